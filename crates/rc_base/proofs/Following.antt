@@ -1,0 +1,21 @@
+-- What holds of a list in which each entry may follow.
+use Rattle.std.proofs.Common.{◌≡◌, ℕ, zero, suc, ◌+◌, ◌<◌, List, [], ◌∷◌, ◌++◌, length, take, get_or, subst, sym, refl, arith}
+use Rattle.std.proofs.lemmas.List.{append_assoc, append-nil}
+use Rattle.rc_base.specs.Follows.{GoesOn, EachFollows}
+
+module _ {E : Type 0} where
+  pub goes_on_push : (may : List E → E → Type 0) (before es : List E) (e : E) → GoesOn may before es → may (before ++ es) e → GoesOn may before (es ++ e ∷ [])
+  goes_on_push may before [] e _ ok = (subst (λ b. may b e) (append-nil before) ok, tt)
+  goes_on_push may before (x ∷ xs) e goes ok = (goes.0, goes_on_push may (before ++ x ∷ []) xs e goes.1 (subst (λ b. may b e) (sym (append_assoc before (x ∷ []) xs)) ok))
+
+  pub goes_on_front : (may : List E → E → Type 0) (before xs ys : List E) → GoesOn may before (xs ++ ys) → GoesOn may before xs
+  goes_on_front may before [] ys goes = tt
+  goes_on_front may before (x ∷ xs) ys goes = (goes.0, goes_on_front may (before ++ x ∷ []) xs ys goes.1)
+
+  goes_on_at : (may : List E → E → Type 0) (before es : List E) (k : ℕ) (d : E) → GoesOn may before es → k < length es → may (before ++ take k es) (get_or es k d)
+  goes_on_at may before [] k d goes within = absurd (omega arith)
+  goes_on_at may before (x ∷ xs) zero d goes within = subst (λ b. may b x) (sym (append-nil before)) goes.0
+  goes_on_at may before (x ∷ xs) (suc k) d goes within = subst (λ b. may b (get_or xs k d)) (append_assoc before (x ∷ []) (take k xs)) (goes_on_at may (before ++ x ∷ []) xs k d goes.1 (omega arith))
+
+  pub follows_at : (may : List E → E → Type 0) (es : List E) (k : ℕ) (d : E) → EachFollows may es → k < length es → may (take k es) (get_or es k d)
+  follows_at may es k d goes within = goes_on_at may [] es k d goes within

@@ -1,0 +1,4 @@
+pub mod Buffers
+pub mod Follows
+pub mod Reasons
+pub mod Replies

@@ -1,0 +1,70 @@
+//! A text under construction, whose room is taken before it is used.
+ghost use Rattle.std.specs.Prelude.{◌≡◌, ◌+◌, ◌≤◌, ◌<◌, [], ◌∷◌, ◌++◌, length, IfOk};
+
+use crate::names::NoMemory;
+use std::alloc::Global;
+use std::marker::Model;
+
+/// Room for the text of any file or listing, in bytes (this project's profile).
+pub const TEXT_MAX: usize = 131_072;
+
+/// A text under construction. Contracts see its bytes, and as `spare` how many more fit.
+#[derive(Drop)]
+pub struct TextBuf {
+    text: Vec<u8>,
+}
+
+impl Model for TextBuf {
+    ghost use Rattle.std.specs.Prelude.{◌-◌, vec_len, vec_capacity};
+    ghost use Rattle.rc_base.specs.Buffers.{Roomy};
+
+    ghost Value = { Roomy };
+
+    ghost view = { λ b. record { bytes = b.text.items; spare = vec_capacity b.text - vec_len b.text } };
+}
+
+impl TextBuf {
+    /// An empty text with room for `n` bytes.
+    pub fn with_room(alloc: Global, n: usize) -> Result<TextBuf, NoMemory>
+        ensures empty { IfOk result (λ b. b.bytes ≡ []) }
+        ensures room { IfOk result (λ b. n ≤ b.spare) }
+    {
+        let text = Vec::with_capacity(alloc, n)?;
+        Ok(TextBuf { text })
+    }
+
+    /// The bytes so far.
+    pub fn bytes(&self) -> &[u8]
+        ensures { result.now ≡ self.now.bytes }
+    {
+        self.text.as_slice()
+    }
+
+    /// Adds one byte.
+    pub fn push(&mut self, byte: u8)
+        requires { 0 < self.old.spare }
+        ensures bytes { self.new.bytes ≡ self.old.bytes ++ byte ∷ [] }
+        ensures spare { self.new.spare + 1 ≡ self.old.spare }
+    {
+        self.text.push_reserved(byte);
+    }
+
+    /// Adds these bytes.
+    pub fn push_all(&mut self, piece: &[u8])
+        requires { length piece.now ≤ self.old.spare }
+        ensures bytes { self.new.bytes ≡ self.old.bytes ++ piece.now }
+        ensures spare { self.new.spare + length piece.now ≡ self.old.spare }
+    {
+        for byte in piece {
+            self.text.push_reserved(*byte);
+        }
+    }
+
+    /// Empties the text. The room that it took is spare again.
+    pub fn clear(&mut self)
+        ensures bytes { self.new.bytes ≡ [] }
+        ensures spare { self.new.spare ≡ self.old.spare + length self.old.bytes }
+    {
+        self.text.clear();
+    }
+}
