@@ -12,3 +12,6 @@ pub use names::{Gid, Mode, NoMemory, Tag};
 pub use reasons::{Argument, Wording};
 pub use replies::{Errno, Reply, Why};
 pub use text_buf::{TEXT_MAX, TextBuf};
+
+#[cfg(test)]
+mod tests;

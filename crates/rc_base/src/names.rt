@@ -22,7 +22,7 @@ impl<T: Drop> From<AllocFailed<T>> for NoMemory {
 #[derive(Clone, Copy, Debug, PartialEq, Eq, PartialOrd, Ord)]
 pub struct Gid(pub u32);
 
-/// The modes of a control group, as its `mode` file names them (kernel documentation, "RDT resource groups").
+/// The modes of a control group, as its `mode` file names them (kernel documentation, "Resource alloc and monitor groups").
 #[derive(Clone, Copy, Debug, PartialEq, Eq)]
 pub enum Mode {
     /// Its part of the cache may be shared with other groups.

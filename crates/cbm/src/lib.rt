@@ -1,0 +1,16 @@
+//! Capacity bitmasks (CBM): which are valid, and masks as sets of ways.
+#![tactic(auto)]
+
+pub mod fault;
+pub mod geometry;
+pub mod laws;
+pub mod sets;
+pub mod validity;
+
+pub use fault::CbmFault;
+pub use geometry::Geometry;
+pub use sets::{count, lowest_run, overlaps};
+pub use validity::check;
+
+#[cfg(test)]
+mod tests;

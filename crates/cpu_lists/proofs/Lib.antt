@@ -1,0 +1,10 @@
+pub mod Bits
+pub mod Grouping
+pub mod Least
+pub mod Members
+pub mod Parting
+pub mod Running
+pub mod Texts
+pub mod Collecting
+pub mod Again
+pub mod Answering

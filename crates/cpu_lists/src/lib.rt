@@ -1,0 +1,18 @@
+//! The texts of CPU sets: a mask in hexadecimal groups, and a list of numbers and ranges.
+#![tactic(auto)]
+
+pub mod fault;
+pub mod laws;
+pub mod lists;
+pub mod masks;
+pub mod numbers;
+pub mod printing;
+pub mod runs;
+
+pub use fault::CpuFault;
+pub use lists::read_list;
+pub use masks::read_mask;
+pub use printing::{print_list, print_mask};
+
+#[cfg(test)]
+mod tests;

@@ -1,0 +1,5 @@
+use Rattle.machine.proofs.Fitting.{ways_of-full}
+use Rattle.machine.proofs.machine.Machine.full.Goals as goal
+
+pub returns : goal.returns
+returns c = ways_of-full c.args.self.now.ways c.args.self.now.in_range.way_limit

@@ -1,0 +1,11 @@
+//! The simulated machine: its caches, its numbers of things, and the maps of CPUs and lines.
+#![tactic(auto)]
+
+pub mod machine;
+pub mod parameters;
+
+pub use machine::Machine;
+pub use parameters::Parameters;
+
+#[cfg(test)]
+mod tests;

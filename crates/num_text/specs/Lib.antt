@@ -1,0 +1,4 @@
+pub mod Blanks
+pub mod Numbers
+pub mod Printed
+pub mod Words

@@ -1,0 +1,17 @@
+use Rattle.std.proofs.Common.{◌≡◌, ◌-◌, sym, refl, ◌∙◌, arith}
+use Rattle.path_names.specs.PathTable.{entry_of}
+use Rattle.path_names.proofs.Domains.{found_here, found_later, found_nowhere}
+use Rattle.path_names.proofs.entries.domain_entry.Goals as goal
+
+pub loop-domain-preserved : goal.loop-domain-preserved
+loop-domain-preserved c = c.loop-domain.invariant ∙ found_later c.args.holder c.args.name.now c.args.domains c.loop-domain.domain c.loop-domain-test.true (sym c.if-is_domain.ensures)
+
+pub returns-then-is_domain : goal.returns-then-is_domain
+unfolding entry_of
+returns-then-is_domain c = let all : c.args.domains - 0 ≡ c.args.domains = omega arith in
+    rw (← found_here c.args.holder c.args.name.now c.args.domains c.loop-domain.domain c.loop-domain-test.true (sym c.if-is_domain.ensures), ← c.loop-domain.invariant, all) refl
+
+pub returns : goal.returns
+unfolding entry_of
+returns c = let all : c.args.domains - 0 ≡ c.args.domains = omega arith in
+    rw (← found_nowhere c.args.holder c.args.name.now c.args.domains c.loop-domain.domain (omega arith), ← c.loop-domain.invariant, all) refl

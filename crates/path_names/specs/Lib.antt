@@ -1,0 +1,5 @@
+pub mod Components
+pub mod Interned
+pub mod NamesIn
+pub mod PathTable
+pub mod Reading

@@ -1,0 +1,4 @@
+pub mod Again
+pub mod Entries
+pub mod Following
+pub mod Lawful

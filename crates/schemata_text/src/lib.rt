@@ -1,0 +1,16 @@
+//! The text of schemata: a capacity bitmask for each of some L3 domains.
+#![tactic(auto)]
+
+pub mod assignment;
+pub mod fault;
+pub mod laws;
+pub mod printing;
+pub mod reading;
+
+pub use assignment::{Assignment, Assignments};
+pub use fault::TextFault;
+pub use printing::print;
+pub use reading::read;
+
+#[cfg(test)]
+mod tests;
