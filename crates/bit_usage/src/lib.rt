@@ -1,0 +1,11 @@
+//! The file `bit_usage`: who uses each way of each cache.
+#![tactic(auto)]
+
+pub mod letters;
+pub mod printing;
+
+pub use letters::letter;
+pub use printing::print;
+
+#[cfg(test)]
+mod tests;

@@ -1,0 +1,10 @@
+use Rattle.cpu_binding.specs.Groups.{after_control}
+use Rattle.std.proofs.Common.{◌≡◌, length}
+use Rattle.cpu_binding.proofs.Changing.{ChangedTo}
+use Rattle.cpu_binding.proofs.tables.give_control.Given as goal
+
+abbrev pub invariant-loop-cpu : goal.invariant-loop-cpu
+invariant-loop-cpu l = record {
+  whole : length l.groups ≡ 64;
+  walk : ChangedTo (after_control l.group l.set) l.initial.groups l.groups l.cpu;
+}

@@ -1,0 +1,12 @@
+//! Which groups the CPUs belong to.
+#![tactic(auto)]
+
+pub mod cpus;
+pub mod groups;
+mod sets;
+mod tables;
+#[cfg(test)]
+mod tests;
+
+pub use cpus::{Cpus, DropsDefault, NotParents};
+pub use groups::CpuGroups;

@@ -1,0 +1,5 @@
+pub mod FreeClasses
+pub mod FreeRmids
+pub mod Membership
+pub mod Places
+pub mod Released

@@ -1,0 +1,4 @@
+pub mod Classes
+pub mod Ids
+pub mod MonitoringIds
+pub mod Uses

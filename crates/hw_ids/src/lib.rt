@@ -1,0 +1,12 @@
+//! The ids that the hardware offers: classes of service (CLOSIDs), and resource monitoring ids (RMIDs) with their limbo.
+#![tactic(auto)]
+
+pub mod class_ids;
+pub mod laws;
+pub mod rmids;
+#[cfg(test)]
+mod tests;
+
+pub use class_ids::{ClassIds, MAX_CLASSES};
+pub use laws::members;
+pub use rmids::{MAX_RMIDS, NoRmid, Rmids};

@@ -1,0 +1,4 @@
+pub mod Overlaps
+pub mod Refusals
+pub mod Setup
+pub mod Space

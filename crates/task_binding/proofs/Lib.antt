@@ -1,0 +1,4 @@
+pub mod Changing
+pub mod Rising
+pub mod Membership
+pub mod Bound

@@ -1,0 +1,11 @@
+//! Which groups the tasks belong to.
+#![tactic(auto)]
+
+pub mod binding;
+mod search;
+pub mod tasks;
+#[cfg(test)]
+mod tests;
+
+pub use binding::{BindFault, Binding};
+pub use tasks::Tasks;
