@@ -1,0 +1,5 @@
+pub mod Fills
+pub mod History
+pub mod Places
+pub mod Stands
+pub mod Sums

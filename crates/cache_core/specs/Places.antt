@@ -1,0 +1,59 @@
+-- What a cache keeps: for each set a list of places.
+use Rattle.std.specs.Prelude.{◌≡◌, ℕ, ◌<◌, ◌≤◌, ◌^◌, List, [], length, Option, None, option_map, IfSome, IsSome, IsTrue, slice_index_or, is_some}
+use Rattle.std.specs.Option.{option_map_or}
+use Rattle.cache_core.specs.declared.place.Place.{Place}
+use Rattle.cache_core.specs.Fills.{Resident, has_way}
+use Rattle.cache_core.specs.History.{Shape, is_of}
+use Rattle.cache_core.specs.Sums.{sum_below, one_if}
+
+-- the place of a way
+abbrev pub place_in : List (Option Place) → ℕ → Option Place
+place_in places way = slice_index_or places way None
+
+-- the line and RMID in a way
+abbrev pub resident_in : List (Option Place) → ℕ → Option Resident
+resident_in places way = option_map (λ (p : Place). record { line = p.line; rmid = p.rmid }) (place_in places way)
+
+-- when a way was used, and 0 where it is empty
+abbrev pub stamp_in : List (Option Place) → ℕ → ℕ
+stamp_in places way = option_map_or (λ (p : Place). p.used) (place_in places way) 0
+
+-- What contracts see of a cache: its shape, what each place holds and when it was used, the floor, and how many entries
+-- it has made.
+pub record State : Type 0 where
+  pub shape : Shape
+  pub places : List (List (Option Place))
+  pub floor : ℕ
+  pub clock : ℕ
+
+-- the places of a set
+abbrev pub set_in : List (List (Option Place)) → ℕ → List (Option Place)
+set_in places set = slice_index_or places set []
+
+-- each set has all its ways, each stamp is below the clock, and each RMID in its range
+pub record IsFormed (sets ways clock : ℕ) (places : List (List (Option Place))) : Type 0 where
+  pub some : 0 < sets
+  pub count : length places ≡ sets
+  pub full : (set : ℕ) → set < sets → length (set_in places set) ≡ ways
+  pub stamped : (set way : ℕ) → IfSome (place_in (set_in places set) way) (λ p. p.used < clock)
+  pub named : (set way : ℕ) → IfSome (place_in (set_in places set) way) (λ p. p.rmid < 2 ^ 16)
+
+-- of the full ways of the mask below a limit, the one that was used longest ago, the lowest of these
+pub record IsOldest (places : List (Option Place)) (mask limit way : ℕ) : Type 0 where
+  pub within : way < limit
+  pub allowed : IsTrue (has_way mask way)
+  pub full : IsSome (resident_in places way)
+  pub oldest : (w : ℕ) → w < limit → IsTrue (has_way mask w) → IsSome (resident_in places w) → stamp_in places way ≤ stamp_in places w
+  pub lowest : (w : ℕ) → w < way → IsTrue (has_way mask w) → IsSome (resident_in places w) → stamp_in places way < stamp_in places w
+
+-- no full way of the mask is below the limit
+abbrev pub NoneFull : List (Option Place) → ℕ → ℕ → Type 0
+NoneFull places mask limit = (w : ℕ) → w < limit → IsTrue (has_way mask w) → IsSome (resident_in places w) → ⊥
+
+-- how many of the first ways hold a line with this RMID
+abbrev pub lines_in : List (Option Place) → ℕ → ℕ → ℕ
+lines_in places ways rmid = sum_below ways (λ way. one_if (is_of rmid (resident_in places way)))
+
+-- how many of the first ways hold a line
+abbrev pub filled_in : List (Option Place) → ℕ → ℕ
+filled_in places ways = sum_below ways (λ way. one_if (is_some (resident_in places way)))

@@ -1,0 +1,16 @@
+//! One slice of a partitioned L3 cache, and the histories that it stands for.
+#![tactic(auto)]
+
+pub mod cache;
+mod cache_set;
+pub mod entry;
+pub mod place;
+pub mod touched;
+
+pub use cache::Cache;
+pub use entry::{SliceEntry, What};
+pub use place::Place;
+pub use touched::Touched;
+
+#[cfg(test)]
+mod tests;

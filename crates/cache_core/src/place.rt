@@ -1,0 +1,12 @@
+//! What a way holds.
+
+/// A line in a way.
+#[derive(Clone, Copy, Debug, PartialEq, Eq)]
+pub struct Place {
+    /// The number of the line, that is its address divided by 64.
+    pub line: u64,
+    /// The RMID for which it was filled.
+    pub rmid: u16,
+    /// When it was last used, as the slice counts its entries.
+    pub used: u64,
+}

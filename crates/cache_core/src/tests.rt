@@ -1,0 +1,38 @@
+//! Each call of a slice once, with the answers worked out by hand.
+
+ghost use Rattle.std.specs.Prelude.{◌≡◌};
+
+use crate::{Cache, Touched};
+use rc_base::{Gid, Tag};
+use std::test::Fail;
+
+// A tag of the default group.
+fn tag(epoch: u64, mask: u32) -> Tag
+    ensures { result ≡ record { epoch = epoch; owner = record { 0 = 0 }; class = 0; rmid = 0; mask = mask; domain = 0 } }
+{
+    Tag {
+        epoch,
+        owner: Gid(0),
+        class: 0,
+        rmid: 0,
+        mask,
+        domain: 0,
+    }
+}
+
+#[test]
+fn lines_fill_hit_and_go(rt: HostRuntime) -> Result<(), Fail> {
+    let mut cache = Cache::create(rt.alloc(), 1, 4)?;
+    assert_eq!(rt; cache.access(&tag(0, 15), 0), Touched::Filled { way: 0 });
+    assert_eq!(rt; cache.access(&tag(0, 15), 1), Touched::Filled { way: 1 });
+    assert_eq!(rt; cache.access(&tag(0, 15), 0), Touched::Hit { way: 0 });
+    assert_eq!(rt; cache.access(&tag(0, 3), 2), Touched::Filled { way: 1 });
+    assert_eq!(rt; (cache.look(0), cache.look(1), cache.valid()), (2, 0, 2));
+    cache.raise(1);
+    assert_eq!(rt; cache.access(&tag(0, 15), 0), Touched::Stale { floor: 1 });
+    assert_eq!(rt; cache.access(&tag(1, 12), 0), Touched::Hit { way: 0 });
+    cache.flush(2);
+    assert_eq!(rt; (cache.floor(), cache.valid()), (2, 0));
+    assert_eq!(rt; cache.access(&tag(2, 12), 0), Touched::Filled { way: 2 });
+    Ok(())
+}

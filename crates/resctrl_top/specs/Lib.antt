@@ -1,0 +1,13 @@
+pub mod Codes
+pub mod Endings
+pub mod Entries
+pub mod Forms
+pub mod Grammar
+pub mod Outside
+pub mod Playing
+pub mod Readings
+pub mod Reporting
+pub mod Runs
+pub mod Scripts
+pub mod TreeHistory
+pub mod TreeSteps

@@ -1,0 +1,39 @@
+-- What a run does to a source and a sink.
+use Rattle.std.specs.Prelude.{◌≡◌, ℕ, ◌+◌, ◌<◌, List, ◌++◌, take, Option, Some, None, Result, Ok, Err}
+use Rattle.std.specs.Io.KnownBytes.{Appends}
+use Rattle.resctrl_top.specs.declared.fault.ScriptFault.{ScriptFault}
+use Rattle.resctrl_top.specs.declared.input.InputError.{InputError}
+use Rattle.resctrl_top.specs.declared.input.InputError.TheVariants.{Bad, Failed, NoMemory}
+use Rattle.resctrl_top.specs.Grammar.{most_bytes, script_of}
+use Rattle.resctrl_top.specs.Scripts.{ScriptValue}
+
+-- all bytes, or the first of them that pass the greatest script
+unfoldable pub first_bytes : List ℕ → List ℕ
+first_bytes bytes = take (most_bytes + 1) bytes
+
+-- the bytes are what the source had left, or the first of it that pass the greatest script; of a source that tells nothing, any
+abbrev pub IsInput : Option (List ℕ) → List ℕ → Type 0
+IsInput None bytes = Unit {0}
+IsInput (Some left) bytes = bytes ≡ first_bytes left
+
+-- these are the bytes to the end; of a source that tells nothing, any
+abbrev pub IsToTheEnd : Option (List ℕ) → List ℕ → Type 0
+IsToTheEnd None bytes = Unit {0}
+IsToTheEnd (Some left) bytes = bytes ≡ left
+
+-- a beginning of the bytes was taken, where the sink tells what it took
+abbrev pub AppendsSome : Option (List ℕ) → Option (List ℕ) → List ℕ → Type 0
+AppendsSome old new bytes = (given : List ℕ) × (rest : List ℕ) × (given ++ rest ≡ bytes) × Appends old new given
+
+-- the bytes to the end have this meaning as a script
+pub record IsMeant (left : Option (List ℕ)) (meaning : Result ScriptValue ScriptFault) : Type 0 where
+  pub bytes : List ℕ
+  pub to_the_end : IsToTheEnd left bytes
+  pub meant : script_of bytes ≡ meaning
+
+-- what reading the source and its script answers: a script, a fault of it, a failure of the source, or want of memory
+abbrev pub HasRead : Option (List ℕ) → ℕ → ℕ → Result ScriptValue InputError → Type 0
+HasRead left reads reads_now (Ok script) = IsMeant left (Ok script) × (reads_now ≡ reads)
+HasRead left reads reads_now (Err (Bad fault)) = IsMeant left (Err fault) × (reads_now ≡ reads)
+HasRead left reads reads_now (Err Failed) = reads < reads_now
+HasRead left reads reads_now (Err NoMemory) = reads_now ≡ reads

@@ -1,0 +1,58 @@
+//! How a call ended.
+ghost use Rattle.std.specs.Prelude.{◌≡◌, Some, None};
+ghost use Rattle.resctrl_top.specs.Codes.{code_of};
+
+use crate::journals::Journals;
+
+/// How a call ended. The number of each is the program's exit status.
+#[derive(Clone, Copy, Debug, PartialEq, Eq)]
+pub enum Status {
+    /// The script was read to its end and played, and the sink took its report.
+    Done,
+    /// The bytes are no script; the sink took the line that says so.
+    Refused,
+    /// The words are no form; the sink took the usage line.
+    Usage,
+    /// The source failed; nothing was written.
+    ReadFault,
+    /// The sink failed, and took a beginning of what was due.
+    WriteFault,
+    /// Memory was not found; nothing was written.
+    NoMemory,
+}
+
+impl Status {
+    /// The exit status of the program, from 0 to 5.
+    pub fn code(self) -> u8
+        ensures { result ≡ code_of self }
+    {
+        self as u8
+    }
+}
+
+/// How a call ended, and what happened in the run where there was one.
+#[derive(Drop)]
+pub struct Ended {
+    pub status: Status,
+    pub journals: Option<Journals>,
+}
+
+/// An end with journals.
+pub(crate) fn with_journals(status: Status, journals: Journals) -> Ended
+    ensures { result ≡ record { status = status; journals = Some journals } }
+{
+    Ended {
+        status,
+        journals: Some(journals),
+    }
+}
+
+/// An end with no journals.
+pub(crate) fn without_journals(status: Status) -> Ended
+    ensures { result ≡ record { status = status; journals = None } }
+{
+    Ended {
+        status,
+        journals: None,
+    }
+}

@@ -1,0 +1,26 @@
+//! Writes bytes to a sink.
+ghost use Rattle.std.specs.Prelude.{◌≡◌, ◌-◌, ◌<◌, ◌^◌, OnOk, OnErr};
+ghost use Rattle.std.specs.Io.KnownBytes.{Appends};
+ghost use Rattle.resctrl_top.specs.Outside.{AppendsSome};
+
+use rc_stream::{Failed, Sink};
+
+// How many bytes are written at once at most.
+const PIECE: usize = 65_536;
+
+/// Writes all bytes, and hands them on.
+pub(crate) fn write_all<K: Sink>(sink: &mut K, bytes: &[u8]) -> Result<(), Failed>
+    requires { K.faults sink.old < 2 ^ 64 - 1 }
+    ensures ok { OnOk result (Appends (K.taken sink.old) (K.taken sink.new) bytes.now × (K.faults sink.new ≡ K.faults sink.old)) }
+    ensures err { OnErr result (AppendsSome (K.taken sink.old) (K.taken sink.new) bytes.now × (K.faults sink.old < K.faults sink.new)) }
+{
+    let mut at = 0;
+    while at < bytes.len() {
+        let end = bytes.len().min(at.saturating_add(PIECE));
+        match sink.write(&bytes[at..end]) {
+            Ok(count) => at += count,
+            Err(failed) => return Err(failed),
+        }
+    }
+    sink.flush()
+}
