@@ -1,8 +1,12 @@
 //! Tasks that join groups, leave them, and are refused.
+ghost use Rattle.std.specs.Prelude.{IfOk};
+ghost use Rattle.std.specs.List.Sorted.{IsStrictlyIncreasing};
 
 use crate::binding::BindFault;
 use crate::tasks::Tasks;
 use rc_base::{Gid, NoMemory};
+use std::alloc::Global;
+use std::vec::Vec;
 
 #[test]
 fn bindings(rt: HostRuntime) -> Result<(), NoMemory> {
@@ -56,4 +60,28 @@ fn groups(rt: HostRuntime) -> Result<(), NoMemory> {
     let tasks = Tasks::create(rt.alloc(), [5].as_slice())?;
     assert_eq!(rt; tasks.groups_of(5), (Gid(0), Gid(0)));
     Ok(())
+}
+
+// As many tasks as a script can declare.
+#[test]
+fn many_tasks(rt: HostRuntime) -> Result<(), NoMemory> {
+    let ids = numbers(rt.alloc())?;
+    let mut tasks = Tasks::create(rt.alloc(), ids.as_slice())?;
+    assert_eq!(rt; tasks.ctrl_member(Gid(0), 4_095), Some(4_095));
+    assert_eq!(rt; tasks.ctrl_member(Gid(0), 4_096), None);
+    assert_eq!(rt; tasks.bind_ctrl(4_096, Gid(1)), Err(BindFault::NoTask));
+    assert_eq!(rt; tasks.bind_ctrl(4_095, Gid(1)), Ok(()));
+    assert_eq!(rt; tasks.bind_ctrl(0, Gid(1)), Ok(()));
+    assert_eq!(rt; tasks.ctrl_member(Gid(1), 0), Some(0));
+    assert_eq!(rt; tasks.mon_member(Gid(1), 1), Some(4_095));
+    assert_eq!(rt; tasks.ctrl_member(Gid(0), 4_093), Some(4_094));
+    assert_eq!(rt; tasks.ctrl_member(Gid(0), 4_094), None);
+    Ok(())
+}
+
+// The numbers below 4,096.
+fn numbers(alloc: Global) -> Result<Vec<u32>, NoMemory>
+    ensures { IfOk result (λ ids. IsStrictlyIncreasing ids.items) }
+{
+    Ok((0..4_096).collect(alloc)?)
 }
