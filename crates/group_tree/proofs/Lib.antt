@@ -1,0 +1,4 @@
+pub mod Editing
+pub mod EveryWay
+pub mod Found
+pub mod Joining

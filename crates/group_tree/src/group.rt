@@ -1,0 +1,110 @@
+//! The record of one group.
+ghost use Rattle.std.specs.Prelude.{◌≡◌, ◌<◌};
+ghost use Rattle.group_tree.specs.Records.{blank, has_gid, has_mode, has_name, is_control_named, is_monitor_named, is_other, is_other_in, mask_in};
+
+use crate::group_kind::GroupKind;
+use path_names::NameId;
+use rc_base::{Gid, Mode};
+
+/// What is known of a group besides its tasks and CPUs.
+#[derive(Clone, Copy, Debug, PartialEq, Eq)]
+pub struct Group {
+    /// Its serial number, 0 for the default group.
+    pub gid: Gid,
+    /// The name of its directory, and None for the default group, whose directory is the root.
+    pub name: Option<NameId>,
+    /// Whether it is a control group or a monitor group.
+    pub kind: GroupKind,
+    /// The mode of a control group. A monitor group has none, and is listed as shareable.
+    pub mode: Mode,
+    /// Its class of service (CLOSID), from 0 to 63. A monitor group and a pseudo-locked group have none.
+    pub class: Option<u8>,
+    /// Its resource monitoring id (RMID), from 0 to 255. A group in pseudo-locksetup or pseudo-locked has none.
+    pub rmid: Option<u16>,
+    /// Its capacity bitmasks, that of domain d at place d: bit w governs way w. A pseudo-locked group has its region's
+    /// mask in the region's domain and 0 elsewhere; a monitor group has 0 everywhere; all groups have 0 in a domain
+    /// that the machine does not have.
+    pub masks: [u32; 8],
+}
+
+/// The record that stands in a free place.
+impl Default for Group {
+    ghost is_default = { λ g. g ≡ blank };
+
+    fn default() -> Self {
+        Group {
+            gid: Gid(0),
+            name: None,
+            kind: GroupKind::Control,
+            mode: Mode::Shareable,
+            class: None,
+            rmid: None,
+            masks: [0; 8],
+        }
+    }
+}
+
+impl Group {
+    /// Whether it is the group with this gid.
+    pub(crate) fn has_gid(&self, gid: Gid) -> bool
+        ensures { result ≡ has_gid gid self.now }
+    {
+        gid.0 == self.gid.0
+    }
+
+    /// Whether it is the control group of this name.
+    pub(crate) fn is_control_named(&self, name: NameId) -> bool
+        ensures { result ≡ is_control_named name self.now }
+    {
+        self.kind.is_control() && self.has_name(name)
+    }
+
+    /// Whether it is the monitor group of this name of a control group.
+    pub(crate) fn is_monitor_named(&self, parent: Gid, name: NameId) -> bool
+        ensures { result ≡ is_monitor_named parent name self.now }
+    {
+        self.kind.is_monitor_of(parent) && self.has_name(name)
+    }
+
+    // Whether its directory has this name.
+    fn has_name(&self, name: NameId) -> bool
+        ensures { result ≡ has_name name self.now.name }
+    {
+        match self.name {
+            Some(own) => name.0 == own.0,
+            None => false,
+        }
+    }
+
+    /// Whether it is another control group than this one, and in this mode.
+    pub(crate) fn is_other_in(&self, gid: Option<Gid>, mode: Mode) -> bool
+        ensures { result ≡ is_other_in gid mode self.now }
+    {
+        self.is_other(gid) && self.has_mode(mode)
+    }
+
+    // Whether it is another group than this one, as every group is where none is named.
+    fn is_other(&self, gid: Option<Gid>) -> bool
+        ensures { result ≡ is_other gid self.now }
+    {
+        match gid {
+            Some(gid) => !self.has_gid(gid),
+            None => true,
+        }
+    }
+
+    // Whether it is a control group in this mode.
+    fn has_mode(&self, mode: Mode) -> bool
+        ensures { result ≡ has_mode mode self.now }
+    {
+        self.kind.is_control() && self.mode == mode
+    }
+
+    /// Its mask in a domain.
+    pub(crate) fn mask_in(&self, domain: u8) -> u32
+        requires { domain < 8 }
+        ensures { result ≡ mask_in domain self.now }
+    {
+        self.masks[domain as usize]
+    }
+}

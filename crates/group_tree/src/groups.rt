@@ -1,0 +1,148 @@
+//! All groups of the tree.
+ghost use Rattle.std.specs.Prelude.{◌≡◌, ◌<◌, ◌≤◌, ◌≢◌, ◌↔◌, ◌∷◌, [], ◌++◌, length, find, is_some, nat_lt, IsTrue, Ok, slice_get, false, true};
+ghost use Rattle.std.specs.List.{list_any};
+ghost use Rattle.std.specs.Option.{option_copied, option_map};
+ghost use Rattle.group_tree.specs.Lists.{IsTree, has_group, replaced, without};
+ghost use Rattle.group_tree.specs.Opening.{opening};
+ghost use Rattle.group_tree.specs.Others.{IsUseByOthers};
+ghost use Rattle.group_tree.specs.Records.{has_gid, is_control_named, is_monitor_named};
+
+use crate::edit::{put, take_out};
+use crate::group::Group;
+use crate::lookup::{find_control, find_gid, find_monitor};
+use crate::opening::default_group;
+use crate::union::union_of_others;
+use arrayvec::ArrayVec;
+use machine::Machine;
+use mode_rules::DomainUse;
+use path_names::NameId;
+use rc_base::{Gid, Mode, NoMemory};
+use std::marker::Model;
+
+/// How many groups there are at most: 64 with a class, 8 that are pseudo-locked, and 256 with an RMID.
+pub const PLACES: usize = 328;
+
+/// The groups of the tree in order of creation, the default group first. Contracts see the list of their records, and
+/// the machine's shareable bits. Gids differ.
+#[derive(Debug, Drop)]
+pub struct Groups {
+    records: ArrayVec<Group, PLACES>,
+    shareable: u32,
+}
+
+impl Model for Groups {
+    ghost use Rattle.group_tree.specs.Lists.{GroupList, IsTree};
+
+    ghost Value = { GroupList };
+
+    ghost view = { λ t. record { groups = t.records.items; shareable = t.shareable } };
+
+    ghost invariant = { λ t. IsTree t.records.items };
+}
+
+impl Groups {
+    /// The groups of a machine at the start: the default group, shareable and with every way of each cache (kernel
+    /// documentation, "Resource alloc and monitor groups"). It never answers NoMemory, since the places lie in the value itself.
+    pub fn create(m: &Machine) -> Result<Groups, NoMemory>
+        ensures { result ≡ Ok (opening m.now) }
+    {
+        let mut records = ArrayVec::new();
+        records.push(default_group(m));
+        Ok(Groups {
+            records,
+            shareable: m.shareable,
+        })
+    }
+
+    /// How many groups there are.
+    pub fn len(&self) -> u32
+        ensures count { result ≡ length self.now.groups }
+        ensures tree { IsTree self.now.groups }
+    {
+        self.records.len() as u32
+    }
+
+    /// Whether one more group has a place.
+    pub fn has_place(&self) -> bool
+        ensures { IsTrue result ↔ (length self.now.groups < PLACES) }
+    {
+        !self.records.is_full()
+    }
+
+    /// Adds a group with a new gid behind the others.
+    pub fn insert(&mut self, g: Group)
+        requires fresh { has_group g.gid self.old.groups ≡ false }
+        requires place { length self.old.groups < PLACES }
+        ensures last { self.new.groups ≡ self.old.groups ++ g ∷ [] }
+        ensures kept { self.new.shareable ≡ self.old.shareable }
+    {
+        self.records.push(g);
+    }
+
+    /// Puts a record in place of the one with its gid.
+    pub fn replace(&mut self, g: Group)
+        requires { IsTrue (has_group g.gid self.old.groups) }
+        ensures replaced { self.new.groups ≡ replaced g self.old.groups }
+        ensures kept { self.new.shareable ≡ self.old.shareable }
+    {
+        put(&mut self.records, g);
+    }
+
+    /// Removes a group other than the default group.
+    pub fn remove(&mut self, gid: Gid)
+        requires there { IsTrue (has_group gid self.old.groups) }
+        requires not_default { gid.0 ≢ 0 }
+        ensures without { self.new.groups ≡ without gid self.old.groups }
+        ensures kept { self.new.shareable ≡ self.old.shareable }
+    {
+        take_out(&mut self.records, gid);
+    }
+
+    /// The group with this gid, and None where there is no such group.
+    pub fn get(&self, gid: Gid) -> Option<&Group>
+        ensures found { option_copied result ≡ find (has_gid gid) self.now.groups }
+        ensures there { is_some result ≡ has_group gid self.now.groups }
+    {
+        find_gid(self.records.as_slice(), gid)
+    }
+
+    /// The i-th group in order of creation, from 0, and None where there are not so many.
+    pub fn at(&self, i: u32) -> Option<&Group>
+        ensures found { option_copied result ≡ slice_get self.now.groups i }
+        ensures there { is_some result ≡ nat_lt i (length self.now.groups) }
+    {
+        self.records.as_slice().get(i as usize)
+    }
+
+    /// The control group of this name, and None where there is no such group.
+    pub fn find_ctrl(&self, name: NameId) -> Option<Gid>
+        ensures found { result ≡ option_map (λ g. g.gid) (find (is_control_named name) self.now.groups) }
+        ensures there { is_some result ≡ list_any (is_control_named name) self.now.groups }
+    {
+        find_control(self.records.as_slice(), name).map(|g| g.gid)
+    }
+
+    /// The monitor group of this name of a control group, and None where there is no such group.
+    pub fn find_mon(&self, parent: Gid, name: NameId) -> Option<Gid>
+        ensures found { result ≡ option_map (λ g. g.gid) (find (is_monitor_named parent name) self.now.groups) }
+        ensures there { is_some result ≡ list_any (is_monitor_named parent name) self.now.groups }
+    {
+        find_monitor(self.records.as_slice(), parent, name).map(|g| g.gid)
+    }
+
+    /// What all control groups but this one use of the cache of a domain, from 0 to 7, and what all of them use where
+    /// none is named: the machine's shareable bits, and the unions of the masks of those that are shareable, exclusive
+    /// and pseudo-locked.
+    pub fn others(&self, gid: Option<Gid>, domain: u8) -> DomainUse
+        requires { domain < 8 }
+        ensures { IsUseByOthers self.now gid domain result }
+    {
+        let groups = self.records.as_slice();
+        DomainUse {
+            hardware: self.shareable,
+            shared: union_of_others(groups, gid, Mode::Shareable, domain),
+            exclusive: union_of_others(groups, gid, Mode::Exclusive, domain),
+            region: union_of_others(groups, gid, Mode::Locked, domain),
+        }
+    }
+}
