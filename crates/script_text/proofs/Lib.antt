@@ -1,0 +1,12 @@
+pub mod Parting
+pub mod Cuts
+pub mod Endings
+pub mod Follows
+pub mod Escaping
+pub mod Ranges
+pub mod Rising
+pub mod Threading
+pub mod Naming
+pub mod Joining
+pub mod Keeping
+pub mod InOrder

@@ -1,0 +1,18 @@
+use Rattle.std.proofs.Common.{◌≡◌, ℕ, List, ◌++◌, sym, ap, subst, ◌∙◌}
+use Rattle.std.specs.List.Sorted.{IsStrictlyIncreasing}
+use Rattle.script_text.specs.Tasks.{ids_of}
+use Rattle.script_text.proofs.Rising.{ids_increase}
+use Rattle.script_text.proofs.reader.Reader.into_script.Goals as goal
+
+pub invariant_of-result : goal.invariant_of-result
+invariant_of-result c =
+    let ranges = c.args.self.tasks.items in
+    let ids : c.push_ids.new.ids.items ≡ ids_of ranges =
+    c.in-Ok.ensures
+    ∙ ap (λ (xs : List ℕ). xs ++ ids_of c.deref.result.now) c.new-tasks.ensures.items
+    ∙ ap ids_of c.deref.ensures.value in
+    record {
+      rising = subst IsStrictlyIncreasing (sym ids) (ids_increase ranges c.requires.tasks);
+      few = record { few_phases = c.requires.phases; few_threads = c.requires.each };
+      named = c.requires.phases_named;
+    }

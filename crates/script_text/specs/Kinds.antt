@@ -1,0 +1,56 @@
+-- The kinds of line, by their first words, and where each may stand.
+use Rattle.std.specs.Prelude.{ℕ, Bool, true, false, List, codes, Option, Some, None, if◌then◌else◌}
+use Rattle.std.specs.Option.{option_or}
+use Rattle.num_text.specs.Words.{is_text}
+use Rattle.script_text.specs.declared.kind.Place.{Place}
+use Rattle.script_text.specs.declared.kind.Place.TheVariants as places
+use Rattle.script_text.specs.declared.kind.Kind.{Kind}
+use Rattle.script_text.specs.declared.kind.Kind.TheVariants as kinds
+use Rattle.script_text.specs.States.{is_thread}
+
+-- lines that give the script its parts
+unfoldable pub part_kind : List ℕ → Option Kind
+part_kind word =
+    if is_text word (codes "machine") then Some kinds.Machine else
+    if is_text word (codes "tasks") then Some kinds.Tasks else
+    if is_text word (codes "phase") then Some kinds.Phase else
+    if is_text word (codes "order") then Some kinds.Order else
+    if is_text word (codes "thread") then Some kinds.Thread else None
+
+-- lines that are commands
+unfoldable pub command_kind : List ℕ → Option Kind
+command_kind word =
+    if is_text word (codes "mkdir") then Some kinds.Mkdir else
+    if is_text word (codes "rmdir") then Some kinds.Rmdir else
+    if is_text word (codes "write") then Some kinds.Write else
+    if is_text word (codes "read") then Some kinds.Read else
+    if is_text word (codes "list") then Some kinds.List else
+    if is_text word (codes "flush") then Some kinds.Flush else
+    if is_text word (codes "tick") then Some kinds.Tick else None
+
+-- lines that are accesses
+unfoldable pub access_kind : List ℕ → Option Kind
+access_kind word =
+    if is_text word (codes "access") then Some kinds.Access else
+    if is_text word (codes "sweep") then Some kinds.Sweep else
+    if is_text word (codes "touch") then Some kinds.Touch else None
+
+unfoldable pub kind_of : List ℕ → Option Kind
+kind_of word = option_or (part_kind word) (option_or (command_kind word) (access_kind word))
+
+-- Where a line may stand: the machine line first, tasks behind it, an order directly behind `phase`, a thread in a phase, and
+-- an op in a thread.
+abbrev pub may_stand : Kind → Place → Bool
+may_stand kinds.Machine places.Start = true
+may_stand kinds.Machine place = false
+may_stand kinds.Tasks places.Head = true
+may_stand kinds.Tasks place = false
+may_stand kinds.Phase places.Start = false
+may_stand kinds.Phase place = true
+may_stand kinds.Order places.Opened = true
+may_stand kinds.Order place = false
+may_stand kinds.Thread places.Opened = true
+may_stand kinds.Thread places.Ordered = true
+may_stand kinds.Thread places.Thread = true
+may_stand kinds.Thread place = false
+may_stand kind place = is_thread place

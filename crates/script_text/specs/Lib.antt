@@ -1,0 +1,14 @@
+pub mod Lines
+pub mod Keys
+pub mod Tasks
+pub mod Arguments
+pub mod Escapes
+pub mod Paths
+pub mod Weights
+pub mod Values
+pub mod States
+pub mod Kinds
+pub mod Meaning
+pub mod Reading
+pub mod Canonical
+pub mod Table

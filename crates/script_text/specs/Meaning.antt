@@ -1,0 +1,171 @@
+-- What a line means, behind the lines before it.
+use Rattle.std.specs.Prelude.{◌≡◌, ℕ, ◌+◌, ◌*◌, Bool, not, ◌&&◌, ◌==◌, nat_lt, List, [], ◌∷◌, ◌++◌, length, map, codes, Option, Some, None, Result, Ok, Err, if◌then◌else◌}
+use Rattle.std.specs.List.{list_any, range_with_len}
+use Rattle.num_text.specs.Words.{is_text}
+use Rattle.path_names.specs.declared.path_ref.PathRef.{PathRef}
+use Rattle.script_text.specs.declared.fault.LineFault.{LineFault}
+use Rattle.script_text.specs.declared.fault.LineFault.TheVariants.{BadByte, NoMachine, UnknownWord, OutOfPlace, BadMachine, BadTasks, BadArgument, BadPath, UnknownTask, BadEscape, TooLarge}
+use Rattle.script_text.specs.declared.fault.LineError.{LineError}
+use Rattle.script_text.specs.declared.fault.LineError.TheVariants as errors
+use Rattle.script_text.specs.declared.arguments.Sweep.{Sweep}
+use Rattle.script_text.specs.declared.op.Op.{Op}
+use Rattle.script_text.specs.declared.op.Op.TheVariants as ops
+use Rattle.script_text.specs.declared.kind.Place.TheVariants as places
+use Rattle.script_text.specs.declared.kind.Kind.{Kind}
+use Rattle.script_text.specs.declared.kind.Kind.TheVariants as kinds
+use Rattle.script_text.specs.Lines.{is_bad, is_comment, words, behind_word}
+use Rattle.script_text.specs.States.{State, close_thread, close_phase, is_start}
+use Rattle.script_text.specs.Arguments.{access_of, flush_of, sweep_of, touch_of, order_of, only, first_of}
+use Rattle.script_text.specs.Escapes.{unescaped, text_behind}
+use Rattle.script_text.specs.Keys.{machine_of}
+use Rattle.script_text.specs.Kinds.{kind_of, may_stand}
+use Rattle.script_text.specs.Paths.{Named, named}
+use Rattle.script_text.specs.Tasks.{declared, task_of, count_of}
+use Rattle.script_text.specs.Weights.{weight_of}
+
+infixl 10 ◌>>=◌
+abbrev pub ◌>>=◌ : {A B : Type 0} → Result A LineFault → (A → Result B LineFault) → Result B LineFault
+(Ok x) >>= f = f x
+(Err e) >>= f = Err e
+
+-- a fault, where a test fails
+abbrev pub unless : Bool → LineFault → Result (Unit {0}) LineFault
+unless b fault = if b then Err fault else Ok tt
+
+-- a value, or a fault where there is none
+abbrev pub or_fault : {A : Type 0} → Option A → LineFault → Result A LineFault
+or_fault None fault = Err fault
+or_fault (Some x) fault = Ok x
+
+-- ---- parts of a meaning
+
+-- ops at the end of the open thread
+abbrev pub with_ops : State → ℕ → List Op → Result State LineFault
+with_ops s weight ops = if nat_lt 4000000 (s.weight + weight) then Err TooLarge else Ok (record s { ops = s.ops ++ ops; weight = s.weight + weight })
+
+-- one op
+abbrev pub with_op : State → Op → Result State LineFault
+with_op s op = with_ops s (weight_of s.machine op) (op ∷ [])
+
+abbrev pub with_names : State → List (List ℕ) → State
+with_names s names = record s { names = names }
+
+-- what a word names here
+abbrev pub named_in : State → List ℕ → Option (Option Named)
+named_in s word = named s.machine.domains s.names word
+
+-- what a line's only argument names
+unfoldable pub path_alone : State → List ℕ → Result Named LineFault
+path_alone s rest = do
+  word ← or_fault (only (words rest)) BadArgument
+  found ← or_fault (named_in s word) BadPath
+  or_fault found TooLarge
+
+-- the i-th access of a sweep
+abbrev pub access_at : ℕ → Sweep → ℕ → Op
+access_at task w i = ops.Access task w.first.cpu (w.first.at + i * w.stride)
+
+-- the accesses of a sweep
+abbrev pub sweep_ops : ℕ → Sweep → List Op
+sweep_ops task w = map (access_at task w) (range_with_len 0 w.count)
+
+-- ---- what a line of each kind means, by what stands behind its first word
+
+unfoldable pub means : Kind → State → List ℕ → Result State LineFault
+means kinds.Machine s rest = do
+  m ← or_fault (machine_of (words rest)) BadMachine
+  Ok (record s { place = places.Head; machine = m })
+means kinds.Tasks s rest = do
+  tasks ← or_fault (declared s.tasks (words rest)) BadTasks
+  a ← unless (nat_lt 4096 (count_of tasks)) TooLarge
+  Ok (record s { tasks = tasks })
+means kinds.Phase s rest = do
+  a ← unless (not (length (words rest) == 0)) BadArgument
+  b ← unless (nat_lt 63 (length (close_phase s).phases)) TooLarge
+  Ok (record (close_phase s) { place = places.Opened })
+means kinds.Order s rest = do
+  numbers ← or_fault (order_of (words rest)) BadArgument
+  a ← unless (nat_lt 4000000 (length numbers)) TooLarge
+  Ok (record s { place = places.Ordered; order = numbers })
+means kinds.Thread s rest = do
+  a ← unless (not (length (words rest) == 0)) BadArgument
+  b ← unless (nat_lt 15 (length (close_thread s).threads)) TooLarge
+  Ok (record (close_thread s) { place = places.Thread })
+means kinds.Mkdir s rest = do
+  p ← path_alone s rest
+  with_op (with_names s p.1) (ops.Mkdir p.0)
+means kinds.Rmdir s rest = do
+  p ← path_alone s rest
+  with_op (with_names s p.1) (ops.Rmdir p.0)
+means kinds.Write s rest = do
+  word ← or_fault (first_of (words rest)) BadArgument
+  found ← or_fault (named_in s word) BadPath
+  text ← or_fault (unescaped (text_behind rest)) BadEscape
+  p ← or_fault found TooLarge
+  a ← unless (nat_lt 4096 (length text)) TooLarge
+  with_op (with_names s p.1) (ops.Write p.0 text)
+means kinds.Read s rest = do
+  p ← path_alone s rest
+  with_op (with_names s p.1) (ops.Read p.0)
+means kinds.List s rest = do
+  p ← path_alone s rest
+  with_op (with_names s p.1) (ops.List p.0)
+means kinds.Flush s rest = do
+  domain ← or_fault (flush_of s.machine (words rest)) BadArgument
+  with_op s (ops.Flush domain)
+means kinds.Tick s rest = do
+  a ← unless (not (length (words rest) == 0)) BadArgument
+  with_op s ops.Tick
+means kinds.Access s rest = do
+  u ← or_fault (access_of s.machine (words rest)) BadArgument
+  task ← or_fault (task_of s.tasks u.task) UnknownTask
+  with_op s (ops.Access task u.cpu u.at)
+means kinds.Sweep s rest = do
+  w ← or_fault (sweep_of s.machine (words rest)) BadArgument
+  task ← or_fault (task_of s.tasks w.first.task) UnknownTask
+  with_ops s w.count (sweep_ops task w)
+means kinds.Touch s rest = do
+  t ← or_fault (touch_of s.machine (words rest)) BadArgument
+  found ← or_fault (named_in s t.0) BadPath
+  task ← or_fault (task_of s.tasks t.1.task) UnknownTask
+  p ← or_fault found TooLarge
+  with_op (with_names s p.1) (ops.Touch p.0 t.1.at task t.1.cpu)
+
+-- what a line means that begins with this word
+unfoldable pub word_means : State → List ℕ → List ℕ → Result State LineFault
+word_means s word rest = do
+  a ← unless (is_start s.place && not (is_text word (codes "machine"))) NoMachine
+  kind ← or_fault (kind_of word) UnknownWord
+  b ← unless (not (may_stand kind s.place)) OutOfPlace
+  means kind s rest
+
+-- A comment and a line without words say nothing.
+abbrev pub said_by : State → List (List ℕ) → List ℕ → Result State LineFault
+said_by s [] rest = Ok s
+said_by s (word ∷ words) rest = word_means s word rest
+
+abbrev pub says : State → List ℕ → Result State LineFault
+says s line = said_by s (words line) (behind_word line)
+
+-- what a line means behind these, or its first fault
+unfoldable pub line_meaning : State → List ℕ → Result State LineFault
+line_meaning s line = do
+  a ← unless (list_any is_bad line) BadByte
+  if is_comment line then Ok s else says s line
+
+-- ---- what the readers promise
+
+-- An error is this fault, or want of memory.
+abbrev pub Fails : {A : Type 0} → LineError → Result A LineFault → Type 0
+Fails errors.NoMemory meaning = Unit {0}
+Fails (errors.Fault f) meaning = meaning ≡ Err f
+
+-- What a function left behind is this meaning, unless memory ran out.
+abbrev pub Means : Result (Unit {0}) LineError → State → Result State LineFault → Type 0
+Means (Ok u) after meaning = meaning ≡ Ok after
+Means (Err e) after meaning = Fails e meaning
+
+-- A function found what the line's only argument names, and added its names alone.
+abbrev pub FindsAlone : Result PathRef LineError → State → State → Result Named LineFault → Type 0
+FindsAlone (Ok path) before after meaning = (meaning ≡ Ok (path, after.names)) × (after ≡ with_names before after.names)
+FindsAlone (Err e) before after meaning = Fails e meaning

@@ -1,0 +1,66 @@
+-- How far a reader of a script has come.
+use Rattle.std.specs.Prelude.{ℕ, ◌*◌, ◌+◌, ◌≤◌, List, [], ◌∷◌, ◌++◌, length, if◌then◌else◌, Bool, true, false, All}
+use Rattle.machine.specs.declared.parameters.Parameters.{Parameters}
+use Rattle.machine.specs.Maps.{parameters_of}
+use Rattle.script_text.specs.declared.op.Op.{Op}
+use Rattle.script_text.specs.declared.tasks.TaskRange.{TaskRange}
+use Rattle.script_text.specs.declared.reader.Reader.{Reader}
+use Rattle.script_text.specs.declared.kind.Place.{Place}
+use Rattle.script_text.specs.declared.kind.Place.TheVariants.{Start, Head, Thread}
+use Rattle.script_text.specs.Tasks.{RiseFrom}
+use Rattle.script_text.specs.Values.{PhaseValue, threads_in}
+use Rattle.script_text.specs.Canonical.{AreNamed}
+
+-- The lines so far: the phases that are closed, the order and the closed threads of the open phase, and the ops of the open thread.
+pub record State : Type 0 where
+  pub place : Place
+  pub machine : Parameters
+  pub tasks : List TaskRange
+  pub names : List (List ℕ)
+  pub phases : List PhaseValue
+  pub order : List ℕ
+  pub threads : List (List Op)
+  pub ops : List Op
+  pub weight : ℕ
+
+abbrev pub is_start : Place → Bool
+is_start Start = true
+is_start place = false
+
+abbrev pub is_head : Place → Bool
+is_head Head = true
+is_head place = false
+
+abbrev pub is_thread : Place → Bool
+is_thread Thread = true
+is_thread place = false
+
+-- the open thread, if there is one, is closed
+abbrev pub close_thread : State → State
+close_thread s = if is_thread s.place then record s { threads = s.threads ++ s.ops ∷ []; ops = [] } else s
+
+-- the open phase, if there is one, is closed
+abbrev pub close_phase : State → State
+close_phase s = if is_head s.place then s else record (close_thread s) { phases = s.phases ++ (record { order = s.order; threads = (close_thread s).threads }) ∷ []; order = []; threads = [] }
+
+-- the state of a reader
+abbrev pub state_of : Reader → State
+state_of r = record { place = r.place; machine = parameters_of r.machine; tasks = r.tasks.items; names = r.names; phases = r.phases.items; order = r.order.items; threads = r.threads.items; ops = r.ops.items; weight = r.weight }
+
+-- What the lines so far keep to, with at most so many closed phases and closed threads of the open phase, and so many names of
+-- an op that is not yet pushed. An op weighs 1 at least and names four names at most, so
+-- that these stay few.
+pub record InLimits (most threads_most extra : ℕ) (s : State) : Type 0 where
+  pub names : length s.names ≤ 4 * s.weight + extra
+  pub weight : s.weight ≤ 4000000
+  pub tasks : RiseFrom 0 s.tasks
+  pub phases : length s.phases ≤ most
+  pub threads : length s.threads ≤ threads_most
+  pub each : All (λ p. length p.threads ≤ 16) s.phases
+  pub ops_named : AreNamed (length s.names) s.ops
+  pub threads_named : All (AreNamed (length s.names)) s.threads
+  pub phases_named : All (AreNamed (length s.names)) (threads_in s.phases)
+
+-- one phase more can be closed
+abbrev pub IsSound : State → Type 0
+IsSound s = InLimits 63 15 0 s

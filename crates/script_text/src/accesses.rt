@@ -1,0 +1,99 @@
+//! The lines that are accesses.
+ghost use Rattle.std.specs.Prelude.{◌≡◌, ◌+◌, ◌*◌, ◌-◌, ◌<◌, ◌^◌, ◌++◌, IfErr, OnOk};
+ghost use Rattle.script_text.specs.States.{state_of, IsSound};
+ghost use Rattle.script_text.specs.Meaning.{means, sweep_ops, Means};
+ghost use Rattle.script_text.specs.declared.fault.LineError.TheVariants as errors;
+ghost use Rattle.script_text.specs.declared.kind.Kind.TheVariants as kinds;
+
+use crate::arguments::{Sweep, access_args, sweep_args, touch_args};
+use crate::fault::{LineError, LineFault};
+use crate::op::Op;
+use crate::paths::find_path;
+use crate::reader::Reader;
+use crate::tasks::declared_task;
+
+impl Reader {
+    /// `access TASK CPU ADDR`
+    #[tactic(auto, unfolding(crate::specs::Meaning::means), using(crate::proofs::Keeping::keeping))]
+    pub fn access(&mut self, text: &[u8]) -> Result<(), LineError>
+        requires { IsSound (state_of self.old) }
+        ensures said { Means result (state_of self.new) (means kinds.Access (state_of self.old) text.now) }
+        ensures sound { OnOk result (IsSound (state_of self.new)) }
+    {
+        let Some(used) = access_args(&self.machine, text) else {
+            return Err(LineError::Fault(LineFault::BadArgument));
+        };
+        let Some(task) = declared_task(&self.tasks, used.task) else {
+            return Err(LineError::Fault(LineFault::UnknownTask));
+        };
+        let cpu = used.cpu;
+        let addr = used.at;
+        self.push(Op::Access { task, cpu, addr })
+    }
+
+    /// `sweep TASK CPU ADDR COUNT STRIDE`
+    #[tactic(auto, unfolding(crate::specs::Meaning::means), using(crate::proofs::Keeping::keeping))]
+    pub fn sweep(&mut self, text: &[u8]) -> Result<(), LineError>
+        requires { IsSound (state_of self.old) }
+        ensures said { Means result (state_of self.new) (means kinds.Sweep (state_of self.old) text.now) }
+        ensures sound { OnOk result (IsSound (state_of self.new)) }
+    {
+        let Some(sweep) = sweep_args(&self.machine, text) else {
+            return Err(LineError::Fault(LineFault::BadArgument));
+        };
+        let Some(task) = declared_task(&self.tasks, sweep.first.task) else {
+            return Err(LineError::Fault(LineFault::UnknownTask));
+        };
+        self.push_sweep(task, &sweep)
+    }
+
+    /// `touch PATH OFFSET TASK CPU`
+    #[tactic(auto, unfolding(crate::specs::Meaning::means), using(crate::proofs::Keeping::keeping))]
+    pub fn touch(&mut self, text: &[u8]) -> Result<(), LineError>
+        requires { IsSound (state_of self.old) }
+        ensures said { Means result (state_of self.new) (means kinds.Touch (state_of self.old) text.now) }
+        ensures sound { OnOk result (IsSound (state_of self.new)) }
+    {
+        let Some((word, used)) = touch_args(&self.machine, text) else {
+            return Err(LineError::Fault(LineFault::BadArgument));
+        };
+        let path = match find_path(word, self.machine.domains, &mut self.names) {
+            Ok(path) => path,
+            Err(error) => return Err(error),
+        };
+        let Some(task) = declared_task(&self.tasks, used.task) else {
+            return Err(LineError::Fault(LineFault::UnknownTask));
+        };
+        let Some(path) = path else {
+            return Err(LineError::Fault(LineFault::TooLarge));
+        };
+        let offset = used.at;
+        let cpu = used.cpu;
+        self.push(Op::Touch {
+            path,
+            offset,
+            task,
+            cpu,
+        })
+    }
+}
+
+/// Adds the accesses of a sweep, for which there is room.
+pub fn push_accesses(ops: &mut Vec<Op>, task: u32, sweep: &Sweep) -> Result<(), LineError>
+    requires some { 0 < sweep.now.count }
+    requires last { sweep.now.first.at + (sweep.now.count - 1) * sweep.now.stride < 2 ^ 48 }
+    ensures done { OnOk result (ops.new.items ≡ ops.old.items ++ sweep_ops task sweep.now) }
+    ensures memory { IfErr result (λ e. e ≡ errors.NoMemory) }
+{
+    let first = sweep.first;
+    let stride = sweep.stride;
+    for i in 0..sweep.count {
+        let addr = first.at + i * stride;
+        ops.push(Op::Access {
+            task,
+            cpu: first.cpu,
+            addr,
+        })?;
+    }
+    Ok(())
+}

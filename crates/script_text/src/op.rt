@@ -1,0 +1,49 @@
+//! What a thread does.
+
+use crate::bytes::Bytes;
+use path_names::PathRef;
+
+/// One op of a thread: a file command or a memory access (this project's profile). All but `Access` are commands.
+#[derive(Drop)]
+pub enum Op {
+    /// `mkdir PATH`: makes a group.
+    Mkdir {
+        path: PathRef,
+    },
+    /// `rmdir PATH`: removes a group.
+    Rmdir {
+        path: PathRef,
+    },
+    /// `write PATH TEXT`: writes a text of at most 4,096 bytes to a file, without the newline that `echo` adds.
+    Write {
+        path: PathRef,
+        text: Bytes,
+    },
+    /// `read PATH`: reads a file.
+    Read {
+        path: PathRef,
+    },
+    /// `list PATH`: lists a directory.
+    List {
+        path: PathRef,
+    },
+    /// `flush` or `flush DOMAIN`: empties the caches of every domain, or of one.
+    Flush {
+        domain: Option<u8>,
+    },
+    /// `tick`: tests the RMIDs in limbo.
+    Tick,
+    /// `access TASK CPU ADDR`: a task that runs on a CPU uses an address, in bytes and below 2^48.
+    Access {
+        task: u32,
+        cpu: u8,
+        addr: u64,
+    },
+    /// `touch PATH OFFSET TASK CPU`: a task that runs on a CPU uses a byte of a group's pseudo-locked region.
+    Touch {
+        path: PathRef,
+        offset: u64,
+        task: u32,
+        cpu: u8,
+    },
+}

@@ -1,0 +1,102 @@
+//! Scripts.
+ghost use Rattle.std.specs.Prelude.{◌≡◌, ◌<◌, ◌≤◌, ◌+◌, length};
+ghost use Rattle.machine.specs.Maps.{parameters_of};
+ghost use Rattle.std.specs.List.Sorted.{IsStrictlyIncreasing};
+ghost use Rattle.script_text.specs.Canonical.{AreNamed};
+ghost use Rattle.script_text.specs.Values.{threads_of, ops_of, phase_at, first_thread};
+
+use crate::numbering::{count_threads, find_ops};
+use crate::op::Op;
+use crate::phase::Phase;
+use machine::Machine;
+use path_names::Names;
+use std::marker::Model;
+
+/// A script: a machine, its tasks, and phases of threads. Phases are numbered from 0, and threads from 0 through the whole script.
+#[derive(Drop)]
+pub struct Script {
+    pub(crate) machine: Machine,
+    pub(crate) tasks: Vec<u32>,
+    pub(crate) names: Names,
+    pub(crate) phases: Vec<Phase>,
+}
+
+impl Model for Script {
+    ghost use Rattle.machine.specs.Maps.{parameters_of};
+    ghost use Rattle.script_text.specs.Values.{ScriptValue, IsLawful};
+
+    ghost Value = { ScriptValue };
+
+    ghost view = { λ s. record { machine = parameters_of s.machine; tasks = s.tasks.items; names = s.names; phases = s.phases.items } };
+
+    ghost invariant = { λ s. IsLawful (record { machine = parameters_of s.machine; tasks = s.tasks.items; names = s.names; phases = s.phases.items }) };
+}
+
+impl Script {
+    /// The machine.
+    pub fn machine(&self) -> &Machine
+        ensures { parameters_of result.now ≡ self.now.machine }
+    {
+        &self.machine
+    }
+
+    /// The declared tasks, in rising order.
+    pub fn tasks(&self) -> &[u32]
+        ensures tasks { result.now ≡ self.now.tasks }
+        ensures rising { IsStrictlyIncreasing result.now }
+    {
+        &self.tasks
+    }
+
+    /// The names in the paths of ops.
+    pub fn names(&self) -> &Names
+        ensures { result.now ≡ self.now.names }
+    {
+        &self.names
+    }
+
+    /// How many phases there are, at most 64.
+    pub fn phases(&self) -> u32
+        ensures phases { result ≡ length self.now.phases }
+        ensures few { result ≤ 64 }
+    {
+        self.phases.len() as u32
+    }
+
+    /// The numbers of threads in whose order a phase takes its steps. A number that is no thread of the phase does nothing.
+    pub fn order(&self, phase: u32) -> &[u32]
+        requires { phase < length self.now.phases }
+        ensures { result.now ≡ (phase_at self.now phase).order }
+    {
+        &self.phases[phase as usize].order
+    }
+
+    /// The number of the first thread of a phase, which is how many threads stand before it.
+    #[tactic(auto, using(crate::proofs::Threading::within))]
+    pub fn first_thread(&self, phase: u32) -> u32
+        requires { phase < length self.now.phases }
+        ensures first { result ≡ first_thread self.now phase }
+        ensures within { result + length (phase_at self.now phase).threads ≤ length (threads_of self.now) }
+        ensures few { result ≤ 1024 }
+    {
+        count_threads(&self.phases[..phase as usize])
+    }
+
+    /// How many threads a phase has, at most 16.
+    pub fn thread_count(&self, phase: u32) -> u32
+        requires { phase < length self.now.phases }
+        ensures count { result ≡ length (phase_at self.now phase).threads }
+        ensures few { result ≤ 16 }
+    {
+        self.phases[phase as usize].thread_count() as u32
+    }
+
+    /// The ops of a thread, each sweep as its accesses.
+    pub fn ops(&self, thread: u32) -> &[Op]
+        requires { thread < length (threads_of self.now) }
+        ensures ops { result.now ≡ ops_of self.now thread }
+        ensures named { AreNamed (length self.now.names) result.now }
+    {
+        find_ops(&self.phases, thread as usize)
+    }
+}

@@ -1,0 +1,151 @@
+//! Declared tasks.
+ghost use Rattle.std.specs.Prelude.{◌≡◌, ◌≤◌, ◌++◌, nat_lt, length, OnOk, IfSome};
+ghost use Rattle.std.specs.List.{list_any, position_or_len};
+ghost use Rattle.script_text.specs.Lines.{words};
+ghost use Rattle.script_text.specs.Tasks.{tasks_of, id_of, range_of, declared, declared_from, meets, is_behind, has_task, task_of, count_of, ids_in, ids_of, Declares, RiseFrom};
+
+use crate::fault::{LineError, LineFault};
+use crate::words::{next_word, no_word};
+use num_text::{cut, read_dec};
+use rc_base::NoMemory;
+
+/// Tasks that one word declares, from the first id to the last.
+#[derive(Clone, Copy, Debug, PartialEq, Eq)]
+pub struct TaskRange {
+    pub first: u32,
+    pub last: u32,
+}
+
+fn id(text: &[u8]) -> Option<u32>
+    ensures { result ≡ id_of text.now }
+{
+    match read_dec(text) {
+        Some(n) if 0 < n && n < 1 << 32 => Some(n as u32),
+        _ => None,
+    }
+}
+
+fn range(first: u32, last: u32) -> Option<TaskRange>
+    ensures range { result ≡ range_of first last }
+    ensures order { IfSome result (λ t. t.first ≤ t.last) }
+{
+    if last < first {
+        None
+    } else {
+        Some(TaskRange { first, last })
+    }
+}
+
+#[tactic(auto, unfolding(crate::specs::Tasks::tasks_of))]
+fn tasks_of(word: &[u8]) -> Option<TaskRange>
+    ensures tasks { result ≡ tasks_of word.now }
+    ensures order { IfSome result (λ t. t.first ≤ t.last) }
+{
+    let (first, last) = cut(word, b'-');
+    match last {
+        None => {
+            let id = id(word)?;
+            range(id, id)
+        }
+        Some(last) => {
+            let first = id(first)?;
+            let last = id(last)?;
+            range(first, last)
+        }
+    }
+}
+
+fn meets_any(all: &[TaskRange], t: TaskRange) -> bool
+    ensures { result ≡ list_any (meets t) all.now }
+{
+    all.iter().any(|u| t.first <= u.last && u.first <= t.last)
+}
+
+// How many ranges begin before this one.
+#[tactic(auto, using(crate::proofs::Parting::within))]
+fn place(all: &[TaskRange], t: TaskRange) -> usize
+    ensures within { result ≤ length all.now }
+    ensures place { result ≡ position_or_len (is_behind t) all.now }
+{
+    all.iter().take_while(|u| !(t.first < u.first)).count()
+}
+
+/// Adds the tasks of the words of a line.
+#[tactic(auto, unfolding(crate::specs::Tasks::declared_from), using(crate::proofs::Rising::inserted))]
+pub fn declare(all: &mut Vec<TaskRange>, text: &[u8]) -> Result<(), LineError>
+    requires { RiseFrom 0 all.old.items }
+    ensures said { Declares result all.new.items (declared all.old.items (words text.now)) }
+    ensures rising { OnOk result (RiseFrom 0 all.new.items) }
+{
+    if no_word(text) {
+        return Err(LineError::Fault(LineFault::BadTasks));
+    }
+    let mut left = text;
+    'words: loop {
+        let Some((word, rest)) = next_word(left) else {
+            return Ok(());
+        };
+        let Some(found) = tasks_of(word) else {
+            return Err(LineError::Fault(LineFault::BadTasks));
+        };
+        if meets_any(all, found) {
+            return Err(LineError::Fault(LineFault::BadTasks));
+        }
+        match all.insert(place(all, found), found) {
+            Ok(()) => {}
+            Err(_) => return Err(LineError::NoMemory),
+        }
+        left = rest;
+    }
+}
+
+/// Whether there are more tasks than a script may declare.
+pub fn is_too_many(all: &[TaskRange]) -> bool
+    ensures { result ≡ nat_lt 4096 (count_of all.now) }
+{
+    let mut count: u64 = 0;
+    for t in all {
+        count += (u64::from(t.last) + 1).saturating_sub(u64::from(t.first));
+        if count > 4096 {
+            return true;
+        }
+    }
+    false
+}
+
+fn is_declared(all: &[TaskRange], id: u32) -> bool
+    ensures { result ≡ list_any (has_task id) all.now }
+{
+    all.iter().any(|t| t.first <= id && id <= t.last)
+}
+
+/// The task of this id, where it is declared.
+pub fn declared_task(all: &[TaskRange], id: u64) -> Option<u32>
+    ensures { result ≡ task_of all.now id }
+{
+    match u32::try_from(id) {
+        Ok(id) if is_declared(all, id) => Some(id),
+        _ => None,
+    }
+}
+
+// Adds the ids of a range.
+fn push_range(ids: &mut Vec<u32>, t: TaskRange) -> Result<(), NoMemory>
+    ensures { OnOk result (ids.new.items ≡ ids.old.items ++ ids_in t) }
+{
+    let size = (u64::from(t.last) + 1).saturating_sub(u64::from(t.first));
+    for i in 0..size {
+        ids.push((u64::from(t.first) + i) as u32)?;
+    }
+    Ok(())
+}
+
+/// Adds the ids of all ranges.
+pub fn push_ids(ids: &mut Vec<u32>, all: &[TaskRange]) -> Result<(), NoMemory>
+    ensures { OnOk result (ids.new.items ≡ ids.old.items ++ ids_of all.now) }
+{
+    for t in all {
+        push_range(ids, *t)?;
+    }
+    Ok(())
+}
