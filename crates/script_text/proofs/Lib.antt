@@ -5,8 +5,12 @@ pub mod Follows
 pub mod Escaping
 pub mod Ranges
 pub mod Rising
+pub mod Searching
 pub mod Threading
 pub mod Naming
 pub mod Joining
 pub mod Keeping
+pub mod Weighing
+pub mod Used
+pub mod Fitting
 pub mod InOrder

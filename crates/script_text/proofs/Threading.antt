@@ -1,6 +1,7 @@
 -- Threads in phases.
-use Rattle.std.proofs.Common.{◌≡◌, ℕ, zero, suc, ◌+◌, ◌<◌, ◌≤◌, List, [], ◌∷◌, length, take, get_or, refl, ◌∙◌, arith}
+use Rattle.std.proofs.Common.{◌≡◌, ℕ, zero, suc, ◌+◌, ◌<◌, ◌≤◌, List, [], ◌∷◌, length, take, get_or, All, HoldsAt, Option, Some, None, IfSome, MatchOption, Bor, refl, sym, subst, ◌∙◌, arith}
 use Rattle.std.proofs.lemmas.List.{get_or_append_left, get_or-append-add, length-append}
+use Rattle.std.proofs.lemmas.List.Elements.{All-nil, All-head, All-tail}
 use Rattle.std.proofs.lemmas.List.Folds.{length-flat_map-take}
 use Rattle.script_text.specs.declared.op.Op.{Op}
 use Rattle.script_text.specs.Values.{PhaseValue, threads_in}
@@ -27,3 +28,23 @@ thread_in (p ∷ ps) (suc i) left thread d e h s n =
 -- the threads of a phase stand among all
 pub within : (phases : List PhaseValue) (i : ℕ) (d : PhaseValue) → i < length phases → length (threads_in (take i phases)) + length (get_or phases i d).threads ≤ length (threads_in phases)
 within phases i d h = length-flat_map-take (λ (p : PhaseValue). p.threads) phases i d h
+
+-- no ops stand behind the last thread
+pub no_thread : (threads : List (List Op)) (thread : ℕ) → length threads ≤ thread → get_or threads thread [] ≡ []
+no_thread [] thread h = refl
+no_thread (t ∷ ts) zero h = absurd (omega arith)
+no_thread (t ∷ ts) (suc thread) h = no_thread ts thread (omega arith)
+
+pub ruleset finding = (thread_in, no_thread)
+
+module _ (P : Op → Type 0) where
+  -- what is true of all ops of all threads is true of those of one
+  pub in_thread : (threads : List (List Op)) (thread : ℕ) → All (λ ops. All P ops) threads → All P (get_or threads thread [])
+  in_thread [] thread all = All-nil P
+  in_thread (t ∷ ts) zero all = All-head (λ ops. All P ops) t ts all
+  in_thread (t ∷ ts) (suc thread) all = in_thread ts thread (All-tail (λ ops. All P ops) t ts all)
+
+  -- and of one op that is found
+  pub found_op : (ops : List Op) (i : ℕ) (found : Option (Bor Op)) → MatchOption found (length ops ≤ i) (λ o. (i < length ops) × HoldsAt (λ op. o.now ≡ op) ops i) → All P ops → IfSome found (λ o. P o.now)
+  found_op ops i None h all = tt
+  found_op ops i (Some o) h all = subst P (sym (h.1 o.now)) (all i o.now h.0)

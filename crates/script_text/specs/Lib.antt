@@ -5,6 +5,7 @@ pub mod Arguments
 pub mod Escapes
 pub mod Paths
 pub mod Weights
+pub mod Fits
 pub mod Values
 pub mod States
 pub mod Kinds

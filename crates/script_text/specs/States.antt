@@ -1,5 +1,5 @@
 -- How far a reader of a script has come.
-use Rattle.std.specs.Prelude.{ℕ, ◌*◌, ◌+◌, ◌≤◌, List, [], ◌∷◌, ◌++◌, length, if◌then◌else◌, Bool, true, false, All}
+use Rattle.std.specs.Prelude.{◌≡◌, ℕ, ◌*◌, ◌+◌, ◌≤◌, List, [], ◌∷◌, ◌++◌, length, if◌then◌else◌, Bool, true, false, All, sum_by}
 use Rattle.machine.specs.declared.parameters.Parameters.{Parameters}
 use Rattle.machine.specs.Maps.{parameters_of}
 use Rattle.script_text.specs.declared.op.Op.{Op}
@@ -7,9 +7,11 @@ use Rattle.script_text.specs.declared.tasks.TaskRange.{TaskRange}
 use Rattle.script_text.specs.declared.reader.Reader.{Reader}
 use Rattle.script_text.specs.declared.kind.Place.{Place}
 use Rattle.script_text.specs.declared.kind.Place.TheVariants.{Start, Head, Thread}
-use Rattle.script_text.specs.Tasks.{RiseFrom}
+use Rattle.script_text.specs.Tasks.{RiseFrom, ids_of}
 use Rattle.script_text.specs.Values.{PhaseValue, threads_in}
 use Rattle.script_text.specs.Canonical.{AreNamed}
+use Rattle.script_text.specs.Fits.{AreFit}
+use Rattle.script_text.specs.Weights.{weights_of}
 
 -- The lines so far: the phases that are closed, the order and the closed threads of the open phase, and the ops of the open thread.
 pub record State : Type 0 where
@@ -64,3 +66,26 @@ pub record InLimits (most threads_most extra : ℕ) (s : State) : Type 0 where
 -- one phase more can be closed
 abbrev pub IsSound : State → Type 0
 IsSound s = InLimits 63 15 0 s
+
+-- before the first phase
+abbrev pub is_early : Place → Bool
+is_early Start = true
+is_early Head = true
+is_early place = false
+
+-- before the first phase there are no ops
+abbrev pub BeginsBare : State → Type 0
+BeginsBare s = is_early s.place ≡ true → (s.ops ≡ []) × (s.threads ≡ []) × (s.phases ≡ [])
+
+-- The ops so far are of the machine and its tasks, and weigh no more than is counted.
+pub record IsFit (s : State) : Type 0 where
+  pub ops : AreFit s.machine (ids_of s.tasks) s.ops
+  pub threads : All (AreFit s.machine (ids_of s.tasks)) s.threads
+  pub phases : All (AreFit s.machine (ids_of s.tasks)) (threads_in s.phases)
+  pub light : sum_by (weights_of s.machine) (threads_in s.phases) + sum_by (weights_of s.machine) s.threads + weights_of s.machine s.ops ≤ s.weight
+  pub counted : s.weight ≤ 4000000
+
+-- what the lines so far keep to, whatever the next one is
+pub record IsReady (s : State) : Type 0 where
+  pub bare : BeginsBare s
+  pub fit : IsFit s

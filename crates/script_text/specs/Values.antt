@@ -1,10 +1,12 @@
 -- What a script says: a machine, its tasks, and phases of threads, each a list of ops.
-use Rattle.std.specs.Prelude.{ℕ, ◌≤◌, List, [], length, take, All, Option, slice_get, slice_index_or}
+use Rattle.std.specs.Prelude.{ℕ, ◌≤◌, List, [], length, take, All, Option, slice_get, slice_index_or, sum_by}
 use Rattle.std.specs.List.{flat_map}
 use Rattle.std.specs.List.Sorted.{IsStrictlyIncreasing}
 use Rattle.machine.specs.declared.parameters.Parameters.{Parameters}
 use Rattle.script_text.specs.declared.op.Op.{Op}
 use Rattle.script_text.specs.Canonical.{AreNamed}
+use Rattle.script_text.specs.Fits.{AreFit}
+use Rattle.script_text.specs.Weights.{weights_of}
 
 -- a phase: the order in which its threads take their steps, and the ops of each thread
 pub record PhaseValue : Type 0 where
@@ -41,6 +43,10 @@ phase_at script phase = slice_index_or script.phases phase (record { order = [];
 abbrev pub first_thread : ScriptValue → ℕ → ℕ
 first_thread script phase = length (threads_in (take phase script.phases))
 
+-- what the ops of all threads weigh together
+abbrev pub total_weight : ScriptValue → ℕ
+total_weight script = sum_by (weights_of script.machine) (threads_of script)
+
 -- phases of a script, of so many threads
 pub record AreFew (phases : List PhaseValue) : Type 0 where
   pub few_phases : length phases ≤ 64
@@ -51,3 +57,5 @@ pub record IsLawful (script : ScriptValue) : Type 0 where
   pub rising : IsStrictlyIncreasing script.tasks
   pub few : AreFew script.phases
   pub named : All (AreNamed (length script.names)) (threads_of script)
+  pub fit : All (AreFit script.machine script.tasks) (threads_of script)
+  pub light : total_weight script ≤ 4000000

@@ -1,5 +1,5 @@
 -- What an op weighs against the limit of a script.
-use Rattle.std.specs.Prelude.{ℕ, ◌+◌, ◌*◌}
+use Rattle.std.specs.Prelude.{ℕ, ◌+◌, ◌*◌, List, sum_by}
 use Rattle.machine.specs.declared.parameters.Parameters.{Parameters}
 use Rattle.path_names.specs.declared.path_ref.PathRef.{PathRef}
 use Rattle.path_names.specs.declared.path_ref.PathRef.TheVariants.{File}
@@ -36,3 +36,7 @@ weight_of m (ops.Flush domain) = slices_of m + 1
 weight_of m ops.Tick = looks_weight m
 weight_of m (ops.Access task cpu addr) = 1
 weight_of m (ops.Touch path offset task cpu) = 2
+
+-- what ops weigh together
+abbrev pub weights_of : Parameters → List Op → ℕ
+weights_of m ops = sum_by (weight_of m) ops

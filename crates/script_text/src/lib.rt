@@ -24,6 +24,7 @@ mod reading;
 pub mod script;
 mod structure;
 mod tasks;
+pub mod text_lines;
 mod weights;
 mod words;
 
@@ -33,6 +34,7 @@ pub use op::Op;
 pub use printing::push_op;
 pub use reading::read_script;
 pub use script::Script;
+pub use text_lines::next_line;
 
 #[cfg(test)]
 mod tests;

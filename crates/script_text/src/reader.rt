@@ -1,6 +1,6 @@
 //! What was read of a script so far.
 ghost use Rattle.std.specs.Prelude.{◌≡◌, ◌+◌, ◌*◌, ◌-◌, ◌<◌, ◌^◌, length, Ok, OnOk, IfOk};
-ghost use Rattle.script_text.specs.States.{state_of, close_thread, close_phase, InLimits, IsSound};
+ghost use Rattle.script_text.specs.States.{state_of, close_thread, close_phase, InLimits, IsSound, IsFit, IsReady};
 ghost use Rattle.script_text.specs.Reading.{Reads, finished, opening, script_in};
 ghost use Rattle.script_text.specs.Canonical.{AreKnown, op_ids};
 ghost use Rattle.script_text.specs.Meaning.{with_op, with_ops, sweep_ops, Means};
@@ -38,9 +38,11 @@ pub struct Reader {
 
 impl Reader {
     /// Nothing was read.
+    #[tactic(auto, using(crate::proofs::Fitting::ready_at_opening))]
     pub fn create(alloc: Global) -> Result<Reader, NoMemory>
         ensures opening { IfOk result (λ r. state_of r ≡ opening) }
         ensures sound { IfOk result (λ r. IsSound (state_of r)) }
+        ensures ready { IfOk result (λ r. IsReady (state_of r)) }
     {
         let names = Names::create(alloc)?;
         Ok(Reader {
@@ -61,6 +63,7 @@ impl Reader {
     pub fn finish(self, lines: u32) -> Result<Script, ScriptError>
         requires lines { lines + 1 < 2 ^ 32 }
         requires sound { IsSound (state_of self) }
+        requires ready { IsReady (state_of self) }
         ensures { Reads result (finished lines (state_of self)) }
     {
         let mut reader = self;
@@ -77,7 +80,8 @@ impl Reader {
     }
 
     fn into_script(self) -> Result<Script, ScriptError>
-        requires { InLimits 64 15 0 (state_of self) }
+        requires limits { InLimits 64 15 0 (state_of self) }
+        requires fit { IsFit (state_of self) }
         ensures { Reads result (Ok (script_in (state_of self))) }
     {
         let Reader {

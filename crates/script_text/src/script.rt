@@ -1,9 +1,10 @@
 //! Scripts.
-ghost use Rattle.std.specs.Prelude.{◌≡◌, ◌<◌, ◌≤◌, ◌+◌, length};
+ghost use Rattle.std.specs.Prelude.{◌≡◌, ◌<◌, ◌≤◌, ◌+◌, length, All, IfSome, option_copied};
 ghost use Rattle.machine.specs.Maps.{parameters_of};
 ghost use Rattle.std.specs.List.Sorted.{IsStrictlyIncreasing};
-ghost use Rattle.script_text.specs.Canonical.{AreNamed};
-ghost use Rattle.script_text.specs.Values.{threads_of, ops_of, phase_at, first_thread};
+ghost use Rattle.script_text.specs.Canonical.{IsNamed, AreNamed};
+ghost use Rattle.script_text.specs.Fits.{Fits, AreFit};
+ghost use Rattle.script_text.specs.Values.{threads_of, ops_of, op_at, phase_at, first_thread, IsLawful};
 
 use crate::numbering::{count_threads, find_ops};
 use crate::op::Op;
@@ -91,12 +92,44 @@ impl Script {
         self.phases[phase as usize].thread_count() as u32
     }
 
+    /// How many threads there are through the whole script, at most 1,024.
+    pub fn threads(&self) -> u32
+        ensures threads { result ≡ length (threads_of self.now) }
+        ensures few { result ≤ 1024 }
+
+        // All that a script keeps to.
+        ensures lawful { IsLawful self.now }
+    {
+        count_threads(&self.phases)
+    }
+
+    // The ops of a thread, and none where there is no such thread.
+    fn ops_of(&self, thread: u32) -> &[Op]
+        ensures ops { result.now ≡ ops_of self.now thread }
+        ensures named { AreNamed (length self.now.names) result.now }
+        ensures fit { AreFit self.now.machine self.now.tasks result.now }
+        ensures few { length result.now ≤ 4000000 }
+    {
+        find_ops(&self.phases, thread as usize)
+    }
+
     /// The ops of a thread, each sweep as its accesses.
     pub fn ops(&self, thread: u32) -> &[Op]
         requires { thread < length (threads_of self.now) }
         ensures ops { result.now ≡ ops_of self.now thread }
         ensures named { AreNamed (length self.now.names) result.now }
+        ensures fit { All (Fits self.now.machine self.now.tasks) result.now }
+        ensures few { length result.now ≤ 4000000 }
     {
-        find_ops(&self.phases, thread as usize)
+        self.ops_of(thread)
+    }
+
+    /// An op, by the numbers of its thread and its own, or None where there is none.
+    pub fn op(&self, thread: u32, op: u32) -> Option<&Op>
+        ensures op { option_copied result ≡ op_at self.now thread op }
+        ensures named { IfSome result (λ o. IsNamed (length self.now.names) o.now) }
+        ensures fit { IfSome result (λ o. Fits self.now.machine self.now.tasks o.now) }
+    {
+        self.ops_of(thread).get(op as usize)
     }
 }

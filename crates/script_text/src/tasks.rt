@@ -1,6 +1,6 @@
 //! Declared tasks.
-ghost use Rattle.std.specs.Prelude.{◌≡◌, ◌≤◌, ◌++◌, nat_lt, length, OnOk, IfSome};
-ghost use Rattle.std.specs.List.{list_any, position_or_len};
+ghost use Rattle.std.specs.Prelude.{◌≡◌, ◌<◌, ◌≤◌, ◌++◌, nat_lt, length, OnOk, IfSome};
+ghost use Rattle.std.specs.List.{list_any, position_or_len, AllWithin};
 ghost use Rattle.script_text.specs.Lines.{words};
 ghost use Rattle.script_text.specs.Tasks.{tasks_of, id_of, range_of, declared, declared_from, meets, is_behind, has_task, task_of, count_of, ids_in, ids_of, Declares, RiseFrom};
 
@@ -55,19 +55,35 @@ fn tasks_of(word: &[u8]) -> Option<TaskRange>
     }
 }
 
+// How many ranges end before this id.
+fn ended(all: &[TaskRange], id: u32) -> usize
+    requires { RiseFrom 0 all.now }
+    ensures before { AllWithin (λ t. t.last < id) all.now 0 result }
+    ensures behind { AllWithin (λ t. id ≤ t.last) all.now result (length all.now) }
+{
+    all.partition_point(|t| t.last < id)
+}
+
+// Whether a range meets this one: if any does, the first that does not end before this one begins.
+#[tactic(auto, using(crate::proofs::Searching::meeting))]
 fn meets_any(all: &[TaskRange], t: TaskRange) -> bool
+    requires rising { RiseFrom 0 all.now }
+    requires order { t.first ≤ t.last }
     ensures { result ≡ list_any (meets t) all.now }
 {
-    all.iter().any(|u| t.first <= u.last && u.first <= t.last)
+    match all.get(ended(all, t.first)) {
+        Some(u) => u.first <= t.last,
+        None => false,
+    }
 }
 
 // How many ranges begin before this one.
-#[tactic(auto, using(crate::proofs::Parting::within))]
 fn place(all: &[TaskRange], t: TaskRange) -> usize
+    requires { RiseFrom 0 all.now }
     ensures within { result ≤ length all.now }
     ensures place { result ≡ position_or_len (is_behind t) all.now }
 {
-    all.iter().take_while(|u| !(t.first < u.first)).count()
+    all.partition_point(|u| u.first <= t.first)
 }
 
 /// Adds the tasks of the words of a line.
@@ -113,14 +129,20 @@ pub fn is_too_many(all: &[TaskRange]) -> bool
     false
 }
 
+#[tactic(auto, using(crate::proofs::Searching::searching))]
 fn is_declared(all: &[TaskRange], id: u32) -> bool
+    requires { RiseFrom 0 all.now }
     ensures { result ≡ list_any (has_task id) all.now }
 {
-    all.iter().any(|t| t.first <= id && id <= t.last)
+    match all.get(ended(all, id)) {
+        Some(t) => t.first <= id,
+        None => false,
+    }
 }
 
 /// The task of this id, where it is declared.
 pub fn declared_task(all: &[TaskRange], id: u64) -> Option<u32>
+    requires { RiseFrom 0 all.now }
     ensures { result ≡ task_of all.now id }
 {
     match u32::try_from(id) {

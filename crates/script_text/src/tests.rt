@@ -395,6 +395,15 @@ fn orders(alloc: Global, script: &Script) -> Result<Vec<u32>, Fail> {
     Ok(orders)
 }
 
+// The canonical text of an op, and nothing where there is none.
+fn text_of(alloc: Global, script: &Script, thread: u32, op: u32) -> Result<Vec<u8>, Fail> {
+    let mut text = Vec::new(alloc);
+    if let Some(op) = script.op(thread, op) {
+        push_op(alloc, op, script.names(), &mut text)?;
+    }
+    Ok(text)
+}
+
 #[test]
 fn a_script_is_what_its_lines_say(rt: HostRuntime) -> Result<(), Fail> {
     let alloc = rt.alloc();
@@ -407,6 +416,17 @@ fn a_script_is_what_its_lines_say(rt: HostRuntime) -> Result<(), Fail> {
     assert_eq!(rt; script.phases(), 3);
     assert_eq!(rt; orders(alloc, &script)?.as_slice(), [3, 0, 0, 7].as_slice());
     assert_eq!(rt; listing(alloc, &script)?.as_slice(), THEIR_OPS);
+    assert_eq!(rt; script.threads(), 3);
+    assert_eq!(rt;
+        text_of(alloc, &script, 1, 3)?.as_slice(),
+        b"access 7 0 0".as_slice()
+    );
+    assert_eq!(rt;
+        text_of(alloc, &script, 2, 5)?.as_slice(),
+        b"rmdir /".as_slice()
+    );
+    assert_eq!(rt; text_of(alloc, &script, 1, 4)?.as_slice(), b"".as_slice());
+    assert_eq!(rt; text_of(alloc, &script, 3, 0)?.as_slice(), b"".as_slice());
     let copy = Bytes::copy(alloc, b"L3:0=f")?;
     assert_eq!(rt; copy.as_slice(), b"L3:0=f".as_slice());
     Ok(())

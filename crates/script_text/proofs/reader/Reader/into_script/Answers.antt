@@ -1,6 +1,9 @@
-use Rattle.std.proofs.Common.{◌≡◌, ℕ, List, ◌++◌, sym, ap, subst, ◌∙◌}
+use Rattle.std.proofs.Common.{◌≡◌, ℕ, List, ◌++◌, All, sym, ap, subst, ◌∙◌, arith}
 use Rattle.std.specs.List.Sorted.{IsStrictlyIncreasing}
 use Rattle.script_text.specs.Tasks.{ids_of}
+use Rattle.script_text.specs.Values.{threads_in}
+use Rattle.script_text.specs.Fits.{AreFit}
+use Rattle.machine.specs.Maps.{parameters_of}
 use Rattle.script_text.proofs.Rising.{ids_increase}
 use Rattle.script_text.proofs.reader.Reader.into_script.Goals as goal
 
@@ -12,7 +15,9 @@ invariant_of-result c =
     ∙ ap (λ (xs : List ℕ). xs ++ ids_of c.deref.result.now) c.new-tasks.ensures.items
     ∙ ap ids_of c.deref.ensures.value in
     record {
-      rising = subst IsStrictlyIncreasing (sym ids) (ids_increase ranges c.requires.tasks);
-      few = record { few_phases = c.requires.phases; few_threads = c.requires.each };
-      named = c.requires.phases_named;
+      rising = subst IsStrictlyIncreasing (sym ids) (ids_increase ranges c.requires.limits.tasks);
+      few = record { few_phases = c.requires.limits.phases; few_threads = c.requires.limits.each };
+      named = c.requires.limits.phases_named;
+      fit = subst (λ (tasks : List ℕ). All (AreFit (parameters_of c.args.self.machine) tasks) (threads_in c.args.self.phases.items)) (sym ids) c.requires.fit.phases;
+      light = omega (arith, c.requires.fit.light, c.requires.fit.counted);
     }

@@ -2,7 +2,7 @@ use Rattle.std.proofs.Common.{◌≡◌, ◌<◌, length, true, false, ap, ◌�
 use Rattle.std.specs.List.{list_any, before_first, after_first}
 use Rattle.std.specs.Str.Lines.{strip_carriage_return}
 use Rattle.script_text.proofs.Endings.{newline, more_lines, last}
-use Rattle.script_text.proofs.reading.next_line.Goals as goal
+use Rattle.script_text.proofs.text_lines.next_line.Goals as goal
 
 pub returns-in-Some : goal.returns-in-Some
 returns-in-Some c =
