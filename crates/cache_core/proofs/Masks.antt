@@ -3,7 +3,7 @@ use Rattle.std.proofs.Common.{◌≡◌, ℕ, suc, zero, ◌+◌, ◌<◌, ap, s
 use Rattle.std.specs.Prelude.{IsTrue}
 use Rattle.std.proofs.lemmas.Nat.{mod-pow-add}
 use Rattle.std.proofs.lemmas.Bool.{cases_lt, eq-eqb}
-use Rattle.cache_core.specs.Fills.{has_way}
+use Rattle.cbm.specs.Masks.{has_way}
 
 -- a mask with a bit below `ways` has such a way
 pub some_way : (mask ways : ℕ) → 0 < mask % 2 ^ ways → (w : ℕ) × (w < ways) × IsTrue (has_way mask w)

@@ -1,19 +1,21 @@
 -- An access adds its entry to what the cache stands for.
-use Rattle.std.proofs.Common.{◌≡◌, ℕ, ◌+◌, ◌%◌, ◌<◌, ◌≤◌, max, Bool, true, false, cond, not, ◌&&◌, ◌==◌, List, [], ◌∷◌, ◌++◌, length, Option, Some, None, option_map, arith, refl, sym, ◌∙◌, ap, subst, ◌↔◌, IsSome, inl, inr, set, get_or, slice_set, slice_index_or, length-set}
-use Rattle.std.specs.Prelude.{IfSome, is_some, ◌^◌}
+use Rattle.std.proofs.Common.{◌≡◌, ℕ, ◌+◌, ◌%◌, ◌<◌, ◌≤◌, max, Bool, true, false, cond, not, ◌&&◌, ◌==◌, List, [], ◌∷◌, ◌++◌, length, Option, Some, None, option_map, arith, refl, sym, ◌∙◌, ap, subst, ◌↔◌, IsSome, inl, inr, set, get_or, slice_set}
+use Rattle.std.specs.Prelude.{IfSome, is_some}
 use Rattle.std.specs.Option.{option_map_or}
 use Rattle.rc_base.specs.declared.names.Gid.{Gid}
 use Rattle.std.proofs.lemmas.Bool.{true≢false, false≢true, cases_lt, cases_Bool, cond-true, cond-false, eqb-true, eqb-false, eq-eqb}
 use Rattle.std.proofs.lemmas.Option.{none-some}
-use Rattle.std.proofs.lemmas.List.{get_or-set_same, get_or-set_other, length_push, get_or_default}
+use Rattle.std.proofs.lemmas.List.{get_or-set_same, get_or-set_other, length_push}
 use Rattle.rc_base.specs.declared.names.Tag.{Tag}
+use Rattle.machine.specs.declared.machine.Machine.{Machine}
+use Rattle.machine.specs.Maps.{parameters_of}
 use Rattle.cache_core.specs.declared.entry.What.TheVariants.{Access, Raise, Flush, Look}
 use Rattle.cache_core.specs.declared.entry.SliceEntry.{SliceEntry}
 use Rattle.cache_core.specs.declared.touched.Touched.{Touched}
 use Rattle.cache_core.specs.declared.touched.Touched.TheVariants.{Hit, Filled, Stale}
 use Rattle.cache_core.specs.declared.place.Place.{Place}
 use Rattle.cache_core.specs.Fills.{Resident, IsVictim}
-use Rattle.cache_core.specs.History.{Shape, whole, IsOwn, is_own, is_of, lines_of, valid_of, decides, uses, sets_floor, held, used, floor_of, MayHappen, MayFollow}
+use Rattle.cache_core.specs.History.{Shape, IsOwn, shape_of, is_own, is_of, lines_of, valid_of, decides, uses, sets_floor, held, used, floor_of, MayHappen, MayFollow}
 use Rattle.cache_core.specs.Places.{State, IsFormed, set_in, place_in, resident_in, stamp_in, lines_in, filled_in}
 use Rattle.cache_core.specs.Stands.{StandsFor, entry, Adds, Accesses, Touches}
 use Rattle.cache_core.specs.Sums.{sum_below, one_if}
@@ -86,14 +88,22 @@ stamp_below : (o : Option Place) (clock : ℕ) → IsSome (option_map (λ (p : P
 stamp_below (Some p) clock some h = h
 stamp_below None clock some h = elim (false≢true some) [ ]
 
+-- an own set has every way
+own_width : (cache : State) (set : ℕ) → IsFormed cache.shape cache.rmids cache.clock cache.places → IsOwn cache.shape set → length (set_in cache.places set) ≡ cache.shape.ways
+own_width cache set formed own = formed.widths set own.0 ∙ cond-true (is_own cache.shape set) cache.shape.ways 0 (eq-eqb (set % cache.shape.slices) cache.shape.slice own.1)
+
+-- a set of another slice has no way
+other_width : (cache : State) (set : ℕ) → IsFormed cache.shape cache.rmids cache.clock cache.places → set < cache.shape.sets → is_own cache.shape set ≡ false → length (set_in cache.places set) ≡ 0
+other_width cache set formed inside other = formed.widths set inside ∙ cond-false (is_own cache.shape set) cache.shape.ways 0 other
+
 -- a use of a way of one set adds its entry
 pub adds_use : (old : State) (changed : List (Option Place)) (history : List SliceEntry) (thread op epoch : ℕ) (owner : Gid) (rmid mask line way : ℕ) (hit : Bool)
-    → IsFormed old.shape.sets old.shape.ways old.clock old.places → IsOwn old.shape (line % old.shape.sets)
+    → IsFormed old.shape old.rmids old.clock old.places → IsOwn old.shape (line % old.shape.sets)
     → ((w : ℕ) → resident_in changed w ≡ cond (not hit && (way == w)) (Some (record { line = line; rmid = rmid })) (resident_in (set_in old.places (line % old.shape.sets)) w))
     → ((w : ℕ) → stamp_in changed w ≡ cond (way == w) old.clock (stamp_in (set_in old.places (line % old.shape.sets)) w))
     → StandsFor old history
     → MayHappen old.shape history epoch (Access owner rmid mask line hit way)
-    → StandsFor (record { shape = old.shape; places = slice_set old.places (line % old.shape.sets) changed; floor = old.floor; clock = old.clock + 1 }) (history ++ entry thread op epoch (Access owner rmid mask line hit way) ∷ [])
+    → StandsFor (record { shape = old.shape; rmids = old.rmids; places = slice_set old.places (line % old.shape.sets) changed; floor = old.floor; clock = old.clock + 1 }) (history ++ entry thread op epoch (Access owner rmid mask line hit way) ∷ [])
 adds_use old changed history thread op epoch owner rmid mask line way hit formed own residents stamps stands may =
     let m : Shape = old.shape in
     let e : SliceEntry = entry thread op epoch (Access owner rmid mask line hit way) in
@@ -150,7 +160,7 @@ abbrev pub touching : Tag → ℕ → ℕ → Place
 touching tag line clock = record { line = line; rmid = tag.rmid; used = clock }
 
 abbrev touched_state : State → ℕ → List (Option Place) → State
-touched_state old line changed = record { shape = old.shape; places = slice_set old.places (line % old.shape.sets) changed; floor = old.floor; clock = old.clock + 1 }
+touched_state old line changed = record { shape = old.shape; rmids = old.rmids; places = slice_set old.places (line % old.shape.sets) changed; floor = old.floor; clock = old.clock + 1 }
 
 abbrev res : Option Place → Option Resident
 res o = option_map (λ (p : Place). record { line = p.line; rmid = p.rmid }) o
@@ -159,13 +169,13 @@ abbrev stamp : Option Place → ℕ
 stamp o = option_map_or (λ (p : Place). p.used) o 0
 
 hit_adds : (old : State) (tag : Tag) (line way : ℕ) (changed : List (Option Place))
-    → IsFormed old.shape.sets old.shape.ways old.clock old.places → IsOwn old.shape (line % old.shape.sets) → old.floor ≤ tag.epoch
+    → IsFormed old.shape old.rmids old.clock old.places → IsOwn old.shape (line % old.shape.sets) → old.floor ≤ tag.epoch
     → Touches (set_in old.places (line % old.shape.sets)) changed tag.mask (touching tag line old.clock) (Hit way)
     → Adds old (touched_state old line changed) tag.epoch (Access tag.owner tag.rmid tag.mask line true way)
 hit_adds old tag line way changed formed own late touched thread op history stands =
     let s0 : ℕ = line % old.shape.sets in
     let places : List (Option Place) = set_in old.places s0 in
-    let full : length places ≡ old.shape.ways = formed.full s0 own.0 in
+    let full : length places ≡ old.shape.ways = own_width old s0 formed own in
     let marked : Option Place = option_map (λ (p : Place). record p { used = old.clock }) (place_in places way) in
     let read : (w : ℕ) → place_in changed w ≡ cond (way == w) marked (place_in places w) = λ w. ap (λ ps. place_in ps w) touched.2 ∙ read_after places way w marked None touched.0 in
     let within : way < old.shape.ways = subst (λ n. way < n) full touched.0 in
@@ -179,14 +189,14 @@ hit_adds old tag line way changed formed own late touched thread op history stan
     (omega (arith, late, stands.floor), (within, subst (λ (o : Option Resident). option_map (λ (r : Resident). r.line) o ≡ Some line) (stands.holds s0 way own within) touched.1))
 
 fill_adds : (old : State) (tag : Tag) (line way : ℕ) (changed : List (Option Place))
-    → IsFormed old.shape.sets old.shape.ways old.clock old.places → IsOwn old.shape (line % old.shape.sets) → old.floor ≤ tag.epoch
+    → IsFormed old.shape old.rmids old.clock old.places → IsOwn old.shape (line % old.shape.sets) → old.floor ≤ tag.epoch
     → Touches (set_in old.places (line % old.shape.sets)) changed tag.mask (touching tag line old.clock) (Filled way)
     → Adds old (touched_state old line changed) tag.epoch (Access tag.owner tag.rmid tag.mask line false way)
 fill_adds old tag line way changed formed own late touched thread op history stands =
     let s0 : ℕ = line % old.shape.sets in
     let m : Shape = old.shape in
     let places : List (Option Place) = set_in old.places s0 in
-    let full : length places ≡ m.ways = formed.full s0 own.0 in
+    let full : length places ≡ m.ways = own_width old s0 formed own in
     let put : Option Place = Some (touching tag line old.clock) in
     let victim : IsVictim (length places) tag.mask (resident_in places) (stamp_in places) way = touched.1 in
     let read : (w : ℕ) → place_in changed w ≡ cond (way == w) put (place_in places w) = λ w. ap (λ ps. place_in ps w) touched.2 ∙ read_after places way w put None victim.within in
@@ -206,39 +216,33 @@ fill_adds old tag line way changed formed own late touched thread op history sta
 
 -- what an access does to its set is one entry more
 pub touches_adds : (old : State) (tag : Tag) (line : ℕ) (changed : List (Option Place)) (answer : Touched)
-    → IsFormed old.shape.sets old.shape.ways old.clock old.places → IsOwn old.shape (line % old.shape.sets) → old.floor ≤ tag.epoch
+    → IsFormed old.shape old.rmids old.clock old.places → IsOwn old.shape (line % old.shape.sets) → old.floor ≤ tag.epoch
     → Touches (set_in old.places (line % old.shape.sets)) changed tag.mask (touching tag line old.clock) answer
     → Accesses old (touched_state old line changed) tag line answer
 touches_adds old tag line changed (Hit way) formed own late touched = hit_adds old tag line way changed formed own late touched
 touches_adds old tag line changed (Filled way) formed own late touched = fill_adds old tag line way changed formed own late touched
 touches_adds old tag line changed (Stale floor) formed own late touched = absurd touched
 
--- the state of a cache that keeps a list of sets
-abbrev pub kept : List (List (Option Place)) → ℕ → ℕ → ℕ → State
-kept places ways floor clock = record { shape = whole (length places) ways; places = places; floor = floor; clock = clock }
+-- the state of a slice of a machine's cache that keeps these places
+abbrev pub kept : Machine → ℕ → List (List (Option Place)) → ℕ → ℕ → State
+kept machine slice places floor clock = record { shape = shape_of (parameters_of machine) slice; rmids = machine.rmids; places = places; floor = floor; clock = clock }
 
 -- the same, as the code reads the set
-pub access_adds : (places : List (List (Option Place))) (ways floor clock len : ℕ) (tag : Tag) (line : ℕ) (chosen changed : List (Option Place)) (answer : Touched)
-    → len ≡ length places → chosen ≡ slice_index_or places (line % len) chosen
-    → IsFormed (length places) ways clock places → floor ≤ tag.epoch
-    → Touches chosen changed tag.mask (touching tag line clock) answer
-    → Accesses (kept places ways floor clock) (kept (slice_set places (line % len) changed) ways floor (clock + 1)) tag line answer
-access_adds places ways floor clock len tag line chosen changed answer count read formed late touched =
-    let some : 0 < length places = formed.some in
-    let inside : line % len < length places = rw count (omega arith) in
-    let is : chosen ≡ set_in places (line % len) = read ∙ get_or_default places (line % len) chosen [] inside in
-    let own : IsOwn (whole (length places) ways) (line % length places) = (omega (arith, some), omega arith) in
-    let P : ℕ → Type 0 = λ n. Accesses (kept places ways floor clock) (kept (slice_set places (line % n) changed) ways floor (clock + 1)) tag line answer in
-    let Q : ℕ → Type 0 = λ n. Accesses (kept places ways floor clock) (record { shape = whole n ways; places = slice_set places (line % length places) changed; floor = floor; clock = clock + 1 }) tag line answer in
-    subst P (sym count)
-    (subst Q (sym (length-set places (line % length places) changed))
-    (touches_adds (kept places ways floor clock) tag line changed answer formed own late
-    (subst (λ n. Touches (set_in places (line % n)) changed tag.mask (touching tag line clock) answer) count (subst (λ ps. Touches ps changed tag.mask (touching tag line clock) answer) is touched))))
+pub access_adds : (old : State) (set : ℕ) (tag : Tag) (line : ℕ) (chosen changed : List (Option Place)) (answer : Touched)
+    → set ≡ line % old.shape.sets → chosen ≡ set_in old.places set
+    → IsFormed old.shape old.rmids old.clock old.places → IsOwn old.shape (line % old.shape.sets) → old.floor ≤ tag.epoch
+    → Touches chosen changed tag.mask (touching tag line old.clock) answer
+    → Accesses old (record { shape = old.shape; rmids = old.rmids; places = slice_set old.places set changed; floor = old.floor; clock = old.clock + 1 }) tag line answer
+access_adds old set tag line chosen changed answer at is formed own late touched =
+    let P : ℕ → Type 0 = λ k. Accesses old (record { shape = old.shape; rmids = old.rmids; places = slice_set old.places k changed; floor = old.floor; clock = old.clock + 1 }) tag line answer in
+    subst P (sym at)
+    (touches_adds old tag line changed answer formed own late
+    (subst (λ k. Touches (set_in old.places k) changed tag.mask (touching tag line old.clock) answer) at (subst (λ ps. Touches ps changed tag.mask (touching tag line old.clock) answer) is touched)))
 
 -- an entry that changes no place and uses none
 quiet_adds : (old : State) (history : List SliceEntry) (e : SliceEntry) (floor clock : ℕ) → ((set way : ℕ) → decides old.shape set way e.what ≡ false) → ((set way : ℕ) → uses old.shape set way e.what ≡ false)
     → MayFollow old.shape history e → floor ≡ max (floor_of history) (cond (sets_floor e.what) e.epoch 0) → clock ≤ length history + 1
-    → StandsFor old history → StandsFor (record { shape = old.shape; places = old.places; floor = floor; clock = clock }) (history ++ e ∷ [])
+    → StandsFor old history → StandsFor (record { shape = old.shape; rmids = old.rmids; places = old.places; floor = floor; clock = clock }) (history ++ e ∷ [])
 quiet_adds old history e floor clock keeps idle may is most stands = record {
   legal = legal_push old.shape history e stands.legal may;
   holds = λ s w ls lw. rw (held_push old.shape history e s w, keeps s w) (stands.holds s w ls lw);
@@ -247,7 +251,7 @@ quiet_adds old history e floor clock keeps idle may is most stands = record {
   clock = rw length_push most;
 }
 
-pub raise_adds : (old : State) (epoch : ℕ) → old.floor ≤ epoch → Adds old (record { shape = old.shape; places = old.places; floor = epoch; clock = old.clock + 1 }) epoch Raise
+pub raise_adds : (old : State) (epoch : ℕ) → old.floor ≤ epoch → Adds old (record { shape = old.shape; rmids = old.rmids; places = old.places; floor = epoch; clock = old.clock + 1 }) epoch Raise
 raise_adds old epoch late thread op history stands =
     quiet_adds old history (entry thread op epoch Raise) epoch (old.clock + 1) (λ _ _. refl) (λ _ _. refl) (omega (arith, late, stands.floor)) (omega (arith, late, stands.floor)) (omega (arith, stands.clock)) stands
 
@@ -258,7 +262,7 @@ look_adds old epoch rmid lines counts thread op history stands =
 
 -- a flush empties every place
 pub flush_adds : (old : State) (places : List (List (Option Place))) (epoch : ℕ) → old.floor ≤ epoch → ((s w : ℕ) → place_in (set_in places s) w ≡ None)
-    → Adds old (record { shape = old.shape; places = places; floor = epoch; clock = old.clock + 1 }) epoch Flush
+    → Adds old (record { shape = old.shape; rmids = old.rmids; places = places; floor = epoch; clock = old.clock + 1 }) epoch Flush
 flush_adds old places epoch late empty thread op history stands =
     let e : SliceEntry = entry thread op epoch Flush in
     let none : (s w : ℕ) → resident_in (set_in places s) w ≡ None = λ s w. ap res (empty s w) in
@@ -270,42 +274,41 @@ flush_adds old places epoch late empty thread op history stands =
       clock = rw length_push (omega (arith, stands.clock));
     }
 
--- every set is of the one slice
-pub all_own : (sets ways set : ℕ) → is_own (whole sets ways) set ≡ true
-all_own sets ways set = let is : set % 1 ≡ 0 = omega arith in eq-eqb (set % 1) 0 is
+-- a count over the sets as they are kept, where another slice's set has no way, is the count over the slice's own sets
+counted : (m : Shape) (f g : ℕ → ℕ) → ((s : ℕ) → IsOwn m s → f s ≡ g s) → ((s : ℕ) → s < m.sets → is_own m s ≡ false → f s ≡ 0)
+    → sum_below m.sets f ≡ sum_below m.sets (λ s. cond (is_own m s) (g s) 0)
+counted m f g same none = sum_below_same m.sets f (λ s. cond (is_own m s) (g s) 0) (λ s l. elim (cases_Bool (is_own m s)) [
+  | inl own ↦ rw own (same s (l, eqb-true (s % m.slices) m.slice own))
+  | inr other ↦ rw other (none s l other)
+])
 
--- a count over the sets as they are kept is the count over the history
-counted : (sets ways : ℕ) (f g : ℕ → ℕ) → ((s : ℕ) → s < sets → f s ≡ g s) → sum_below sets f ≡ sum_below sets (λ s. cond (is_own (whole sets ways) s) (g s) 0)
-counted sets ways f g same = sum_below_same sets f (λ s. cond (is_own (whole sets ways) s) (g s) 0) (λ s l. same s l ∙ sym (cond-true (is_own (whole sets ways) s) (g s) 0 (all_own sets ways s)))
-
-own_set : (sets ways set : ℕ) → set < sets → IsOwn (whole sets ways) set
-own_set sets ways set l = (l, omega arith)
-
-pub look_counts : (places sets : List (List (Option Place))) (ways floor clock n rmid : ℕ) (history : List SliceEntry) → sets ≡ places → n ≡ length places → IsFormed (length places) ways clock places → StandsFor (kept places ways floor clock) history
-    → sum_below n (λ s. lines_in (set_in sets s) (length (set_in sets s)) rmid) ≡ lines_of (whole (length places) ways) history rmid
-look_counts places sets ways floor clock n rmid history is count formed stands =
+pub look_counts : (cache : State) (sets : List (List (Option Place))) (n rmid : ℕ) (history : List SliceEntry) → sets ≡ cache.places → n ≡ cache.shape.sets → IsFormed cache.shape cache.rmids cache.clock cache.places → StandsFor cache history
+    → sum_below n (λ s. lines_in (set_in sets s) (length (set_in sets s)) rmid) ≡ lines_of cache.shape history rmid
+look_counts cache sets n rmid history is count formed stands =
     rw (is, count)
-    (counted (length places) ways (λ s. lines_in (set_in places s) (length (set_in places s)) rmid) (λ s. sum_below ways (λ w. one_if (is_of rmid (held (whole (length places) ways) history s w))))
-    (λ s ls. rw (formed.full s ls)
-    (sum_below_same ways (λ w. one_if (is_of rmid (resident_in (set_in places s) w))) (λ w. one_if (is_of rmid (held (whole (length places) ways) history s w)))
-    (λ w lw. ap (λ o. one_if (is_of rmid o)) (stands.holds s w (own_set (length places) ways s ls) lw)))))
+    (counted cache.shape (λ s. lines_in (set_in cache.places s) (length (set_in cache.places s)) rmid) (λ s. sum_below cache.shape.ways (λ w. one_if (is_of rmid (held cache.shape history s w))))
+    (λ s own. rw (own_width cache s formed own)
+    (sum_below_same cache.shape.ways (λ w. one_if (is_of rmid (resident_in (set_in cache.places s) w))) (λ w. one_if (is_of rmid (held cache.shape history s w)))
+    (λ w lw. ap (λ o. one_if (is_of rmid o)) (stands.holds s w own lw))))
+    (λ s l other. rw (other_width cache s formed l other) refl))
 
-pub valid_counts : (places sets : List (List (Option Place))) (ways floor clock n : ℕ) (history : List SliceEntry) → sets ≡ places → n ≡ length places → IsFormed (length places) ways clock places → StandsFor (kept places ways floor clock) history
-    → sum_below n (λ s. filled_in (set_in sets s) (length (set_in sets s))) ≡ valid_of (whole (length places) ways) history
-valid_counts places sets ways floor clock n history is count formed stands =
+pub valid_counts : (cache : State) (sets : List (List (Option Place))) (n : ℕ) (history : List SliceEntry) → sets ≡ cache.places → n ≡ cache.shape.sets → IsFormed cache.shape cache.rmids cache.clock cache.places → StandsFor cache history
+    → sum_below n (λ s. filled_in (set_in sets s) (length (set_in sets s))) ≡ valid_of cache.shape history
+valid_counts cache sets n history is count formed stands =
     rw (is, count)
-    (counted (length places) ways (λ s. filled_in (set_in places s) (length (set_in places s))) (λ s. sum_below ways (λ w. one_if (is_some (held (whole (length places) ways) history s w))))
-    (λ s ls. rw (formed.full s ls)
-    (sum_below_same ways (λ w. one_if (is_some (resident_in (set_in places s) w))) (λ w. one_if (is_some (held (whole (length places) ways) history s w)))
-    (λ w lw. ap (λ o. one_if (is_some o)) (stands.holds s w (own_set (length places) ways s ls) lw)))))
+    (counted cache.shape (λ s. filled_in (set_in cache.places s) (length (set_in cache.places s))) (λ s. sum_below cache.shape.ways (λ w. one_if (is_some (held cache.shape history s w))))
+    (λ s own. rw (own_width cache s formed own)
+    (sum_below_same cache.shape.ways (λ w. one_if (is_some (resident_in (set_in cache.places s) w))) (λ w. one_if (is_some (held cache.shape history s w)))
+    (λ w lw. ap (λ o. one_if (is_some o)) (stands.holds s w own lw))))
+    (λ s l other. rw (other_width cache s formed l other) refl))
 
-named_resident : (o : Option Place) (n : ℕ) → 2 ^ 16 ≤ n → IfSome o (λ p. p.rmid < 2 ^ 16) → IfSome (res o) (λ r. r.rmid < n)
-named_resident None n most h = tt
-named_resident (Some p) n most h = omega (arith, h, most)
+named_resident : (o : Option Place) (n : ℕ) → IfSome o (λ p. p.rmid < n) → IfSome (res o) (λ r. r.rmid < n)
+named_resident None n h = tt
+named_resident (Some p) n h = h
 
 -- the lines of all RMIDs together are the places that hold a line
-pub looks_sum : (places : List (List (Option Place))) (ways floor clock n : ℕ) (history : List SliceEntry) → 2 ^ 16 ≤ n → IsFormed (length places) ways clock places → StandsFor (kept places ways floor clock) history
-    → sum_below n (lines_of (whole (length places) ways) history) ≡ valid_of (whole (length places) ways) history
-looks_sum places ways floor clock n history most formed stands =
-    lines_sum (whole (length places) ways) history n
-    (λ set way ls lw _. subst (λ (o : Option Resident). IfSome o (λ r. r.rmid < n)) (stands.holds set way (own_set (length places) ways set ls) lw) (named_resident (place_in (set_in places set) way) n most (formed.named set way)))
+pub looks_sum : (cache : State) (history : List SliceEntry) → IsFormed cache.shape cache.rmids cache.clock cache.places → StandsFor cache history
+    → sum_below cache.rmids (lines_of cache.shape history) ≡ valid_of cache.shape history
+looks_sum cache history formed stands =
+    lines_sum cache.shape history cache.rmids
+    (λ set way ls lw own. subst (λ (o : Option Resident). IfSome o (λ r. r.rmid < cache.rmids)) (stands.holds set way (ls, eqb-true (set % cache.shape.slices) cache.shape.slice own) lw) (named_resident (place_in (set_in cache.places set) way) cache.rmids (formed.named set way)))

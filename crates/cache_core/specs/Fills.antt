@@ -1,16 +1,13 @@
 -- What one set answers to an access, whatever keeps its lines and ages: a hit in any way, or a fill of a way of the mask.
 -- (Intel SDM volume 3, cache allocation: a mask bounds where a line may be filled, and not where it may be hit. That the
 -- lowest empty way is filled first, and else the least recently used one, is this project's profile.)
-use Rattle.std.specs.Prelude.{◌≡◌, ℕ, ◌/◌, ◌%◌, ◌^◌, ◌<◌, ◌≤◌, Bool, true, false, ◌==◌, Option, Some, None, option_map, IsTrue, IsSome}
+use Rattle.std.specs.Prelude.{◌≡◌, ℕ, ◌<◌, ◌≤◌, Bool, true, false, Option, Some, None, option_map, IsTrue, IsSome}
+use Rattle.cbm.specs.Masks.{has_way}
 
 -- a line in a place, with the RMID for which it was filled
 pub record Resident : Type 0 where
   pub line : ℕ
   pub rmid : ℕ
-
--- way w is in the mask: bit w governs way w
-abbrev pub has_way : ℕ → ℕ → Bool
-has_way mask way = mask / 2 ^ way % 2 == 1
 
 -- this way holds the line
 abbrev pub Holds : (ℕ → Option Resident) → ℕ → ℕ → Type 0

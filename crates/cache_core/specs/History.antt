@@ -3,10 +3,12 @@
 use Rattle.std.specs.Prelude.{◌≡◌, ℕ, zero, suc, ◌+◌, ◌*◌, ◌%◌, ◌<◌, ◌≤◌, max, Bool, true, false, not, ◌&&◌, ◌==◌, nat_lt, if◌then◌else◌, List, [], ◌∷◌, Option, Some, None, option_and_then, is_some}
 use Rattle.std.specs.Option.{option_or}
 use Rattle.rc_base.specs.Follows.{EachFollows}
+use Rattle.cbm.specs.Masks.{has_way}
+use Rattle.machine.specs.declared.parameters.Parameters.{Parameters}
 use Rattle.cache_core.specs.declared.entry.What.{What}
 use Rattle.cache_core.specs.declared.entry.What.TheVariants.{Access, Raise, Flush, Lock, Look}
 use Rattle.cache_core.specs.declared.entry.SliceEntry.{SliceEntry}
-use Rattle.cache_core.specs.Fills.{Resident, has_way, IsOutcome}
+use Rattle.cache_core.specs.Fills.{Resident, IsOutcome}
 use Rattle.cache_core.specs.Sums.{sum_below, one_if}
 
 -- A slice: how many sets and ways its domain has, into how many slices the sets are divided, and which of these it is.
@@ -16,9 +18,9 @@ pub record Shape : Type 0 where
   pub slices : ℕ
   pub slice : ℕ
 
--- the one slice of a domain of these sets and ways
-abbrev pub whole : ℕ → ℕ → Shape
-whole sets ways = record { sets = sets; ways = ways; slices = 1; slice = 0 }
+-- this slice of a cache of a machine with these parameters
+abbrev pub shape_of : Parameters → ℕ → Shape
+shape_of p slice = record { sets = p.sets; ways = p.ways; slices = p.slices; slice = slice }
 
 -- a set is of the slice whose number it leaves modulo the number of slices
 abbrev pub is_own : Shape → ℕ → Bool

@@ -1,9 +1,10 @@
 -- What a cache keeps: for each set a list of places.
-use Rattle.std.specs.Prelude.{◌≡◌, ℕ, ◌<◌, ◌≤◌, ◌^◌, List, [], length, Option, None, option_map, IfSome, IsSome, IsTrue, slice_index_or, is_some}
+use Rattle.std.specs.Prelude.{◌≡◌, ℕ, ◌<◌, ◌≤◌, List, [], length, Option, None, option_map, if◌then◌else◌, IfSome, IsSome, IsTrue, slice_index_or, is_some}
 use Rattle.std.specs.Option.{option_map_or}
+use Rattle.cbm.specs.Masks.{has_way}
 use Rattle.cache_core.specs.declared.place.Place.{Place}
-use Rattle.cache_core.specs.Fills.{Resident, has_way}
-use Rattle.cache_core.specs.History.{Shape, is_of}
+use Rattle.cache_core.specs.Fills.{Resident}
+use Rattle.cache_core.specs.History.{Shape, is_own, is_of}
 use Rattle.cache_core.specs.Sums.{sum_below, one_if}
 
 -- the place of a way
@@ -18,10 +19,11 @@ resident_in places way = option_map (λ (p : Place). record { line = p.line; rmi
 abbrev pub stamp_in : List (Option Place) → ℕ → ℕ
 stamp_in places way = option_map_or (λ (p : Place). p.used) (place_in places way) 0
 
--- What contracts see of a cache: its shape, what each place holds and when it was used, the floor, and how many entries
--- it has made.
+-- What contracts see of a cache: its shape, how many RMIDs its machine has, what each place holds and when it was used,
+-- the floor, and how many entries it has made.
 pub record State : Type 0 where
   pub shape : Shape
+  pub rmids : ℕ
   pub places : List (List (Option Place))
   pub floor : ℕ
   pub clock : ℕ
@@ -30,13 +32,12 @@ pub record State : Type 0 where
 abbrev pub set_in : List (List (Option Place)) → ℕ → List (Option Place)
 set_in places set = slice_index_or places set []
 
--- each set has all its ways, each stamp is below the clock, and each RMID in its range
-pub record IsFormed (sets ways clock : ℕ) (places : List (List (Option Place))) : Type 0 where
-  pub some : 0 < sets
-  pub count : length places ≡ sets
-  pub full : (set : ℕ) → set < sets → length (set_in places set) ≡ ways
+-- each own set has all its ways and another set none, each stamp is below the clock, and each RMID is one of the machine
+pub record IsFormed (shape : Shape) (rmids clock : ℕ) (places : List (List (Option Place))) : Type 0 where
+  pub count : length places ≡ shape.sets
+  pub widths : (set : ℕ) → set < shape.sets → length (set_in places set) ≡ (if is_own shape set then shape.ways else 0)
   pub stamped : (set way : ℕ) → IfSome (place_in (set_in places set) way) (λ p. p.used < clock)
-  pub named : (set way : ℕ) → IfSome (place_in (set_in places set) way) (λ p. p.rmid < 2 ^ 16)
+  pub named : (set way : ℕ) → IfSome (place_in (set_in places set) way) (λ p. p.rmid < rmids)
 
 -- of the full ways of the mask below a limit, the one that was used longest ago, the lowest of these
 pub record IsOldest (places : List (Option Place)) (mask limit way : ℕ) : Type 0 where

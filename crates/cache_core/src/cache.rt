@@ -1,8 +1,9 @@
 //! One slice of a cache.
-ghost use Rattle.std.specs.Prelude.{◌≡◌, ℕ, ◌+◌, ◌%◌, ◌^◌, ◌<◌, ◌≤◌, ◌↔◌, List, [], ◌∷◌, ◌++◌, length, IfOk, None};
+ghost use Rattle.std.specs.Prelude.{◌≡◌, ℕ, ◌+◌, ◌%◌, ◌^◌, ◌<◌, ◌≤◌, ◌↔◌, List, [], ◌∷◌, ◌++◌, length, if◌then◌else◌, IfOk, None};
+ghost use Rattle.machine.specs.Maps.{parameters_of};
 ghost use Rattle.cache_core.specs.declared.entry.SliceEntry.{SliceEntry};
 ghost use Rattle.cache_core.specs.declared.entry.What.TheVariants.{Raise, Flush, Look};
-ghost use Rattle.cache_core.specs.History.{IsOwn, whole, lines_of, valid_of};
+ghost use Rattle.cache_core.specs.History.{IsOwn, is_own, shape_of, lines_of, valid_of};
 ghost use Rattle.cache_core.specs.Places.{set_in, place_in};
 ghost use Rattle.cache_core.specs.Stands.{Accesses, Adds, StandsFor, IsStale, Touches, clock_after, entry};
 ghost use Rattle.cache_core.specs.Sums.{sum_below};
@@ -10,6 +11,7 @@ ghost use Rattle.cache_core.specs.Sums.{sum_below};
 use crate::cache_set::CacheSet;
 use crate::place::Place;
 use crate::touched::Touched;
+use machine::Machine;
 use rc_base::{NoMemory, Tag};
 use std::alloc::Global;
 use std::marker::Model;
@@ -18,41 +20,46 @@ use std::marker::Model;
 /// each add the one entry that legality allows. `clock` counts these entries.
 #[derive(Drop)]
 pub struct Cache {
+    machine: Machine,
+    slice: u8,
     sets: Vec<CacheSet>,
-    ways: u8,
     floor: u64,
     clock: u64,
 }
 
 impl Model for Cache {
-    ghost use Rattle.cache_core.specs.History.{whole};
+    ghost use Rattle.machine.specs.Maps.{parameters_of};
+    ghost use Rattle.cache_core.specs.History.{shape_of};
     ghost use Rattle.cache_core.specs.Places.{State, IsFormed};
-    ghost use Rattle.std.specs.Prelude.{length};
 
     ghost Value = { State };
 
-    ghost view = { λ c. record { shape = whole (length c.sets.items) c.ways; places = c.sets.items; floor = c.floor; clock = c.clock } };
+    ghost view = { λ c. record { shape = shape_of (parameters_of c.machine) c.slice; rmids = c.machine.rmids; places = c.sets.items; floor = c.floor; clock = c.clock } };
 
-    ghost invariant = { λ c. IsFormed (length c.sets.items) c.ways c.clock c.sets.items };
+    ghost invariant = { λ c. IsFormed (shape_of (parameters_of c.machine) c.slice) c.machine.rmids c.clock c.sets.items };
 }
 
 impl Cache {
-    /// The one slice of a domain of so many sets and ways, empty.
-    pub fn create(alloc: Global, sets: u32, ways: u8) -> Result<Cache, NoMemory>
-        requires sets { 0 < sets }
-        requires ways { ways ≤ 32 }
-        ensures shape { IfOk result (λ c. c.shape ≡ whole sets ways) }
+    /// One slice of the cache of one domain, empty, both counted from 0 (this project's profile: set s is of slice
+    /// s mod `slices`). The caches of a machine are all alike, so that the domain changes nothing. NoMemory where the
+    /// allocator gives no room for the slice's places.
+    pub fn create(alloc: Global, m: &Machine, domain: u8, slice: u8) -> Result<Cache, NoMemory>
+        requires domain { domain < m.now.domains }
+        requires slice { slice < m.now.slices }
+        ensures shape { IfOk result (λ c. c.shape ≡ shape_of (parameters_of m.now) slice) }
+        ensures rmids { IfOk result (λ c. c.rmids ≡ m.now.rmids) }
         ensures floor { IfOk result (λ c. c.floor ≡ 0) }
         ensures clock { IfOk result (λ c. c.clock ≡ 0) }
         ensures empty { IfOk result (λ c. StandsFor c []) }
     {
-        let mut rows = Vec::with_capacity(alloc, sets as usize)?;
-        for _ in 0..sets {
-            rows.push_reserved(CacheSet::create(alloc, ways)?);
+        let mut sets = Vec::with_capacity(alloc, m.sets as usize)?;
+        for set in 0..m.sets {
+            sets.push_reserved(CacheSet::create(alloc, kept_ways(m, slice, set))?);
         }
         Ok(Cache {
-            sets: rows,
-            ways,
+            machine: *m,
+            slice,
+            sets,
             floor: 0,
             clock: 0,
         })
@@ -70,6 +77,7 @@ impl Cache {
         requires epoch { self.old.floor ≤ epoch }
         requires room { self.old.clock < 2 ^ 32 }
         ensures shape { self.new.shape ≡ self.old.shape }
+        ensures rmids { self.new.rmids ≡ self.old.rmids }
         ensures floor { self.new.floor ≡ epoch }
         ensures clock { self.new.clock ≡ self.old.clock + 1 }
         ensures entry { Adds self.old self.new epoch Raise }
@@ -83,6 +91,7 @@ impl Cache {
         requires epoch { self.old.floor ≤ epoch }
         requires room { self.old.clock < 2 ^ 32 }
         ensures shape { self.new.shape ≡ self.old.shape }
+        ensures rmids { self.new.rmids ≡ self.old.rmids }
         ensures floor { self.new.floor ≡ epoch }
         ensures clock { self.new.clock ≡ self.old.clock + 1 }
         ensures entry { Adds self.old self.new epoch Flush }
@@ -92,9 +101,10 @@ impl Cache {
         self.clock += 1;
     }
 
-    /// How many places hold a line of this RMID (SDM volume 3, cache monitoring: occupancy in lines).
+    /// How many places hold a line of this RMID, one of the machine (SDM volume 3, cache monitoring: occupancy in lines).
     #[tactic(auto, using(crate::proofs::Summing::sum_below_next))]
     pub fn look(&self, rmid: u16) -> u64
+        requires rmid { rmid < self.now.rmids }
         ensures count { (history : List SliceEntry) → StandsFor self.now history → result ≡ lines_of self.now.shape history rmid }
         ensures entry { (epoch : ℕ) → Adds self.now self.now epoch (Look rmid result) }
     {
@@ -109,7 +119,7 @@ impl Cache {
     #[tactic(auto, using(crate::proofs::Summing::sum_below_next))]
     pub fn valid(&self) -> u64
         ensures count { (history : List SliceEntry) → StandsFor self.now history → result ≡ valid_of self.now.shape history }
-        ensures sum { (rmids : ℕ) (history : List SliceEntry) → 2 ^ 16 ≤ rmids → StandsFor self.now history → sum_below rmids (lines_of self.now.shape history) ≡ result }
+        ensures sum { (history : List SliceEntry) → StandsFor self.now history → sum_below self.now.rmids (lines_of self.now.shape history) ≡ result }
     {
         let mut filled = 0;
         for set in &self.sets {
@@ -123,8 +133,10 @@ impl Cache {
     pub fn access(&mut self, tag: &Tag, line: u64) -> Touched
         requires own { IsOwn self.old.shape (line % self.old.shape.sets) }
         requires mask { 0 < tag.now.mask % 2 ^ self.old.shape.ways }
+        requires rmid { tag.now.rmid < self.old.rmids }
         requires room { self.old.clock < 2 ^ 32 }
         ensures shape { self.new.shape ≡ self.old.shape }
+        ensures rmids { self.new.rmids ≡ self.old.rmids }
         ensures floor { self.new.floor ≡ self.old.floor }
         ensures clock { self.new.clock ≡ clock_after self.old.clock result }
         ensures stale { IsStale result ↔ (tag.now.epoch < self.old.floor) }
@@ -139,8 +151,19 @@ impl Cache {
             used: self.clock,
         };
         self.clock += 1;
-        let index = (line % self.sets.len() as u64) as usize;
-        touch(&mut self.sets[index], tag.mask, place)
+        let set = self.machine.set_of(line) as usize;
+        touch(&mut self.sets[set], tag.mask, place)
+    }
+}
+
+// How many ways of a set a slice keeps: all of an own set, and none of another.
+fn kept_ways(m: &Machine, slice: u8, set: u32) -> u8
+    ensures { result ≡ (if is_own (shape_of (parameters_of m.now) slice) set then m.now.ways else 0) }
+{
+    if m.slice_of(u64::from(set)) == slice {
+        m.ways
+    } else {
+        0
     }
 }
 

@@ -1,6 +1,7 @@
 //! One set of a slice, as a list of places.
 ghost use Rattle.std.specs.Prelude.{◌≡◌, ℕ, ◌%◌, ◌^◌, ◌<◌, ◌≤◌, List, length, MatchOption, IsTrue, IsSome, IfOk, Some, None, replicate, slice_set, option_map};
-ghost use Rattle.cache_core.specs.Fills.{has_way, Holds, IsVictim};
+ghost use Rattle.cbm.specs.Masks.{has_way};
+ghost use Rattle.cache_core.specs.Fills.{Holds, IsVictim};
 ghost use Rattle.cache_core.specs.Places.{resident_in, stamp_in, place_in, IsOldest, NoneFull, lines_in, filled_in};
 
 use crate::place::Place;

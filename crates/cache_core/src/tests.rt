@@ -3,6 +3,7 @@
 ghost use Rattle.std.specs.Prelude.{◌≡◌};
 
 use crate::{Cache, Touched};
+use machine::{Machine, Parameters};
 use rc_base::{Gid, Tag};
 use std::test::Fail;
 
@@ -22,7 +23,14 @@ fn tag(epoch: u64, mask: u32) -> Tag
 
 #[test]
 fn lines_fill_hit_and_go(rt: HostRuntime) -> Result<(), Fail> {
-    let mut cache = Cache::create(rt.alloc(), 1, 4)?;
+    let parameters = Parameters {
+        sets: 1,
+        ways: 4,
+        rmids: 2,
+        ..Parameters::default()
+    };
+    let machine = Machine::checked(&parameters).expect(&rt, "the parameters are in range");
+    let mut cache = Cache::create(rt.alloc(), &machine, 0, 0)?;
     assert_eq!(rt; cache.access(&tag(0, 15), 0), Touched::Filled { way: 0 });
     assert_eq!(rt; cache.access(&tag(0, 15), 1), Touched::Filled { way: 1 });
     assert_eq!(rt; cache.access(&tag(0, 15), 0), Touched::Hit { way: 0 });
@@ -34,5 +42,30 @@ fn lines_fill_hit_and_go(rt: HostRuntime) -> Result<(), Fail> {
     cache.flush(2);
     assert_eq!(rt; (cache.floor(), cache.valid()), (2, 0));
     assert_eq!(rt; cache.access(&tag(2, 12), 0), Touched::Filled { way: 2 });
+    Ok(())
+}
+
+#[test]
+fn slices_have_sets_of_their_own(rt: HostRuntime) -> Result<(), Fail> {
+    let parameters = Parameters {
+        sets: 4,
+        ways: 2,
+        slices: 2,
+        ..Parameters::default()
+    };
+    let machine = Machine::checked(&parameters).expect(&rt, "the parameters are in range");
+    let mut cache = Cache::create(rt.alloc(), &machine, 0, 1)?;
+    assert_eq!(rt;
+        (
+            machine.slice_of(1),
+            machine.slice_of(2),
+            machine.slice_of(7)
+        ),
+        (1, 0, 1)
+    );
+    assert_eq!(rt; cache.access(&tag(0, 3), 1), Touched::Filled { way: 0 });
+    assert_eq!(rt; cache.access(&tag(0, 3), 3), Touched::Filled { way: 0 });
+    assert_eq!(rt; cache.access(&tag(0, 3), 7), Touched::Filled { way: 1 });
+    assert_eq!(rt; (cache.look(0), cache.valid()), (3, 3));
     Ok(())
 }

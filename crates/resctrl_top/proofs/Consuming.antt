@@ -1,13 +1,15 @@
 -- What was read of a source, against what it had left.
 use Rattle.std.proofs.Common.{◌≡◌, ℕ, ◌+◌, ◌<◌, ◌≤◌, List, ◌++◌, length, Option, Some, None, Result, Err, refl, sym, ap, ◌∙◌, arith, inl, inr}
 use Rattle.std.specs.Io.KnownBytes.{Consumes, IsAtEnd}
-use Rattle.std.proofs.lemmas.Bool.{cases_lt, lt-ltb}
+use Rattle.std.proofs.lemmas.Bool.{cases_lt, le-ltb, lt-ltb}
 use Rattle.std.proofs.lemmas.List.{append-nil, length-take, take_all, take-append-le}
-use Rattle.resctrl_top.specs.declared.fault.ScriptFault.{ScriptFault}
-use Rattle.resctrl_top.specs.declared.fault.LineFault.TheVariants.{TooLarge}
-use Rattle.resctrl_top.specs.Grammar.{fault_at, most_bytes, script_of}
+use Rattle.resctrl_top.specs.declared.refusal.Refusal.{Refusal}
+use Rattle.resctrl_top.specs.declared.refusal.Refusal.TheVariants.{BadLine, TooLarge}
+use Rattle.resctrl_top.specs.Meaning.{meaning, most_bytes}
 use Rattle.resctrl_top.specs.Outside.{IsInput, IsMeant, first_bytes}
-use Rattle.resctrl_top.specs.Scripts.{ScriptValue}
+use Rattle.script_text.specs.Reading.{script_of}
+use Rattle.script_text.specs.Values.{ScriptValue}
+use Rattle.script_text.specs.declared.fault.ScriptFault.{ScriptFault}
 
 first_of_all : (bytes : List ℕ) → length bytes ≤ 67108865 → first_bytes bytes ≡ bytes
 unfolding first_bytes
@@ -31,19 +33,24 @@ read_too_much None now bytes consumed full = tt
 read_too_much (Some xs) None bytes consumed full = absurd consumed
 read_too_much (Some xs) (Some ys) bytes consumed full = sym (ap first_bytes consumed ∙ first_of_more bytes ys full)
 
-too_large : (bytes : List ℕ) → most_bytes < length bytes → script_of bytes ≡ Err (fault_at 0 TooLarge)
-unfolding script_of
+pub too_large : (bytes : List ℕ) → most_bytes < length bytes → meaning bytes ≡ Err TooLarge
+unfolding meaning
 too_large bytes more = rw (lt-ltb most_bytes (length bytes) more) refl
 
+-- bytes that are no script
+pub bad_line : (bytes : List ℕ) (fault : ScriptFault) → length bytes ≤ most_bytes → script_of bytes ≡ Err fault → meaning bytes ≡ Err (BadLine fault)
+unfolding meaning
+bad_line bytes fault few bad = rw (le-ltb most_bytes (length bytes) few, bad) refl
+
 -- a text means what its first bytes mean
-meant_by_first : (bytes : List ℕ) → script_of (first_bytes bytes) ≡ script_of bytes
+meant_by_first : (bytes : List ℕ) → meaning (first_bytes bytes) ≡ meaning bytes
 unfolding first_bytes
 meant_by_first bytes = elim (cases_lt most_bytes (length bytes)) [
   | inl more ↦ too_large (first_bytes bytes) (let e = length-take (most_bytes + 1) bytes in omega (arith, e, more)) ∙ sym (too_large bytes more)
-  | inr fits ↦ ap script_of (take_all (most_bytes + 1) bytes (omega (arith, fits)))
+  | inr fits ↦ ap meaning (take_all (most_bytes + 1) bytes (omega (arith, fits)))
 ]
 
 -- the bytes to the end mean what was read
-pub meant : (left : Option (List ℕ)) (bytes : List ℕ) (meaning : Result ScriptValue ScriptFault) → IsInput left bytes → script_of bytes ≡ meaning → IsMeant left meaning
-meant None bytes meaning input means = record { bytes = bytes; to_the_end = tt; meant = means }
-meant (Some left) bytes meaning input means = record { bytes = left; to_the_end = refl; meant = sym (meant_by_first left) ∙ (ap script_of (sym input) ∙ means) }
+pub meant : (left : Option (List ℕ)) (bytes : List ℕ) (answer : Result ScriptValue Refusal) → IsInput left bytes → meaning bytes ≡ answer → IsMeant left answer
+meant None bytes answer input means = record { bytes = bytes; to_the_end = tt; meant = means }
+meant (Some left) bytes answer input means = record { bytes = left; to_the_end = refl; meant = sym (meant_by_first left) ∙ (ap meaning (sym input) ∙ means) }

@@ -1,11 +1,4 @@
 pub mod Appending
-pub mod Bringing
-pub mod Doing
-pub mod Finishing
 pub mod Concluding
 pub mod Consuming
-pub mod Parting
-pub mod Positions
-pub mod Reported
-pub mod Stepping
-pub mod Texts
+pub mod Threads

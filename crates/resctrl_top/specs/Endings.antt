@@ -1,15 +1,15 @@
 -- What each status of the top call says.
 use Rattle.std.specs.Prelude.{◌≡◌, ℕ, ◌<◌, ◌⊎◌, Bool, true, false, List, Option, Some, None, Result, Ok, Err}
 use Rattle.std.specs.Io.KnownBytes.{Keeps, Appends}
-use Rattle.resctrl_top.specs.declared.fault.ScriptFault.{ScriptFault}
 use Rattle.resctrl_top.specs.declared.ended.Status.{Status}
 use Rattle.resctrl_top.specs.declared.ended.Status.TheVariants.{Done, Refused, Usage, ReadFault, WriteFault, NoMemory}
 use Rattle.resctrl_top.specs.Forms.{usage_line}
-use Rattle.resctrl_top.specs.Grammar.{script_of, refusal_line}
+use Rattle.resctrl_top.specs.Meaning.{meaning, refusal_line}
 use Rattle.resctrl_top.specs.Outside.{IsToTheEnd, AppendsSome}
-use Rattle.resctrl_top.specs.Reporting.{report_of}
-use Rattle.resctrl_top.specs.Runs.{JournalsValue, IsRun}
-use Rattle.resctrl_top.specs.Scripts.{ScriptValue}
+use Rattle.resctrl_top.specs.declared.refusal.Refusal.{Refusal}
+use Rattle.report_text.specs.Reporting.{report_of}
+use Rattle.run_law.specs.Runs.{JournalsValue, IsRun}
+use Rattle.script_text.specs.Values.{ScriptValue}
 
 -- A call as it is seen from outside: whether its words are a form, the bytes that the source had left and those that the sink
 -- had taken before and has taken now, where they tell them, and how often each had failed before and has failed now.
@@ -28,27 +28,27 @@ pub record NoFault (c : Call) : Type 0 where
   pub read : c.reads_now ≡ c.reads
   pub wrote : c.writes_now ≡ c.writes
 
--- The bytes to the end were a script, the journals are a run of it, and this was done with their report.
+-- The bytes to the end were a script that can be played, the journals are a run of it, and this was done with their report.
 pub record IsPlayed (c : Call) (journals : Option JournalsValue) (Takes : List ℕ → Type 0) : Type 0 where
   pub bytes : List ℕ
   pub script : ScriptValue
   pub run : JournalsValue
   pub form : c.form ≡ true
   pub to_the_end : IsToTheEnd c.left bytes
-  pub is_script : script_of bytes ≡ Ok script
+  pub is_script : meaning bytes ≡ Ok script
   pub has_run : journals ≡ Some run
   pub is_run : IsRun script run
   pub report : Takes (report_of script run)
 
--- The bytes to the end are no script, there are no journals, and this was done with the line of the fault.
+-- The bytes to the end cannot be played, there are no journals, and this was done with the line of the refusal.
 pub record IsRefused (c : Call) (journals : Option JournalsValue) (Takes : List ℕ → Type 0) : Type 0 where
   pub bytes : List ℕ
-  pub fault : ScriptFault
+  pub refusal : Refusal
   pub form : c.form ≡ true
   pub to_the_end : IsToTheEnd c.left bytes
-  pub no_script : script_of bytes ≡ Err fault
+  pub no_script : meaning bytes ≡ Err refusal
   pub no_run : journals ≡ None
-  pub line : Takes (refusal_line fault)
+  pub line : Takes (refusal_line refusal)
 
 -- The words are no form, there are no journals, and this was done with the usage line.
 pub record IsUsage (c : Call) (journals : Option JournalsValue) (Takes : List ℕ → Type 0) : Type 0 where
@@ -86,15 +86,15 @@ Ends c ReadFault journals = IsReadFault c journals
 Ends c WriteFault journals = IsWriteFault c journals
 Ends c NoMemory journals = IsNoMemory c journals
 
--- the status that is due to a script, or to bytes that are none, unless memory is not found
-abbrev pub IsDue : Result ScriptValue ScriptFault → Status → Type 0
+-- the status that is due to a script that can be played, or to other bytes, unless memory is not found
+abbrev pub IsDue : Result ScriptValue Refusal → Status → Type 0
 IsDue (Ok script) status = (status ≡ Done) ⊎ (status ≡ NoMemory)
-IsDue (Err fault) status = (status ≡ Refused) ⊎ (status ≡ NoMemory)
+IsDue (Err refusal) status = (status ≡ Refused) ⊎ (status ≡ NoMemory)
 
 -- Which status comes where nothing fails: of words that are a form, the one that is due to the bytes; of others, `Usage`,
 -- whatever becomes of the source.
 pub record IsComplete (c : Call) (status : Status) : Type 0 where
-  pub by_bytes : c.form ≡ true → NoFault c → (bytes : List ℕ) → c.left ≡ Some bytes → IsDue (script_of bytes) status
+  pub by_bytes : c.form ≡ true → NoFault c → (bytes : List ℕ) → c.left ≡ Some bytes → IsDue (meaning bytes) status
   pub by_words : c.form ≡ false → c.writes_now ≡ c.writes → status ≡ Usage
 
 abbrev pub call_of : Bool → Option (List ℕ) → ℕ → ℕ → Option (List ℕ) → Option (List ℕ) → ℕ → ℕ → Call

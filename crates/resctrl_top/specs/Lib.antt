@@ -1,13 +1,6 @@
+pub mod Built
 pub mod Codes
 pub mod Endings
-pub mod Entries
 pub mod Forms
-pub mod Grammar
+pub mod Meaning
 pub mod Outside
-pub mod Playing
-pub mod Readings
-pub mod Reporting
-pub mod Runs
-pub mod Scripts
-pub mod TreeHistory
-pub mod TreeSteps

@@ -1,11 +1,11 @@
 -- What a run does to a source and a sink.
 use Rattle.std.specs.Prelude.{◌≡◌, ℕ, ◌+◌, ◌<◌, List, ◌++◌, take, Option, Some, None, Result, Ok, Err}
 use Rattle.std.specs.Io.KnownBytes.{Appends}
-use Rattle.resctrl_top.specs.declared.fault.ScriptFault.{ScriptFault}
 use Rattle.resctrl_top.specs.declared.input.InputError.{InputError}
 use Rattle.resctrl_top.specs.declared.input.InputError.TheVariants.{Bad, Failed, NoMemory}
-use Rattle.resctrl_top.specs.Grammar.{most_bytes, script_of}
-use Rattle.resctrl_top.specs.Scripts.{ScriptValue}
+use Rattle.resctrl_top.specs.Meaning.{meaning, most_bytes}
+use Rattle.resctrl_top.specs.declared.refusal.Refusal.{Refusal}
+use Rattle.script_text.specs.Values.{ScriptValue}
 
 -- all bytes, or the first of them that pass the greatest script
 unfoldable pub first_bytes : List ℕ → List ℕ
@@ -25,15 +25,15 @@ IsToTheEnd (Some left) bytes = bytes ≡ left
 abbrev pub AppendsSome : Option (List ℕ) → Option (List ℕ) → List ℕ → Type 0
 AppendsSome old new bytes = (given : List ℕ) × (rest : List ℕ) × (given ++ rest ≡ bytes) × Appends old new given
 
--- the bytes to the end have this meaning as a script
-pub record IsMeant (left : Option (List ℕ)) (meaning : Result ScriptValue ScriptFault) : Type 0 where
+-- the bytes to the end mean this
+pub record IsMeant (left : Option (List ℕ)) (answer : Result ScriptValue Refusal) : Type 0 where
   pub bytes : List ℕ
   pub to_the_end : IsToTheEnd left bytes
-  pub meant : script_of bytes ≡ meaning
+  pub meant : meaning bytes ≡ answer
 
--- what reading the source and its script answers: a script, a fault of it, a failure of the source, or want of memory
+-- what reading the source and its script answers: a script, a refusal, a failure of the source, or want of memory
 abbrev pub HasRead : Option (List ℕ) → ℕ → ℕ → Result ScriptValue InputError → Type 0
 HasRead left reads reads_now (Ok script) = IsMeant left (Ok script) × (reads_now ≡ reads)
-HasRead left reads reads_now (Err (Bad fault)) = IsMeant left (Err fault) × (reads_now ≡ reads)
+HasRead left reads reads_now (Err (Bad refusal)) = IsMeant left (Err refusal) × (reads_now ≡ reads)
 HasRead left reads reads_now (Err Failed) = reads < reads_now
 HasRead left reads reads_now (Err NoMemory) = reads_now ≡ reads

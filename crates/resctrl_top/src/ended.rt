@@ -2,7 +2,7 @@
 ghost use Rattle.std.specs.Prelude.{◌≡◌, Some, None};
 ghost use Rattle.resctrl_top.specs.Codes.{code_of};
 
-use crate::journals::Journals;
+use run_law::Journals;
 
 /// How a call ended. The number of each is the program's exit status.
 #[derive(Clone, Copy, Debug, PartialEq, Eq)]

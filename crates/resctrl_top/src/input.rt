@@ -1,16 +1,19 @@
 //! Reads a source to its end.
-ghost use Rattle.std.specs.Prelude.{◌≡◌, ◌+◌, ◌-◌, ◌<◌, ◌≤◌, ◌^◌, List, ℕ, length, IfOk, Option, Err, vec_len};
+ghost use Rattle.std.specs.Prelude.{◌≡◌, ◌+◌, ◌-◌, ◌<◌, ◌≤◌, ◌^◌, List, ℕ, length, true, IfOk, Option, Err, Ok, vec_len};
 ghost use Rattle.std.specs.Io.KnownBytes.{Consumes, IsAtEnd};
 ghost use Rattle.resctrl_top.specs.Outside.{HasRead, IsInput};
-ghost use Rattle.resctrl_top.specs.Grammar.{script_of};
-ghost use Rattle.resctrl_top.specs.Readings.{MeansAs};
+ghost use Rattle.resctrl_top.specs.Built.{is_built as built_script};
+ghost use Rattle.resctrl_top.specs.Meaning.{MeansAs, meaning, played};
 
-use crate::fault::{ScriptError, ScriptFault};
-use crate::reader::{MOST_BYTES, read_script};
-use crate::script::Script;
+use crate::built::is_built;
+use crate::refusal::Refusal;
 use rc_base::NoMemory;
 use rc_stream::{Failed, Source};
+use script_text::{Script, ScriptError, read_script};
 use std::alloc::Global;
+
+/// The most bytes of a script (this project's profile).
+pub const MOST_BYTES: usize = 67_108_864;
 
 /// Why no script was read.
 #[derive(Clone, Copy, Debug, PartialEq, Eq)]
@@ -19,8 +22,8 @@ pub enum InputError {
     Failed,
     /// Memory was not found.
     NoMemory,
-    /// The bytes are no script.
-    Bad(ScriptFault),
+    /// The bytes cannot be played.
+    Bad(Refusal),
 }
 
 /// Why a source was not read to its end.
@@ -90,20 +93,38 @@ pub(crate) fn read_all<S: Source>(alloc: Global, source: &mut S) -> Result<Vec<u
 }
 
 // The script that bytes are.
+#[tactic(auto, unfolding(crate::specs::Meaning::meaning))]
 fn script_in(alloc: Global, bytes: &[u8]) -> Result<Script, InputError>
-    ensures { MeansAs result (script_of bytes.now) }
+    ensures meant { MeansAs result (meaning bytes.now) }
+    ensures built { IfOk result (λ script. built_script script ≡ true) }
 {
+    if bytes.len() > MOST_BYTES {
+        return Err(InputError::Bad(Refusal::TooLarge));
+    }
     match read_script(alloc, bytes) {
-        Ok(script) => Ok(script),
-        Err(ScriptError::Bad(fault)) => Err(InputError::Bad(fault)),
+        Ok(script) => if_built(script),
+        Err(ScriptError::Bad(fault)) => Err(InputError::Bad(Refusal::BadLine(fault))),
         Err(ScriptError::NoMemory) => Err(InputError::NoMemory),
+    }
+}
+
+// A script that can be played.
+fn if_built(script: Script) -> Result<Script, InputError>
+    ensures meant { MeansAs result (played (Ok script)) }
+    ensures built { IfOk result (λ script. built_script script ≡ true) }
+{
+    if is_built(&script) {
+        Ok(script)
+    } else {
+        Err(InputError::Bad(Refusal::NotBuilt))
     }
 }
 
 /// Reads a source to its end and the script there.
 pub fn read_input<S: Source>(alloc: Global, source: &mut S) -> Result<Script, InputError>
     requires { S.faults source.old < 2 ^ 64 - 1 }
-    ensures { HasRead (S.left source.old) (S.faults source.old) (S.faults source.new) result }
+    ensures read { HasRead (S.left source.old) (S.faults source.old) (S.faults source.new) result }
+    ensures built { IfOk result (λ script. built_script script ≡ true) }
 {
     match read_all(alloc, source) {
         Ok(bytes) => script_in(alloc, &bytes),

@@ -30,19 +30,38 @@ fn told(alloc: Global, script: &[u8]) -> Result<(Status, Vec<u8>), Fail> {
 
 #[test]
 fn scripts_have_their_reports(rt: HostRuntime) -> Result<(), Fail> {
-    let rows: [(&[u8], &[u8]); 4] = [
-        (FOUR_ACCESSES, THEIR_REPORT),
+    let rows: [(&[u8], &[u8]); 8] = [
+        (
+            b"machine sets=1 ways=4\ntasks 1\nphase\nthread\nsweep 1 0 0 3 64\naccess 1 0 0\n",
+            b"group 0 /: accesses 4 hits 1 misses 3\ndomain 0: valid 3 of 4, rmid 0 3\ntotal: commands 0 refused 0 accesses 4 hits 1 misses 3\n",
+        ),
+        (
+            b"machine sets=1 ways=4\ntasks 1\nphase\nthread\nwrite /schemata L3:0=3\nsweep 1 0 0 3 64\naccess 1 0 0\n",
+            b"0 0.0 write /schemata L3:0=3: ok\ngroup 0 /: accesses 4 hits 0 misses 4\ndomain 0: valid 2 of 4, rmid 0 2\ntotal: commands 1 refused 0 accesses 4 hits 0 misses 4\n",
+        ),
         (
             b"machine sets=1 ways=4\ntasks 1\nphase\nthread\naccess 1 0 0\nwrite /schemata L3:0=c\naccess 1 0 0",
             b"0 0.1 write /schemata L3:0=c: ok\ngroup 0 /: accesses 2 hits 1 misses 1\ndomain 0: valid 1 of 4, rmid 0 1\ntotal: commands 1 refused 0 accesses 2 hits 1 misses 1\n",
         ),
         (
-            b"machine sets=1 ways=4\ntasks 1\nphase\nthread\nwrite /schemata L3:0=5\nwrite /schemata L3:0=0\nwrite /schemata L3:0=10\nflush\n",
-            b"0 0.0 write /schemata L3:0=5: EINVAL mask 5 has non-consecutive 1-bits\n1 0.1 write /schemata L3:0=0: EINVAL mask 0 out of range\n2 0.2 write /schemata L3:0=10: EINVAL mask 10 out of range\n3 0.3 flush: ok\ngroup 0 /: accesses 0 hits 0 misses 0\ndomain 0: valid 0 of 4\ntotal: commands 4 refused 3 accesses 0 hits 0 misses 0\n",
+            b"machine sets=1 ways=4 min=2\nphase\nthread\nwrite /schemata L3:0=5\nwrite /schemata L3:0=0\nwrite /schemata L3:0=10\nwrite /schemata L3:0=4\nwrite /schemata\nwrite /schemata  L3 : 0 = 0xC \nread /schemata\n",
+            b"0 0.0 write /schemata L3:0=5: EINVAL mask 5 has non-consecutive 1-bits\n1 0.1 write /schemata L3:0=0: EINVAL mask 0 out of range\n2 0.2 write /schemata L3:0=10: EINVAL mask 10 out of range\n3 0.3 write /schemata L3:0=4: EINVAL mask 4 has fewer bits than min_cbm_bits\n4 0.4 write /schemata: EINVAL missing ':'\n5 0.5 write /schemata  L3 : 0 = 0xC : ok\n6 0.6 read /schemata: ok\n|L3:0=c\ngroup 0 /: accesses 0 hits 0 misses 0\ndomain 0: valid 0 of 4\ntotal: commands 7 refused 5 accesses 0 hits 0 misses 0\n",
         ),
         (
-            b"machine sets=2 ways=2\ntasks 1\nphase\nthread\nwrite /schemata L3:0=2\naccess 1 0 0\naccess 1 0 128\naccess 1 0 64\nflush\naccess 1 0 64\n",
-            b"0 0.0 write /schemata L3:0=2: ok\n1 0.4 flush: ok\ngroup 0 /: accesses 4 hits 0 misses 4\ndomain 0: valid 1 of 4, rmid 0 1\ntotal: commands 2 refused 0 accesses 4 hits 0 misses 4\n",
+            b"machine domains=2 sets=1 ways=4\nphase\nthread\nwrite /schemata L3:0=3;0=3\nwrite /schemata L3:0=3;9=3\nread /schemata\nread /size\nwrite /size 1\n",
+            b"0 0.0 write /schemata L3:0=3;0=3: EINVAL duplicate domain 0\n1 0.1 write /schemata L3:0=3;9=3: EINVAL unknown domain\n2 0.2 read /schemata: ok\n|L3:0=f;1=f\n3 0.3 read /size: ok\n|L3:0=256;1=256\n4 0.4 write /size 1: EACCES file is read-only\ngroup 0 /: accesses 0 hits 0 misses 0\ndomain 0: valid 0 of 4\ndomain 1: valid 0 of 4\ntotal: commands 5 refused 3 accesses 0 hits 0 misses 0\n",
+        ),
+        (
+            b"# two caches\nmachine domains=2\tsets=1 ways=4 cpus=4\r\n\ntasks 7 1-2\nphase\norder 0 0 9\nphase\n  thread\naccess 7 1 0\naccess 2 2 0x40\nwrite /schemata L3:1=3\\nL3:0=1;\nflush 1\n\taccess 1 3 64\naccess 1 0 0\n#done\n",
+            b"0 0.2 write /schemata L3:1=3\\nL3:0=1;: ok\n1 0.3 flush 1: ok\ngroup 0 /: accesses 4 hits 1 misses 3\ndomain 0: valid 1 of 4, rmid 0 1\ndomain 1: valid 1 of 4, rmid 0 1\ntotal: commands 2 refused 0 accesses 4 hits 1 misses 3\n",
+        ),
+        (
+            b"machine",
+            b"group 0 /: accesses 0 hits 0 misses 0\ndomain 0: valid 0 of 512\ntotal: commands 0 refused 0 accesses 0 hits 0 misses 0\n",
+        ),
+        (
+            b"machine sets=1 ways=4\ntasks 1\nphase\nthread\nsweep 1 0 0 4000000 0\n",
+            b"group 0 /: accesses 4000000 hits 3999999 misses 1\ndomain 0: valid 1 of 4, rmid 0 1\ntotal: commands 0 refused 0 accesses 4000000 hits 3999999 misses 1\n",
         ),
     ];
     for (script, report) in rows {
@@ -55,35 +74,91 @@ fn scripts_have_their_reports(rt: HostRuntime) -> Result<(), Fail> {
 
 #[test]
 fn bad_scripts_are_refused(rt: HostRuntime) -> Result<(), Fail> {
-    let rows: [(&[u8], &[u8]); 14] = [
+    let rows: [(&[u8], &[u8]); 28] = [
         (b"", b"line 1: no machine line\n"),
-        (b"\nmachine sets=1 ways=4\n", b"line 1: no machine line\n"),
-        (b"tasks 1\n", b"line 1: no machine line\n"),
-        (b" machine sets=1 ways=4\n", b"line 1: not built yet\n"),
-        (b"machine sets=1  ways=4\n", b"line 1: not built yet\n"),
-        (b"machine sets=3 ways=4\n", b"line 1: not built yet\n"),
-        (b"machine sets=1 ways=33\n", b"line 1: not built yet\n"),
-        (b"machine sets=65536 ways=32\n", b"line 1: not built yet\n"),
-        (b"machine sets=1 ways=4\n", b"line 2: not built yet\n"),
+        (b"\n# tasks\ntasks 1\n", b"line 3: no machine line\n"),
         (
-            b"machine sets=1 ways=4\ntasks 1\nphase",
-            b"line 4: not built yet\n",
+            b"machine sets=1 ways=4\ntasks 1\nphase\nthread\nswee",
+            b"line 5: unknown word\n",
         ),
         (
-            b"machine sets=1 ways=4\ntasks 1\nphase\nthread\nwrite /schemata L3:0=5\ntick\n",
-            b"line 6: not built yet\n",
+            b"machine sets=1 ways=4\ntasks 1\nphase\nthread\nsweep 1 0 0 3",
+            b"line 5: bad argument\n",
         ),
+        (
+            b"machine sets=1 ways=33\ntasks 1\nphase\nthread\n",
+            b"line 1: bad machine line\n",
+        ),
+        (
+            b"machine sets=1 ways=4\ntasks 1\nphase\nthread\nsweep 1 0 0 3 64\naccess 2 0 0\n",
+            b"line 6: unknown task\n",
+        ),
+        (b"machine\ntasks 1\n#\x7f\n", b"line 3: bad byte\n"),
+        (b"machine\r\r\n", b"line 1: bad byte\n"),
+        (b"machine\nthread\n", b"line 2: out of place\n"),
+        (b"machine\ntasks 1-0\n", b"line 2: bad tasks line\n"),
+        (b"machine\nphase\nthread\nmkdir a\n", b"line 4: bad path\n"),
+        (
+            b"machine\nphase\nthread\nwrite /schemata a\\b\n",
+            b"line 4: bad escape\n",
+        ),
+        (
+            b"machine sets=1 ways=4\ntasks 1\nphase\nthread\nsweep 1 0 0 4000000 0\naccess 1 0 0\n",
+            b"line 6: script too large\n",
+        ),
+        (b"machine slices=2\n", b"line 1: bad machine line\n"),
+        (b"machine sparse=1\n", b"line 1: bad machine line\n"),
         (
             b"machine sets=1 ways=4\ntasks 1\nphase\nthread\naccess 1 0 281474976710656\n",
-            b"line 5: not built yet\n",
+            b"line 5: bad argument\n",
         ),
         (
-            b"machine sets=1 ways=4\ntasks 1\nphase\nthread\nwrite /schemata L3:0=C\n",
-            b"line 5: not built yet\n",
+            b"machine sets=1 ways=4\ntasks 1\nphase\nthread\nmkdir /a\naccess 1 1 0\n",
+            b"line 6: bad argument\n",
         ),
         (
-            b"machine sets=1 ways=4\r\ntasks 1\n",
-            b"line 1: not built yet\n",
+            b"machine sets=1 ways=4\ntasks 1\nphase\nthread\nmkdir /a\n",
+            b"line 0: not built yet\n",
+        ),
+        (
+            b"machine sets=1 ways=4\ntasks 1\nphase\nthread\nrmdir /a\n",
+            b"line 0: not built yet\n",
+        ),
+        (
+            b"machine sets=1 ways=4\ntasks 1\nphase\nthread\nlist /\n",
+            b"line 0: not built yet\n",
+        ),
+        (
+            b"machine sets=1 ways=4\ntasks 1\nphase\nthread\nread /mode\n",
+            b"line 0: not built yet\n",
+        ),
+        (
+            b"machine sets=1 ways=4\ntasks 1\nphase\nthread\nwrite /tasks 1\n",
+            b"line 0: not built yet\n",
+        ),
+        (
+            b"machine sets=1 ways=4\ntasks 1\nphase\nthread\nread /mon_groups/m/tasks\n",
+            b"line 0: not built yet\n",
+        ),
+        (
+            b"machine sets=1 ways=4\ntasks 1\nphase\nthread\nwrite /info/L3_MON/max_threshold_occupancy 0\n",
+            b"line 0: not built yet\n",
+        ),
+        (
+            b"machine sets=1 ways=4\ntasks 1\nphase\nthread\nread /a/schemata\n",
+            b"line 0: not built yet\n",
+        ),
+        (
+            b"machine sets=1 ways=4\ntasks 1\nphase\nthread\ntick\n",
+            b"line 0: not built yet\n",
+        ),
+        (
+            b"machine sets=1 ways=4\ntasks 1\nphase\nthread\ntouch / 0 1 0\n",
+            b"line 0: not built yet\n",
+        ),
+        (
+            b"machine sets=1 ways=4\ntasks 1\nphase\nthread\nthread\n",
+            b"line 0: not built yet\n",
         ),
     ];
     for (script, line) in rows {
@@ -94,29 +169,12 @@ fn bad_scripts_are_refused(rt: HostRuntime) -> Result<(), Fail> {
     Ok(())
 }
 
-// A script of so many flushes.
-fn flushes(alloc: Global, count: u32) -> Result<Vec<u8>, Fail> {
-    let mut script = Vec::new(alloc);
-    script.extend_from_slice(b"machine sets=1 ways=1\ntasks 1\nphase\nthread\n".as_slice())?;
-    for _ in 0..count {
-        script.extend_from_slice(b"flush\n".as_slice())?;
-    }
-    Ok(script)
-}
-
 #[test]
 fn scripts_have_their_limits(rt: HostRuntime) -> Result<(), Fail> {
-    let heavy = flushes(rt.alloc(), 2_000_001)?;
-    let (status, taken) = told(rt.alloc(), &heavy)?;
-    assert_eq!(rt; status, Status::Refused);
-    assert_eq!(rt;
-        taken.as_slice(),
-        b"line 2000005: script too large\n".as_slice()
-    );
     let most = vec![in rt.alloc(); b'#'; 67_108_864]?;
     let (status, taken) = told(rt.alloc(), &most)?;
     assert_eq!(rt; status, Status::Refused);
-    assert_eq!(rt; taken.as_slice(), b"line 1: no machine line\n".as_slice());
+    assert_eq!(rt; taken.as_slice(), b"line 2: no machine line\n".as_slice());
     let long = vec![in rt.alloc(); b'#'; 67_108_865]?;
     let (status, taken) = told(rt.alloc(), &long)?;
     assert_eq!(rt; status, Status::Refused);

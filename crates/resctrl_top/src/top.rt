@@ -1,26 +1,25 @@
 //! The top call.
-ghost use Rattle.std.specs.Prelude.{◌≡◌, ◌-◌, ◌<◌, ◌^◌, ◌⊎◌, ◌++◌, false, IfOk, OnOk};
-ghost use Rattle.cache_core.specs.History.{whole};
-ghost use Rattle.cache_core.specs.Stands.{StandsFor};
+ghost use Rattle.std.specs.Prelude.{◌≡◌, ◌-◌, ◌<◌, ◌^◌, ◌⊎◌, false, true, IfOk};
 ghost use Rattle.resctrl_top.specs.Endings.{Ends, IsComplete, Reports, Says, SaysNothing, call_of};
 ghost use Rattle.resctrl_top.specs.Forms.{is_form as is_a_form};
-ghost use Rattle.resctrl_top.specs.Grammar.{refusal_line};
-ghost use Rattle.resctrl_top.specs.Reporting.{report_of};
-ghost use Rattle.resctrl_top.specs.Runs.{IsRun, slice_at};
+ghost use Rattle.resctrl_top.specs.Built.{is_built as built_script};
+ghost use Rattle.resctrl_top.specs.Meaning.{refusal_line};
+ghost use Rattle.report_text.specs.Reporting.{report_of};
+ghost use Rattle.run_law.specs.Caches.{AreLeft};
+ghost use Rattle.run_law.specs.Runs.{IsRun};
 
 use crate::ended::{Ended, Status, with_journals, without_journals};
-use crate::fault::ScriptFault;
 use crate::input::{InputError, read_input};
-use crate::journals::Journals;
 use crate::output::write_all;
-use crate::player::{Played, play};
-use crate::report::report;
-use crate::report_text::ReportText;
-use crate::script::Script;
+use crate::refusal::Refusal;
 use crate::words::{is_form, usage};
-use rc_base::NoMemory;
+use num_text::push_dec;
+use rc_base::{NoMemory, TextBuf};
 use rc_stream::{Failed, Sink, Source};
+use run_law::Journals;
+use script_text::Script;
 use std::alloc::Global;
+use step_world::{Played, play};
 
 // Writes a line, and ends without journals.
 fn say<K: Sink>(sink: &mut K, line: &[u8], status: Status) -> Ended
@@ -33,33 +32,26 @@ fn say<K: Sink>(sink: &mut K, line: &[u8], status: Status) -> Ended
     }
 }
 
-// Adds the line of a refusal.
-fn push_refusal(text: &mut ReportText, fault: ScriptFault) -> Result<(), NoMemory>
-    ensures { OnOk result (text.new ≡ text.old ++ refusal_line fault) }
-{
-    text.push(b"line ".as_slice())?;
-    text.push_decimal(u64::from(fault.line))?;
-    text.push(b": ".as_slice())?;
-    text.push(fault.what.text().as_bytes())?;
-    text.push(b"\n".as_slice())
-}
-
 // The line of a refusal.
-fn refusal(alloc: Global, fault: ScriptFault) -> Result<Vec<u8>, NoMemory>
-    ensures { IfOk result (λ line. line.items ≡ refusal_line fault) }
+fn refusal_of(alloc: Global, refusal: Refusal) -> Result<TextBuf, NoMemory>
+    ensures { IfOk result (λ line. line.bytes ≡ refusal_line refusal) }
 {
-    let mut text = ReportText::create(alloc)?;
-    push_refusal(&mut text, fault)?;
-    Ok(text.into_bytes())
+    let mut line = TextBuf::with_room(alloc, 64)?;
+    line.push_all(b"line ".as_slice());
+    push_dec(u64::from(refusal.line()), &mut line);
+    line.push_all(b": ".as_slice());
+    line.push_all(refusal.text().as_bytes());
+    line.push(b'\n');
+    Ok(line)
 }
 
 // Writes the line of a refusal.
-fn refuse<K: Sink>(alloc: Global, fault: ScriptFault, sink: &mut K) -> Ended
+fn refuse<K: Sink>(alloc: Global, refusal: Refusal, sink: &mut K) -> Ended
     requires { K.faults sink.old < 2 ^ 64 - 1 }
-    ensures { Says Status.Refused (refusal_line fault) (K.taken sink.old) (K.taken sink.new) (K.faults sink.old) (K.faults sink.new) result.status result.journals ⊎ SaysNothing (K.taken sink.old) (K.taken sink.new) (K.faults sink.old) (K.faults sink.new) result.status result.journals }
+    ensures { Says Status.Refused (refusal_line refusal) (K.taken sink.old) (K.taken sink.new) (K.faults sink.old) (K.faults sink.new) result.status result.journals ⊎ SaysNothing (K.taken sink.old) (K.taken sink.new) (K.faults sink.old) (K.faults sink.new) result.status result.journals }
 {
-    match refusal(alloc, fault) {
-        Ok(line) => say(sink, &line, Status::Refused),
+    match refusal_of(alloc, refusal) {
+        Ok(line) => say(sink, line.bytes(), Status::Refused),
         Err(NoMemory) => without_journals(Status::NoMemory),
     }
 }
@@ -81,12 +73,11 @@ fn hand_over<K: Sink>(sink: &mut K, text: &[u8], script: &Script, journals: Jour
 fn tell<K: Sink>(alloc: Global, script: &Script, played: Played, sink: &mut K) -> Ended
     requires faults { K.faults sink.old < 2 ^ 64 - 1 }
     requires run { IsRun script.now played.journals }
-    requires shape { played.cache.shape ≡ whole script.now.machine.sets script.now.machine.ways }
-    requires stands { StandsFor played.cache (slice_at played.journals 0) }
+    requires caches { AreLeft script.now played.journals played.caches.items }
     ensures { Reports script.now (K.taken sink.old) (K.taken sink.new) (K.faults sink.old) (K.faults sink.new) result.status result.journals ⊎ SaysNothing (K.taken sink.old) (K.taken sink.new) (K.faults sink.old) (K.faults sink.new) result.status result.journals }
 {
-    let Played { journals, cache } = played;
-    match report(alloc, script, &journals, &cache) {
+    let Played { journals, caches } = played;
+    match report_text::text(alloc, script, &journals, &caches) {
         Ok(text) => hand_over(sink, &text, script, journals),
         Err(NoMemory) => without_journals(Status::NoMemory),
     }
@@ -94,7 +85,8 @@ fn tell<K: Sink>(alloc: Global, script: &Script, played: Played, sink: &mut K) -
 
 // Plays a script and writes its report.
 fn perform<K: Sink>(alloc: Global, script: &Script, sink: &mut K) -> Ended
-    requires { K.faults sink.old < 2 ^ 64 - 1 }
+    requires built { built_script script.now ≡ true }
+    requires faults { K.faults sink.old < 2 ^ 64 - 1 }
     ensures { Reports script.now (K.taken sink.old) (K.taken sink.new) (K.faults sink.old) (K.faults sink.new) result.status result.journals ⊎ SaysNothing (K.taken sink.old) (K.taken sink.new) (K.faults sink.old) (K.faults sink.new) result.status result.journals }
 {
     match play(alloc, script) {
@@ -126,7 +118,7 @@ pub fn top_step<S: Source, K: Sink>(
     }
     match read_input(alloc, source) {
         Ok(script) => perform(alloc, &script, sink),
-        Err(InputError::Bad(fault)) => refuse(alloc, fault, sink),
+        Err(InputError::Bad(refusal)) => refuse(alloc, refusal, sink),
         Err(InputError::Failed) => without_journals(Status::ReadFault),
         Err(InputError::NoMemory) => without_journals(Status::NoMemory),
     }

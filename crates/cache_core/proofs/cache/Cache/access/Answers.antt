@@ -1,6 +1,7 @@
-use Rattle.std.proofs.Common.{◌≡◌, ◌+◌, ◌%◌, ◌<◌, [], length, arith, refl, slice_set, subst, ◌∙◌}
+use Rattle.std.proofs.Common.{◌≡◌, ◌+◌, ◌%◌, ◌<◌, [], length, slice_set, subst, ◌∙◌, ap, arith, refl}
 use Rattle.std.proofs.lemmas.List.{get_or_default}
-use Rattle.std.proofs.lemmas.Grind.{common_steps}
+use Rattle.machine.specs.Maps.{parameters_of}
+use Rattle.cache_core.specs.History.{IsOwn, Shape, shape_of}
 use Rattle.cache_core.specs.Places.{State, set_in}
 use Rattle.cache_core.specs.Stands.{Accesses}
 use Rattle.cache_core.proofs.Forming.{formed_after}
@@ -10,17 +11,24 @@ use Rattle.cache_core.proofs.cache.Cache.access.Goals as goal
 pub returns-clause-entry : goal.returns-clause-entry
 returns-clause-entry c =
     let inside = c.self.inside in
-    let count : c.len.result ≡ length inside.sets.items = grind (arith, common_steps) in
-    let new : State = kept (slice_set inside.sets.items (c.args.line % c.len.result) c.touch.new.set) inside.ways inside.floor (inside.clock + 1) in
-    let P : State → Type 0 = λ s. Accesses s new c.args.tag.now c.args.line c.touch.result in
+    let places = inside.sets.items in
+    let set = c.set_of-set.result in
+    let old : State = kept inside.machine inside.slice places inside.floor inside.clock in
+    let new : State = kept inside.machine inside.slice (slice_set places set c.touch.new.set) inside.floor (inside.clock + 1) in
+    let within : set < length places = rw c.self.invariant.count c.set_of-set.ensures.below in
+    let is : c.index_mut.result.now ≡ set_in places set = c.index_mut.ensures.value ∙ get_or_default places set c.index_mut.result.now [] within in
+    let P : State → Type 0 = λ s. IsOwn s.shape (c.args.line % s.shape.sets) → Accesses s new c.args.tag.now c.args.line c.touch.result in
     subst P c.self.view_is
-    (access_adds inside.sets.items inside.ways inside.floor inside.clock c.len.result c.args.tag.now c.args.line c.index_mut.result.now c.touch.new.set c.touch.result count c.index_mut.ensures.value c.self.invariant c.if-tag-self.false c.touch.ensures)
+    (λ own. access_adds old set c.args.tag.now c.args.line c.index_mut.result.now c.touch.new.set c.touch.result c.set_of-set.ensures.set is c.self.invariant own c.if-tag-self.false c.touch.ensures)
+    c.requires.own
 
 pub invariant_of-self : goal.invariant_of-self
 invariant_of-self c =
     let inside = c.self.inside in
     let places = inside.sets.items in
-    let count : c.len.result ≡ length places = grind (arith, common_steps) in
-    let inside_all : c.args.line % c.len.result < length places = let some = c.self.invariant.some in rw count (omega (arith, some)) in
-    let is : c.index_mut.result.now ≡ set_in places (c.args.line % c.len.result) = c.index_mut.ensures.value ∙ get_or_default places (c.args.line % c.len.result) c.index_mut.result.now [] inside_all in
-    formed_after places inside.ways inside.clock (c.args.line % c.len.result) c.args.tag.now.mask (touching c.args.tag.now c.args.line inside.clock) c.index_mut.result.now c.touch.new.set c.touch.result c.self.invariant inside_all is refl (omega (arith, c.fits-tag)) c.touch.ensures
+    let set = c.set_of-set.result in
+    let shape : Shape = shape_of (parameters_of inside.machine) inside.slice in
+    let within : set < length places = rw c.self.invariant.count c.set_of-set.ensures.below in
+    let is : c.index_mut.result.now ≡ set_in places set = c.index_mut.ensures.value ∙ get_or_default places set c.index_mut.result.now [] within in
+    let named : c.args.tag.now.rmid < inside.machine.rmids = omega (arith, c.requires.rmid, ap (λ (s : State). s.rmids) c.self.view_is) in
+    formed_after shape inside.machine.rmids inside.clock places set c.args.tag.now.mask (touching c.args.tag.now c.args.line inside.clock) c.index_mut.result.now c.touch.new.set c.touch.result c.self.invariant c.set_of-set.ensures.below is refl named c.touch.ensures

@@ -8,6 +8,6 @@ use Rattle.cache_core.proofs.cache.Cache.raise.Goals as goal
 pub returns-clause-entry : goal.returns-clause-entry
 returns-clause-entry c =
     let inside = c.self.inside in
-    let new : State = kept inside.sets.items inside.ways c.args.epoch (inside.clock + 1) in
+    let new : State = kept inside.machine inside.slice inside.sets.items c.args.epoch (inside.clock + 1) in
     let P : State → Type 0 = λ s. s.floor ≤ c.args.epoch → Adds s new c.args.epoch Raise in
-    subst P c.self.view_is (raise_adds (kept inside.sets.items inside.ways inside.floor inside.clock) c.args.epoch) c.requires.epoch
+    subst P c.self.view_is (raise_adds (kept inside.machine inside.slice inside.sets.items inside.floor inside.clock) c.args.epoch) c.requires.epoch

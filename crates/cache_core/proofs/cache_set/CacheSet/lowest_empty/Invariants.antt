@@ -1,5 +1,5 @@
 use Rattle.std.proofs.Common.{ℕ, ◌<◌, IsTrue, IsSome}
-use Rattle.cache_core.specs.Fills.{has_way}
+use Rattle.cbm.specs.Masks.{has_way}
 use Rattle.cache_core.specs.Places.{resident_in}
 use Rattle.cache_core.proofs.cache_set.CacheSet.lowest_empty.Given as goal
 

@@ -1,0 +1,37 @@
+-- The text of `size`, an entry at a time.
+use Rattle.std.proofs.Common.{◌≡◌, ℕ, ◌-◌, ◌^◌, ◌<◌, ◌≤◌, List, [], ◌∷◌, ◌++◌, length, map, get_or, take, drop, codes, decimal, refl, ap, ◌∙◌, arith}
+use Rattle.std.specs.List.{flat_map}
+use Rattle.std.proofs.lemmas.Fmt.{length-decimal-le}
+use Rattle.std.proofs.lemmas.List.Folds.{flat_map-map}
+use Rattle.std.proofs.lemmas.List.{take_all}
+use Rattle.machine.specs.declared.parameters.Parameters.{Parameters}
+use Rattle.num_text.proofs.Pieces.{join_cons}
+use Rattle.schemata_text.specs.declared.assignment.Assignment.{Assignment}
+use Rattle.file_view.specs.Texts.{size_entry, size_line}
+
+-- the entries behind the first, each with its separator
+abbrev pub others_text : Parameters → List Assignment → List ℕ
+others_text m all = flat_map (λ (a : Assignment). 59 ∷ size_entry m a) all
+
+pub size_none : (m : Parameters) → size_line m [] ≡ codes "L3:"
+unfolding size_line
+size_none m = refl
+
+pub size_some : (m : Parameters) (a : Assignment) (all : List Assignment) → size_line m (a ∷ all) ≡ codes "L3:" ++ (size_entry m a ++ others_text m all)
+unfolding size_line
+size_some m a all = ap (λ (rest : List ℕ). codes "L3:" ++ rest) (join_cons 59 (size_entry m a) (map (size_entry m) all) ∙ ap (λ (rest : List ℕ). size_entry m a ++ rest) (flat_map-map (λ (y : List ℕ). 59 ∷ y) (size_entry m) all))
+
+-- the same at a list whose first is taken off
+pub size_parts : (m : Parameters) (k : ℕ) (d : Assignment) (all : List Assignment) → 1 ≤ length all → length (take (length all - 1) (drop 1 all)) ≤ k
+    → size_line m all ≡ codes "L3:" ++ (size_entry m (get_or all 0 d) ++ others_text m (take k (take (length all - 1) (drop 1 all))))
+size_parts m k d [] some done = absurd (omega arith)
+size_parts m k d (a ∷ all) some done =
+    let rest : take (length (a ∷ all) - 1) all ≡ all = take_all (length (a ∷ all) - 1) all (omega arith) in
+    let whole : take k (take (length (a ∷ all) - 1) all) ≡ all = take_all k (take (length (a ∷ all) - 1) all) done ∙ rest in
+    rw whole (size_some m a all)
+
+pub domain_short : (n : ℕ) → n < 2 ^ 8 → length (decimal n) ≤ 3
+domain_short n small = length-decimal-le 3 n (omega arith) (omega arith) (omega arith)
+
+pub bytes_short : (n : ℕ) → n < 2 ^ 64 → length (decimal n) ≤ 20
+bytes_short n small = length-decimal-le 20 n (omega arith) (omega arith) (omega arith)

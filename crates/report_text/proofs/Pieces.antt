@@ -1,0 +1,116 @@
+-- Pieces of the report.
+use Rattle.std.proofs.Common.{◌≡◌, ℕ, zero, suc, ◌+◌, ◌-◌, ◌<◌, false, List, [], ◌∷◌, ◌++◌, length, map, take, get_or, Option, Some, Result, Ok, Err, refl, sym, ap, ◌∙◌, subst, arith}
+use Rattle.std.specs.Prelude.{OnOk, decimal}
+use Rattle.std.specs.Fmt.{digits}
+use Rattle.std.specs.List.{flat_map, range_with_len}
+use Rattle.std.proofs.lemmas.Grind.{flat_map-append}
+use Rattle.std.proofs.lemmas.List.{append_assoc, append-nil, map-append, take_more, length-take, length-map}
+use Rattle.machine.specs.declared.parameters.Parameters.{Parameters}
+use Rattle.num_text.specs.Printed.{filled, hexadecimal}
+use Rattle.report_text.specs.Commands.{command_line, command_lines, op_said}
+use Rattle.run_law.specs.Entries.{entry_value}
+use Rattle.run_law.specs.TreeHistory.{TreeEntryValue, state_after, tree_from}
+use Rattle.run_law.specs.declared.journals.TreeEntry.{TreeEntry}
+use Rattle.script_text.specs.Values.{ScriptValue, op_at}
+use Rattle.script_text.specs.declared.op.Op.{Op}
+use Rattle.script_text.specs.declared.op.Op.TheVariants as ops
+use Rattle.tree_core.specs.State.{State}
+use Rattle.tree_core.specs.Steps.{Outcome, next}
+
+-- a number filled to width 0 has no zeros in front
+pub no_zeros : (n : ℕ) → hexadecimal 0 n ≡ digits 16 false n
+unfolding filled
+no_zeros n = let none : 0 - length (digits 16 false n) ≡ 0 = omega arith in rw none refl
+
+range_push : (a n : ℕ) → range_with_len a (n + 1) ≡ range_with_len a n ++ (a + n) ∷ []
+range_push a zero = let e : a ≡ a + 0 = omega arith in ap (λ k. k ∷ []) e
+range_push a (suc n) =
+    let next : suc n + 1 ≡ suc (n + 1) = omega arith in
+    let there : (a + 1) + n ≡ a + suc n = omega arith in
+    ap (range_with_len a) next ∙ ap (λ ks. a ∷ ks) (range_push (a + 1) n ∙ ap (λ k. range_with_len (a + 1) n ++ k ∷ []) there)
+
+-- one more number
+pub range_more : (f : ℕ → List ℕ) (n : ℕ) (old now then : List ℕ) → now ≡ old ++ flat_map f (range_with_len 0 n) → then ≡ now ++ f n → then ≡ old ++ flat_map f (range_with_len 0 (n + 1))
+range_more f n old now then before more =
+    let here : 0 + n ≡ n = omega arith in
+    let all : flat_map f (range_with_len 0 (n + 1)) ≡ flat_map f (range_with_len 0 n) ++ f n =
+    ap (flat_map f) (range_push 0 n ∙ ap (λ k. range_with_len 0 n ++ k ∷ []) here) ∙ (flat_map-append f (range_with_len 0 n) (n ∷ []) ∙ ap (λ t. flat_map f (range_with_len 0 n) ++ t) (append-nil (f n))) in
+    more ∙ (ap (λ t. t ++ f n) before ∙ (append_assoc old (flat_map f (range_with_len 0 n)) (f n) ∙ ap (λ t. old ++ t) (sym all)))
+
+-- one more command
+command_lines_push : (script : ScriptValue) (s : State) (k : ℕ) (hs : List TreeEntryValue) (h : TreeEntryValue)
+    → command_lines script s k (hs ++ h ∷ []) ≡ command_lines script s k hs ++ command_line script (tree_from script s hs) (k + length hs) h
+command_lines_push script s k [] h = let e : k + 0 ≡ k = omega arith in rw e (append-nil (command_line script s k h))
+command_lines_push script s k (x ∷ hs) h =
+    let then : State = state_after script.machine s x.looks (op_at script x.thread x.op) in
+    let e : (k + 1) + length hs ≡ k + suc (length hs) = omega arith in
+    ap (λ rest. command_line script s k x ++ rest) (command_lines_push script then (k + 1) hs h ∙ ap (λ n. command_lines script then (k + 1) hs ++ command_line script (tree_from script then hs) n h) e)
+    ∙ sym (append_assoc (command_line script s k x) (command_lines script then (k + 1) hs) (command_line script (tree_from script then hs) (k + suc (length hs)) h))
+
+state_push : (script : ScriptValue) (s : State) (hs : List TreeEntryValue) (h : TreeEntryValue)
+    → tree_from script s (hs ++ h ∷ []) ≡ state_after script.machine (tree_from script s hs) h.looks (op_at script h.thread h.op)
+state_push script s [] h = refl
+state_push script s (x ∷ hs) h = state_push script (state_after script.machine s x.looks (op_at script x.thread x.op)) hs h
+
+-- the entries up to one, and that one
+entries_more : (es : List TreeEntry) (k : ℕ) (e : TreeEntry) → k < length es → e ≡ get_or es k e → map entry_value (take (k + 1) es) ≡ map entry_value (take k es) ++ entry_value e ∷ []
+entries_more es k e within is =
+    ap (map entry_value) (take_more es k e within) ∙ (map-append entry_value (take k es) (get_or es k e ∷ []) ∙ ap (λ x. map entry_value (take k es) ++ entry_value x ∷ []) (sym is))
+
+-- the lines of one command more
+pub command_lines_more : (script : ScriptValue) (s : State) (es : List TreeEntry) (k : ℕ) (e : TreeEntry) (state : State) (old now then : List ℕ) → k < length es → e ≡ get_or es k e
+    → state ≡ tree_from script s (map entry_value (take k es))
+    → now ≡ old ++ command_lines script s 0 (map entry_value (take k es)) → then ≡ now ++ command_line script state k (entry_value e)
+    → then ≡ old ++ command_lines script s 0 (map entry_value (take (k + 1) es))
+command_lines_more script s es k e state old now then within is at before last =
+    let hs : List TreeEntryValue = map entry_value (take k es) in
+    let here : State = tree_from script s hs in
+    let more : then ≡ now ++ command_line script here k (entry_value e) = subst (λ t. then ≡ now ++ command_line script t k (entry_value e)) at last in
+    let count : length hs ≡ k = length-map (take k es) entry_value ∙ omega (arith, length-take k es) in
+    let z : 0 + length hs ≡ k = omega (arith, count) in
+    more
+    ∙ (ap (λ t. t ++ command_line script here k (entry_value e)) before
+    ∙ (append_assoc old (command_lines script s 0 hs) (command_line script here k (entry_value e))
+    ∙ ap (λ t. old ++ t) (sym (ap (command_lines script s 0) (entries_more es k e within is) ∙ (command_lines_push script s 0 hs (entry_value e) ∙ ap (λ n. command_lines script s 0 hs ++ command_line script here n (entry_value e)) z)))))
+
+-- the state after one command more
+pub state_more : (script : ScriptValue) (s now then : State) (es : List TreeEntry) (k : ℕ) (e : TreeEntry) → k < length es → e ≡ get_or es k e
+    → now ≡ tree_from script s (map entry_value (take k es)) → then ≡ state_after script.machine now e.looks.numbers (op_at script e.thread e.op)
+    → then ≡ tree_from script s (map entry_value (take (k + 1) es))
+state_more script s now then es k e within is before more =
+    more
+    ∙ (ap (λ t. state_after script.machine t e.looks.numbers (op_at script e.thread e.op)) before
+    ∙ sym (ap (tree_from script s) (entries_more es k e within is) ∙ state_push script s (map entry_value (take k es)) (entry_value e)))
+
+-- a command is given no counts so far, and takes no notice of any
+pub no_looks : (m : Parameters) (s : State) (op : Op) (looks : List ℕ) → next m s op looks ≡ next m s op []
+unfolding next
+no_looks m s (ops.Mkdir path) looks = refl
+no_looks m s (ops.Rmdir path) looks = refl
+no_looks m s (ops.Write path text) looks = refl
+no_looks m s (ops.Read path) looks = refl
+no_looks m s (ops.List path) looks = refl
+no_looks m s (ops.Flush domain) looks = refl
+no_looks m s ops.Tick looks = refl
+no_looks m s (ops.Access task cpu addr) looks = refl
+no_looks m s (ops.Touch path offset task cpu) looks = refl
+
+-- what holds of the state after an op whose counts are none holds of it with any counts
+pub same_state : (m : Parameters) (s : State) (op : Op) (looks : List ℕ) (found : Option Op) (then : State) → Some op ≡ found → then ≡ state_after m s [] (Some op) → then ≡ state_after m s looks found
+same_state m s op looks found then is h = h ∙ (ap (λ (o : Outcome). o.state) (sym (no_looks m s op looks)) ∙ ap (λ o. state_after m s looks o) is)
+
+-- what is shown of an `Ok` is shown of one fact by another
+pub on_ok : {A E : Type 0} {P Q : Type 0} (r : Result A E) → (P → Q) → OnOk r P → OnOk r Q
+on_ok (Ok a) f h = f h
+on_ok (Err e) f h = tt
+
+-- the place of an entry, and what is said of its op
+pub line_of : (script : ScriptValue) (s : State) (k : ℕ) (h : TreeEntryValue) (op : Option Op) (old placed now : List ℕ) → op_at script h.thread h.op ≡ op
+    → placed ≡ old ++ (decimal k ++ 32 ∷ decimal h.thread ++ 46 ∷ decimal h.op ++ 32 ∷ []) → now ≡ placed ++ op_said script s op h.reply
+    → now ≡ old ++ command_line script s k h
+unfolding command_line
+line_of script s k h op old placed now is place said =
+    let said_here : List ℕ = op_said script s (op_at script h.thread h.op) h.reply in
+    let all : now ≡ (old ++ (decimal k ++ 32 ∷ decimal h.thread ++ 46 ∷ decimal h.op ++ 32 ∷ [])) ++ said_here =
+    said ∙ (ap (λ t. t ++ op_said script s op h.reply) place ∙ ap (λ o. (old ++ (decimal k ++ 32 ∷ decimal h.thread ++ 46 ∷ decimal h.op ++ 32 ∷ [])) ++ op_said script s o h.reply) (sym is)) in
+    all ∙ simp append_assoc

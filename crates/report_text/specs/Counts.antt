@@ -1,0 +1,41 @@
+-- Counts of accesses, hits and misses over the entries of slices.
+use Rattle.std.specs.Prelude.{ℕ, Bool, true, false, not, ◌==◌, ◌&&◌, List, ◌++◌, count_by, codes, decimal}
+use Rattle.cache_core.specs.Sums.{sum_below}
+use Rattle.cache_core.specs.declared.entry.SliceEntry.{SliceEntry}
+use Rattle.cache_core.specs.declared.entry.What.{What}
+use Rattle.cache_core.specs.declared.entry.What.TheVariants.{Access}
+use Rattle.report_text.specs.declared.counts.Counted.{Counted}
+use Rattle.report_text.specs.declared.counts.Counted.TheVariants.{All, OfGroup}
+use Rattle.run_law.specs.Runs.{JournalsValue, slice_at}
+use Rattle.run_law.specs.Slices.{slice_count}
+use Rattle.script_text.specs.Values.{ScriptValue}
+
+-- an access of this group
+abbrev pub is_access_of : ℕ → What → Bool
+is_access_of gid (Access owner rmid mask line hit way) = owner.0 == gid
+is_access_of gid what = false
+
+-- an access
+abbrev pub is_access : What → Bool
+is_access (Access owner rmid mask line hit way) = true
+is_access what = false
+
+-- an access of those that are counted
+abbrev pub is_counted : Counted → What → Bool
+is_counted (OfGroup gid) = is_access_of gid
+is_counted All = is_access
+
+-- a hit
+abbrev pub is_hit : What → Bool
+is_hit (Access owner rmid mask line hit way) = hit
+is_hit what = false
+
+-- how many entries of all slices pass a test
+abbrev pub count_entries : ScriptValue → JournalsValue → (What → Bool) → ℕ
+count_entries script j p = sum_below (slice_count script.machine) (λ i. count_by (λ (e : SliceEntry). p e.what) (slice_at j i))
+
+-- the accesses that pass a test, and of these the hits and the misses
+abbrev pub counts_text : ScriptValue → JournalsValue → (What → Bool) → List ℕ
+counts_text script j p =
+    codes "accesses " ++ decimal (count_entries script j p) ++ codes " hits " ++ decimal (count_entries script j (λ what. p what && is_hit what))
+    ++ codes " misses " ++ decimal (count_entries script j (λ what. p what && not (is_hit what)))

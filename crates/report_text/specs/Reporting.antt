@@ -1,0 +1,82 @@
+-- The report: a function of a script and its journals.
+use Rattle.std.specs.Prelude.{ℕ, ◌*◌, Bool, true, false, nat_lt, if◌then◌else◌, List, [], ◌∷◌, ◌++◌, length, count_by, codes, decimal}
+use Rattle.std.specs.List.{flat_map, range_with_len}
+use Rattle.cache_core.specs.History.{lines_of, valid_of}
+use Rattle.cache_core.specs.Sums.{sum_below}
+use Rattle.rc_base.specs.declared.replies.Reply.{Reply}
+use Rattle.rc_base.specs.declared.replies.Reply.TheVariants as replies
+use Rattle.report_text.specs.Commands.{command_lines}
+use Rattle.report_text.specs.Counts.{counts_text, is_access, is_access_of}
+use Rattle.run_law.specs.Runs.{JournalsValue, slice_at}
+use Rattle.run_law.specs.Slices.{shape_in, slice_number}
+use Rattle.run_law.specs.TreeHistory.{TreeEntryValue}
+use Rattle.script_text.specs.Values.{ScriptValue}
+use Rattle.tree_core.specs.State.{opening}
+
+-- ---- the line of a group
+
+-- a control group that ever was, by its gid and its path
+pub record Control : Type 0 where
+  pub gid : ℕ
+  pub path : List ℕ
+
+-- the default group is the only one
+abbrev pub controls : ScriptValue → List TreeEntryValue → List Control
+controls script tree = record { gid = 0; path = codes "/" } ∷ []
+
+-- `group G PATH: accesses A hits H misses M`
+abbrev pub group_line : ScriptValue → JournalsValue → Control → List ℕ
+group_line script j g = codes "group " ++ decimal g.gid ++ codes " " ++ g.path ++ codes ": " ++ counts_text script j (is_access_of g.gid) ++ codes "\n"
+
+-- ---- the line of a domain
+
+-- a number of lines over the slices of a domain
+abbrev pub over_slices : ScriptValue → ℕ → (ℕ → ℕ) → ℕ
+over_slices script domain f = sum_below script.machine.slices (λ slice. f (slice_number script.machine domain slice))
+
+-- how many lines an RMID has in a domain at the end
+abbrev pub rmid_lines : ScriptValue → JournalsValue → ℕ → ℕ → ℕ
+rmid_lines script j domain rmid = over_slices script domain (λ i. lines_of (shape_in script.machine i) (slice_at j i) rmid)
+
+-- how many valid lines a domain has at the end
+abbrev pub valid_lines : ScriptValue → JournalsValue → ℕ → ℕ
+valid_lines script j domain = over_slices script domain (λ i. valid_of (shape_in script.machine i) (slice_at j i))
+
+-- `, rmid R N` for an RMID with lines
+abbrev pub rmid_text : ℕ → ℕ → List ℕ
+rmid_text rmid lines = if nat_lt 0 lines then codes ", rmid " ++ decimal rmid ++ codes " " ++ decimal lines else []
+
+-- each RMID with lines, rising
+abbrev pub rmids_text : ScriptValue → JournalsValue → ℕ → List ℕ
+rmids_text script j domain = flat_map (λ rmid. rmid_text rmid (rmid_lines script j domain rmid)) (range_with_len 0 script.machine.rmids)
+
+-- `domain D: valid V of C`, and each RMID with lines
+abbrev pub domain_line : ScriptValue → JournalsValue → ℕ → List ℕ
+domain_line script j domain =
+    codes "domain " ++ decimal domain ++ codes ": valid " ++ decimal (valid_lines script j domain) ++ codes " of " ++ decimal (script.machine.sets * script.machine.ways)
+    ++ rmids_text script j domain ++ codes "\n"
+
+-- ---- the last line
+
+-- the command was refused
+abbrev pub is_refusal : Reply → Bool
+is_refusal replies.Ok = false
+is_refusal (replies.Refused errno why arg) = true
+
+-- `total: commands N refused R `
+abbrev pub commands_count : List TreeEntryValue → List ℕ
+commands_count tree = codes "total: commands " ++ decimal (length tree) ++ codes " refused " ++ decimal (count_by (λ (h : TreeEntryValue). is_refusal h.reply) tree) ++ codes " "
+
+-- the same, and `accesses A hits H misses M`
+abbrev pub total_line : ScriptValue → JournalsValue → List ℕ
+total_line script j = commands_count j.tree ++ counts_text script j is_access ++ codes "\n"
+
+-- ---- the report
+
+-- the lines of the commands, of the groups and of the domains, and the last line
+unfoldable pub report_of : ScriptValue → JournalsValue → List ℕ
+report_of script j =
+    command_lines script (opening script.machine) 0 j.tree
+    ++ flat_map (group_line script j) (controls script j.tree)
+    ++ flat_map (domain_line script j) (range_with_len 0 script.machine.domains)
+    ++ total_line script j

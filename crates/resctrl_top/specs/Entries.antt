@@ -1,6 +1,0 @@
--- What contracts see of an entry of the tree's journal.
-use Rattle.resctrl_top.specs.TreeHistory.{TreeEntryValue}
-use Rattle.resctrl_top.specs.declared.journals.TreeEntry.{TreeEntry}
-
-abbrev pub entry_value : TreeEntry → TreeEntryValue
-entry_value e = record { thread = e.thread; op = e.op; reply = e.reply; looks = e.looks.numbers }

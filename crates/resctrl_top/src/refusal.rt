@@ -1,0 +1,60 @@
+//! Why the bytes of an input cannot be played.
+ghost use Rattle.std.specs.Prelude.{◌≡◌, ◌≤◌, length};
+ghost use Rattle.resctrl_top.specs.Meaning.{fault_text, line_number, refusal_text};
+
+use script_text::{LineFault, ScriptFault};
+
+/// Why the bytes of an input cannot be played (this project's profile).
+#[derive(Clone, Copy, Debug, PartialEq, Eq)]
+pub enum Refusal {
+    /// They are no script: the first bad line, and its first fault.
+    BadLine(ScriptFault),
+    /// They are more than 67,108,864.
+    TooLarge,
+    /// The script holds something that is not built yet.
+    NotBuilt,
+}
+
+impl Refusal {
+    /// The number of the line, from 1; 0 stands for the whole.
+    pub fn line(self) -> u32
+        ensures { result ≡ line_number self }
+    {
+        match self {
+            Refusal::BadLine(fault) => fault.line,
+            Refusal::TooLarge | Refusal::NotBuilt => 0,
+        }
+    }
+
+    /// The words for it.
+    pub fn text(self) -> &'static str
+        ensures text { result.now ≡ refusal_text self }
+        ensures short { length result.now ≤ 16 }
+    {
+        match self {
+            Refusal::BadLine(fault) => text_of(fault.what),
+            Refusal::TooLarge => "script too large",
+            Refusal::NotBuilt => "not built yet",
+        }
+    }
+}
+
+// The words for the fault of a line.
+fn text_of(fault: LineFault) -> &'static str
+    ensures text { result.now ≡ fault_text fault }
+    ensures short { length result.now ≤ 16 }
+{
+    match fault {
+        LineFault::BadByte => "bad byte",
+        LineFault::NoMachine => "no machine line",
+        LineFault::UnknownWord => "unknown word",
+        LineFault::OutOfPlace => "out of place",
+        LineFault::BadMachine => "bad machine line",
+        LineFault::BadTasks => "bad tasks line",
+        LineFault::BadArgument => "bad argument",
+        LineFault::BadPath => "bad path",
+        LineFault::UnknownTask => "unknown task",
+        LineFault::BadEscape => "bad escape",
+        LineFault::TooLarge => "script too large",
+    }
+}

@@ -1,0 +1,183 @@
+-- What an access and what a command brings.
+use Rattle.std.proofs.Common.{◌≡◌, ℕ, suc, ◌+◌, ◌-◌, ◌≤◌, Bool, true, inl, inr, List, [], ◌∷◌, ◌++◌, length, map, filter, Option, Some, refl, sym, ap, ◌∙◌, subst, arith}
+use Rattle.std.specs.Prelude.{◌==◌, if◌then◌else◌, IsTrue, Contains}
+use Rattle.std.specs.List.{flat_map}
+use Rattle.std.proofs.lemmas.Bool.{cases_Bool, eqb-true}
+use Rattle.std.proofs.lemmas.List.{append-nil, length-append}
+use Rattle.std.proofs.Math.Seq.{take-append_seam}
+use Rattle.cache_core.specs.declared.entry.SliceEntry.{SliceEntry}
+use Rattle.cache_core.specs.declared.entry.What.TheVariants as whats
+use Rattle.cache_core.specs.Stands.{entry}
+use Rattle.cache_core.specs.Sums.{one_if}
+use Rattle.machine.specs.Maps.{domain_of}
+use Rattle.machine.specs.declared.parameters.Parameters.{Parameters}
+use Rattle.rc_base.proofs.Following.{goes_on_push}
+use Rattle.run_law.specs.Ops.{is_command}
+use Rattle.run_law.specs.Runs.{At, IsOwed, IsTrueTo, JournalsValue, Pays, follow_in, is_made_by, is_taken_from, owed_by_access, owed_by_command, paid_by}
+use Rattle.run_law.specs.Slices.{line_of, slice_of_line}
+use Rattle.run_law.specs.TreeHistory.{IsCommandThat, IsLegalTree, MayFollow, TreeEntryValue, tree_after}
+use Rattle.script_text.specs.Values.{ScriptValue, op_at}
+use Rattle.script_text.specs.declared.op.Op.{Op}
+use Rattle.script_text.specs.declared.op.Op.TheVariants.{Access}
+use Rattle.step_world.specs.Done.{AreDone}
+use Rattle.tree_core.specs.State.{State}
+use Rattle.tree_core.specs.Steps.{after, needs, next, resolve}
+use Rattle.step_world.proofs.ByOp.{of_command}
+use Rattle.step_world.proofs.Doing.{Brings, Grow, grown, one_more}
+use Rattle.step_world.proofs.Positions.{at_end, at_one, at_parts, both_hold, both_pass, contains_mapped}
+
+-- ---- an access
+
+-- the entry of an access by the state of the tree
+abbrev pub access_entry : ScriptValue → State → ℕ → ℕ → ℕ → ℕ → ℕ → Bool → ℕ → SliceEntry
+access_entry script s n epoch task cpu addr hit way =
+    let owned = resolve script.machine s task cpu in entry 0 n epoch (whats.Access owned.owner owned.rmid owned.mask (line_of addr) hit way)
+
+-- this entry in one slice, and none in others
+abbrev pub only_in : ℕ → SliceEntry → ℕ → List SliceEntry
+only_in slice e i = if i == slice then e ∷ [] else []
+
+-- what stands there is the entry, and there is the slice
+pub at_only : (slice : ℕ) (e : SliceEntry) (i p : ℕ) (x : SliceEntry) → At (only_in slice e i) p x → (x ≡ e) × (i ≡ slice)
+at_only slice e i p x at = elim (cases_Bool (i == slice)) [
+  | inl same ↦ ((at_one e p x (rw same at at)).1, eqb-true i slice same)
+  | inr apart ↦ absurd (let none : At {A = SliceEntry} [] p x = rw apart at at in cc)
+]
+
+owes : (script : ScriptValue) (tree : List TreeEntryValue) (n task cpu addr : ℕ) (hit : Bool) (way : ℕ)
+    → paid_by (access_entry script (tree_after script tree) n (length tree) task cpu addr hit way) ≡ owed_by_access script (tree ++ []) (length tree) task cpu addr
+unfolding owed_by_access
+owes script tree n task cpu addr hit way = rw (take-append_seam tree []) refl
+
+access_brings : (script : ScriptValue) (n : ℕ) (j : JournalsValue) (slices : List (List SliceEntry)) (task cpu addr : ℕ) (hit : Bool) (way : ℕ)
+    → AreDone script n j → op_at script 0 n ≡ Some (Access task cpu addr)
+    → Grow j slices (only_in (slice_of_line script.machine (domain_of script.machine cpu) (line_of addr)) (access_entry script (tree_after script j.tree) n (length j.tree) task cpu addr hit way))
+    → Brings script n j [] slices (only_in (slice_of_line script.machine (domain_of script.machine cpu) (line_of addr)) (access_entry script (tree_after script j.tree) n (length j.tree) task cpu addr hit way)) (Access task cpu addr)
+access_brings script n j slices task cpu addr hit way done is grow =
+    let slice : ℕ = slice_of_line script.machine (domain_of script.machine cpu) (line_of addr) in
+    let e : SliceEntry = access_entry script (tree_after script j.tree) n (length j.tree) task cpu addr hit way in
+    let same : j.tree ++ [] ≡ j.tree = append-nil j.tree in
+    record {
+      is_op = is;
+      grow = grow;
+      of_op = λ k h at. absurd cc;
+      by_op = λ i p x at. let it = at_only slice e i p x at in (ap (λ (y : SliceEntry). y.thread) it.0, ap (λ (y : SliceEntry). y.op) it.0);
+      late = λ i p x at. let it = at_only slice e i p x at in omega (arith, ap (λ (y : SliceEntry). y.epoch) it.0);
+      in_time = λ i p x at. let it = at_only slice e i p x at in omega (arith, ap (λ (y : SliceEntry). y.epoch) it.0, ap length same);
+      legal = subst (λ hs. IsLegalTree script hs) (sym same) done.legal;
+      true_to_op = λ i p x at. let it = at_only slice e i p x at in subst (λ y. IsTrueTo script (j.tree ++ []) i y (Some (Access task cpu addr))) (sym it.0) (omega (arith, ap length same), owes script j.tree n task cpu addr hit way);
+      command_once = λ command. absurd cc;
+      entries_once = λ i. elim (cases_Bool (i == slice)) [
+        | inl here ↦
+            let mine : is_made_by 0 n e ≡ true = both_pass 0 0 n n refl refl in
+            let made : filter (is_made_by 0 n) (e ∷ []) ≡ e ∷ [] = rw mine refl in
+            rw here (ap length made)
+        | inr away ↦ rw away refl
+      ];
+    }
+
+-- after an access, all of the first n + 1 ops are done
+pub access_done : (script : ScriptValue) (n : ℕ) (j : JournalsValue) (slices : List (List SliceEntry)) (task cpu addr : ℕ) (hit : Bool) (way : ℕ)
+    → AreDone script n j → op_at script 0 n ≡ Some (Access task cpu addr)
+    → Grow j slices (only_in (slice_of_line script.machine (domain_of script.machine cpu) (line_of addr)) (access_entry script (tree_after script j.tree) n (length j.tree) task cpu addr hit way))
+    → AreDone script (n + 1) (grown j [] slices)
+access_done script n j slices task cpu addr hit way done is grow =
+    one_more script n j [] slices (only_in (slice_of_line script.machine (domain_of script.machine cpu) (line_of addr)) (access_entry script (tree_after script j.tree) n (length j.tree) task cpu addr hit way)) (Access task cpu addr) done
+    (access_brings script n j slices task cpu addr hit way done is grow)
+
+-- ---- a command
+
+-- These entries of each slice are of op n, and of the epoch before the command or behind it.
+abbrev pub AreOf : ℕ → ℕ → (ℕ → List SliceEntry) → Type 0
+AreOf n epoch es = (i p : ℕ) (e : SliceEntry) → At (es i) p e → (e.thread ≡ 0) × (e.op ≡ n) × (epoch ≤ e.epoch) × (e.epoch ≤ epoch + 1)
+
+-- In each slice, these entries pay what the command that is taken as h behind this history owes.
+abbrev pub Pay : ScriptValue → List TreeEntryValue → TreeEntryValue → Op → (ℕ → List SliceEntry) → Type 0
+Pay script tree h op es = (i : ℕ) → map paid_by (es i) ≡ owed_by_command script (tree ++ h ∷ []) i (length tree) op
+
+own_filter : (n : ℕ) (es : List SliceEntry) → ((p : ℕ) (e : SliceEntry) → At es p e → (e.thread ≡ 0) × (e.op ≡ n)) → filter (is_made_by 0 n) es ≡ es
+own_filter n [] are = refl
+own_filter n (e ∷ es) are =
+    let it = are 0 e refl in
+    let mine : is_made_by 0 n e ≡ true = both_pass e.thread 0 e.op n it.0 it.1 in
+    rw mine (ap (λ rest. e ∷ rest) (own_filter n es (λ p x at. are (suc p) x at)))
+
+pays_all : (script : ScriptValue) (n : ℕ) (j : JournalsValue) (h : TreeEntryValue) (slices : List (List SliceEntry)) (es : ℕ → List SliceEntry) (op : Op) (i : ℕ)
+    → AreDone script n j → AreOf n (length j.tree) es → Pay script j.tree h op es
+    → Pays script (grown j (h ∷ []) slices) i 0 n op (filter (is_made_by 0 n) (es i))
+pays_all script n j h slices es op i done are paid k x at is =
+    elim (at_parts j.tree (h ∷ []) k x at) [
+      | inl old ↦ absurd (let it = both_hold x.thread 0 x.op n is in let before = done.of_ops k x old in omega (arith, it.1, before.1))
+      | inr new ↦
+          let here : k ≡ length j.tree = let one = at_one h (k - length j.tree) x new.1 in omega (arith, new.0, one.0) in
+          rw (own_filter n (es i) (λ p e at. let it = are i p e at in (it.0, it.1)), here) (paid i)
+    ]
+
+is_owed : (script : ScriptValue) (n : ℕ) (tree : List TreeEntryValue) (h : TreeEntryValue) (es : ℕ → List SliceEntry) (op : Op) (i p : ℕ) (e : SliceEntry)
+    → h.thread ≡ 0 → h.op ≡ n → AreOf n (length tree) es → Pay script tree h op es → At (es i) p e → IsOwed script (tree ++ h ∷ []) i e op
+is_owed script n tree h es op i p e thread number are paid at = record {
+  position = length tree;
+  command = h;
+  there = at_end tree h;
+  same_thread = thread ∙ sym (are i p e at).0;
+  same_op = number ∙ sym (are i p e at).1;
+  owed = subst (λ all. Contains all (paid_by e)) (paid i) (contains_mapped paid_by (es i) p e at);
+}
+
+command_brings : (script : ScriptValue) (n : ℕ) (j : JournalsValue) (h : TreeEntryValue) (slices : List (List SliceEntry)) (es : ℕ → List SliceEntry) (op : Op)
+    → AreDone script n j → op_at script 0 n ≡ Some op → IsTrue (is_command op)
+    → h.thread ≡ 0 → h.op ≡ n → MayFollow script j.tree h
+    → AreOf n (length j.tree) es → Pay script j.tree h op es → Grow j slices es
+    → Brings script n j (h ∷ []) slices es op
+command_brings script n j h slices es op done is command thread number follows are paid grow =
+    let now : length (j.tree ++ h ∷ []) ≡ length j.tree + 1 = length-append j.tree (h ∷ []) in
+    record {
+      is_op = is;
+      grow = grow;
+      of_op = λ k x at. let it = at_one h k x at in (ap (λ (y : TreeEntryValue). y.thread) it.1 ∙ thread, ap (λ (y : TreeEntryValue). y.op) it.1 ∙ number);
+      by_op = λ i p e at. let it = are i p e at in (it.0, it.1);
+      late = λ i p e at. let it = are i p e at in it.2;
+      in_time = λ i p e at. let it = are i p e at in omega (arith, it.3, now);
+      legal = goes_on_push (MayFollow script) [] j.tree h done.legal follows;
+      true_to_op = λ i p e at. of_command
+          (λ task cpu addr. (e.epoch ≤ length (j.tree ++ h ∷ [])) × (paid_by e ≡ owed_by_access script (j.tree ++ h ∷ []) e.epoch task cpu addr))
+          (IsOwed script (j.tree ++ h ∷ []) i e op) op command (is_owed script n j.tree h es op i p e thread number are paid at);
+      command_once = λ _. let mine : is_taken_from 0 n h ≡ true = both_pass h.thread 0 h.op n thread number in ap length (let one : filter (is_taken_from 0 n) (h ∷ []) ≡ h ∷ [] = rw mine refl in one);
+      entries_once = λ i. of_command
+          (λ task cpu addr. length (filter (is_made_by 0 n) (es i)) ≡ one_if (i == slice_of_line script.machine (domain_of script.machine cpu) (line_of addr)))
+          (Pays script (grown j (h ∷ []) slices) i 0 n op (filter (is_made_by 0 n) (es i))) op command (pays_all script n j h slices es op i done are paid);
+    }
+
+-- after a command, all of the first n + 1 ops are done
+pub command_done : (script : ScriptValue) (n : ℕ) (j : JournalsValue) (h : TreeEntryValue) (slices : List (List SliceEntry)) (es : ℕ → List SliceEntry) (op : Op)
+    → AreDone script n j → op_at script 0 n ≡ Some op → IsTrue (is_command op)
+    → h.thread ≡ 0 → h.op ≡ n → MayFollow script j.tree h
+    → AreOf n (length j.tree) es → Pay script j.tree h op es → Grow j slices es
+    → AreDone script (n + 1) (grown j (h ∷ []) slices)
+command_done script n j h slices es op done is command thread number follows are paid grow =
+    one_more script n j (h ∷ []) slices es op done (command_brings script n j h slices es op done is command thread number follows are paid grow)
+
+-- ---- a command that needs no counts
+
+-- no command of those that are built needs counts
+pub no_needs : (m : Parameters) (s : State) (op : Op) → needs m s op ≡ []
+unfolding needs
+no_needs m s op = refl
+
+-- what a command at the end of the history owes are its follow-ups
+owes_follow_ups : (script : ScriptValue) (tree : List TreeEntryValue) (h : TreeEntryValue) (i : ℕ) (op : Op)
+    → owed_by_command script (tree ++ h ∷ []) i (length tree) op ≡ flat_map (follow_in script.machine i (length tree + 1)) (after script.machine (tree_after script tree) op)
+unfolding owed_by_command
+owes_follow_ups script tree h i op = rw (take-append_seam tree (h ∷ []), no_needs script.machine (tree_after script tree) op) refl
+
+pub pay_follow_ups : (script : ScriptValue) (tree : List TreeEntryValue) (h : TreeEntryValue) (op : Op) (es : ℕ → List SliceEntry)
+    → ((i : ℕ) → map paid_by (es i) ≡ flat_map (follow_in script.machine i (length tree + 1)) (after script.machine (tree_after script tree) op)) → Pay script tree h op es
+pay_follow_ups script tree h op es paid i = paid i ∙ sym (owes_follow_ups script tree h i op)
+
+-- a command with its reply may follow, where it was given no counts
+pub command_follows : (script : ScriptValue) (tree : List TreeEntryValue) (n : ℕ) (h : TreeEntryValue) (op : Op) → op_at script 0 n ≡ Some op → IsTrue (is_command op)
+    → h.thread ≡ 0 → h.op ≡ n → h.looks ≡ [] → h.reply ≡ (next script.machine (tree_after script tree) op h.looks).reply → MayFollow script tree h
+command_follows script tree n h op is command thread number none answers =
+    let P : Option Op → Type 0 = λ o. IsCommandThat (λ op. (length h.looks ≡ length (needs script.machine (tree_after script tree) op)) × (h.reply ≡ (next script.machine (tree_after script tree) op h.looks).reply)) o in
+    let here : op_at script h.thread h.op ≡ Some op = rw (thread, number) is in
+    subst P (sym here) (command, (ap length none ∙ sym (ap length (no_needs script.machine (tree_after script tree) op)), answers))

@@ -1,0 +1,9 @@
+pub mod Positions
+pub mod ByOp
+pub mod Doing
+pub mod Bringing
+pub mod Finishing
+pub mod Numbering
+pub mod Continuing
+pub mod Following
+pub mod Stepping

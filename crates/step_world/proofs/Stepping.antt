@@ -1,0 +1,218 @@
+-- What the tree and the slices make of one op.
+use Rattle.std.proofs.Common.{◌≡◌, inl, inr, ℕ, ◌+◌, ◌/◌, ◌%◌, ◌<◌, ◌≤◌, Bool, List, [], ◌∷◌, ◌++◌, length, map, get_or, set, Some, refl, sym, ap, ◌∙◌, subst, arith}
+use Rattle.std.specs.Prelude.{◌==◌, IsTrue, All}
+use Rattle.std.specs.List.{flat_map}
+use Rattle.std.proofs.lemmas.Bool.{cases_Bool, cases_lt, ne_eqb}
+use Rattle.std.proofs.Math.Seq.{get_or-append_seam}
+use Rattle.std.proofs.lemmas.List.{append-nil, get_or-map, get_or_append_left, get_or_default, length-append}
+use Rattle.cache_core.specs.History.{IsOwn, Shape}
+use Rattle.cache_core.specs.Stands.{entry}
+use Rattle.cache_core.specs.declared.entry.SliceEntry.{SliceEntry}
+use Rattle.cache_core.specs.declared.entry.What.TheVariants as whats
+use Rattle.rc_base.specs.declared.names.Tag.{Tag}
+use Rattle.machine.specs.Maps.{domain_of}
+use Rattle.machine.specs.Ranges.{InRange}
+use Rattle.machine.specs.declared.parameters.Parameters.{Parameters}
+use Rattle.run_law.specs.Ops.{is_command}
+use Rattle.run_law.specs.Runs.{At, JournalsValue, follow_in, slice_at}
+use Rattle.run_law.specs.Slices.{line_of, shape_in, slice_count, slice_of_line}
+use Rattle.run_law.specs.TreeHistory.{IsLegalTree, TreeEntryValue, state_after, tree_after, tree_from}
+use Rattle.script_text.specs.Values.{ScriptValue, op_at}
+use Rattle.script_text.specs.declared.op.Op.{Op}
+use Rattle.script_text.specs.declared.op.Op.TheVariants.{Access}
+use Rattle.step_world.specs.Done.{AreDone}
+use Rattle.step_world.specs.Playing.{AllContinue, AreFresh, Continues, HasAccessed, IsAt, IsFresh, IsInPlay, SliceValue, journals_of}
+use Rattle.tree_core.specs.State.{State, TreeValue, opening}
+use Rattle.tree_core.specs.Steps.{Outcome, Owned, after, follow_domain, next, resolve}
+use Rattle.tree_core.specs.declared.follow.Follow.{Follow}
+use Rattle.step_world.proofs.Bringing.{access_done, access_entry, command_done, command_follows, only_in, pay_follow_ups}
+use Rattle.step_world.proofs.Continuing.{grow_all, one_goes, past, plays_on}
+use Rattle.step_world.proofs.Numbering.{own_set}
+use Rattle.step_world.proofs.Following.{all_are_of, all_entries_in, all_few, none_past, pays_all}
+
+-- the tree and the slices after one op more
+steps_on : (script : ScriptValue) (n : ℕ) (tree then_tree : TreeValue) (commands now : List TreeEntryValue) (slices then_slices : List SliceValue) (es : ℕ → List SliceEntry)
+    → IsAt script n tree commands slices
+    → then_tree.machine ≡ tree.machine → then_tree.state ≡ tree_after script now → then_tree.epoch ≡ length now
+    → length commands ≤ length now → length now ≤ n + 1
+    → AllContinue (length now) es slices then_slices → ((i : ℕ) → length (es i) ≤ 8)
+    → AreDone script (n + 1) (journals_of now then_slices)
+    → IsAt script (n + 1) then_tree now then_slices
+steps_on script n tree then_tree commands now slices then_slices es at machine state epoch later few all each done = record {
+  in_range = at.in_range;
+  machine = machine ∙ at.machine;
+  state = state;
+  epoch = epoch;
+  few = few;
+  count = all.count ∙ at.count;
+  each = λ i d within.
+      let before : i < length slices = omega (arith, within, all.count) in
+      plays_on script.machine i n (length commands) (length now) (es i) (get_or slices i d) (get_or then_slices i d) (at.each i d before) later (each i) (all.each i d before);
+  done = done;
+}
+
+-- ---- an access
+
+only_few : (slice : ℕ) (e : SliceEntry) (i : ℕ) → length (only_in slice e i) ≤ 8
+only_few slice e i = elim (cases_Bool (i == slice)) [ inl is ↦ rw is (omega arith) | inr apart ↦ rw apart (omega arith) ]
+
+only_past : (slice : ℕ) (e : SliceEntry) (count i : ℕ) → slice < count → count ≤ i → only_in slice e i ≡ []
+only_past slice e count i within past = rw (ne_eqb i slice (λ is. omega arith)) refl
+
+-- after an access, whose entry its slice made
+pub touched : (script : ScriptValue) (n : ℕ) (tree : TreeValue) (commands : List TreeEntryValue) (slices then_slices : List SliceValue) (task cpu addr : ℕ) (hit : Bool) (way : ℕ)
+    → IsAt script n tree commands slices → op_at script 0 n ≡ Some (Access task cpu addr)
+    → slice_of_line script.machine (domain_of script.machine cpu) (line_of addr) < slice_count script.machine
+    → AllContinue (length commands) (only_in (slice_of_line script.machine (domain_of script.machine cpu) (line_of addr)) (access_entry script (tree_after script commands) n (length commands) task cpu addr hit way)) slices then_slices
+    → IsAt script (n + 1) tree commands then_slices
+touched script n tree commands slices then_slices task cpu addr hit way at is within all =
+    let slice : ℕ = slice_of_line script.machine (domain_of script.machine cpu) (line_of addr) in
+    let e : SliceEntry = access_entry script (tree_after script commands) n (length commands) task cpu addr hit way in
+    let now : List (List SliceEntry) = map (λ (s : SliceValue). s.entries) then_slices in
+    let done = access_done script n (journals_of commands slices) now task cpu addr hit way at.done is
+    (grow_all (length commands) (only_in slice e) commands slices then_slices all (λ i past. only_past slice e (length slices) i (omega (arith, within, at.count)) past)) in
+    steps_on script n tree tree commands commands slices then_slices (only_in slice e) at refl at.state at.epoch (omega arith) (omega (arith, at.few)) all (only_few slice e)
+    (subst (λ hs. AreDone script (n + 1) (journals_of hs then_slices)) (append-nil commands) done)
+
+-- ---- a command
+
+-- one more entry of the tree
+tree_push : (script : ScriptValue) (s : State) (es : List TreeEntryValue) (e : TreeEntryValue) → tree_from script s (es ++ e ∷ []) ≡ state_after script.machine (tree_from script s es) e.looks (op_at script e.thread e.op)
+tree_push script s [] e = refl
+tree_push script s (x ∷ es) e = tree_push script (state_after script.machine s x.looks (op_at script x.thread x.op)) es e
+
+state_push : (script : ScriptValue) (es : List TreeEntryValue) (h : TreeEntryValue) (op : Op) → op_at script h.thread h.op ≡ Some op
+    → tree_after script (es ++ h ∷ []) ≡ (next script.machine (tree_after script es) op h.looks).state
+unfolding tree_after
+state_push script es h op is = tree_push script (opening script.machine) es h ∙ ap (λ o. state_after script.machine (tree_from script (opening script.machine) es) h.looks o) is
+
+-- a command with its reply, which was given no counts
+abbrev pub taken : ℕ → TreeEntryValue → Type 0
+taken n h = (h.thread ≡ 0) × (h.op ≡ n) × (h.looks ≡ [])
+
+-- after a command that the tree took, and whose follow-ups the slices made
+pub took : (script : ScriptValue) (n : ℕ) (tree then_tree : TreeValue) (commands : List TreeEntryValue) (h : TreeEntryValue) (op : Op) (slices then_slices : List SliceValue) (follows : List Follow)
+    → IsAt script n tree commands slices → op_at script 0 n ≡ Some op → IsTrue (is_command op) → taken n h
+    → then_tree.machine ≡ tree.machine → h.reply ≡ (next tree.machine tree.state op []).reply → then_tree.state ≡ (next tree.machine tree.state op []).state → then_tree.epoch ≡ tree.epoch + 1
+    → follows ≡ after tree.machine tree.state op → All (λ f. follow_domain f < tree.machine.domains) follows → length follows ≤ 8
+    → AllContinue (length commands + 1) (all_entries_in script.machine n (length commands + 1) follows) slices then_slices
+    → IsAt script (n + 1) then_tree (commands ++ h ∷ []) then_slices
+took script n tree then_tree commands h op slices then_slices follows at is command by machine reply state epoch owed domains few all =
+    let m : Parameters = script.machine in
+    let s : State = tree_after script commands in
+    let later : ℕ = length commands + 1 in
+    let es : ℕ → List SliceEntry = all_entries_in m n later follows in
+    let now : List (List SliceEntry) = map (λ (s : SliceValue). s.entries) then_slices in
+    let count : length (commands ++ h ∷ []) ≡ later = length-append commands (h ∷ []) in
+    let same : next tree.machine tree.state op [] ≡ next m s op [] = subst (λ k. next tree.machine tree.state op [] ≡ next k s op []) at.machine (ap (λ t. next tree.machine t op []) at.state) in
+    let looked : next m s op [] ≡ next m s op h.looks = ap (next m s op) (sym by.2) in
+    let due : follows ≡ after m s op = owed ∙ subst (λ k. after tree.machine tree.state op ≡ after k s op) at.machine (ap (λ t. after tree.machine t op) at.state) in
+    let here : op_at script h.thread h.op ≡ Some op = rw (by.0, by.1) is in
+    let there : All (λ f. follow_domain f < m.domains) follows = subst (λ (k : Parameters). All (λ f. follow_domain f < k.domains) follows) at.machine domains in
+    let done : AreDone script (n + 1) (journals_of (commands ++ h ∷ []) then_slices) =
+    command_done script n (journals_of commands slices) h now es op at.done is command by.0 by.1
+    (command_follows script commands n h op is command by.0 by.1 by.2 (reply ∙ (ap (λ (o : Outcome). o.reply) same ∙ ap (λ (o : Outcome). o.reply) looked)))
+    (λ i p e there. let it = all_are_of m i n later follows p e there in (it.0, it.1, omega (arith, it.2), omega (arith, it.2)))
+    (pay_follow_ups script commands h op es (λ i. pays_all m i n later follows ∙ ap (λ fs. flat_map (follow_in m i later) fs) due))
+    (grow_all later es commands slices then_slices all (λ i past. none_past m n later follows i at.in_range.some_slice there (omega (arith, past, at.count)))) in
+    steps_on script n tree then_tree commands (commands ++ h ∷ []) slices then_slices es at machine
+    (state ∙ (ap (λ (o : Outcome). o.state) same ∙ (ap (λ (o : Outcome). o.state) looked ∙ sym (state_push script commands h op here))))
+    (omega (arith, epoch, at.epoch, count)) (omega (arith, count)) (omega (arith, count, at.few))
+    (subst (λ k. AllContinue k es slices then_slices) (sym count) all) (λ i. omega (arith, all_few m i n later follows, few)) done
+
+-- ---- no op yet
+
+nothing_done : (script : ScriptValue) (j : JournalsValue) → j.tree ≡ [] → ((i : ℕ) → slice_at j i ≡ []) → AreDone script 0 j
+nothing_done script j no_tree no_entries =
+    let none : (i p : ℕ) (e : SliceEntry) → At (slice_at j i) p e → ⊥ = λ i p e at. (let wrong : At {A = SliceEntry} [] p e = subst (λ xs. At xs p e) (no_entries i) at in absurd cc) in
+    let no_command : (k : ℕ) (h : TreeEntryValue) → At j.tree k h → ⊥ = λ k h at. (let wrong : At {A = TreeEntryValue} [] k h = subst (λ xs. At xs k h) no_tree at in absurd cc) in
+    record {
+      of_ops = λ k h at. absurd (no_command k h at);
+      by_ops = λ i p e at. absurd (none i p e at);
+      epochs = λ i p e at. absurd (none i p e at);
+      legal = subst (λ hs. IsLegalTree script hs) (sym no_tree) tt;
+      are_true = record {
+        true_to_op = λ i p e at. absurd (none i p e at);
+        behind_commands = λ i p q k e earlier command at there taken_at made before apart. absurd (none i p e at);
+      };
+      commands_once = λ op c early is command. absurd (omega arith);
+      entries_once = λ i op c early is. absurd (omega arith);
+      marks_in_order = λ op later start stop later_start later_stop c d less early is_c is_d marks later_marks. absurd (omega arith);
+      entries_in_order = λ i p q e later at there less. absurd (none i p e at);
+    }
+
+opening_state : (script : ScriptValue) → opening script.machine ≡ tree_after script []
+unfolding tree_after
+opening_state script = refl
+
+no_entries : (m : Parameters) (commands : List TreeEntryValue) (slices : List SliceValue) → ((i : ℕ) (d : SliceValue) → i < length slices → IsFresh m i (get_or slices i d)) → (i : ℕ) → slice_at (journals_of commands slices) i ≡ []
+no_entries m commands [] fresh i = past [] i (omega arith)
+no_entries m commands (s ∷ slices) fresh i = elim (cases_lt i (length (s ∷ slices))) [
+  | inl within ↦ get_or-map (λ (s : SliceValue). s.entries) (s ∷ slices) i s [] within ∙ (fresh i s within).empty
+  | inr outside ↦ past (s ∷ slices) i outside
+]
+
+-- the tree and the slices before the first op
+pub opens : (script : ScriptValue) (tree : TreeValue) (commands : List TreeEntryValue) (slices : List SliceValue)
+    → InRange script.machine → tree.machine ≡ script.machine → tree.state ≡ opening script.machine → tree.epoch ≡ 0 → commands ≡ []
+    → length slices ≡ slice_count script.machine → ((i : ℕ) (d : SliceValue) → i < length slices → IsFresh script.machine i (get_or slices i d))
+    → IsAt script 0 tree commands slices
+opens script tree commands slices range machine state epoch no_commands count fresh =
+    let none : length commands ≡ 0 = ap length no_commands in
+    record {
+      in_range = range;
+      machine = machine;
+      state = state ∙ (opening_state script ∙ ap (tree_after script) (sym no_commands));
+      epoch = epoch ∙ sym none;
+      few = omega (arith, none);
+      count = count;
+      each = λ i d within. subst (λ k. IsInPlay script.machine i 0 k (get_or slices i d)) (sym none) (fresh i d within).in_play;
+      done = nothing_done script (journals_of commands slices) no_commands (no_entries script.machine commands slices fresh);
+    }
+
+-- one slice more before the first op
+pub one_fresh_more : (m : Parameters) (number : ℕ) (slices : List SliceValue) (s : SliceValue) → AreFresh m number slices → IsFresh m number s → AreFresh m (number + 1) (slices ++ s ∷ [])
+one_fresh_more m number slices s all one = record {
+  count = length-append slices (s ∷ []) ∙ omega (arith, all.count);
+  each = λ i d within. elim (cases_lt i (length slices)) [
+    | inl before ↦ subst (λ x. IsFresh m i x) (sym (get_or_append_left slices (s ∷ []) d i before)) (all.each i d before)
+    | inr last ↦
+        let count : length (slices ++ s ∷ []) ≡ length slices + 1 = length-append slices (s ∷ []) in
+        let at : i ≡ length slices = omega (arith, within, last, count) in
+        subst (λ k. IsFresh m k (get_or (slices ++ s ∷ []) k d)) (sym at) (subst (λ x. IsFresh m (length slices) x) (sym (get_or-append_seam slices s [] d)) (subst (λ k. IsFresh m k s) (sym all.count) one))
+  ];
+}
+
+-- ---- what the code gives
+
+-- a line's set is of the slice that was looked up
+pub own_line : (m k : Parameters) (i domain line : ℕ) (shape : Shape) → k ≡ m → InRange m → i ≡ slice_of_line k domain line → shape ≡ shape_in m i → IsOwn shape (line % shape.sets)
+own_line m k i domain line shape same range number is =
+    let here : shape_in m i ≡ shape_in m (slice_of_line m domain line) = ap (shape_in m) (number ∙ ap (λ k. slice_of_line k domain line) same) in
+    subst (λ x. IsOwn x (line % x.sets)) (sym (is ∙ here)) (own_set m domain line range.some_set range.some_slice)
+
+made : (n line : ℕ) (tag : Tag) (hit : Bool) (way : ℕ) (o : Owned) (epoch : ℕ) → tag.owner ≡ o.owner → tag.rmid ≡ o.rmid → tag.mask ≡ o.mask → tag.epoch ≡ epoch
+    → entry 0 n tag.epoch (whats.Access tag.owner tag.rmid tag.mask line hit way) ≡ entry 0 n epoch (whats.Access o.owner o.rmid o.mask line hit way)
+made n line tag hit way o epoch a b c d = cc
+
+-- after an access of a tag of the tree
+pub accessed : (script : ScriptValue) (n : ℕ) (tree : TreeValue) (commands : List TreeEntryValue) (slices : List SliceValue) (task cpu addr : ℕ) (tag : Tag) (slice : ℕ) (old new : SliceValue)
+    → IsAt script n tree commands slices → op_at script 0 n ≡ Some (Access task cpu addr)
+    → slice ≡ slice_of_line script.machine (domain_of script.machine cpu) (line_of addr) → slice < length slices
+    → tag.epoch ≡ tree.epoch → tag.owner ≡ (resolve tree.machine tree.state task cpu).owner → tag.rmid ≡ (resolve tree.machine tree.state task cpu).rmid → tag.mask ≡ (resolve tree.machine tree.state task cpu).mask
+    → old ≡ get_or slices slice old → HasAccessed n tag (addr / 64) old new
+    → IsAt script (n + 1) tree commands (set slices slice new)
+accessed script n tree commands slices task cpu addr tag slice old new at is number within epoch owner rmid mask found (hit, way, goes) =
+    let m : Parameters = script.machine in
+    let s : State = tree_after script commands in
+    let later : tag.epoch ≡ length commands = epoch ∙ at.epoch in
+    let owned : resolve tree.machine tree.state task cpu ≡ resolve m s task cpu = subst (λ k. resolve tree.machine tree.state task cpu ≡ resolve k s task cpu) at.machine (ap (λ t. resolve tree.machine t task cpu) at.state) in
+    let e : SliceEntry = access_entry script s n (length commands) task cpu addr hit way in
+    let same : entry 0 n tag.epoch (whats.Access tag.owner tag.rmid tag.mask (addr / 64) hit way) ≡ e =
+    made n (addr / 64) tag hit way (resolve m s task cpu) (length commands) (owner ∙ ap (λ (o : Owned). o.owner) owned) (rmid ∙ ap (λ (o : Owned). o.rmid) owned) (mask ∙ ap (λ (o : Owned). o.mask) owned) later in
+    let there : slice_of_line m (domain_of m cpu) (line_of addr) < slice_count m = omega (arith, number, within, at.count) in
+    let goes_on : (d : SliceValue) → Continues (length commands) (e ∷ []) (get_or slices slice d) new = λ d.
+    subst (λ x. Continues (length commands) (e ∷ []) x new) (found ∙ get_or_default slices slice old d within)
+    (subst (λ x. Continues (length commands) (x ∷ []) old new) same (subst (λ k. Continues k (entry 0 n tag.epoch (whats.Access tag.owner tag.rmid tag.mask (addr / 64) hit way) ∷ []) old new) later goes)) in
+    touched script n tree commands slices (set slices slice new) task cpu addr hit way at is there
+    (subst (λ k. AllContinue (length commands) (only_in k e) slices (set slices slice new)) number (one_goes (length commands) slice (e ∷ []) slices new within goes_on))

@@ -1,0 +1,93 @@
+-- The tree and the slices while a script is played.
+use Rattle.std.specs.Prelude.{◌≡◌, ℕ, ◌+◌, ◌*◌, ◌^◌, ◌<◌, ◌≤◌, Bool, ◌==◌, if◌then◌else◌, List, [], ◌∷◌, ◌++◌, length, map, slice_index_or}
+use Rattle.cache_core.specs.Places.{State}
+use Rattle.cache_core.specs.Stands.{StandsFor, entry}
+use Rattle.cache_core.specs.declared.entry.SliceEntry.{SliceEntry}
+use Rattle.cache_core.specs.declared.entry.What.{What}
+use Rattle.cache_core.specs.declared.entry.What.TheVariants as whats
+use Rattle.machine.specs.Ranges.{InRange}
+use Rattle.machine.specs.declared.parameters.Parameters.{Parameters}
+use Rattle.rc_base.specs.declared.names.Tag.{Tag}
+use Rattle.run_law.specs.Runs.{JournalsValue}
+use Rattle.run_law.specs.Slices.{domain_in, shape_in, slice_count}
+use Rattle.run_law.specs.TreeHistory.{TreeEntryValue, tree_after}
+use Rattle.script_text.specs.Values.{ScriptValue}
+use Rattle.step_world.specs.Done.{AreDone}
+use Rattle.tree_core.specs.State.{TreeValue}
+use Rattle.tree_core.specs.Steps.{follow_domain}
+use Rattle.tree_core.specs.declared.follow.Follow.{Follow}
+use Rattle.tree_core.specs.declared.follow.Follow.TheVariants as follows
+
+-- a slice that is played: its cache, and its entries so far
+pub record SliceValue : Type 0 where
+  pub cache : State
+  pub entries : List SliceEntry
+
+-- the journals so far
+abbrev pub journals_of : List TreeEntryValue → List SliceValue → JournalsValue
+journals_of commands slices = record { tree = commands; slices = map (λ (s : SliceValue). s.entries) slices }
+
+-- ---- what a slice does
+
+-- one slice has made these entries more, of at most this epoch
+pub record Continues (epoch : ℕ) (es : List SliceEntry) (old new : SliceValue) : Type 0 where
+  pub shape : new.cache.shape ≡ old.cache.shape
+  pub rmids : new.cache.rmids ≡ old.cache.rmids
+  pub floor : old.cache.floor ≤ epoch → new.cache.floor ≤ epoch
+  pub clock : new.cache.clock ≤ old.cache.clock + length es
+  pub stands : StandsFor old.cache old.entries → StandsFor new.cache new.entries
+  pub entries : new.entries ≡ old.entries ++ es
+
+-- each slice has, by its number
+pub record AllContinue (epoch : ℕ) (es : ℕ → List SliceEntry) (old new : List SliceValue) : Type 0 where
+  pub count : length new ≡ length old
+  pub each : (i : ℕ) (d : SliceValue) → i < length old → Continues epoch (es i) (slice_index_or old i d) (slice_index_or new i d)
+
+-- a slice may be raised to this epoch, and can make so many entries more
+pub record IsReady (epoch room : ℕ) (s : SliceValue) : Type 0 where
+  pub floor : s.cache.floor ≤ epoch
+  pub clock : s.cache.clock + room ≤ 2 ^ 32
+
+-- the slice has made the entry of an access of op n with this tag, a hit or a fill of some way
+abbrev pub HasAccessed : ℕ → Tag → ℕ → SliceValue → SliceValue → Type 0
+HasAccessed n tag line old new = (hit : Bool) × (way : ℕ) × Continues tag.epoch (entry 0 n tag.epoch (whats.Access tag.owner tag.rmid tag.mask line hit way) ∷ []) old new
+
+-- what a follow-up is in a slice's journal
+abbrev pub what_of : Follow → What
+what_of (follows.Raise domain) = whats.Raise
+what_of (follows.Flush domain) = whats.Flush
+
+-- the entries of a follow-up of op n in slice i, which are one where the slice is of its domain
+abbrev pub entries_in : Parameters → ℕ → ℕ → ℕ → Follow → List SliceEntry
+entries_in m i n epoch f = if follow_domain f == domain_in m i then entry 0 n epoch (what_of f) ∷ [] else []
+
+-- ---- the ops so far
+
+-- slice i after n ops and so many commands
+pub record IsInPlay (m : Parameters) (i n epoch : ℕ) (s : SliceValue) : Type 0 where
+  pub shape : s.cache.shape ≡ shape_in m i
+  pub rmids : s.cache.rmids ≡ m.rmids
+  pub floor : s.cache.floor ≤ epoch
+  pub clock : s.cache.clock ≤ 8 * n
+  pub stands : StandsFor s.cache s.entries
+
+-- slice i before the first op
+pub record IsFresh (m : Parameters) (i : ℕ) (s : SliceValue) : Type 0 where
+  pub in_play : IsInPlay m i 0 0 s
+  pub empty : s.entries ≡ []
+
+-- the first slices, so many, before the first op
+pub record AreFresh (m : Parameters) (number : ℕ) (slices : List SliceValue) : Type 0 where
+  pub count : length slices ≡ number
+  pub each : (i : ℕ) (d : SliceValue) → i < length slices → IsFresh m i (slice_index_or slices i d)
+
+-- The first n ops were played: the tree and each slice are what the journals make of them.
+pub record IsAt (script : ScriptValue) (n : ℕ) (tree : TreeValue) (commands : List TreeEntryValue) (slices : List SliceValue) : Type 0 where
+  pub in_range : InRange script.machine
+  pub machine : tree.machine ≡ script.machine
+  pub state : tree.state ≡ tree_after script commands
+  pub epoch : tree.epoch ≡ length commands
+  pub few : length commands ≤ n
+  pub count : length slices ≡ slice_count script.machine
+  pub each : (i : ℕ) (d : SliceValue) → i < length slices → IsInPlay script.machine i n (length commands) (slice_index_or slices i d)
+  pub done : AreDone script n (journals_of commands slices)

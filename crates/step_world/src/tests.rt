@@ -1,0 +1,140 @@
+//! Scripts that are played, with the journals worked out by hand.
+ghost use Rattle.std.specs.Prelude.{◌≡◌, length, vec_len, IfOk};
+
+use crate::{Played, play};
+use cache_core::{SliceEntry, What};
+use rc_base::{Errno, Gid, Reply, Why};
+use script_text::read_script;
+use std::alloc::Global;
+use std::process::Abort;
+use std::test::Fail;
+
+// What playing a script leaves.
+fn played(rt: &impl Abort, alloc: Global, text: &str) -> Result<Played, Fail>
+    ensures { IfOk result (λ p. length p.journals.slices ≡ vec_len p.caches) }
+{
+    assert!(rt; text.len() <= 1 << 27);
+    let script = read_script(alloc, text.as_bytes())?;
+    assert!(rt; script.threads() <= 1);
+    Ok(play(alloc, &script)?)
+}
+
+// A slice's journal.
+fn journal<'p>(rt: &impl Abort, played: &'p Played, i: u32) -> &'p [SliceEntry]
+    requires { length played.now.journals.slices ≡ vec_len played.now.caches }
+{
+    assert!(rt; (i as usize) < played.caches.len());
+    played.journals.slice(i)
+}
+
+fn entry(op: u32, epoch: u64, what: What) -> SliceEntry {
+    SliceEntry {
+        thread: 0,
+        op,
+        epoch,
+        what,
+    }
+}
+
+// An access of the default group.
+fn access(op: u32, epoch: u64, mask: u32, line: u64, hit: bool, way: u8) -> SliceEntry {
+    let what = What::Access {
+        owner: Gid(0),
+        rmid: 0,
+        mask,
+        line,
+        hit,
+        way,
+    };
+    entry(op, epoch, what)
+}
+
+// CPU 0 is of domain 0, and CPU 1 of domain 1.
+const TWO_DOMAINS: &str = "machine domains=2 sets=1 ways=4 cpus=2
+tasks 1
+phase
+thread
+access 1 1 0
+access 1 1 64
+write /schemata L3:1=3;0=1
+access 1 1 128
+flush 1
+access 1 1 64
+access 1 0 0
+access 1 0 0
+write /schemata L3:0=5
+flush
+access 1 0 64
+";
+
+#[test]
+fn each_domain_has_its_own_cache(rt: HostRuntime) -> Result<(), Fail> {
+    let played = played(&rt, rt.alloc(), TWO_DOMAINS)?;
+    let gaps = Reply::Refused {
+        errno: Errno::Einval,
+        why: Why::Gaps,
+        arg: 5,
+    };
+    let replies = [(2, Reply::Ok), (4, Reply::Ok), (8, gaps), (9, Reply::Ok)];
+    assert_eq!(rt; played.journals.tree().len(), replies.len());
+    for (entry, want) in played.journals.tree().iter().zip(&replies) {
+        assert_eq!(rt; (entry.thread, entry.op, entry.reply), (0, want.0, want.1));
+        assert!(rt; entry.looks.items().is_empty());
+    }
+    let first = [
+        entry(2, 1, What::Raise),
+        access(6, 2, 1, 0, false, 0),
+        access(7, 2, 1, 0, true, 0),
+        entry(9, 4, What::Flush),
+        access(10, 4, 1, 1, false, 0),
+    ];
+    let second = [
+        access(0, 0, 15, 0, false, 0),
+        access(1, 0, 15, 1, false, 1),
+        entry(2, 1, What::Raise),
+        access(3, 1, 3, 2, false, 0),
+        entry(4, 2, What::Flush),
+        access(5, 2, 3, 1, false, 0),
+        entry(9, 4, What::Flush),
+    ];
+    assert_eq!(rt; journal(&rt, &played, 0), first.as_slice());
+    assert_eq!(rt; journal(&rt, &played, 1), second.as_slice());
+    assert_eq!(rt; played.caches.len(), 2);
+    for (cache, want) in played.caches.iter().zip(&[1, 0]) {
+        assert_eq!(rt; cache.valid(), *want);
+    }
+    Ok(())
+}
+
+// CPUs 0 and 1 are of domain 0, and CPUs 2 and 3 of domain 1. The first phase has no thread.
+const FOUR_CPUS: &str = "machine domains=2 sets=2 ways=2 cpus=4
+tasks 1
+phase
+phase
+thread
+access 1 1 0
+access 1 2 0
+flush 0
+access 1 3 0
+";
+
+#[test]
+fn a_phase_without_threads_is_passed(rt: HostRuntime) -> Result<(), Fail> {
+    let played = played(&rt, rt.alloc(), FOUR_CPUS)?;
+    let first = [access(0, 0, 3, 0, false, 0), entry(2, 1, What::Flush)];
+    let second = [access(1, 0, 3, 0, false, 0), access(3, 1, 3, 0, true, 0)];
+    assert_eq!(rt; played.journals.tree().len(), 1);
+    assert_eq!(rt; journal(&rt, &played, 0), first.as_slice());
+    assert_eq!(rt; journal(&rt, &played, 1), second.as_slice());
+    assert_eq!(rt; played.caches.len(), 2);
+    Ok(())
+}
+
+#[test]
+fn nothing_happens_without_phases(rt: HostRuntime) -> Result<(), Fail> {
+    let played = played(&rt, rt.alloc(), "machine domains=3 cpus=3\ntasks 1\n")?;
+    assert!(rt; played.journals.tree().is_empty());
+    assert!(rt; journal(&rt, &played, 2).is_empty());
+    assert_eq!(rt; played.caches.len(), 3);
+    Ok(())
+}

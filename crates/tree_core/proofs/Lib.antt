@@ -1,0 +1,3 @@
+pub mod EveryWay
+pub mod Assigning
+pub mod Rising

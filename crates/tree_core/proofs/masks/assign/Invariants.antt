@@ -1,0 +1,12 @@
+use Rattle.std.proofs.Common.{◌≡◌, ◌<◌, ◌^◌, drop, length}
+use Rattle.std.specs.List.{AllWithin}
+use Rattle.schemata_text.specs.declared.assignment.Assignment.{Assignment}
+use Rattle.tree_core.specs.Steps.{assigned}
+use Rattle.tree_core.proofs.masks.assign.Given as goal
+
+abbrev pub invariant-loop-a : goal.invariant-loop-a
+invariant-loop-a l = record {
+  masks : assigned l.masks.items (drop l.a-index l.all) ≡ assigned l.initial.masks.items l.all;
+  small : AllWithin (λ (a : Assignment). a.mask < 2 ^ 32) l.all 0 l.a-index;
+  count : length l.masks.items ≡ length l.initial.masks.items;
+}

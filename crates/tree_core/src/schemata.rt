@@ -1,0 +1,46 @@
+//! What a written schemata text says, and what follows it.
+ghost use Rattle.std.specs.Prelude.{◌≡◌, IfOk};
+ghost use Rattle.machine.specs.Maps.{parameters_of};
+ghost use Rattle.schemata_text.specs.Reading.{AreLawful, Gives};
+ghost use Rattle.tree_core.specs.Steps.{geometry_of, mask_reason, schemata_read, text_refusal};
+
+use cbm::CbmFault;
+use machine::Machine;
+use num_text::trim;
+use rc_base::{Reply, Why};
+use schemata_text::{Assignments, TextFault, read};
+
+/// The assignments of a text, or its first fault.
+pub(crate) fn read_schemata(m: &Machine, text: &[u8]) -> Result<Assignments, TextFault>
+    ensures exact { Gives (λ v. v.items) result (schemata_read (parameters_of m.now) text.now) }
+    ensures lawful { IfOk result (λ v. AreLawful (geometry_of (parameters_of m.now)) m.now.domains v.items) }
+{
+    read(trim(text), &m.geometry(), m.domains)
+}
+
+// The reason that goes with a mask's fault.
+fn mask_reason(fault: CbmFault) -> Why
+    ensures { result ≡ mask_reason fault }
+{
+    match fault {
+        CbmFault::Range => Why::OutOfRange,
+        CbmFault::Gaps => Why::Gaps,
+        CbmFault::TooFew => Why::TooFew,
+    }
+}
+
+/// The refusal that goes with a text's fault.
+pub(crate) fn refusal(fault: TextFault) -> Reply
+    ensures { result ≡ text_refusal fault }
+{
+    match fault {
+        TextFault::NoColon => Reply::refused(Why::NoColon, 0),
+        TextFault::BadResource => Reply::refused(Why::BadResource, 0),
+        TextFault::NoValue => Reply::refused(Why::NoValue, 0),
+        TextFault::NoEquals => Reply::refused(Why::NoEquals, 0),
+        TextFault::BadDomain => Reply::refused(Why::BadDomain, 0),
+        TextFault::Twice { domain } => Reply::refused(Why::DomainTwice, u64::from(domain)),
+        TextFault::NotHex => Reply::refused(Why::NotHex, 0),
+        TextFault::Mask { bits, fault } => Reply::refused(mask_reason(fault), bits),
+    }
+}
