@@ -1,2 +1,5 @@
-pub mod Sizes
+pub mod NameLines
+pub mod KnownNames
 pub mod Masks
+pub mod Shorts
+pub mod Sizes

@@ -1,47 +1,118 @@
--- The texts of files, of which the default group's `schemata` and `size` are built.
+-- The texts of files and listings, of which `schemata`, `size` and the listings of directories are built.
 -- (Kernel documentation, "Resource alloc and monitor groups" and "Schemata files - general concepts".)
-use Rattle.std.specs.Prelude.{ℕ, List, [], ◌∷◌, ◌++◌, map, codes, decimal, slice_index}
-use Rattle.std.specs.List.{join_with_byte, range_with_len}
+use Rattle.std.specs.Prelude.{ℕ, Bool, ◌<◌, ◌&&◌, IfSome, List, [], ◌∷◌, ◌++◌, length, map, filter, codes, decimal, is_some, Option, Some, None}
+use Rattle.std.specs.List.{All, flat_map, join_with_byte, range_with_len}
+use Rattle.std.specs.Option.{option_map_or}
 use Rattle.cbm.specs.Masks.{ways_of}
+use Rattle.group_tree.specs.Records.{is_control, is_monitor_of, mask_in}
+use Rattle.group_tree.specs.declared.group.Group.{Group}
 use Rattle.machine.specs.Maps.{bytes_of}
 use Rattle.machine.specs.declared.parameters.Parameters.{Parameters}
-use Rattle.path_names.specs.declared.dirs.DirRef.TheVariants.{Root}
+use Rattle.path_names.specs.PathTable.{Entry, fixed_entries}
+use Rattle.path_names.specs.declared.dirs.DirRef.{DirRef}
+use Rattle.path_names.specs.declared.dirs.DirRef.TheVariants.{MonGroups, Root}
+use Rattle.path_names.specs.declared.files.FileKind.{FileKind}
 use Rattle.path_names.specs.declared.files.FileKind.TheVariants.{Schemata, Size}
 use Rattle.path_names.specs.declared.path_ref.PathRef.{PathRef}
-use Rattle.path_names.specs.declared.path_ref.PathRef.TheVariants.{File}
+use Rattle.path_names.specs.declared.path_ref.PathRef.TheVariants.{Dir, File}
+use Rattle.rc_base.specs.declared.names.Gid.{Gid}
 use Rattle.schemata_text.specs.Printed.{printed}
 use Rattle.schemata_text.specs.declared.assignment.Assignment.{Assignment}
+use Rattle.script_text.specs.Canonical.{name_in}
 use Rattle.script_text.specs.declared.op.Op.{Op}
-use Rattle.script_text.specs.declared.op.Op.TheVariants.{Read}
+use Rattle.script_text.specs.declared.op.Op.TheVariants as ops
+use Rattle.tree_core.specs.Existing.{directory_gid, group_of, owner_gid}
 use Rattle.tree_core.specs.State.{State}
 
+-- ---- files of a group
+
 -- the group's mask in each domain, rising
-abbrev pub schemata_of : Parameters → State → List Assignment
-schemata_of m s = map (λ d. record { domain = d; mask = slice_index s.masks d }) (range_with_len 0 m.domains)
+abbrev pub schemata_of : Parameters → Group → List Assignment
+schemata_of m g = map (λ d. record { domain = d; mask = mask_in d g }) (range_with_len 0 m.domains)
 
 -- `L3:` and `id=mask` of each domain, separated by `;`
-unfoldable pub schemata_text : Parameters → State → List ℕ
-schemata_text m s = printed m.ways (schemata_of m s) ++ 10 ∷ []
+unfoldable pub schemata_text : Parameters → Group → List ℕ
+schemata_text m g = printed m.ways (schemata_of m g) ++ 10 ∷ []
 
 -- `id=bytes`: the part of a domain's cache that a mask allows
 abbrev pub size_entry : Parameters → Assignment → List ℕ
 size_entry m a = decimal a.domain ++ 61 ∷ decimal (bytes_of m (ways_of a.mask))
 
--- `L3:` and `id=bytes` of each, separated by `;`
+-- the same with the bytes of each mask
 unfoldable pub size_line : Parameters → List Assignment → List ℕ
 size_line m all = codes "L3:" ++ join_with_byte 59 (map (size_entry m) all)
 
--- the same with the bytes of each mask
-unfoldable pub size_text : Parameters → State → List ℕ
-size_text m s = size_line m (schemata_of m s) ++ 10 ∷ []
+unfoldable pub size_text : Parameters → Group → List ℕ
+size_text m g = size_line m (schemata_of m g) ++ 10 ∷ []
 
--- the text of a file
+-- a file of a group
+abbrev pub group_file : Parameters → FileKind → Group → List ℕ
+group_file m Schemata g = schemata_text m g
+group_file m Size g = size_text m g
+group_file m kind g = []
+
+-- the same where the group is there
+abbrev pub file_of : Parameters → FileKind → Option Group → List ℕ
+file_of m kind None = []
+file_of m kind (Some g) = group_file m kind g
+
+-- the group whose directory this is
+abbrev pub group_at : State → Option Gid → Option Group
+group_at s None = None
+group_at s (Some gid) = group_of s gid
+
 unfoldable pub file_text : Parameters → State → PathRef → List ℕ
-file_text m s (File Root Schemata) = schemata_text m s
-file_text m s (File Root Size) = size_text m s
+file_text m s (File dir kind) = file_of m kind (group_at s (directory_gid s dir))
 file_text m s path = []
 
--- the text that an accepted read gives; no other op gives one
-unfoldable pub text_of : Parameters → State → Op → List ℕ
-text_of m s (Read path) = file_text m s path
-text_of m s op = []
+-- ---- listings
+
+-- a name on its line
+abbrev pub name_line : List ℕ → List ℕ
+name_line name = name ++ 10 ∷ []
+
+-- each on its line
+abbrev pub name_lines : List (List ℕ) → List ℕ
+name_lines names = flat_map name_line names
+
+-- the names of a directory's fixed entries
+abbrev pub fixed_names : Parameters → DirRef → List (List ℕ)
+fixed_names m dir = map (λ (e : Entry). e.0) (fixed_entries m.domains dir)
+
+-- whether a group stands in the directory of groups of this parent: a monitor group in its control group's `mon_groups`, and
+-- a control group but the default group in the root, where no parent is named
+abbrev pub is_listed : Option Gid → Group → Bool
+is_listed None g = is_control g.kind && is_some g.name
+is_listed (Some gid) g = is_monitor_of gid g.kind
+
+-- the monitor groups of a control group, where it is there
+abbrev pub monitors_in : State → Option Gid → List Group
+monitors_in s None = []
+monitors_in s (Some gid) = filter (is_listed (Some gid)) s.groups
+
+-- the groups whose directories stand in a directory, in order of creation: the control groups but the default group in the
+-- root, and the monitor groups of a control group in its `mon_groups`
+abbrev pub groups_in : State → DirRef → List Group
+groups_in s Root = filter (is_listed None) s.groups
+groups_in s (MonGroups owner) = monitors_in s (owner_gid s owner)
+groups_in s dir = []
+
+-- the name of every group is one of these
+abbrev pub AreNamed : List (List ℕ) → List Group → Type 0
+AreNamed names groups = All (λ (g : Group). IfSome g.name (λ id. id.0 < length names)) groups
+
+-- the name of a group's directory
+abbrev pub group_name : List (List ℕ) → Group → List ℕ
+group_name names g = option_map_or (name_in names) g.name []
+
+-- the fixed entries, and then the groups
+unfoldable pub list_text : Parameters → State → List (List ℕ) → DirRef → List ℕ
+list_text m s names dir = name_lines (fixed_names m dir) ++ name_lines (map (group_name names) (groups_in s dir))
+
+-- ---- what a command shows
+
+-- the text that an accepted read or list gives, with the names of paths; no other op gives one
+unfoldable pub text_of : Parameters → State → List (List ℕ) → Op → List ℕ
+text_of m s names (ops.Read path) = file_text m s path
+text_of m s names (ops.List (Dir dir)) = list_text m s names dir
+text_of m s names op = []

@@ -1,11 +1,18 @@
-//! The texts that files show.
+//! The texts that files and listings show, and the texts of reasons.
 #![tactic(auto)]
 
+mod files;
+mod fixed;
+#[cfg(test)]
+mod fixtures;
+mod lines;
+mod listing;
+pub mod reasons;
 mod schemata;
 mod size;
-pub mod view;
-
-pub use view::text;
-
 #[cfg(test)]
 mod tests;
+pub mod view;
+
+pub use reasons::reason;
+pub use view::text;

@@ -1,14 +1,14 @@
-//! The file `size` of the default group.
+//! The file `size` of a group.
 ghost use Rattle.std.specs.Prelude.{◌≡◌, ◌+◌, ◌≤◌, ◌++◌, length};
 ghost use Rattle.machine.specs.Maps.{parameters_of};
 ghost use Rattle.file_view.specs.Texts.{size_entry, size_line, size_text};
 
 use crate::schemata::masks_of;
+use group_tree::Group;
 use machine::Machine;
 use num_text::push_dec;
 use rc_base::TextBuf;
 use schemata_text::Assignment;
-use tree_core::Tree;
 
 // Adds `id=bytes`.
 fn push_entry(m: &Machine, domain: u8, mask: u32, out: &mut TextBuf)
@@ -43,11 +43,11 @@ fn push_entries(m: &Machine, masks: &[Assignment], out: &mut TextBuf)
 
 /// Adds the text of `size`: the same with the bytes of each mask.
 #[tactic(auto, unfolding(crate::specs::Texts::size_text))]
-pub(crate) fn push_size(tree: &Tree, out: &mut TextBuf)
+pub(crate) fn push_size(m: &Machine, group: &Group, out: &mut TextBuf)
     requires room { 512 ≤ out.old.spare }
-    ensures bytes { out.new.bytes ≡ out.old.bytes ++ size_text tree.now.machine tree.now.state }
-    ensures spare { out.new.spare + length (size_text tree.now.machine tree.now.state) ≡ out.old.spare }
+    ensures bytes { out.new.bytes ≡ out.old.bytes ++ size_text (parameters_of m.now) group.now }
+    ensures spare { out.new.spare + length (size_text (parameters_of m.now) group.now) ≡ out.old.spare }
 {
-    push_entries(tree.machine(), masks_of(tree).as_slice(), out);
+    push_entries(m, masks_of(m, group).as_slice(), out);
     out.push(b'\n');
 }

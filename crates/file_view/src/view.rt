@@ -1,37 +1,35 @@
-//! The text of a file.
-ghost use Rattle.std.specs.Prelude.{◌≡◌, ◌+◌, ◌≤◌, ◌++◌, length};
-ghost use Rattle.file_view.specs.Texts.{file_text, text_of};
+//! The text that a command gives.
+ghost use Rattle.std.specs.Prelude.{◌≡◌, ◌++◌, OnErr, OnOk};
+ghost use Rattle.file_view.specs.Texts.{AreNamed, text_of};
 
-use crate::schemata::push_schemata;
-use crate::size::push_size;
-use path_names::{DirRef, FileKind, PathRef};
-use rc_base::{TEXT_MAX, TextBuf};
+use crate::files::push_file;
+use crate::listing::push_list;
+use path_names::{Names, PathRef};
+use rc_base::NoMemory;
 use script_text::Op;
+use std::alloc::Global;
 use tree_core::Tree;
 
-/// Adds the text that an accepted read gives (kernel documentation, "Resource alloc and monitor groups" and "Schemata
-/// files - general concepts"). No other op gives one.
+/// Adds the text that an accepted read or list gives (kernel documentation, "Resource alloc and monitor groups" and
+/// "Schemata files - general concepts"): that of a file, or the names in a directory, each on its line, the fixed entries first
+/// and then the groups in order of creation. No other op gives one. Nothing is added for want of memory.
 #[tactic(auto, unfolding(crate::specs::Texts::text_of))]
-pub fn text(tree: &Tree, op: &Op, out: &mut TextBuf)
-    requires room { TEXT_MAX ≤ out.old.spare }
-    ensures bytes { out.new.bytes ≡ out.old.bytes ++ text_of tree.now.machine tree.now.state op.now }
-    ensures spare { out.new.spare + length (text_of tree.now.machine tree.now.state op.now) ≡ out.old.spare }
+pub fn text(
+    alloc: Global,
+    tree: &Tree,
+    names: &Names,
+    op: &Op,
+    out: &mut Vec<u8>,
+) -> Result<(), NoMemory>
+    requires named { AreNamed names.now tree.now.state.groups }
+    ensures ok { OnOk result (out.new.items ≡ out.old.items ++ text_of tree.now.machine tree.now.state names.now op.now) }
+    ensures err { OnErr result (out.new.items ≡ out.old.items) }
 {
-    if let Op::Read { path } = op {
-        push_file(tree, *path, out);
-    }
-}
-
-// Adds the text of a file.
-#[tactic(auto, unfolding(crate::specs::Texts::file_text))]
-fn push_file(tree: &Tree, path: PathRef, out: &mut TextBuf)
-    requires room { TEXT_MAX ≤ out.old.spare }
-    ensures bytes { out.new.bytes ≡ out.old.bytes ++ file_text tree.now.machine tree.now.state path }
-    ensures spare { out.new.spare + length (file_text tree.now.machine tree.now.state path) ≡ out.old.spare }
-{
-    match path {
-        PathRef::File(DirRef::Root, FileKind::Schemata) => push_schemata(tree, out),
-        PathRef::File(DirRef::Root, FileKind::Size) => push_size(tree, out),
-        _ => {}
+    match op {
+        Op::Read { path } => push_file(alloc, tree, *path, out),
+        Op::List {
+            path: PathRef::Dir(dir),
+        } => push_list(alloc, tree, names, *dir, out),
+        _ => Ok(()),
     }
 }

@@ -1,26 +1,20 @@
 -- Pieces of the report.
-use Rattle.std.proofs.Common.{◌≡◌, ℕ, zero, suc, ◌+◌, ◌-◌, ◌<◌, false, List, [], ◌∷◌, ◌++◌, length, map, take, get_or, Option, Some, Result, Ok, Err, refl, sym, ap, ◌∙◌, subst, arith}
+use Rattle.std.proofs.Common.{◌≡◌, ℕ, zero, suc, ◌+◌, ◌<◌, List, [], ◌∷◌, ◌++◌, length, map, take, get_or, Option, Some, None, Result, Ok, Err, refl, sym, ap, ◌∙◌, subst, arith}
 use Rattle.std.specs.Prelude.{OnOk, decimal}
-use Rattle.std.specs.Fmt.{digits}
 use Rattle.std.specs.List.{flat_map, range_with_len}
 use Rattle.std.proofs.lemmas.Grind.{flat_map-append}
 use Rattle.std.proofs.lemmas.List.{append_assoc, append-nil, map-append, take_more, length-take, length-map}
-use Rattle.machine.specs.declared.parameters.Parameters.{Parameters}
-use Rattle.num_text.specs.Printed.{filled, hexadecimal}
 use Rattle.report_text.specs.Commands.{command_line, command_lines, op_said}
 use Rattle.run_law.specs.Entries.{entry_value}
-use Rattle.run_law.specs.TreeHistory.{TreeEntryValue, state_after, tree_from}
+use Rattle.report_text.specs.Made.{made_by, made_from}
+use Rattle.report_text.specs.Replayed.{IsCounted}
+use Rattle.report_text.specs.declared.made.Made.{Made}
+use Rattle.rc_base.proofs.Following.{follows_at}
+use Rattle.run_law.specs.TreeHistory.{IsCommandThat, IsLegalTree, MayFollow, TreeEntryValue, state_after, tree_after, tree_from}
 use Rattle.run_law.specs.declared.journals.TreeEntry.{TreeEntry}
 use Rattle.script_text.specs.Values.{ScriptValue, op_at}
 use Rattle.script_text.specs.declared.op.Op.{Op}
-use Rattle.script_text.specs.declared.op.Op.TheVariants as ops
-use Rattle.tree_core.specs.State.{State}
-use Rattle.tree_core.specs.Steps.{Outcome, next}
-
--- a number filled to width 0 has no zeros in front
-pub no_zeros : (n : ℕ) → hexadecimal 0 n ≡ digits 16 false n
-unfolding filled
-no_zeros n = let none : 0 - length (digits 16 false n) ≡ 0 = omega arith in rw none refl
+use Rattle.tree_core.specs.State.{State, opening}
 
 range_push : (a n : ℕ) → range_with_len a (n + 1) ≡ range_with_len a n ++ (a + n) ∷ []
 range_push a zero = let e : a ≡ a + 0 = omega arith in ap (λ k. k ∷ []) e
@@ -82,22 +76,57 @@ state_more script s now then es k e within is before more =
     ∙ (ap (λ t. state_after script.machine t e.looks.numbers (op_at script e.thread e.op)) before
     ∙ sym (ap (tree_from script s) (entries_more es k e within is) ∙ state_push script s (map entry_value (take k es)) (entry_value e)))
 
--- a command is given no counts so far, and takes no notice of any
-pub no_looks : (m : Parameters) (s : State) (op : Op) (looks : List ℕ) → next m s op looks ≡ next m s op []
-unfolding next
-no_looks m s (ops.Mkdir path) looks = refl
-no_looks m s (ops.Rmdir path) looks = refl
-no_looks m s (ops.Write path text) looks = refl
-no_looks m s (ops.Read path) looks = refl
-no_looks m s (ops.List path) looks = refl
-no_looks m s (ops.Flush domain) looks = refl
-no_looks m s ops.Tick looks = refl
-no_looks m s (ops.Access task cpu addr) looks = refl
-no_looks m s (ops.Touch path offset task cpu) looks = refl
+-- ---- groups that were made
 
--- what holds of the state after an op whose counts are none holds of it with any counts
-pub same_state : (m : Parameters) (s : State) (op : Op) (looks : List ℕ) (found : Option Op) (then : State) → Some op ≡ found → then ≡ state_after m s [] (Some op) → then ≡ state_after m s looks found
-same_state m s op looks found then is h = h ∙ (ap (λ (o : Outcome). o.state) (sym (no_looks m s op looks)) ∙ ap (λ o. state_after m s looks o) is)
+made_push : (script : ScriptValue) (s : State) (hs : List TreeEntryValue) (h : TreeEntryValue)
+    → made_from script s (hs ++ h ∷ []) ≡ made_from script s hs ++ made_by (tree_from script s hs) (op_at script h.thread h.op) h.reply
+made_push script s [] h = append-nil (made_by s (op_at script h.thread h.op) h.reply)
+made_push script s (x ∷ hs) h =
+    let then : State = state_after script.machine s x.looks (op_at script x.thread x.op) in
+    let own : List Made = made_by s (op_at script x.thread x.op) x.reply in
+    ap (λ rest. own ++ rest) (made_push script then hs h)
+    ∙ sym (append_assoc own (made_from script then hs) (made_by (tree_from script then hs) (op_at script h.thread h.op) h.reply))
+
+-- the groups that were made, after one command more
+pub made_more : (script : ScriptValue) (s now : State) (made then : List Made) (es : List TreeEntry) (k : ℕ) (e : TreeEntry) → k < length es → e ≡ get_or es k e
+    → now ≡ tree_from script s (map entry_value (take k es))
+    → made ≡ made_from script s (map entry_value (take k es)) → then ≡ made ++ made_by now (op_at script e.thread e.op) e.reply
+    → then ≡ made_from script s (map entry_value (take (k + 1) es))
+made_more script s now made then es k e within is at before more =
+    let hs : List TreeEntryValue = map entry_value (take k es) in
+    more
+    ∙ (ap (λ all. all ++ made_by now (op_at script e.thread e.op) e.reply) before
+    ∙ (ap (λ t. made_from script s hs ++ made_by t (op_at script e.thread e.op) e.reply) at
+    ∙ sym (ap (made_from script s) (entries_more es k e within is) ∙ made_push script s hs (entry_value e))))
+
+-- ---- counts that were given
+
+take_map : (f : TreeEntry → TreeEntryValue) (es : List TreeEntry) (k : ℕ) → take k (map f es) ≡ map f (take k es)
+take_map f es zero = refl
+take_map f [] (suc k) = refl
+take_map f (e ∷ es) (suc k) = ap (λ rest. f e ∷ rest) (take_map f es k)
+
+at_map : (f : TreeEntry → TreeEntryValue) (es : List TreeEntry) (k : ℕ) (e : TreeEntry) → get_or (map f es) k (f e) ≡ f (get_or es k e)
+at_map f [] k e = refl
+at_map f (x ∷ es) zero e = refl
+at_map f (x ∷ es) (suc k) e = at_map f es k e
+
+first_of : (P Q : Op → Type 0) (op : Option Op) → IsCommandThat (λ o. P o × Q o) op → IsCommandThat P op
+first_of P Q None h = h
+first_of P Q (Some o) h = (h.0, h.1.0)
+
+-- an entry of a legal history was given the counts that its command needs
+pub counted_at : (script : ScriptValue) (es : List TreeEntry) (k : ℕ) (e : TreeEntry) (now : State) → IsLegalTree script (map entry_value es) → k < length es → e ≡ get_or es k e
+    → now ≡ tree_from script (opening script.machine script.tasks) (map entry_value (take k es)) → IsCounted script now (entry_value e)
+unfolding tree_after
+counted_at script es k e now legal within is at =
+    let many : k < length (map entry_value es) = omega (arith, within, length-map es entry_value) in
+    let here : MayFollow script (take k (map entry_value es)) (get_or (map entry_value es) k (entry_value e)) = follows_at (MayFollow script) (map entry_value es) k (entry_value e) legal many in
+    let entry : get_or (map entry_value es) k (entry_value e) ≡ entry_value e = at_map entry_value es k e ∙ ap entry_value (sym is) in
+    let own : MayFollow script (take k (map entry_value es)) (entry_value e) = subst (λ x. MayFollow script (take k (map entry_value es)) x) entry here in
+    let state : tree_after script (take k (map entry_value es)) ≡ now = ap (tree_after script) (take_map entry_value es k) ∙ sym at in
+    let counted : IsCounted script (tree_after script (take k (map entry_value es))) (entry_value e) = first_of _ _ (op_at script e.thread e.op) own in
+    subst (λ s. IsCounted script s (entry_value e)) state counted
 
 -- what is shown of an `Ok` is shown of one fact by another
 pub on_ok : {A E : Type 0} {P Q : Type 0} (r : Result A E) → (P → Q) → OnOk r P → OnOk r Q
@@ -114,3 +143,8 @@ line_of script s k h op old placed now is place said =
     let all : now ≡ (old ++ (decimal k ++ 32 ∷ decimal h.thread ++ 46 ∷ decimal h.op ++ 32 ∷ [])) ++ said_here =
     said ∙ (ap (λ t. t ++ op_said script s op h.reply) place ∙ ap (λ o. (old ++ (decimal k ++ 32 ∷ decimal h.thread ++ 46 ∷ decimal h.op ++ 32 ∷ [])) ++ op_said script s o h.reply) (sym is)) in
     all ∙ simp append_assoc
+
+-- the same of one fact by three
+pub on_ok_4 : {A E : Type 0} {P Q R S : Type 0} (r : Result A E) → (P → Q → R → S) → OnOk r P → OnOk r Q → OnOk r R → OnOk r S
+on_ok_4 (Ok a) f p q s = f p q s
+on_ok_4 (Err e) f p q s = tt

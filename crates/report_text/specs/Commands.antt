@@ -3,7 +3,6 @@ use Rattle.std.specs.Prelude.{ℕ, ◌+◌, List, [], ◌∷◌, ◌++◌, codes
 use Rattle.std.specs.List.{flat_map}
 use Rattle.std.specs.Str.Lines.{lines}
 use Rattle.file_view.specs.Texts.{text_of}
-use Rattle.machine.specs.declared.parameters.Parameters.{Parameters}
 use Rattle.rc_base.specs.Reasons.{reason_text}
 use Rattle.rc_base.specs.Replies.{name_of}
 use Rattle.rc_base.specs.declared.replies.Reply.{Reply}
@@ -23,15 +22,15 @@ reply_text (replies.Refused errno why arg) = name_of errno ++ 32 ∷ reason_text
 abbrev pub barred : List ℕ → List ℕ
 barred text = flat_map (λ line. 124 ∷ line ++ 10 ∷ []) (lines text)
 
--- the text that an accepted read gave, line by line
-abbrev pub read_lines : Parameters → State → Op → Reply → List ℕ
-read_lines m s op replies.Ok = barred (text_of m s op)
-read_lines m s op (replies.Refused errno why arg) = []
+-- the text that an accepted read or list gave, line by line
+abbrev pub read_lines : ScriptValue → State → Op → Reply → List ℕ
+read_lines script s op replies.Ok = barred (text_of script.machine s script.names op)
+read_lines script s op (replies.Refused errno why arg) = []
 
 -- what is said of the op of an entry, in the state before it: its canonical text and the reply, and what it read
 abbrev pub op_said : ScriptValue → State → Option Op → Reply → List ℕ
 op_said script s None reply = codes ": " ++ reply_text reply ++ 10 ∷ []
-op_said script s (Some op) reply = op_text script.names op ++ codes ": " ++ reply_text reply ++ 10 ∷ [] ++ read_lines script.machine s op reply
+op_said script s (Some op) reply = op_text script.names op ++ codes ": " ++ reply_text reply ++ 10 ∷ [] ++ read_lines script s op reply
 
 -- `K T.O OP: RESULT`: the position, the thread and the op's number, the op, and the reply; behind it what it read
 unfoldable pub command_line : ScriptValue → State → ℕ → TreeEntryValue → List ℕ

@@ -4,8 +4,6 @@ use Rattle.cache_core.specs.Sums.{sum_below}
 use Rattle.cache_core.specs.declared.entry.SliceEntry.{SliceEntry}
 use Rattle.cache_core.specs.declared.entry.What.{What}
 use Rattle.cache_core.specs.declared.entry.What.TheVariants.{Access}
-use Rattle.report_text.specs.declared.counts.Counted.{Counted}
-use Rattle.report_text.specs.declared.counts.Counted.TheVariants.{All, OfGroup}
 use Rattle.run_law.specs.Runs.{JournalsValue, slice_at}
 use Rattle.run_law.specs.Slices.{slice_count}
 use Rattle.script_text.specs.Values.{ScriptValue}
@@ -19,11 +17,6 @@ is_access_of gid what = false
 abbrev pub is_access : What → Bool
 is_access (Access owner rmid mask line hit way) = true
 is_access what = false
-
--- an access of those that are counted
-abbrev pub is_counted : Counted → What → Bool
-is_counted (OfGroup gid) = is_access_of gid
-is_counted All = is_access
 
 -- a hit
 abbrev pub is_hit : What → Bool

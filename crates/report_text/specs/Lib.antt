@@ -1,3 +1,6 @@
 pub mod Commands
 pub mod Counts
+pub mod Made
+pub mod Replayed
 pub mod Reporting
+pub mod Tallies

@@ -1,5 +1,5 @@
 -- The report: a function of a script and its journals.
-use Rattle.std.specs.Prelude.{ℕ, ◌*◌, Bool, true, false, nat_lt, if◌then◌else◌, List, [], ◌∷◌, ◌++◌, length, count_by, codes, decimal}
+use Rattle.std.specs.Prelude.{ℕ, ◌*◌, Bool, true, false, nat_lt, if◌then◌else◌, List, [], ◌++◌, length, count_by, codes, decimal}
 use Rattle.std.specs.List.{flat_map, range_with_len}
 use Rattle.cache_core.specs.History.{lines_of, valid_of}
 use Rattle.cache_core.specs.Sums.{sum_below}
@@ -7,6 +7,9 @@ use Rattle.rc_base.specs.declared.replies.Reply.{Reply}
 use Rattle.rc_base.specs.declared.replies.Reply.TheVariants as replies
 use Rattle.report_text.specs.Commands.{command_lines}
 use Rattle.report_text.specs.Counts.{counts_text, is_access, is_access_of}
+use Rattle.report_text.specs.Made.{Control, controls}
+use Rattle.report_text.specs.Tallies.{counts_told}
+use Rattle.report_text.specs.declared.counts.Counts.{Counts}
 use Rattle.run_law.specs.Runs.{JournalsValue, slice_at}
 use Rattle.run_law.specs.Slices.{shape_in, slice_number}
 use Rattle.run_law.specs.TreeHistory.{TreeEntryValue}
@@ -15,14 +18,9 @@ use Rattle.tree_core.specs.State.{opening}
 
 -- ---- the line of a group
 
--- a control group that ever was, by its gid and its path
-pub record Control : Type 0 where
-  pub gid : ℕ
-  pub path : List ℕ
-
--- the default group is the only one
-abbrev pub controls : ScriptValue → List TreeEntryValue → List Control
-controls script tree = record { gid = 0; path = codes "/" } ∷ []
+-- the line of a control group by its gid, its path and its counts
+abbrev pub group_told : ℕ → List ℕ → Counts → List ℕ
+group_told gid path counts = codes "group " ++ decimal gid ++ codes " " ++ path ++ codes ": " ++ counts_told counts ++ codes "\n"
 
 -- `group G PATH: accesses A hits H misses M`
 abbrev pub group_line : ScriptValue → JournalsValue → Control → List ℕ
@@ -76,7 +74,7 @@ total_line script j = commands_count j.tree ++ counts_text script j is_access ++
 -- the lines of the commands, of the groups and of the domains, and the last line
 unfoldable pub report_of : ScriptValue → JournalsValue → List ℕ
 report_of script j =
-    command_lines script (opening script.machine) 0 j.tree
+    command_lines script (opening script.machine script.tasks) 0 j.tree
     ++ flat_map (group_line script j) (controls script j.tree)
     ++ flat_map (domain_line script j) (range_with_len 0 script.machine.domains)
     ++ total_line script j

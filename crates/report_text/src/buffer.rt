@@ -1,12 +1,13 @@
 //! The text of a report under construction.
 ghost use Rattle.std.specs.Prelude.{◌≡◌, [], ◌∷◌, ◌++◌, IfOk, OnOk, decimal, length};
-ghost use Rattle.rc_base.specs.Reasons.{argument_text, hexadecimal, reason_text};
+ghost use Rattle.rc_base.specs.Reasons.{reason_text};
 ghost use Rattle.report_text.specs.Commands.{barred, reply_text};
 ghost use Rattle.script_text.specs.Canonical.{AreKnown, op_ids, op_text};
 
-use num_text::{push_dec, push_hex};
+use file_view::reason;
+use num_text::push_dec;
 use path_names::Names;
-use rc_base::{Argument, NoMemory, Reply, TextBuf, Why};
+use rc_base::{NoMemory, Reply, TextBuf, Why};
 use script_text::{Op, next_line, push_op};
 use std::alloc::Global;
 use std::marker::Model;
@@ -16,7 +17,7 @@ use std::marker::Model;
 pub struct ReportText {
     alloc: Global,
     text: Vec<u8>,
-    digits: TextBuf,
+    short: TextBuf,
 }
 
 impl Model for ReportText {
@@ -26,7 +27,7 @@ impl Model for ReportText {
 
     ghost view = { λ r. r.text.items };
 
-    ghost invariant = { λ r. (r.digits.bytes ≡ []) × (20 ≤ r.digits.spare) };
+    ghost invariant = { λ r. (r.short.bytes ≡ []) × (128 ≤ r.short.spare) };
 }
 
 impl ReportText {
@@ -34,13 +35,9 @@ impl ReportText {
     pub fn create(alloc: Global) -> Result<ReportText, NoMemory>
         ensures { IfOk result (λ r. r ≡ []) }
     {
-        let digits = TextBuf::with_room(alloc, 20)?;
+        let short = TextBuf::with_room(alloc, 128)?;
         let text = Vec::new(alloc);
-        Ok(ReportText {
-            alloc,
-            text,
-            digits,
-        })
+        Ok(ReportText { alloc, text, short })
     }
 
     /// Adds these bytes.
@@ -57,37 +54,12 @@ impl ReportText {
     pub fn push_decimal(&mut self, n: u64) -> Result<(), NoMemory>
         ensures { OnOk result (self.new ≡ self.old ++ decimal n) }
     {
-        push_dec(n, &mut self.digits);
-        let added = self.text.extend_from_slice(self.digits.bytes());
-        self.digits.clear();
+        push_dec(n, &mut self.short);
+        let added = self.text.extend_from_slice(self.short.bytes());
+        self.short.clear();
         match added {
             Ok(()) => Ok(()),
             Err(_) => Err(NoMemory),
-        }
-    }
-
-    // Adds a number in hexadecimal, in lower case and without leading zeros.
-    #[tactic(auto, using(crate::proofs::Pieces::no_zeros))]
-    fn push_hexadecimal(&mut self, n: u64) -> Result<(), NoMemory>
-        ensures { OnOk result (self.new ≡ self.old ++ hexadecimal n) }
-    {
-        push_hex(n, 0, &mut self.digits);
-        let added = self.text.extend_from_slice(self.digits.bytes());
-        self.digits.clear();
-        match added {
-            Ok(()) => Ok(()),
-            Err(_) => Err(NoMemory),
-        }
-    }
-
-    // Adds the argument of a reason.
-    fn push_argument(&mut self, argument: Argument, arg: u64) -> Result<(), NoMemory>
-        ensures { OnOk result (self.new ≡ self.old ++ argument_text argument arg) }
-    {
-        match argument {
-            Argument::Absent => Ok(()),
-            Argument::Decimal => self.push_decimal(arg),
-            Argument::Hexadecimal => self.push_hexadecimal(arg),
         }
     }
 
@@ -95,10 +67,13 @@ impl ReportText {
     fn push_reason(&mut self, why: Why, arg: u64) -> Result<(), NoMemory>
         ensures { OnOk result (self.new ≡ self.old ++ reason_text why arg) }
     {
-        let wording = why.wording();
-        self.push(wording.before.as_bytes())?;
-        self.push_argument(wording.argument, arg)?;
-        self.push(wording.after.as_bytes())
+        reason(why, arg, &mut self.short);
+        let added = self.text.extend_from_slice(self.short.bytes());
+        self.short.clear();
+        match added {
+            Ok(()) => Ok(()),
+            Err(_) => Err(NoMemory),
+        }
     }
 
     /// Adds a reply.

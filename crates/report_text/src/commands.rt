@@ -1,14 +1,18 @@
 //! The lines of commands.
-ghost use Rattle.std.specs.Prelude.{◌≡◌, ◌+◌, ◌-◌, ◌<◌, ◌≤◌, ◌^◌, ◌∷◌, [], ◌++◌, OnOk, codes, decimal, length, map, Some};
+ghost use Rattle.std.specs.Prelude.{◌≡◌, ◌+◌, ◌<◌, ◌≤◌, ◌∷◌, [], ◌++◌, IfOk, OnOk, codes, decimal, length, map, Some};
+ghost use Rattle.file_view.specs.Texts.{AreNamed};
 ghost use Rattle.report_text.specs.Commands.{command_line, command_lines, op_said, read_lines, reply_text};
+ghost use Rattle.report_text.specs.Made.{made_by, made_from};
+ghost use Rattle.report_text.specs.Replayed.{AreKnownGroups, IsCounted, IsReplay};
 ghost use Rattle.run_law.specs.Entries.{entry_value};
-ghost use Rattle.run_law.specs.TreeHistory.{state_after};
-ghost use Rattle.script_text.specs.Canonical.{AreKnown, op_ids, op_text};
+ghost use Rattle.run_law.specs.TreeHistory.{IsLegalTree, state_after};
+ghost use Rattle.script_text.specs.Canonical.{IsNamed};
 ghost use Rattle.script_text.specs.Values.{op_at};
 ghost use Rattle.tree_core.specs.State.{opening};
-ghost use Rattle.tree_core.specs.Steps.{FlushExists};
+ghost use Rattle.tree_core.specs.Steps.{FlushExists, needs};
 
 use crate::buffer::ReportText;
+use crate::made::Made;
 use crate::replay::Replay;
 use rc_base::{NoMemory, Reply};
 use run_law::TreeEntry;
@@ -24,18 +28,19 @@ fn push_result(report: &mut ReportText, reply: Reply) -> Result<(), NoMemory>
     report.push(b"\n".as_slice())
 }
 
-// Adds what an accepted read gave.
+// Adds what an accepted read or list gave.
 fn push_read_lines(
     report: &mut ReportText,
-    replay: &mut Replay,
+    replay: &Replay,
+    script: &Script,
     op: &Op,
     reply: Reply,
 ) -> Result<(), NoMemory>
-    ensures kept { replay.new ≡ replay.old }
-    ensures text { OnOk result (report.new ≡ report.old ++ read_lines replay.old.machine replay.old.state op.now reply) }
+    requires { IsReplay script.now replay.now }
+    ensures { OnOk result (report.new ≡ report.old ++ read_lines script.now replay.now.tree.state op.now reply) }
 {
     match reply {
-        Reply::Ok => replay.push_read(op, report),
+        Reply::Ok => replay.push_read(script.names(), op, report),
         Reply::Refused { .. } => Ok(()),
     }
 }
@@ -52,44 +57,33 @@ fn push_place(report: &mut ReportText, k: u64, entry: &TreeEntry) -> Result<(), 
     report.push(b" ".as_slice())
 }
 
-// Adds what is said of an op, and takes it once more.
+// Adds what is said of an op.
 fn push_op_said(
     report: &mut ReportText,
-    replay: &mut Replay,
+    replay: &Replay,
     script: &Script,
     op: &Op,
     reply: Reply,
 ) -> Result<(), NoMemory>
-    requires machine { replay.old.machine ≡ script.now.machine }
-    requires known { AreKnown (length script.now.names) (op_ids op.now) }
-    requires flush { FlushExists script.now.machine op.now }
-    requires epoch { replay.old.epoch < 2 ^ 64 - 1 }
-    ensures machine { replay.new.machine ≡ replay.old.machine }
-    ensures state { OnOk result (replay.new.state ≡ state_after script.now.machine replay.old.state [] (Some op.now)) }
-    ensures epoch { OnOk result (replay.new.epoch ≡ replay.old.epoch + 1) }
-    ensures text { OnOk result (report.new ≡ report.old ++ op_said script.now replay.old.state (Some op.now) reply) }
+    requires replay { IsReplay script.now replay.now }
+    requires named { IsNamed (length script.now.names) op.now }
+    ensures { OnOk result (report.new ≡ report.old ++ op_said script.now replay.now.tree.state (Some op.now) reply) }
 {
     report.push_op(op, script.names())?;
     push_result(report, reply)?;
-    push_read_lines(report, replay, op, reply)?;
-    replay.take(op);
-    Ok(())
+    push_read_lines(report, replay, script, op, reply)
 }
 
-// Adds the line of an entry, with what it read, and takes its op once more.
+// Adds the line of an entry, with what it read.
 fn push_command(
     report: &mut ReportText,
-    replay: &mut Replay,
+    replay: &Replay,
     script: &Script,
     k: u64,
     entry: &TreeEntry,
 ) -> Result<(), NoMemory>
-    requires machine { replay.old.machine ≡ script.now.machine }
-    requires epoch { replay.old.epoch < 2 ^ 64 - 1 }
-    ensures machine { OnOk result (replay.new.machine ≡ replay.old.machine) }
-    ensures state { OnOk result (replay.new.state ≡ state_after script.now.machine replay.old.state entry.now.looks.numbers (op_at script.now entry.now.thread entry.now.op)) }
-    ensures epoch { OnOk result (replay.new.epoch ≤ replay.old.epoch + 1) }
-    ensures text { OnOk result (report.new ≡ report.old ++ command_line script.now replay.old.state k (entry_value entry.now)) }
+    requires { IsReplay script.now replay.now }
+    ensures { OnOk result (report.new ≡ report.old ++ command_line script.now replay.now.tree.state k (entry_value entry.now)) }
 {
     push_place(report, k, entry)?;
     match script.op(entry.thread, entry.op) {
@@ -98,18 +92,39 @@ fn push_command(
     }
 }
 
-/// Adds the lines of the commands, with what they read.
+// Takes the op of an entry once more.
+fn take(replay: &mut Replay, script: &Script, entry: &TreeEntry) -> Result<(), NoMemory>
+    requires replay { IsReplay script.now replay.old }
+    requires counted { IsCounted script.now replay.old.tree.state (entry_value entry.now) }
+    requires epoch { replay.old.tree.epoch < 4000000 }
+    ensures replay { OnOk result (IsReplay script.now replay.new) }
+    ensures state { OnOk result (replay.new.tree.state ≡ state_after script.now.machine replay.old.tree.state entry.now.looks.numbers (op_at script.now entry.now.thread entry.now.op)) }
+    ensures epoch { OnOk result (replay.new.tree.epoch ≡ replay.old.tree.epoch + 1) }
+    ensures made { OnOk result (replay.new.made ≡ replay.old.made ++ made_by replay.old.tree.state (op_at script.now entry.now.thread entry.now.op) entry.now.reply) }
+{
+    match script.op(entry.thread, entry.op) {
+        Some(op) => replay.take(op, entry.looks.items(), entry.reply),
+        None => unreachable!(),
+    }
+}
+
+/// Adds the lines of the commands, with what they read. The control groups that they made.
 pub(crate) fn push_commands(
     alloc: Global,
     report: &mut ReportText,
     script: &Script,
     tree: &[TreeEntry],
-) -> Result<(), NoMemory>
-    ensures { OnOk result (report.new ≡ report.old ++ command_lines script.now (opening script.now.machine) 0 (map entry_value tree.now)) }
+) -> Result<Vec<Made>, NoMemory>
+    requires legal { IsLegalTree script.now (map entry_value tree.now) }
+    requires few { length tree.now ≤ 4000000 }
+    ensures text { OnOk result (report.new ≡ report.old ++ command_lines script.now (opening script.now.machine script.now.tasks) 0 (map entry_value tree.now)) }
+    ensures made { IfOk result (λ made. made.items ≡ made_from script.now (opening script.now.machine script.now.tasks) (map entry_value tree.now)) }
+    ensures known { IfOk result (λ made. AreKnownGroups script.now.names made.items) }
 {
-    let mut replay = Replay::create(alloc, script.machine())?;
+    let mut replay = Replay::create(alloc, script)?;
     for (k, entry) in tree.iter().enumerate() {
-        push_command(report, &mut replay, script, k as u64, entry)?;
+        push_command(report, &replay, script, k as u64, entry)?;
+        take(&mut replay, script, entry)?;
     }
-    Ok(())
+    Ok(replay.into_made())
 }

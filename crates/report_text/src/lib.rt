@@ -5,7 +5,9 @@ mod buffer;
 mod commands;
 mod counts;
 mod domains;
+pub mod made;
 mod replay;
 pub mod report;
+mod tally;
 
 pub use report::text;

@@ -1,70 +1,101 @@
 //! The tree, taken through its history once more.
-ghost use Rattle.std.specs.Prelude.{◌≡◌, ◌+◌, ◌-◌, ◌<◌, ◌^◌, [], ◌++◌, IfOk, OnOk};
-ghost use Rattle.file_view.specs.Texts.{text_of};
-ghost use Rattle.machine.specs.Maps.{parameters_of};
+ghost use Rattle.std.specs.Prelude.{◌≡◌, ◌+◌, ◌<◌, [], ◌++◌, All, IfOk, OnOk, Some, length};
+ghost use Rattle.std.specs.Option.{option_to_list};
+ghost use Rattle.file_view.specs.Texts.{AreNamed, text_of};
 ghost use Rattle.report_text.specs.Commands.{barred};
+ghost use Rattle.report_text.specs.Made.{made_by as made_in};
 ghost use Rattle.tree_core.specs.State.{opening};
-ghost use Rattle.tree_core.specs.Steps.{FlushExists, next};
+ghost use Rattle.tree_core.specs.Steps.{FlushExists, needs, next};
 
 use crate::buffer::ReportText;
+use crate::made::Made;
 use file_view::text;
-use machine::Machine;
-use rc_base::{NoMemory, TEXT_MAX, TextBuf};
-use script_text::Op;
+use path_names::{DirRef, Names, PathRef};
+use rc_base::{NoMemory, Reply};
+use script_text::{Op, Script};
 use std::alloc::Global;
 use std::marker::Model;
 use tree_core::Tree;
 
-/// The tree as it was before a command, with room for the text of a file. Contracts see the tree.
+/// The tree as it was before a command, and the control groups that were made so far. Contracts see both.
 #[derive(Drop)]
 pub struct Replay {
+    alloc: Global,
     tree: Tree,
-    file: TextBuf,
+    made: Vec<Made>,
 }
 
 impl Model for Replay {
-    ghost use Rattle.std.specs.Prelude.{◌+◌, ◌≤◌, length};
-    ghost use Rattle.tree_core.specs.State.{TreeValue};
+    ghost use Rattle.report_text.specs.Replayed.{ReplayValue};
 
-    ghost Value = { TreeValue };
+    ghost Value = { ReplayValue };
 
-    ghost view = { λ r. r.tree };
+    ghost view = { λ r. record { tree = r.tree; made = r.made.items } };
+}
 
-    ghost invariant = { λ r. 131072 ≤ r.file.spare + length r.file.bytes };
+// The control group that an op makes, by its reply.
+fn made_by(tree: &Tree, op: &Op, reply: Reply) -> Option<Made>
+    ensures { option_to_list result ≡ made_in tree.now.state (Some op.now) reply }
+{
+    let gid = tree.next_gid();
+    match (op, reply) {
+        (
+            Op::Mkdir {
+                path: PathRef::Dir(DirRef::Ctrl(name)),
+            },
+            Reply::Ok,
+        ) => Some(Made { gid, name: *name }),
+        _ => None,
+    }
 }
 
 impl Replay {
-    /// The opening tree of a machine.
-    pub fn create(alloc: Global, m: &Machine) -> Result<Replay, NoMemory>
-        ensures machine { IfOk result (λ r. r.machine ≡ parameters_of m.now) }
-        ensures state { IfOk result (λ r. r.state ≡ opening (parameters_of m.now)) }
-        ensures epoch { IfOk result (λ r. r.epoch ≡ 0) }
+    /// The opening tree of a script.
+    pub fn create(alloc: Global, script: &Script) -> Result<Replay, NoMemory>
+        ensures machine { IfOk result (λ r. r.tree.machine ≡ script.now.machine) }
+        ensures state { IfOk result (λ r. r.tree.state ≡ opening script.now.machine script.now.tasks) }
+        ensures epoch { IfOk result (λ r. r.tree.epoch ≡ 0) }
+        ensures made { IfOk result (λ r. r.made ≡ []) }
     {
-        let file = TextBuf::with_room(alloc, TEXT_MAX)?;
+        let tree = Tree::create(alloc, script.machine(), script.tasks())?;
         Ok(Replay {
-            tree: Tree::create(m),
-            file,
+            alloc,
+            tree,
+            made: Vec::new(alloc),
         })
     }
 
     /// Adds the text that an op gives in this state, line by line behind bars.
-    pub fn push_read(&mut self, op: &Op, report: &mut ReportText) -> Result<(), NoMemory>
-        ensures kept { self.new ≡ self.old }
-        ensures text { OnOk result (report.new ≡ report.old ++ barred (text_of self.old.machine self.old.state op.now)) }
+    pub fn push_read(&self, names: &Names, op: &Op, report: &mut ReportText) -> Result<(), NoMemory>
+        requires { AreNamed names.now self.now.tree.state.groups }
+        ensures { OnOk result (report.new ≡ report.old ++ barred (text_of self.now.tree.machine self.now.tree.state names.now op.now)) }
     {
-        self.file.clear();
-        text(&self.tree, op, &mut self.file);
-        report.push_barred(self.file.bytes())
+        let mut file = Vec::new(self.alloc);
+        text(self.alloc, &self.tree, names, op, &mut file)?;
+        report.push_barred(&file)
     }
 
-    /// Takes a command once more.
-    pub fn take(&mut self, op: &Op)
-        requires flush { FlushExists self.old.machine op.now }
-        requires epoch { self.old.epoch < 2 ^ 64 - 1 }
-        ensures machine { self.new.machine ≡ self.old.machine }
-        ensures state { self.new.state ≡ (next self.old.machine self.old.state op.now []).state }
-        ensures epoch { self.new.epoch ≡ self.old.epoch + 1 }
+    /// Takes a command once more, with its counts and its reply.
+    pub fn take(&mut self, op: &Op, looks: &[u64], reply: Reply) -> Result<(), NoMemory>
+        requires flush { FlushExists self.old.tree.machine op.now }
+        requires looks { length looks.now ≡ length (needs self.old.tree.machine self.old.tree.state op.now) }
+        requires epoch { self.old.tree.epoch < 4000000 }
+        ensures machine { OnOk result (self.new.tree.machine ≡ self.old.tree.machine) }
+        ensures state { OnOk result (self.new.tree.state ≡ (next self.old.tree.machine self.old.tree.state op.now looks.now).state) }
+        ensures epoch { OnOk result (self.new.tree.epoch ≡ self.old.tree.epoch + 1) }
+        ensures made { OnOk result (self.new.made ≡ self.old.made ++ made_in self.old.tree.state (Some op.now) reply) }
     {
-        self.tree.apply(op);
+        if let Some(made) = made_by(&self.tree, op, reply) {
+            self.made.push(made)?;
+        }
+        self.tree.apply(op, looks);
+        Ok(())
+    }
+
+    /// The control groups that were made.
+    pub fn into_made(self) -> Vec<Made>
+        ensures { result.items ≡ self.made }
+    {
+        self.made
     }
 }

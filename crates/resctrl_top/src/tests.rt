@@ -73,8 +73,44 @@ fn scripts_have_their_reports(rt: HostRuntime) -> Result<(), Fail> {
 }
 
 #[test]
+fn groups_have_their_reports(rt: HostRuntime) -> Result<(), Fail> {
+    let rows: [(&[u8], &[u8]); 6] = [
+        (
+            b"machine sets=1 ways=4 classes=2\nphase\nthread\nmkdir /a\nmkdir /b\nrmdir /a\nmkdir /b\nlist /\nmkdir /cpus\nmkdir /b/x\nrmdir /\n",
+            b"0 0.0 mkdir /a: ok\n1 0.1 mkdir /b: ENOSPC out of CLOSIDs\n2 0.2 rmdir /a: ok\n3 0.3 mkdir /b: ok\n4 0.4 list /: ok\n|cpus\n|cpus_list\n|info\n|mode\n|mon_data\n|mon_groups\n|schemata\n|size\n|tasks\n|b\n5 0.5 mkdir /cpus: EEXIST file exists\n6 0.6 mkdir /b/x: EPERM not a place for groups\n7 0.7 rmdir /: EPERM not a place for groups\ngroup 0 /: accesses 0 hits 0 misses 0\ngroup 1 /a: accesses 0 hits 0 misses 0\ngroup 2 /b: accesses 0 hits 0 misses 0\ndomain 0: valid 0 of 4\ntotal: commands 8 refused 4 accesses 0 hits 0 misses 0\n",
+        ),
+        (
+            b"machine rmids=1\nphase\nthread\nmkdir /a\n",
+            b"0 0.0 mkdir /a: ENOSPC out of RMIDs\ngroup 0 /: accesses 0 hits 0 misses 0\ndomain 0: valid 0 of 512\ntotal: commands 1 refused 1 accesses 0 hits 0 misses 0\n",
+        ),
+        (
+            b"machine classes=1\nphase\nthread\nmkdir /a\n",
+            b"0 0.0 mkdir /a: ENOSPC out of CLOSIDs\ngroup 0 /: accesses 0 hits 0 misses 0\ndomain 0: valid 0 of 512\ntotal: commands 1 refused 1 accesses 0 hits 0 misses 0\n",
+        ),
+        (
+            b"machine domains=2 sets=1 ways=4 shareable=8\nphase\nthread\nwrite /schemata L3:0=3\nmkdir /a\nread /a/schemata\nwrite /a/schemata L3:1=c\nread /a/schemata\nread /a/size\nread /schemata\nrmdir /a\nread /a/schemata\n",
+            b"0 0.0 write /schemata L3:0=3: ok\n1 0.1 mkdir /a: ok\n2 0.2 read /a/schemata: ok\n|L3:0=f;1=f\n3 0.3 write /a/schemata L3:1=c: ok\n4 0.4 read /a/schemata: ok\n|L3:0=f;1=c\n5 0.5 read /a/size: ok\n|L3:0=256;1=128\n6 0.6 read /schemata: ok\n|L3:0=3;1=f\n7 0.7 rmdir /a: ok\n8 0.8 read /a/schemata: ENOENT no such file or directory\ngroup 0 /: accesses 0 hits 0 misses 0\ngroup 1 /a: accesses 0 hits 0 misses 0\ndomain 0: valid 0 of 4\ndomain 1: valid 0 of 4\ntotal: commands 9 refused 1 accesses 0 hits 0 misses 0\n",
+        ),
+        (
+            b"machine sets=1 ways=4\nphase\nthread\nmkdir /a\nlist /a\nlist /mon_groups\nlist /info\nrmdir /\nrmdir /a/size\nrmdir /info\nrmdir /b\nrmdir /a/x\nrmdir /size/x\nlist /size\nread /\nwrite /a 1\nmkdir /b/x\nmkdir /\nmkdir /a\nrmdir /a\nlist /a\n",
+            b"0 0.0 mkdir /a: ok\n1 0.1 list /a: ok\n|cpus\n|cpus_list\n|mode\n|mon_data\n|mon_groups\n|schemata\n|size\n|tasks\n2 0.2 list /mon_groups: ok\n3 0.3 list /info: ok\n|L3\n|L3_MON\n|last_cmd_status\n4 0.4 rmdir /: EPERM not a place for groups\n5 0.5 rmdir /a/size: EPERM not a place for groups\n6 0.6 rmdir /info: EPERM not a place for groups\n7 0.7 rmdir /b: ENOENT no such file or directory\n8 0.8 rmdir /a/x: ENOENT no such file or directory\n9 0.9 rmdir /size/x: ENOENT no such file or directory\n10 0.10 list /size: ENOENT no such file or directory\n11 0.11 read /: ENOENT no such file or directory\n12 0.12 write /a 1: ENOENT no such file or directory\n13 0.13 mkdir /b/x: ENOENT no such file or directory\n14 0.14 mkdir /: EEXIST file exists\n15 0.15 mkdir /a: EEXIST file exists\n16 0.16 rmdir /a: ok\n17 0.17 list /a: ENOENT no such file or directory\ngroup 0 /: accesses 0 hits 0 misses 0\ngroup 1 /a: accesses 0 hits 0 misses 0\ndomain 0: valid 0 of 4\ntotal: commands 18 refused 13 accesses 0 hits 0 misses 0\n",
+        ),
+        (
+            b"machine sets=1 ways=4\ntasks 1\nphase\nthread\naccess 1 0 0\nmkdir /a\naccess 1 0 0\nrmdir /a\naccess 1 0 64\n",
+            b"0 0.1 mkdir /a: ok\n1 0.3 rmdir /a: ok\ngroup 0 /: accesses 3 hits 1 misses 2\ngroup 1 /a: accesses 0 hits 0 misses 0\ndomain 0: valid 2 of 4, rmid 0 2\ntotal: commands 2 refused 0 accesses 3 hits 1 misses 2\n",
+        ),
+    ];
+    for (script, report) in rows {
+        let (status, taken) = told(rt.alloc(), script)?;
+        assert_eq!(rt; status, Status::Done);
+        assert_eq!(rt; taken.as_slice(), report);
+    }
+    Ok(())
+}
+
+#[test]
 fn bad_scripts_are_refused(rt: HostRuntime) -> Result<(), Fail> {
-    let rows: [(&[u8], &[u8]); 28] = [
+    let rows: [(&[u8], &[u8]); 34] = [
         (b"", b"line 1: no machine line\n"),
         (b"\n# tasks\ntasks 1\n", b"line 3: no machine line\n"),
         (
@@ -117,18 +153,6 @@ fn bad_scripts_are_refused(rt: HostRuntime) -> Result<(), Fail> {
             b"line 6: bad argument\n",
         ),
         (
-            b"machine sets=1 ways=4\ntasks 1\nphase\nthread\nmkdir /a\n",
-            b"line 0: not built yet\n",
-        ),
-        (
-            b"machine sets=1 ways=4\ntasks 1\nphase\nthread\nrmdir /a\n",
-            b"line 0: not built yet\n",
-        ),
-        (
-            b"machine sets=1 ways=4\ntasks 1\nphase\nthread\nlist /\n",
-            b"line 0: not built yet\n",
-        ),
-        (
             b"machine sets=1 ways=4\ntasks 1\nphase\nthread\nread /mode\n",
             b"line 0: not built yet\n",
         ),
@@ -145,7 +169,43 @@ fn bad_scripts_are_refused(rt: HostRuntime) -> Result<(), Fail> {
             b"line 0: not built yet\n",
         ),
         (
-            b"machine sets=1 ways=4\ntasks 1\nphase\nthread\nread /a/schemata\n",
+            b"machine sets=1 ways=4\ntasks 1\nphase\nthread\nmkdir /mon_groups/m\n",
+            b"line 0: not built yet\n",
+        ),
+        (
+            b"machine sets=1 ways=4\ntasks 1\nphase\nthread\nlist /mon_groups/m\n",
+            b"line 0: not built yet\n",
+        ),
+        (
+            b"machine sets=1 ways=4\ntasks 1\nphase\nthread\nrmdir /a/mon_groups/m\n",
+            b"line 0: not built yet\n",
+        ),
+        (
+            b"machine sets=1 ways=4\ntasks 1\nphase\nthread\nread /a/mode\n",
+            b"line 0: not built yet\n",
+        ),
+        (
+            b"machine sets=1 ways=4\ntasks 1\nphase\nthread\nread /info/last_cmd_status\n",
+            b"line 0: not built yet\n",
+        ),
+        (
+            b"machine sets=1 ways=4\ntasks 1\nphase\nthread\nread /a/mon_data/mon_L3_00/llc_occupancy\n",
+            b"line 0: not built yet\n",
+        ),
+        (
+            b"machine sets=1 ways=4\ntasks 1\nphase\nthread\nwrite /a/cpus 1\n",
+            b"line 0: not built yet\n",
+        ),
+        (
+            b"machine sets=1 ways=4\ntasks 1\nphase\nthread\nread /a/tasks\n",
+            b"line 0: not built yet\n",
+        ),
+        (
+            b"machine sets=1 ways=4\ntasks 1\nphase\nthread\nread /mon_groups/m/x/y\n",
+            b"line 0: not built yet\n",
+        ),
+        (
+            b"machine sets=1 ways=4\ntasks 1\nphase\nthread\nlist /a/mon_groups/m/tasks/x\n",
             b"line 0: not built yet\n",
         ),
         (

@@ -14,8 +14,9 @@ use Rattle.run_law.specs.Slices.{domain_in, line_of, shape_in, slice_count, slic
 use Rattle.run_law.specs.TreeHistory.{IsLegalTree, TreeEntryValue, tree_after}
 use Rattle.script_text.specs.Values.{ScriptValue, op_at}
 use Rattle.script_text.specs.declared.op.Op.{Op}
+use Rattle.tree_core.specs.Resolving.{resolve}
 use Rattle.tree_core.specs.State.{State}
-use Rattle.tree_core.specs.Steps.{after, needs, resolve}
+use Rattle.tree_core.specs.Steps.{after, needs}
 use Rattle.tree_core.specs.declared.follow.Follow.{Follow}
 use Rattle.tree_core.specs.declared.follow.Follow.TheVariants as follows
 

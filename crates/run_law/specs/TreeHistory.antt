@@ -28,7 +28,7 @@ tree_from script s (e ∷ es) = tree_from script (state_after script.machine s e
 
 -- the state after these entries
 unfoldable pub tree_after : ScriptValue → List TreeEntryValue → State
-tree_after script entries = tree_from script (opening script.machine) entries
+tree_after script entries = tree_from script (opening script.machine script.tasks) entries
 
 -- there is an op, it is a command, and this holds of it
 abbrev pub IsCommandThat : (Op → Type 0) → Option Op → Type 0

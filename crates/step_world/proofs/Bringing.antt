@@ -1,5 +1,5 @@
 -- What an access and what a command brings.
-use Rattle.std.proofs.Common.{◌≡◌, ℕ, suc, ◌+◌, ◌-◌, ◌≤◌, Bool, true, inl, inr, List, [], ◌∷◌, ◌++◌, length, map, filter, Option, Some, refl, sym, ap, ◌∙◌, subst, arith}
+use Rattle.std.proofs.Common.{◌≡◌, ℕ, suc, ◌+◌, ◌-◌, ◌<◌, ◌≤◌, Bool, true, inl, inr, List, [], ◌∷◌, ◌++◌, length, map, filter, Option, Some, refl, sym, ap, ◌∙◌, subst, arith}
 use Rattle.std.specs.Prelude.{◌==◌, if◌then◌else◌, IsTrue, Contains}
 use Rattle.std.specs.List.{flat_map}
 use Rattle.std.proofs.lemmas.Bool.{cases_Bool, eqb-true}
@@ -13,7 +13,7 @@ use Rattle.machine.specs.Maps.{domain_of}
 use Rattle.machine.specs.declared.parameters.Parameters.{Parameters}
 use Rattle.rc_base.proofs.Following.{goes_on_push}
 use Rattle.run_law.specs.Ops.{is_command}
-use Rattle.run_law.specs.Runs.{At, IsOwed, IsTrueTo, JournalsValue, Pays, follow_in, is_made_by, is_taken_from, owed_by_access, owed_by_command, paid_by}
+use Rattle.run_law.specs.Runs.{At, IsOwed, IsTrueTo, JournalsValue, Pays, follow_in, is_made_by, is_taken_from, look_in, owed_by_access, owed_by_command, paid_by, slice_at}
 use Rattle.run_law.specs.Slices.{line_of, slice_of_line}
 use Rattle.run_law.specs.TreeHistory.{IsCommandThat, IsLegalTree, MayFollow, TreeEntryValue, tree_after}
 use Rattle.script_text.specs.Values.{ScriptValue, op_at}
@@ -21,10 +21,13 @@ use Rattle.script_text.specs.declared.op.Op.{Op}
 use Rattle.script_text.specs.declared.op.Op.TheVariants.{Access}
 use Rattle.step_world.specs.Done.{AreDone}
 use Rattle.tree_core.specs.State.{State}
-use Rattle.tree_core.specs.Steps.{after, needs, next, resolve}
+use Rattle.step_world.specs.Playing.{lines_of_need}
+use Rattle.tree_core.specs.Resolving.{resolve}
+use Rattle.tree_core.specs.Steps.{after, needs, next}
 use Rattle.step_world.proofs.ByOp.{of_command}
 use Rattle.step_world.proofs.Doing.{Brings, Grow, grown, one_more}
-use Rattle.step_world.proofs.Positions.{at_end, at_one, at_parts, both_hold, both_pass, contains_mapped}
+use Rattle.step_world.proofs.Matching.{HasLooks, IsMatched, NoneBy, given_counts}
+use Rattle.step_world.proofs.Positions.{at_end, at_one, at_parts, both_hold, both_pass, contains_mapped, second_fails}
 
 -- ---- an access
 
@@ -74,6 +77,7 @@ access_brings script n j slices task cpu addr hit way done is grow =
             rw here (ap length made)
         | inr away ↦ rw away refl
       ];
+      matched = λ k h late at. absurd cc;
     }
 
 -- after an access, all of the first n + 1 ops are done
@@ -127,9 +131,9 @@ is_owed script n tree h es op i p e thread number are paid at = record {
 command_brings : (script : ScriptValue) (n : ℕ) (j : JournalsValue) (h : TreeEntryValue) (slices : List (List SliceEntry)) (es : ℕ → List SliceEntry) (op : Op)
     → AreDone script n j → op_at script 0 n ≡ Some op → IsTrue (is_command op)
     → h.thread ≡ 0 → h.op ≡ n → MayFollow script j.tree h
-    → AreOf n (length j.tree) es → Pay script j.tree h op es → Grow j slices es
+    → AreOf n (length j.tree) es → Pay script j.tree h op es → Grow j slices es → IsMatched script (grown j (h ∷ []) slices) (length j.tree) h
     → Brings script n j (h ∷ []) slices es op
-command_brings script n j h slices es op done is command thread number follows are paid grow =
+command_brings script n j h slices es op done is command thread number follows are paid grow matched =
     let now : length (j.tree ++ h ∷ []) ≡ length j.tree + 1 = length-append j.tree (h ∷ []) in
     record {
       is_op = is;
@@ -146,38 +150,47 @@ command_brings script n j h slices es op done is command thread number follows a
       entries_once = λ i. of_command
           (λ task cpu addr. length (filter (is_made_by 0 n) (es i)) ≡ one_if (i == slice_of_line script.machine (domain_of script.machine cpu) (line_of addr)))
           (Pays script (grown j (h ∷ []) slices) i 0 n op (filter (is_made_by 0 n) (es i))) op command (pays_all script n j h slices es op i done are paid);
+      matched = λ k x late at.
+          let it = at_one h (k - length j.tree) x at in
+          let last : k ≡ length j.tree = omega (arith, late, it.0) in
+          subst (λ y. IsMatched script (grown j (h ∷ []) slices) k y) (sym it.1) (subst (λ p. IsMatched script (grown j (h ∷ []) slices) p h) (sym last) matched);
     }
 
 -- after a command, all of the first n + 1 ops are done
 pub command_done : (script : ScriptValue) (n : ℕ) (j : JournalsValue) (h : TreeEntryValue) (slices : List (List SliceEntry)) (es : ℕ → List SliceEntry) (op : Op)
     → AreDone script n j → op_at script 0 n ≡ Some op → IsTrue (is_command op)
     → h.thread ≡ 0 → h.op ≡ n → MayFollow script j.tree h
-    → AreOf n (length j.tree) es → Pay script j.tree h op es → Grow j slices es
+    → AreOf n (length j.tree) es → Pay script j.tree h op es → Grow j slices es → IsMatched script (grown j (h ∷ []) slices) (length j.tree) h
     → AreDone script (n + 1) (grown j (h ∷ []) slices)
-command_done script n j h slices es op done is command thread number follows are paid grow =
-    one_more script n j (h ∷ []) slices es op done (command_brings script n j h slices es op done is command thread number follows are paid grow)
+command_done script n j h slices es op done is command thread number follows are paid grow matched =
+    one_more script n j (h ∷ []) slices es op done (command_brings script n j h slices es op done is command thread number follows are paid grow matched)
 
--- ---- a command that needs no counts
+-- ---- what a command at the end of the history owes
 
--- no command of those that are built needs counts
-pub no_needs : (m : Parameters) (s : State) (op : Op) → needs m s op ≡ []
-unfolding needs
-no_needs m s op = refl
-
--- what a command at the end of the history owes are its follow-ups
-owes_follow_ups : (script : ScriptValue) (tree : List TreeEntryValue) (h : TreeEntryValue) (i : ℕ) (op : Op)
-    → owed_by_command script (tree ++ h ∷ []) i (length tree) op ≡ flat_map (follow_in script.machine i (length tree + 1)) (after script.machine (tree_after script tree) op)
+-- its looks, and its follow-ups
+pub pay_all : (script : ScriptValue) (tree : List TreeEntryValue) (h : TreeEntryValue) (op : Op) (es : ℕ → List SliceEntry)
+    → ((i : ℕ) → map paid_by (es i) ≡ flat_map (look_in script.machine i (length tree)) (needs script.machine (tree_after script tree) op) ++ flat_map (follow_in script.machine i (length tree + 1)) (after script.machine (tree_after script tree) op))
+    → Pay script tree h op es
 unfolding owed_by_command
-owes_follow_ups script tree h i op = rw (take-append_seam tree (h ∷ []), no_needs script.machine (tree_after script tree) op) refl
+pay_all script tree h op es paid i = rw (take-append_seam tree (h ∷ [])) (paid i)
 
-pub pay_follow_ups : (script : ScriptValue) (tree : List TreeEntryValue) (h : TreeEntryValue) (op : Op) (es : ℕ → List SliceEntry)
-    → ((i : ℕ) → map paid_by (es i) ≡ flat_map (follow_in script.machine i (length tree + 1)) (after script.machine (tree_after script tree) op)) → Pay script tree h op es
-pay_follow_ups script tree h op es paid i = paid i ∙ sym (owes_follow_ups script tree h i op)
-
--- a command with its reply may follow, where it was given no counts
+-- with its reply and so many counts as it needs, it may follow
 pub command_follows : (script : ScriptValue) (tree : List TreeEntryValue) (n : ℕ) (h : TreeEntryValue) (op : Op) → op_at script 0 n ≡ Some op → IsTrue (is_command op)
-    → h.thread ≡ 0 → h.op ≡ n → h.looks ≡ [] → h.reply ≡ (next script.machine (tree_after script tree) op h.looks).reply → MayFollow script tree h
-command_follows script tree n h op is command thread number none answers =
+    → h.thread ≡ 0 → h.op ≡ n → length h.looks ≡ length (needs script.machine (tree_after script tree) op) → h.reply ≡ (next script.machine (tree_after script tree) op h.looks).reply → MayFollow script tree h
+command_follows script tree n h op is command thread number count answers =
     let P : Option Op → Type 0 = λ o. IsCommandThat (λ op. (length h.looks ≡ length (needs script.machine (tree_after script tree) op)) × (h.reply ≡ (next script.machine (tree_after script tree) op h.looks).reply)) o in
     let here : op_at script h.thread h.op ≡ Some op = rw (thread, number) is in
-    subst P (sym here) (command, (ap length none ∙ sym (ap length (no_needs script.machine (tree_after script tree) op)), answers))
+    subst P (sym here) (command, (count, answers))
+
+-- with the lines that its looks found, it is matched
+pub command_matched : (script : ScriptValue) (n : ℕ) (j : JournalsValue) (h : TreeEntryValue) (slices : List (List SliceEntry)) (op : Op) (rest : ℕ → List SliceEntry)
+    → 0 < script.machine.slices → AreDone script n j → op_at script 0 n ≡ Some op → h.thread ≡ 0 → h.op ≡ n
+    → HasLooks script.machine j slices n (length j.tree) (needs script.machine (tree_after script j.tree) op) rest
+    → h.looks ≡ map (lines_of_need script.machine j) (needs script.machine (tree_after script j.tree) op)
+    → IsMatched script (grown j (h ∷ []) slices) (length j.tree) h
+command_matched script n j h slices op rest some done is thread number has looks =
+    let m : Parameters = script.machine in
+    let now : JournalsValue = grown j (h ∷ []) slices in
+    let none : (i : ℕ) → NoneBy 0 n (slice_at j i) = λ i p e at. (let old = done.by_ops i p e at in second_fails e.thread 0 e.op n (λ same. omega (arith, same, old.1))) in
+    let here : op_at script h.thread h.op ≡ Some op = rw (thread, number) is in
+    rw (take-append_seam j.tree (h ∷ []), here) (given_counts script n (length j.tree) j now h (needs m (tree_after script j.tree) op) rest some none thread number has looks)

@@ -16,6 +16,7 @@ use Rattle.script_text.specs.Values.{ScriptValue, op_at}
 use Rattle.script_text.specs.declared.op.Op.{Op}
 use Rattle.step_world.specs.Done.{AreDone}
 use Rattle.step_world.proofs.ByOp.{by_kind, from_kind}
+use Rattle.step_world.proofs.Matching.{IsMatched, still_matched}
 use Rattle.step_world.proofs.Positions.{at_front, at_parts, both_hold, both_pass, filter_nothing, second_fails}
 
 -- ---- journals with more
@@ -177,6 +178,7 @@ pub record Brings (script : ScriptValue) (n : ℕ) (j : JournalsValue) (more : L
   pub true_to_op : (i p : ℕ) (e : SliceEntry) → At (es i) p e → IsTrueTo script (j.tree ++ more) i e (Some c)
   pub command_once : IsTrue (is_command c) → length (filter (is_taken_from 0 n) more) ≡ 1
   pub entries_once : (i : ℕ) → Makes script (grown j more slices) i 0 n c (filter (is_made_by 0 n) (es i))
+  pub matched : (k : ℕ) (h : TreeEntryValue) → length j.tree ≤ k → At more (k - length j.tree) h → IsMatched script (grown j more slices) k h
 
 behind_step : (script : ScriptValue) (n : ℕ) (j : JournalsValue) (more : List TreeEntryValue) (slices : List (List SliceEntry)) (es : ℕ → List SliceEntry) (c : Op)
     → AreDone script n j → Brings script n j more slices es c
@@ -252,6 +254,17 @@ entries_step script n j more slices es c done brings i op d early is =
           (subst (λ o. Makes script now i 0 n o (filter (is_made_by 0 n) (es i))) (sym same) (brings.entries_once i)))
     ])
 
+matched_step : (script : ScriptValue) (n : ℕ) (j : JournalsValue) (more : List TreeEntryValue) (slices : List (List SliceEntry)) (es : ℕ → List SliceEntry) (c : Op)
+    → AreDone script n j → Brings script n j more slices es c → (k : ℕ) (h : TreeEntryValue) → At (j.tree ++ more) k h → IsMatched script (grown j more slices) k h
+matched_step script n j more slices es c done brings k h at = elim (at_parts j.tree more k h at) [
+  | inl old ↦
+      let within = slice_get_within j.tree k h old in
+      let before = done.of_ops k h old in
+      still_matched script j (grown j more slices) more es k h refl (omega (arith, within)) brings.grow
+      (λ i p e at. let new = brings.by_op i p e at in second_fails e.thread h.thread e.op h.op (λ same. omega (arith, same, new.1, before.1))) (done.matched k h old)
+  | inr new ↦ brings.matched k h new.0 new.1
+]
+
 pub one_more : (script : ScriptValue) (n : ℕ) (j : JournalsValue) (more : List TreeEntryValue) (slices : List (List SliceEntry)) (es : ℕ → List SliceEntry) (c : Op)
     → AreDone script n j → Brings script n j more slices es c → AreDone script (n + 1) (grown j more slices)
 one_more script n j more slices es c done brings =
@@ -284,6 +297,7 @@ one_more script n j more slices es c done brings =
         behind_commands = λ i p q k e earlier command at there taken made before apart.
             behind_step script n j more slices es c done brings i p q k e earlier command (stands i p e at) (stands i q earlier there) (at_parts j.tree more k command taken) made before apart;
       };
+      matched = λ k h at. matched_step script n j more slices es c done brings k h at;
       commands_once = λ op d early is command. commands_step script n j more slices es c done brings op d early is command;
       entries_once = λ i op d early is. entries_step script n j more slices es c done brings i op d early is;
       marks_in_order = λ op later start stop later_start later_stop a b less early is_a is_b marks later_marks.

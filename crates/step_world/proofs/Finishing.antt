@@ -1,25 +1,22 @@
 -- When all ops of the thread were played, the journals are a run.
-use Rattle.std.proofs.Common.{◌≡◌, ℕ, zero, suc, ◌<◌, ◌≤◌, inl, inr, List, [], ◌∷◌, length, filter, map, take, get_or, Option, Some, None, refl, sym, ap, ◌∙◌, subst, arith}
+use Rattle.std.proofs.Common.{◌≡◌, ℕ, zero, suc, ◌<◌, ◌≤◌, inl, inr, List, [], ◌∷◌, length, filter, map, get_or, Some, refl, sym, ap, ◌∙◌, subst, arith}
 use Rattle.std.specs.Prelude.{IsSome}
 use Rattle.std.proofs.lemmas.List.{get_or-map, length-map}
 use Rattle.std.proofs.lemmas.Option.{slice_get_within, get_or_from_slice_get}
 use Rattle.cache_core.specs.History.{IsLegal}
 use Rattle.cache_core.specs.Places.{State as Cache}
 use Rattle.cache_core.specs.declared.entry.SliceEntry.{SliceEntry}
-use Rattle.machine.specs.declared.parameters.Parameters.{Parameters}
-use Rattle.rc_base.proofs.Following.{follows_at}
 use Rattle.run_law.specs.Ops.{Precedes, phase_in}
-use Rattle.run_law.specs.Runs.{AreMatched, At, HasMarks, IsRun, JournalsValue, Makes, is_made_by, is_taken_from, lines_looked, needs_of, slice_at}
+use Rattle.run_law.specs.Runs.{At, HasMarks, IsRun, JournalsValue, Makes, is_made_by, is_taken_from, slice_at}
 use Rattle.run_law.specs.Slices.{shape_in, slice_count}
-use Rattle.run_law.specs.TreeHistory.{IsCommandThat, IsLegalTree, MayFollow, TreeEntryValue, tree_after}
+use Rattle.run_law.specs.TreeHistory.{TreeEntryValue}
 use Rattle.script_text.specs.Values.{ScriptValue, op_at, ops_of, threads_of}
 use Rattle.script_text.specs.declared.op.Op.{Op}
 use Rattle.run_law.specs.Caches.{AreLeft, IsCacheOf}
 use Rattle.step_world.specs.Done.{AreDone}
 use Rattle.step_world.specs.Playing.{IsAt, SliceValue, journals_of}
-use Rattle.tree_core.specs.State.{State, TreeValue}
-use Rattle.tree_core.specs.Steps.{needs, next}
-use Rattle.step_world.proofs.Bringing.{no_needs}
+use Rattle.tree_core.specs.State.{TreeValue}
+use Rattle.step_world.proofs.Continuing.{noted}
 use Rattle.step_world.proofs.Positions.{some_within}
 
 -- ---- a script of one thread
@@ -42,31 +39,6 @@ lower script thread op later_thread later h k (inl same) = same.1
 lower script thread op later_thread later h k (inr earlier) =
     absurd (omega (arith, earlier, ap (λ t. phase_in script.phases t) h, ap (λ t. phase_in script.phases t) k))
 
--- ---- the counts that commands were given
-
-no_needs_of : (m : Parameters) (s : State) (op : Option Op) → needs_of m s op ≡ []
-no_needs_of m s None = refl
-no_needs_of m s (Some op) = no_needs m s op
-
-empty : {A : Type 0} (xs : List A) → length xs ≡ 0 → xs ≡ []
-empty [] h = refl
-empty (x ∷ xs) h = absurd (omega arith)
-
--- a command that may follow was given no counts
-no_looks : (script : ScriptValue) (before : List TreeEntryValue) (h : TreeEntryValue) (op : Option Op)
-    → IsCommandThat (λ op. (length h.looks ≡ length (needs script.machine (tree_after script before) op)) × (h.reply ≡ (next script.machine (tree_after script before) op h.looks).reply)) op
-    → h.looks ≡ []
-no_looks script before h None may = absurd may
-no_looks script before h (Some op) may = empty h.looks (may.1.0 ∙ ap length (no_needs script.machine (tree_after script before) op))
-
-matched : (script : ScriptValue) (j : JournalsValue) → IsLegalTree script j.tree → AreMatched script j
-matched script j legal k h at =
-    let within : k < length j.tree = slice_get_within j.tree k h at in
-    let is : get_or j.tree k h ≡ h = get_or_from_slice_get j.tree k h h at in
-    let may : MayFollow script (take k j.tree) h = subst (λ e. MayFollow script (take k j.tree) e) is (follows_at (MayFollow script) j.tree k h legal within) in
-    let none : h.looks ≡ [] = no_looks script (take k j.tree) h (op_at script h.thread h.op) may in
-    ap (map (λ n. Some n)) none ∙ sym (ap (map (lines_looked script j h)) (no_needs_of script.machine (tree_after script (take k j.tree)) (op_at script h.thread h.op)))
-
 -- ---- the run
 
 pub run_when_done : (script : ScriptValue) (j : JournalsValue) → length (threads_of script) ≤ 1 → length j.slices ≡ slice_count script.machine
@@ -77,7 +49,7 @@ run_when_done script j few all legal done = record {
   tree_legal = done.legal;
   slices_legal = legal;
   entries_true = done.are_true;
-  looks_matched = matched script j done.legal;
+  looks_matched = done.matched;
   in_order = record {
     commands_once = λ thread op c is command.
         let first = first_thread script thread op c few is in
@@ -110,10 +82,6 @@ journals_are j commands slices a b =
     let P : List TreeEntryValue → Type 0 = λ t. (let k : JournalsValue = record { tree = t; slices = entries } in k) ≡ j in
     let Q : List (List SliceEntry) → Type 0 = λ s. (let k : JournalsValue = record { tree = j.tree; slices = s } in k) ≡ j in
     subst P a (subst Q b refl)
-
--- a slice's journal is what it has noted
-noted : (commands : List TreeEntryValue) (slices : List SliceValue) (i : ℕ) (d : SliceValue) → i < length slices → slice_at (journals_of commands slices) i ≡ (get_or slices i d).entries
-noted commands slices i d within = get_or-map (λ (s : SliceValue). s.entries) slices i d [] within
 
 -- a cache that is there is that of a slice
 the_cache : (slices : List SliceValue) (i : ℕ) (cache : Cache) (d : SliceValue) → At (map (λ (s : SliceValue). s.cache) slices) i cache → (i < length slices) × ((get_or slices i d).cache ≡ cache)

@@ -1,9 +1,12 @@
 pub mod Positions
 pub mod ByOp
+pub mod Numbering
+pub mod Following
+pub mod Matching
 pub mod Doing
 pub mod Bringing
 pub mod Finishing
-pub mod Numbering
 pub mod Continuing
-pub mod Following
+pub mod Looking
+pub mod Answering
 pub mod Stepping

@@ -1,10 +1,10 @@
 -- What the tree and the slices make of one op.
-use Rattle.std.proofs.Common.{◌≡◌, inl, inr, ℕ, ◌+◌, ◌/◌, ◌%◌, ◌<◌, ◌≤◌, Bool, List, [], ◌∷◌, ◌++◌, length, map, get_or, set, Some, refl, sym, ap, ◌∙◌, subst, arith}
+use Rattle.std.proofs.Common.{◌≡◌, inl, inr, ℕ, ◌+◌, ◌-◌, ◌/◌, ◌%◌, ◌<◌, ◌≤◌, Bool, List, [], ◌∷◌, ◌++◌, length, map, get_or, set, Some, refl, sym, ap, ◌∙◌, subst, arith}
 use Rattle.std.specs.Prelude.{◌==◌, IsTrue, All}
 use Rattle.std.specs.List.{flat_map}
 use Rattle.std.proofs.lemmas.Bool.{cases_Bool, cases_lt, ne_eqb}
 use Rattle.std.proofs.Math.Seq.{get_or-append_seam}
-use Rattle.std.proofs.lemmas.List.{append-nil, get_or-map, get_or_append_left, get_or_default, length-append}
+use Rattle.std.proofs.lemmas.List.{append-nil, append_assoc, get_or-map, get_or_append_left, get_or_default, length-append, length-map, map-append}
 use Rattle.cache_core.specs.History.{IsOwn, Shape}
 use Rattle.cache_core.specs.Stands.{entry}
 use Rattle.cache_core.specs.declared.entry.SliceEntry.{SliceEntry}
@@ -14,40 +14,44 @@ use Rattle.machine.specs.Maps.{domain_of}
 use Rattle.machine.specs.Ranges.{InRange}
 use Rattle.machine.specs.declared.parameters.Parameters.{Parameters}
 use Rattle.run_law.specs.Ops.{is_command}
-use Rattle.run_law.specs.Runs.{At, JournalsValue, follow_in, slice_at}
+use Rattle.run_law.specs.Runs.{At, JournalsValue, follow_in, look_in, paid_by, slice_at}
 use Rattle.run_law.specs.Slices.{line_of, shape_in, slice_count, slice_of_line}
 use Rattle.run_law.specs.TreeHistory.{IsLegalTree, TreeEntryValue, state_after, tree_after, tree_from}
 use Rattle.script_text.specs.Values.{ScriptValue, op_at}
 use Rattle.script_text.specs.declared.op.Op.{Op}
 use Rattle.script_text.specs.declared.op.Op.TheVariants.{Access}
 use Rattle.step_world.specs.Done.{AreDone}
-use Rattle.step_world.specs.Playing.{AllContinue, AreFresh, Continues, HasAccessed, IsAt, IsFresh, IsInPlay, SliceValue, journals_of}
+use Rattle.step_world.specs.Playing.{AllContinue, AllNote, AreFresh, Continues, HasAccessed, IsAt, IsFresh, IsInPlay, SliceValue, journals_of, lines_of_need}
 use Rattle.tree_core.specs.State.{State, TreeValue, opening}
-use Rattle.tree_core.specs.Steps.{Outcome, Owned, after, follow_domain, next, resolve}
+use Rattle.tree_core.specs.Resolving.{Owned, resolve}
+use Rattle.tree_core.specs.Steps.{after, follow_domain, needs, next}
 use Rattle.tree_core.specs.declared.follow.Follow.{Follow}
-use Rattle.step_world.proofs.Bringing.{access_done, access_entry, command_done, command_follows, only_in, pay_follow_ups}
-use Rattle.step_world.proofs.Continuing.{grow_all, one_goes, past, plays_on}
+use Rattle.step_world.proofs.Bringing.{AreOf, access_done, access_entry, command_done, command_follows, command_matched, only_in, pay_all}
+use Rattle.step_world.proofs.Continuing.{continues_grow, looks_on, notes_grow, one_goes, past, plays_on, stays}
+use Rattle.step_world.proofs.Doing.{Grow}
 use Rattle.step_world.proofs.Numbering.{own_set}
-use Rattle.step_world.proofs.Following.{all_are_of, all_entries_in, all_few, none_past, pays_all}
+use Rattle.step_world.proofs.Following.{all_entries_in, all_few, all_looks_in, follows_are_of, looks_are_of, no_follows_past, no_looks_past, pays_follows, pays_looks}
+use Rattle.step_world.proofs.Positions.{at_parts}
 
--- the tree and the slices after one op more
-steps_on : (script : ScriptValue) (n : ℕ) (tree then_tree : TreeValue) (commands now : List TreeEntryValue) (slices then_slices : List SliceValue) (es : ℕ → List SliceEntry)
-    → IsAt script n tree commands slices
-    → then_tree.machine ≡ tree.machine → then_tree.state ≡ tree_after script now → then_tree.epoch ≡ length now
-    → length commands ≤ length now → length now ≤ n + 1
+-- the tree and the slices after one op more, which began with these slices in play
+steps_on : (script : ScriptValue) (n before : ℕ) (then_tree : TreeValue) (now : List TreeEntryValue) (slices then_slices : List SliceValue) (es : ℕ → List SliceEntry)
+    → InRange script.machine → length slices ≡ slice_count script.machine
+    → ((i : ℕ) (d : SliceValue) → i < length slices → IsInPlay script.machine i n before (get_or slices i d))
+    → then_tree.machine ≡ script.machine → then_tree.state ≡ tree_after script now → then_tree.epoch ≡ length now
+    → before ≤ length now → length now ≤ n + 1
     → AllContinue (length now) es slices then_slices → ((i : ℕ) → length (es i) ≤ 8)
     → AreDone script (n + 1) (journals_of now then_slices)
     → IsAt script (n + 1) then_tree now then_slices
-steps_on script n tree then_tree commands now slices then_slices es at machine state epoch later few all each done = record {
-  in_range = at.in_range;
-  machine = machine ∙ at.machine;
+steps_on script n before then_tree now slices then_slices es range count play machine state epoch later few all each done = record {
+  in_range = range;
+  machine = machine;
   state = state;
   epoch = epoch;
   few = few;
-  count = all.count ∙ at.count;
+  count = all.count ∙ count;
   each = λ i d within.
-      let before : i < length slices = omega (arith, within, all.count) in
-      plays_on script.machine i n (length commands) (length now) (es i) (get_or slices i d) (get_or then_slices i d) (at.each i d before) later (each i) (all.each i d before);
+      let there : i < length slices = omega (arith, within, all.count) in
+      plays_on script.machine i n before (length now) (es i) (get_or slices i d) (get_or then_slices i d) (play i d there) later (each i) (all.each i d there);
   done = done;
 }
 
@@ -70,8 +74,8 @@ touched script n tree commands slices then_slices task cpu addr hit way at is wi
     let e : SliceEntry = access_entry script (tree_after script commands) n (length commands) task cpu addr hit way in
     let now : List (List SliceEntry) = map (λ (s : SliceValue). s.entries) then_slices in
     let done = access_done script n (journals_of commands slices) now task cpu addr hit way at.done is
-    (grow_all (length commands) (only_in slice e) commands slices then_slices all (λ i past. only_past slice e (length slices) i (omega (arith, within, at.count)) past)) in
-    steps_on script n tree tree commands commands slices then_slices (only_in slice e) at refl at.state at.epoch (omega arith) (omega (arith, at.few)) all (only_few slice e)
+    (continues_grow (length commands) (only_in slice e) commands slices then_slices all (λ i past. only_past slice e (length slices) i (omega (arith, within, at.count)) past)) in
+    steps_on script n (length commands) tree commands slices then_slices (only_in slice e) at.in_range at.count at.each at.machine at.state at.epoch (omega arith) (omega (arith, at.few)) all (only_few slice e)
     (subst (λ hs. AreDone script (n + 1) (journals_of hs then_slices)) (append-nil commands) done)
 
 -- ---- a command
@@ -84,41 +88,95 @@ tree_push script s (x ∷ es) e = tree_push script (state_after script.machine s
 state_push : (script : ScriptValue) (es : List TreeEntryValue) (h : TreeEntryValue) (op : Op) → op_at script h.thread h.op ≡ Some op
     → tree_after script (es ++ h ∷ []) ≡ (next script.machine (tree_after script es) op h.looks).state
 unfolding tree_after
-state_push script es h op is = tree_push script (opening script.machine) es h ∙ ap (λ o. state_after script.machine (tree_from script (opening script.machine) es) h.looks o) is
+state_push script es h op is = tree_push script (opening script.machine script.tasks) es h ∙ ap (λ o. state_after script.machine (tree_from script (opening script.machine script.tasks) es) h.looks o) is
 
--- a command with its reply, which was given no counts
-abbrev pub taken : ℕ → TreeEntryValue → Type 0
-taken n h = (h.thread ≡ 0) × (h.op ≡ n) × (h.looks ≡ [])
+-- What a command of op n makes of a tree of this machine, state and epoch, and of the slices: it looks in them, the tree takes
+-- it, and it is followed in them.
+pub record Takes (n : ℕ) (m : Parameters) (s : State) (epoch : ℕ) (op : Op) (h : TreeEntryValue) (then_state : State) (all_follow : List Follow) (slices between then_slices : List SliceValue) : Type 0 where
+  pub looks : h.looks ≡ map (lines_of_need m (journals_of [] slices)) (needs m s op)
+  pub looked : AllNote (all_looks_in m (journals_of [] slices) n epoch (needs m s op)) slices between
+  pub needs_exist : All (λ need. need.0 < m.domains) (needs m s op)
+  pub reply : h.reply ≡ (next m s op h.looks).reply
+  pub state : then_state ≡ (next m s op h.looks).state
+  pub follows : all_follow ≡ after m s op
+  pub follows_exist : All (λ f. follow_domain f < m.domains) all_follow
+  pub few_follow : length all_follow ≤ 8
+  pub followed : AllContinue (epoch + 1) (all_entries_in m n (epoch + 1) all_follow) between then_slices
 
--- after a command that the tree took, and whose follow-ups the slices made
-pub took : (script : ScriptValue) (n : ℕ) (tree then_tree : TreeValue) (commands : List TreeEntryValue) (h : TreeEntryValue) (op : Op) (slices then_slices : List SliceValue) (follows : List Follow)
-    → IsAt script n tree commands slices → op_at script 0 n ≡ Some op → IsTrue (is_command op) → taken n h
-    → then_tree.machine ≡ tree.machine → h.reply ≡ (next tree.machine tree.state op []).reply → then_tree.state ≡ (next tree.machine tree.state op []).state → then_tree.epoch ≡ tree.epoch + 1
-    → follows ≡ after tree.machine tree.state op → All (λ f. follow_domain f < tree.machine.domains) follows → length follows ≤ 8
-    → AllContinue (length commands + 1) (all_entries_in script.machine n (length commands + 1) follows) slices then_slices
+-- the entries of a command in each slice
+abbrev both_in : Parameters → JournalsValue → ℕ → ℕ → List (ℕ × ℕ) → List Follow → ℕ → List SliceEntry
+both_in m j n epoch needs follows i = all_looks_in m j n epoch needs i ++ all_entries_in m n (epoch + 1) follows i
+
+both_are_of : (m : Parameters) (j : JournalsValue) (n epoch : ℕ) (needs : List (ℕ × ℕ)) (follows : List Follow) → AreOf n epoch (both_in m j n epoch needs follows)
+both_are_of m j n epoch needs follows i p e at = elim (at_parts (all_looks_in m j n epoch needs i) (all_entries_in m n (epoch + 1) follows i) p e at) [
+  | inl look ↦ let it = looks_are_of m j i n epoch needs p e look in (it.0, it.1, omega (arith, it.2), omega (arith, it.2))
+  | inr follow ↦ let it = follows_are_of m i n (epoch + 1) follows (p - length (all_looks_in m j n epoch needs i)) e follow.1 in (it.0, it.1, omega (arith, it.2), omega (arith, it.2))
+]
+
+pays_both : (m : Parameters) (j : JournalsValue) (i n epoch : ℕ) (needs : List (ℕ × ℕ)) (follows : List Follow)
+    → map paid_by (both_in m j n epoch needs follows i) ≡ flat_map (look_in m i epoch) needs ++ flat_map (follow_in m i (epoch + 1)) follows
+pays_both m j i n epoch needs follows =
+    map-append paid_by (all_looks_in m j n epoch needs i) (all_entries_in m n (epoch + 1) follows i)
+    ∙ (ap (λ xs. xs ++ map paid_by (all_entries_in m n (epoch + 1) follows i)) (pays_looks m j i n epoch needs)
+    ∙ ap (λ xs. flat_map (look_in m i epoch) needs ++ xs) (pays_follows m i n (epoch + 1) follows))
+
+-- each slice has its looks more, and then what follows
+both_grow : (m : Parameters) (n epoch : ℕ) (commands : List TreeEntryValue) (needs : List (ℕ × ℕ)) (follows : List Follow) (slices looked then_slices : List SliceValue)
+    → 0 < m.slices → length slices ≡ slice_count m
+    → All (λ need. need.0 < m.domains) needs → All (λ f. follow_domain f < m.domains) follows
+    → AllNote (all_looks_in m (journals_of commands slices) n epoch needs) slices looked → AllContinue (epoch + 1) (all_entries_in m n (epoch + 1) follows) looked then_slices
+    → Grow (journals_of commands slices) (map (λ (s : SliceValue). s.entries) then_slices) (both_in m (journals_of commands slices) n epoch needs follows)
+both_grow m n epoch commands needs follows slices looked then_slices some count need_there follow_there first next i =
+    let j : JournalsValue = journals_of commands slices in
+    let looks : List SliceEntry = all_looks_in m j n epoch needs i in
+    let rest : List SliceEntry = all_entries_in m n (epoch + 1) follows i in
+    continues_grow (epoch + 1) (all_entries_in m n (epoch + 1) follows) commands looked then_slices next (λ i past. no_follows_past m n (epoch + 1) follows i some follow_there (omega (arith, past, first.count, count))) i
+    ∙ (ap (λ xs. xs ++ rest) (notes_grow (all_looks_in m j n epoch needs) commands slices looked first (λ i past. no_looks_past m j n epoch needs i some need_there (omega (arith, past, count))) i)
+    ∙ append_assoc (slice_at j i) looks rest)
+
+-- after a command that the tree took
+took_here : (script : ScriptValue) (n : ℕ) (tree then_tree : TreeValue) (commands : List TreeEntryValue) (h : TreeEntryValue) (op : Op) (slices looked then_slices : List SliceValue) (follows : List Follow)
+    → IsAt script n tree commands slices → op_at script 0 n ≡ Some op → IsTrue (is_command op) → h.thread ≡ 0 → h.op ≡ n
+    → then_tree.machine ≡ script.machine → then_tree.epoch ≡ length commands + 1
+    → Takes n script.machine (tree_after script commands) (length commands) op h then_tree.state follows slices looked then_slices
     → IsAt script (n + 1) then_tree (commands ++ h ∷ []) then_slices
-took script n tree then_tree commands h op slices then_slices follows at is command by machine reply state epoch owed domains few all =
+took_here script n tree then_tree commands h op slices looked then_slices follows at is command thread number machine epoch takes =
     let m : Parameters = script.machine in
     let s : State = tree_after script commands in
-    let later : ℕ = length commands + 1 in
-    let es : ℕ → List SliceEntry = all_entries_in m n later follows in
+    let before : ℕ = length commands in
+    let j : JournalsValue = journals_of commands slices in
+    let all : List (ℕ × ℕ) = needs m s op in
+    let es : ℕ → List SliceEntry = both_in m j n before all follows in
+    let rest : ℕ → List SliceEntry = all_entries_in m n (before + 1) follows in
     let now : List (List SliceEntry) = map (λ (s : SliceValue). s.entries) then_slices in
-    let count : length (commands ++ h ∷ []) ≡ later = length-append commands (h ∷ []) in
-    let same : next tree.machine tree.state op [] ≡ next m s op [] = subst (λ k. next tree.machine tree.state op [] ≡ next k s op []) at.machine (ap (λ t. next tree.machine t op []) at.state) in
-    let looked : next m s op [] ≡ next m s op h.looks = ap (next m s op) (sym by.2) in
-    let due : follows ≡ after m s op = owed ∙ subst (λ k. after tree.machine tree.state op ≡ after k s op) at.machine (ap (λ t. after tree.machine t op) at.state) in
-    let here : op_at script h.thread h.op ≡ Some op = rw (by.0, by.1) is in
-    let there : All (λ f. follow_domain f < m.domains) follows = subst (λ (k : Parameters). All (λ f. follow_domain f < k.domains) follows) at.machine domains in
+    let count : length (commands ++ h ∷ []) ≡ before + 1 = length-append commands (h ∷ []) in
+    let here : op_at script h.thread h.op ≡ Some op = rw (thread, number) is in
+    let some : 0 < m.slices = at.in_range.some_slice in
+    let grow : Grow j now es = both_grow m n before commands all follows slices looked then_slices some at.count takes.needs_exist takes.follows_exist takes.looked takes.followed in
     let done : AreDone script (n + 1) (journals_of (commands ++ h ∷ []) then_slices) =
-    command_done script n (journals_of commands slices) h now es op at.done is command by.0 by.1
-    (command_follows script commands n h op is command by.0 by.1 by.2 (reply ∙ (ap (λ (o : Outcome). o.reply) same ∙ ap (λ (o : Outcome). o.reply) looked)))
-    (λ i p e there. let it = all_are_of m i n later follows p e there in (it.0, it.1, omega (arith, it.2), omega (arith, it.2)))
-    (pay_follow_ups script commands h op es (λ i. pays_all m i n later follows ∙ ap (λ fs. flat_map (follow_in m i later) fs) due))
-    (grow_all later es commands slices then_slices all (λ i past. none_past m n later follows i at.in_range.some_slice there (omega (arith, past, at.count)))) in
-    steps_on script n tree then_tree commands (commands ++ h ∷ []) slices then_slices es at machine
-    (state ∙ (ap (λ (o : Outcome). o.state) same ∙ (ap (λ (o : Outcome). o.state) looked ∙ sym (state_push script commands h op here))))
-    (omega (arith, epoch, at.epoch, count)) (omega (arith, count)) (omega (arith, count, at.few))
-    (subst (λ k. AllContinue k es slices then_slices) (sym count) all) (λ i. omega (arith, all_few m i n later follows, few)) done
+    command_done script n j h now es op at.done is command thread number
+    (command_follows script commands n h op is command thread number (ap length takes.looks ∙ length-map all (lines_of_need m j)) takes.reply)
+    (both_are_of m j n before all follows)
+    (pay_all script commands h op es (λ i. pays_both m j i n before all follows ∙ ap (λ fs. flat_map (look_in m i before) all ++ flat_map (follow_in m i (before + 1)) fs) takes.follows))
+    grow (command_matched script n j h now op rest some at.done is thread number grow takes.looks) in
+    steps_on script n before then_tree (commands ++ h ∷ []) looked then_slices rest at.in_range (takes.looked.count ∙ at.count)
+    (λ i d within.
+    let was : i < length slices = omega (arith, within, takes.looked.count) in
+    looks_on m i n before (all_looks_in m j n before all i) (get_or slices i d) (get_or looked i d) (at.each i d was) (takes.looked.each i d was))
+    machine (takes.state ∙ sym (state_push script commands h op here)) (omega (arith, epoch, count)) (omega (arith, count)) (omega (arith, count, at.few))
+    (subst (λ k. AllContinue k rest looked then_slices) (sym count) takes.followed)
+    (λ i. omega (arith, all_few m i n (before + 1) follows, takes.few_follow)) done
+
+pub took : (script : ScriptValue) (n : ℕ) (tree then_tree : TreeValue) (commands : List TreeEntryValue) (h : TreeEntryValue) (op : Op) (slices looked then_slices : List SliceValue) (follows : List Follow)
+    → IsAt script n tree commands slices → op_at script 0 n ≡ Some op → IsTrue (is_command op) → h.thread ≡ 0 → h.op ≡ n
+    → then_tree.machine ≡ tree.machine → then_tree.epoch ≡ tree.epoch + 1
+    → Takes n tree.machine tree.state tree.epoch op h then_tree.state follows slices looked then_slices
+    → IsAt script (n + 1) then_tree (commands ++ h ∷ []) then_slices
+took script n tree then_tree commands h op slices looked then_slices follows at is command thread number machine epoch takes =
+    took_here script n tree then_tree commands h op slices looked then_slices follows at is command thread number (machine ∙ at.machine) (omega (arith, epoch, at.epoch))
+    (subst (λ m. Takes n m (tree_after script commands) (length commands) op h then_tree.state follows slices looked then_slices) at.machine
+    (subst (λ s. Takes n tree.machine s (length commands) op h then_tree.state follows slices looked then_slices) at.state
+    (subst (λ k. Takes n tree.machine tree.state k op h then_tree.state follows slices looked then_slices) at.epoch takes)))
 
 -- ---- no op yet
 
@@ -135,13 +193,14 @@ nothing_done script j no_tree no_entries =
         true_to_op = λ i p e at. absurd (none i p e at);
         behind_commands = λ i p q k e earlier command at there taken_at made before apart. absurd (none i p e at);
       };
+      matched = λ k h at. absurd (no_command k h at);
       commands_once = λ op c early is command. absurd (omega arith);
       entries_once = λ i op c early is. absurd (omega arith);
       marks_in_order = λ op later start stop later_start later_stop c d less early is_c is_d marks later_marks. absurd (omega arith);
       entries_in_order = λ i p q e later at there less. absurd (none i p e at);
     }
 
-opening_state : (script : ScriptValue) → opening script.machine ≡ tree_after script []
+opening_state : (script : ScriptValue) → opening script.machine script.tasks ≡ tree_after script []
 unfolding tree_after
 opening_state script = refl
 
@@ -154,7 +213,7 @@ no_entries m commands (s ∷ slices) fresh i = elim (cases_lt i (length (s ∷ s
 
 -- the tree and the slices before the first op
 pub opens : (script : ScriptValue) (tree : TreeValue) (commands : List TreeEntryValue) (slices : List SliceValue)
-    → InRange script.machine → tree.machine ≡ script.machine → tree.state ≡ opening script.machine → tree.epoch ≡ 0 → commands ≡ []
+    → InRange script.machine → tree.machine ≡ script.machine → tree.state ≡ opening script.machine script.tasks → tree.epoch ≡ 0 → commands ≡ []
     → length slices ≡ slice_count script.machine → ((i : ℕ) (d : SliceValue) → i < length slices → IsFresh script.machine i (get_or slices i d))
     → IsAt script 0 tree commands slices
 opens script tree commands slices range machine state epoch no_commands count fresh =
@@ -215,4 +274,4 @@ accessed script n tree commands slices task cpu addr tag slice old new at is num
     subst (λ x. Continues (length commands) (e ∷ []) x new) (found ∙ get_or_default slices slice old d within)
     (subst (λ x. Continues (length commands) (x ∷ []) old new) same (subst (λ k. Continues k (entry 0 n tag.epoch (whats.Access tag.owner tag.rmid tag.mask (addr / 64) hit way) ∷ []) old new) later goes)) in
     touched script n tree commands slices (set slices slice new) task cpu addr hit way at is there
-    (subst (λ k. AllContinue (length commands) (only_in k e) slices (set slices slice new)) number (one_goes (length commands) slice (e ∷ []) slices new within goes_on))
+    (subst (λ k. AllContinue (length commands) (only_in k e) slices (set slices slice new)) number (one_goes (Continues (length commands)) (stays (length commands)) slice (e ∷ []) slices new within goes_on))

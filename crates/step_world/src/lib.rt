@@ -2,6 +2,7 @@
 #![tactic(auto)]
 
 mod follow_ups;
+mod looks;
 mod numbers;
 mod opening;
 pub mod played;

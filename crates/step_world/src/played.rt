@@ -71,8 +71,8 @@ fn close(alloc: Global, script: &Script, player: Player) -> Result<Played, NoMem
     })
 }
 
-/// Plays a script of one thread, or of none, op by op: each access in the slice of its line in its CPU's domain, and behind
-/// each command what follows it in the slices (this project's profile). The journals are a run of the script, and the caches
+/// Plays a script of one thread, or of none, op by op: each access in the slice of its line in its CPU's domain, before each
+/// command its looks, and behind it what follows it in the slices (this project's profile). The journals are a run of the script, and the caches
 /// are as it leaves them. NoMemory where memory was not found.
 pub fn play(alloc: Global, script: &Script) -> Result<Played, NoMemory>
     requires one_thread { length (threads_of script.now) ≤ 1 }

@@ -8,10 +8,11 @@ ghost use Rattle.script_text.specs.declared.op.Op.TheVariants.{Access};
 ghost use Rattle.step_world.specs.Playing.{IsAt};
 
 use crate::follow_ups::follow_all;
+use crate::looks::look_all;
 use crate::numbers::line_slice;
 use crate::opening::empty_slices;
 use crate::slice::Slice;
-use rc_base::{LookList, NoMemory};
+use rc_base::NoMemory;
 use run_law::TreeEntry;
 use script_text::{Op, Script};
 use std::alloc::Global;
@@ -46,7 +47,7 @@ fn access(
     player.slices[slice].access(n, &tag, line)
 }
 
-// Takes the command of op n, and does what follows it.
+// Takes the command of op n, with the counts of its looks, and does what follows it.
 fn take(
     alloc: Global,
     player: &mut Player,
@@ -61,8 +62,8 @@ fn take(
     requires clock { n < 4000000 }
     ensures { OnOk result (IsAt script.now (n + 1) player.new.tree (map entry_value player.new.commands.items) player.new.slices.items) }
 {
-    let looks = LookList::with_room(alloc, 0)?;
-    let (reply, after) = player.tree.apply(op);
+    let looks = look_all(alloc, &mut player.slices, &player.tree, n, op)?;
+    let (reply, after) = player.tree.apply(op, looks.items());
     let entry = TreeEntry {
         thread: 0,
         op: n,
@@ -106,8 +107,9 @@ pub(crate) fn opening(alloc: Global, script: &Script) -> Result<Player, NoMemory
 {
     let m = script.machine();
     let slices = empty_slices(alloc, m)?;
+    let tree = Tree::create(alloc, m, script.tasks())?;
     Ok(Player {
-        tree: Tree::create(m),
+        tree,
         commands: Vec::new(alloc),
         slices,
     })

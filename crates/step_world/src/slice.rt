@@ -1,11 +1,11 @@
 //! One slice while a script is played.
 ghost use Rattle.std.specs.Prelude.{◌≡◌, ◌+◌, ◌%◌, ◌^◌, ◌<◌, ◌≤◌, [], ◌∷◌, ◌++◌, IfOk, OnOk};
 ghost use Rattle.cache_core.specs.History.{IsOwn};
-ghost use Rattle.cache_core.specs.Stands.{entry as entry_of};
+ghost use Rattle.cache_core.specs.Stands.{StandsFor, entry as entry_of};
 ghost use Rattle.cache_core.specs.declared.entry.What.TheVariants as whats;
 ghost use Rattle.machine.specs.Maps.{parameters_of};
 ghost use Rattle.run_law.specs.Slices.{slice_number};
-ghost use Rattle.step_world.specs.Playing.{Continues, HasAccessed, IsFresh, IsReady, what_of};
+ghost use Rattle.step_world.specs.Playing.{Continues, HasAccessed, HasLooked, IsFresh, IsReady, what_of};
 
 use cache_core::{Cache, SliceEntry, Touched, What};
 use machine::Machine;
@@ -95,6 +95,17 @@ impl Slice {
         };
         self.entries.push(entry)?;
         Ok(())
+    }
+
+    /// Counts the lines of an RMID for the command of op n, and notes the look.
+    pub(crate) fn look(&mut self, n: u32, epoch: u64, rmid: u16) -> Result<u64, NoMemory>
+        requires { rmid < self.old.cache.rmids }
+        ensures { IfOk result (λ lines. HasLooked n epoch rmid lines self.old self.new) }
+    {
+        let lines = self.cache.look(rmid);
+        let look = command_entry(n, epoch, What::Look { rmid, lines });
+        self.entries.push(look)?;
+        Ok(lines)
     }
 
     /// Does what follows the command of op n, and notes it.

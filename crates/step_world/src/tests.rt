@@ -130,6 +130,44 @@ fn a_phase_without_threads_is_passed(rt: HostRuntime) -> Result<(), Fail> {
     Ok(())
 }
 
+// A group comes and goes. Its RMID is 1.
+const A_GROUP_REMOVED: &str = "machine domains=2 sets=1 ways=4 cpus=2
+tasks 1
+phase
+thread
+mkdir /a
+access 1 0 0
+rmdir /a
+access 1 0 0
+";
+
+#[test]
+fn a_removal_looks_at_its_rmid(rt: HostRuntime) -> Result<(), Fail> {
+    let played = played(&rt, rt.alloc(), A_GROUP_REMOVED)?;
+    let replies = [(0, [].as_slice()), (2, [0, 0].as_slice())];
+    assert_eq!(rt; played.journals.tree().len(), replies.len());
+    for (entry, want) in played.journals.tree().iter().zip(&replies) {
+        assert_eq!(rt;
+            (entry.thread, entry.op, entry.reply),
+            (0, want.0, Reply::Ok)
+        );
+        assert_eq!(rt; entry.looks.items(), want.1);
+    }
+    let first = [
+        access(1, 1, 15, 0, false, 0),
+        entry(2, 1, What::Look { rmid: 1, lines: 0 }),
+        entry(2, 2, What::Raise),
+        access(3, 2, 15, 0, true, 0),
+    ];
+    let second = [
+        entry(2, 1, What::Look { rmid: 1, lines: 0 }),
+        entry(2, 2, What::Raise),
+    ];
+    assert_eq!(rt; journal(&rt, &played, 0), first.as_slice());
+    assert_eq!(rt; journal(&rt, &played, 1), second.as_slice());
+    Ok(())
+}
+
 #[test]
 fn nothing_happens_without_phases(rt: HostRuntime) -> Result<(), Fail> {
     let played = played(&rt, rt.alloc(), "machine domains=3 cpus=3\ntasks 1\n")?;

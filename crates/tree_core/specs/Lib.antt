@@ -1,2 +1,11 @@
+pub mod Existing
+pub mod Found
+pub mod Freeing
+pub mod Kept
+pub mod Refusals
+pub mod Resolving
+pub mod Sound
+pub mod Space
 pub mod State
 pub mod Steps
+pub mod Taking

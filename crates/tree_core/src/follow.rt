@@ -19,6 +19,9 @@ pub enum Follow {
 
 /// The follow-up that stands in a free place of a list.
 impl Default for Follow {
+    ghost use Rattle.std.specs.Prelude.{◌≡◌};
+    ghost use Rattle.tree_core.specs.declared.follow.Follow.TheVariants.{Raise};
+
     ghost is_default = { λ f. f ≡ Raise 0 };
 
     fn default() -> Self {
@@ -39,7 +42,8 @@ fn is_named(domain: u8, all: &[Assignment]) -> bool
 /// A raise for each domain that is named, rising.
 pub(crate) fn raises(domains: u8, all: &[Assignment]) -> After
     requires { domains ≤ 8 }
-    ensures raises { result.items ≡ map (λ d. Raise d) (filter (names_domain all.now) (range_with_len 0 domains)) }
+    ensures raises { result.items
+        ≡ map (λ d. Raise d) (filter (names_domain all.now) (range_with_len 0 domains)) }
     ensures domains { All (λ f. follow_domain f < domains) result.items }
 {
     let mut after = After::new();
@@ -47,6 +51,19 @@ pub(crate) fn raises(domains: u8, all: &[Assignment]) -> After
         if is_named(domain, all) {
             after.push(Follow::Raise { domain });
         }
+    }
+    after
+}
+
+/// A raise of every domain, rising.
+pub(crate) fn raise_all(domains: u8) -> After
+    requires { domains ≤ 8 }
+    ensures raises { result.items ≡ map (λ d. Raise d) (range_with_len 0 domains) }
+    ensures domains { All (λ f. follow_domain f < domains) result.items }
+{
+    let mut after = After::new();
+    for domain in 0..domains {
+        after.push(Follow::Raise { domain });
     }
     after
 }

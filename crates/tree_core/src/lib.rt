@@ -1,13 +1,16 @@
 //! The tree of groups: what each command does to it, and whose an access is.
 #![tactic(auto)]
 
+mod control;
 pub mod follow;
+mod looks;
 mod masks;
+mod places;
 mod schemata;
+mod taking;
+#[cfg(test)]
+mod tests;
 pub mod tree;
 
 pub use follow::{After, Follow};
 pub use tree::Tree;
-
-#[cfg(test)]
-mod tests;

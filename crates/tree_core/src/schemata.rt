@@ -2,7 +2,9 @@
 ghost use Rattle.std.specs.Prelude.{◌≡◌, IfOk};
 ghost use Rattle.machine.specs.Maps.{parameters_of};
 ghost use Rattle.schemata_text.specs.Reading.{AreLawful, Gives};
-ghost use Rattle.tree_core.specs.Steps.{geometry_of, mask_reason, schemata_read, text_refusal};
+ghost use Rattle.tree_core.specs.Refusals.{mask_reason, schemata_read, text_refusal};
+ghost use Rattle.tree_core.specs.Space.{geometry_of};
+ghost use Rattle.tree_core.specs.Steps.{reply_of};
 
 use cbm::CbmFault;
 use machine::Machine;
@@ -31,7 +33,7 @@ fn mask_reason(fault: CbmFault) -> Why
 
 /// The refusal that goes with a text's fault.
 pub(crate) fn refusal(fault: TextFault) -> Reply
-    ensures { result ≡ text_refusal fault }
+    ensures { result ≡ reply_of (Some (text_refusal fault)) }
 {
     match fault {
         TextFault::NoColon => Reply::refused(Why::NoColon, 0),

@@ -1,130 +1,243 @@
-//! Commands and accesses, with the answers worked out by hand.
+//! Commands of control groups, with the answers worked out by hand.
 
 use crate::{After, Follow, Tree};
 use machine::{Machine, Parameters};
-use path_names::{DirRef, FileKind, PathRef};
-use rc_base::{Errno, Gid, NoMemory, Reply, Tag, Why};
+use path_names::{DirRef, FileKind, NameId, Owner, PathRef};
+use rc_base::{Errno, Gid, NoMemory, Reply, Why};
 use script_text::{Bytes, Op};
 use std::alloc::Global;
 use std::process::Abort;
 use std::test::Fail;
 
-// The opening tree of a machine with so many caches of one set of 4 ways, whose masks have two adjacent ways at least.
-fn opening(rt: &impl Abort, domains: u8) -> Tree {
-    let parameters = Parameters {
-        domains,
+const ROOT: PathRef = PathRef::Dir(DirRef::Root);
+
+const A: PathRef = PathRef::Dir(DirRef::Ctrl(NameId(0)));
+
+const B: PathRef = PathRef::Dir(DirRef::Ctrl(NameId(1)));
+
+// The parameters of a machine whose caches have one set of 4 ways.
+fn small() -> Parameters {
+    Parameters {
         sets: 1,
         ways: 4,
-        cpus: 4,
-        min: 2,
         ..Parameters::default()
-    };
-    Tree::create(&Machine::checked(&parameters).expect(rt, "the parameters are in range"))
-}
-
-fn invalid(why: Why, arg: u64) -> Reply {
-    Reply::Refused {
-        errno: Errno::Einval,
-        why,
-        arg,
     }
 }
 
-// Writes a text to a file of the default group, after the test that `apply` leaves to its caller.
-fn write(
-    rt: &impl Abort,
-    alloc: Global,
-    tree: &mut Tree,
-    file: FileKind,
-    text: &[u8],
-) -> Result<(Reply, After), NoMemory> {
-    assert!(rt; tree.epoch() < 4_000_000);
-    let text = Bytes::copy(alloc, text)?;
-    let path = PathRef::File(DirRef::Root, file);
-    Ok(tree.apply(&Op::Write { path, text }))
+// The opening tree of a machine, with one declared task.
+fn opening(rt: &impl Abort, alloc: Global, parameters: &Parameters) -> Result<Tree, NoMemory> {
+    let machine = Machine::checked(parameters).expect(rt, "the parameters are in range");
+    Tree::create(alloc, &machine, &[])
 }
 
-fn flush_every(rt: &impl Abort, tree: &mut Tree) -> (Reply, After) {
+// Takes a command, after the tests that `apply` leaves to its caller.
+fn take(rt: &impl Abort, tree: &mut Tree, op: &Op, looks: &[u64]) -> (Reply, After) {
     assert!(rt; tree.epoch() < 4_000_000);
-    tree.apply(&Op::Flush { domain: None })
-}
-
-fn flush(rt: &impl Abort, tree: &mut Tree, domain: u8) -> (Reply, After) {
-    assert!(rt; tree.epoch() < 4_000_000);
-    assert!(rt; domain < tree.machine().domains);
-    tree.apply(&Op::Flush {
+    assert!(rt; looks.len() == tree.needs(op) as usize);
+    if let Op::Flush {
         domain: Some(domain),
-    })
+    } = op
+    {
+        assert!(rt; *domain < tree.machine().domains);
+    }
+    tree.apply(op, looks)
 }
 
-fn mask(rt: &impl Abort, tree: &Tree, domain: u8) -> u32 {
-    assert!(rt; domain < tree.machine().domains);
-    tree.mask(domain)
+fn mkdir(rt: &impl Abort, tree: &mut Tree, path: PathRef) -> Reply {
+    take(rt, tree, &Op::Mkdir { path }, &[]).0
 }
 
-fn resolve(rt: &impl Abort, tree: &Tree, task: u32, cpu: u8) -> Tag {
-    assert!(rt; cpu < tree.machine().cpus);
-    tree.resolve(task, cpu)
+fn refused(errno: Errno, why: Why) -> Reply {
+    Reply::Refused { errno, why, arg: 0 }
 }
 
 #[test]
-fn bad_writes_are_refused(rt: HostRuntime) -> Result<(), Fail> {
-    for (text, want) in [
-        (b"".as_slice(), invalid(Why::NoColon, 0)),
-        (b"L3:0=5".as_slice(), invalid(Why::Gaps, 5)),
-        (b"L3:0=0".as_slice(), invalid(Why::OutOfRange, 0)),
-        (b"L3:0=10".as_slice(), invalid(Why::OutOfRange, 16)),
-        (b"L3:0=4".as_slice(), invalid(Why::TooFew, 4)),
-        (b"L3:0=3;0=3".as_slice(), invalid(Why::DomainTwice, 0)),
-        (b"L3:0=3;9=3".as_slice(), invalid(Why::BadDomain, 0)),
-    ] {
-        let mut tree = opening(&rt, 2);
-        let (reply, after) = write(&rt, rt.alloc(), &mut tree, FileKind::Schemata, text)?;
-        assert_eq!(rt; reply, want);
-        assert!(rt; after.is_empty());
-        assert_eq!(rt; mask(&rt, &tree, 0), 15);
-        assert_eq!(rt; mask(&rt, &tree, 1), 15);
-    }
-    let mut tree = opening(&rt, 1);
-    let (reply, _) = write(&rt, rt.alloc(), &mut tree, FileKind::Size, b"1".as_slice())?;
-    let read_only = Reply::Refused {
-        errno: Errno::Eacces,
-        why: Why::OnlyRead,
-        arg: 0,
+fn groups_come_and_go(rt: HostRuntime) -> Result<(), Fail> {
+    let two_classes = Parameters {
+        classes: 2,
+        ..small()
     };
-    assert_eq!(rt; reply, read_only);
+    let mut tree = opening(&rt, rt.alloc(), &two_classes)?;
+    assert_eq!(rt; mkdir(&rt, &mut tree, A), Reply::Ok);
+    let spent = refused(Errno::Enospc, Why::OutOfClosids);
+    assert_eq!(rt; mkdir(&rt, &mut tree, B), spent);
+    assert_eq!(rt; tree.status(), spent);
+    let (reply, after) = take(&rt, &mut tree, &Op::Rmdir { path: A }, &[0]);
+    assert_eq!(rt; reply, Reply::Ok);
+    assert_eq!(rt; after.as_slice(), [Follow::Raise { domain: 0 }].as_slice());
+    assert_eq!(rt; mkdir(&rt, &mut tree, B), Reply::Ok);
+    assert_eq!(rt;
+        take(&rt, &mut tree, &Op::List { path: ROOT }, &[]).0,
+        Reply::Ok
+    );
+    let cpus = PathRef::File(DirRef::Root, FileKind::Cpus);
+    let there = refused(Errno::Eexist, Why::Exists);
+    assert_eq!(rt; mkdir(&rt, &mut tree, cpus), there);
+    let inside = PathRef::Free(DirRef::Ctrl(NameId(1)), NameId(2));
+    let no_place = refused(Errno::Eperm, Why::NotAPlace);
+    assert_eq!(rt; mkdir(&rt, &mut tree, inside), no_place);
+    assert_eq!(rt;
+        take(&rt, &mut tree, &Op::Rmdir { path: ROOT }, &[]).0,
+        no_place
+    );
+    assert_eq!(rt; tree.groups().len(), 2);
+    assert_eq!(rt; tree.groups().find_ctrl(NameId(1)), Some(Gid(2)));
     Ok(())
 }
 
 #[test]
-fn good_commands_are_followed_up(rt: HostRuntime) -> Result<(), Fail> {
-    let mut tree = opening(&rt, 2);
-    let text = b" L3 : 1 = 0xC ".as_slice();
-    let (reply, after) = write(&rt, rt.alloc(), &mut tree, FileKind::Schemata, text)?;
-    assert_eq!(rt; reply, Reply::Ok);
-    assert_eq!(rt; after.as_slice(), [Follow::Raise { domain: 1 }].as_slice());
-    let text = b"L3:1=3;0=6".as_slice();
-    let (reply, after) = write(&rt, rt.alloc(), &mut tree, FileKind::Schemata, text)?;
-    let rising = [Follow::Raise { domain: 0 }, Follow::Raise { domain: 1 }];
-    assert_eq!(rt; reply, Reply::Ok);
-    assert_eq!(rt; after.as_slice(), rising.as_slice());
-    let (reply, after) = flush_every(&rt, &mut tree);
-    let each = [Follow::Flush { domain: 0 }, Follow::Flush { domain: 1 }];
-    assert_eq!(rt; reply, Reply::Ok);
-    assert_eq!(rt; after.as_slice(), each.as_slice());
-    let (reply, after) = flush(&rt, &mut tree, 1);
-    assert_eq!(rt; reply, Reply::Ok);
-    assert_eq!(rt; after.as_slice(), [Follow::Flush { domain: 1 }].as_slice());
-    for (cpu, domain, mask) in [(0, 0, 6), (1, 0, 6), (2, 1, 3), (3, 1, 3)] {
-        let want = Tag {
-            epoch: 4,
-            owner: Gid(0),
-            class: 0,
-            rmid: 0,
-            mask,
-            domain,
+fn ids_are_lacking(rt: HostRuntime) -> Result<(), Fail> {
+    let one_rmid = Parameters {
+        rmids: 1,
+        ..small()
+    };
+    let mut tree = opening(&rt, rt.alloc(), &one_rmid)?;
+    assert_eq!(rt;
+        mkdir(&rt, &mut tree, A),
+        refused(Errno::Enospc, Why::OutOfRmids)
+    );
+    let one_class = Parameters {
+        rmids: 1,
+        classes: 1,
+        ..small()
+    };
+    let mut tree = opening(&rt, rt.alloc(), &one_class)?;
+    assert_eq!(rt;
+        mkdir(&rt, &mut tree, A),
+        refused(Errno::Enospc, Why::OutOfClosids)
+    );
+
+    // An RMID of which two lines are left waits where the threshold is one line, and is free where it is two.
+    for (threshold, want) in [
+        (64, refused(Errno::Ebusy, Why::RmidsBusy)),
+        (128, Reply::Ok),
+    ] {
+        let two_rmids = Parameters {
+            rmids: 2,
+            threshold,
+            ..small()
         };
-        assert_eq!(rt; resolve(&rt, &tree, 7, cpu), want);
+        let mut tree = opening(&rt, rt.alloc(), &two_rmids)?;
+        assert_eq!(rt; mkdir(&rt, &mut tree, A), Reply::Ok);
+        assert_eq!(rt;
+            take(&rt, &mut tree, &Op::Rmdir { path: A }, &[2]).0,
+            Reply::Ok
+        );
+        assert_eq!(rt; mkdir(&rt, &mut tree, B), want);
     }
+    Ok(())
+}
+
+#[test]
+fn what_cannot_be_removed(rt: HostRuntime) -> Result<(), Fail> {
+    let mut tree = opening(&rt, rt.alloc(), &small())?;
+    let nothing = refused(Errno::Enoent, Why::NoSuchPath);
+    let no_group = refused(Errno::Eperm, Why::NotAPlace);
+    for (path, want) in [
+        (A, nothing),
+        (
+            PathRef::File(DirRef::Ctrl(NameId(0)), FileKind::Size),
+            nothing,
+        ),
+        (PathRef::Nowhere(NameId(3)), nothing),
+        (PathRef::File(DirRef::Root, FileKind::Schemata), no_group),
+        (PathRef::Dir(DirRef::Info), no_group),
+        (PathRef::Dir(DirRef::MonGroups(Owner::Default)), no_group),
+    ] {
+        assert_eq!(rt; take(&rt, &mut tree, &Op::Rmdir { path }, &[]).0, want);
+    }
+    assert_eq!(rt; tree.status(), Reply::Ok);
+    let file = PathRef::File(DirRef::Root, FileKind::Size);
+    assert_eq!(rt;
+        take(&rt, &mut tree, &Op::Read { path: file }, &[]).0,
+        Reply::Ok
+    );
+    assert_eq!(rt;
+        take(&rt, &mut tree, &Op::Read { path: ROOT }, &[]).0,
+        nothing
+    );
+    assert_eq!(rt;
+        take(&rt, &mut tree, &Op::List { path: file }, &[]).0,
+        nothing
+    );
+    Ok(())
+}
+
+// Writes a text to a file of a directory.
+fn write(
+    rt: &impl Abort,
+    alloc: Global,
+    tree: &mut Tree,
+    dir: DirRef,
+    file: FileKind,
+    text: &[u8],
+) -> Result<(Reply, After), NoMemory> {
+    let path = PathRef::File(dir, file);
+    let text = Bytes::copy(alloc, text)?;
+    Ok(take(rt, tree, &Op::Write { path, text }, &[]))
+}
+
+// The masks of a group in the first two domains.
+fn masks(rt: &impl Abort, tree: &Tree, gid: u32) -> (u32, u32) {
+    let group = tree.groups().get(Gid(gid)).expect(rt, "the group is there");
+    match group.masks {
+        [first, second, ..] => (first, second),
+    }
+}
+
+#[test]
+fn masks_of_one_group_are_written(rt: HostRuntime) -> Result<(), Fail> {
+    let two_domains = Parameters {
+        domains: 2,
+        cpus: 2,
+        shareable: 8,
+        ..small()
+    };
+    let mut tree = opening(&rt, rt.alloc(), &two_domains)?;
+    let a = DirRef::Ctrl(NameId(0));
+    let nothing = refused(Errno::Enoent, Why::NoSuchPath);
+    let (reply, after) = write(&rt, rt.alloc(), &mut tree, a, FileKind::Schemata, b"L3:0=1")?;
+    assert_eq!(rt; reply, nothing);
+    assert!(rt; after.is_empty());
+    let (reply, _) = write(
+        &rt,
+        rt.alloc(),
+        &mut tree,
+        DirRef::Root,
+        FileKind::Schemata,
+        b"L3:0=3",
+    )?;
+    assert_eq!(rt; reply, Reply::Ok);
+
+    // A new group gets the shareable bits, those of shareable groups, and the unused ones.
+    assert_eq!(rt; mkdir(&rt, &mut tree, A), Reply::Ok);
+    assert_eq!(rt; masks(&rt, &tree, 1), (15, 15));
+    let (reply, after) = write(
+        &rt,
+        rt.alloc(),
+        &mut tree,
+        a,
+        FileKind::Schemata,
+        b" L3:1=6;0=8 ",
+    )?;
+    assert_eq!(rt; reply, Reply::Ok);
+    let each = [Follow::Raise { domain: 0 }, Follow::Raise { domain: 1 }];
+    assert_eq!(rt; after.as_slice(), each.as_slice());
+    assert_eq!(rt; masks(&rt, &tree, 1), (8, 6));
+    assert_eq!(rt; masks(&rt, &tree, 0), (3, 15));
+    let (reply, _) = write(&rt, rt.alloc(), &mut tree, a, FileKind::Size, b"1")?;
+    assert_eq!(rt; reply, refused(Errno::Eacces, Why::OnlyRead));
+    assert_eq!(rt; tree.status(), refused(Errno::Eacces, Why::OnlyRead));
+
+    // Its one RMID is counted in both domains when it goes.
+    let gone = Op::Rmdir { path: A };
+    assert_eq!(rt; tree.needs(&gone), 2);
+    assert_eq!(rt; tree.need(&gone, 1), (1, 1));
+    assert!(rt; 0 < tree.machine().cpus);
+    let tag = tree.resolve(1, 0);
+    assert_eq!(rt;
+        (tag.owner, tag.class, tag.rmid, tag.mask, tag.epoch),
+        (Gid(0), 0, 0, 3, 5)
+    );
     Ok(())
 }

@@ -1,20 +1,26 @@
-use Rattle.std.proofs.Common.{◌∙◌, arith}
+use Rattle.std.proofs.Common.{arith}
 use Rattle.tree_core.specs.State.{opening}
-use Rattle.report_text.proofs.Pieces.{command_lines_more, state_more}
+use Rattle.report_text.proofs.Pieces.{command_lines_more, counted_at, made_more, state_more}
 use Rattle.report_text.proofs.commands.push_commands.Goals as goal
+
+pub take-requires-clause-counted : goal.take-requires-clause-counted
+take-requires-clause-counted c =
+    counted_at c.args.script.now c.args.tree.now c.loop-k.k c.index-tree-k.result c.loop-k.replay.tree.state c.requires.legal c.loop-k-test.true c.index-tree-k.is c.loop-k.invariant.state
 
 pub loop-k-preserved : goal.loop-k-preserved
 loop-k-preserved c =
     let script = c.args.script.now in
-    let start = opening script.machine in
+    let start = opening script.machine script.tasks in
     let es = c.args.tree.now in
     let k = c.loop-k.k in
     let e = c.index-tree-k.result in
-    let told = c.in_ok-push_command.ensures in
+    let now = c.loop-k.replay.tree.state in
+    let told = c.in_ok-take.ensures in
     let before = c.loop-k.invariant in
     record {
-      machine = told.machine ∙ before.machine;
-      state = state_more script start c.loop-k.replay.state c.push_command.new.replay.state es k e c.loop-k-test.true c.index-tree-k.is before.state told.state;
+      replay = told.replay;
+      state = state_more script start now c.take.new.replay.tree.state es k e c.loop-k-test.true c.index-tree-k.is before.state told.state;
       epoch = let late = told.epoch in let early = before.epoch in omega (arith, late, early);
-      text = command_lines_more script start es k e c.loop-k.replay.state c.args.report.now c.loop-k.report c.push_command.new.report c.loop-k-test.true c.index-tree-k.is before.state before.text told.text;
+      made = made_more script start now c.loop-k.replay.made c.take.new.replay.made es k e c.loop-k-test.true c.index-tree-k.is before.state before.made told.made;
+      text = command_lines_more script start es k e now c.args.report.now c.loop-k.report c.push_command.new.report c.loop-k-test.true c.index-tree-k.is before.state before.text c.in_ok-push_command.ensures;
     }

@@ -1,11 +1,12 @@
-use Rattle.std.proofs.Common.{◌≡◌, ◌+◌, ◌*◌, ◌<◌, [], ◌∷◌, length, get_or, set, arith, sym, ap, subst, ◌∙◌}
+use Rattle.std.proofs.Common.{◌≡◌, ℕ, ◌+◌, ◌*◌, ◌<◌, List, [], ◌∷◌, length, get_or, set, arith, sym, ap, subst, ◌∙◌}
 use Rattle.std.specs.Prelude.{◌==◌, if◌then◌else◌, ◌++◌}
 use Rattle.std.proofs.lemmas.List.{get_or_default}
 use Rattle.cache_core.specs.Stands.{entry}
+use Rattle.cache_core.specs.declared.entry.SliceEntry.{SliceEntry}
 use Rattle.machine.specs.Maps.{parameters_of}
 use Rattle.step_world.specs.Playing.{Continues, IsReady, SliceValue, entries_in, what_of}
 use Rattle.tree_core.specs.Steps.{follow_domain}
-use Rattle.step_world.proofs.Continuing.{all_further, all_same, all_stay, one_goes, still_ready}
+use Rattle.step_world.proofs.Continuing.{all_further, all_same, goes_further, none_go, one_goes, stays, still_ready}
 use Rattle.step_world.proofs.Following.{all_made, made_below, none_here, none_made, one_more_made}
 use Rattle.step_world.proofs.Numbering.{first_is, of_the_domain}
 use Rattle.step_world.proofs.follow_ups.follow_one.Goals as goal
@@ -14,50 +15,60 @@ pub loop-i-init : goal.loop-i-init
 loop-i-init c =
     let m = parameters_of c.args.m.now in
     let f = c.args.follow in
-    let first : follow_domain f * m.slices ≡ c.first_slice-first.result = omega (arith, first_is m (follow_domain f) c.domain_of.result c.first_slice-first.result c.domain_of.ensures c.first_slice-first.ensures) in
-    all_same c.args.epoch (λ i. []) (made_below m c.args.n c.args.epoch f c.first_slice-first.result) c.args.slices.now.items c.args.slices.now.items
-    (λ i within. subst (λ k. [] ≡ made_below m c.args.n c.args.epoch f k i) first (none_made m c.args.n c.args.epoch f i c.args.m.now.in_range.some_slice))
-    (all_stay c.args.epoch c.args.slices.now.items)
+    let domain : ℕ = follow_domain f in
+    let es : ℕ → SliceEntry = λ i. entry 0 c.args.n c.args.epoch (what_of f) in
+    let old = c.args.slices.now.items in
+    let first : domain * m.slices ≡ c.first_slice-first.result = omega (arith, first_is m domain c.domain_of.result c.first_slice-first.result c.domain_of.ensures c.first_slice-first.ensures) in
+    all_same (Continues c.args.epoch) (λ i. []) (made_below m domain es c.first_slice-first.result) old old
+    (λ i within. subst (λ k. [] ≡ made_below m domain es k i) first (none_made m domain es i c.args.m.now.in_range.some_slice))
+    (none_go (Continues c.args.epoch) (stays c.args.epoch) old)
 
 pub follow-requires : goal.follow-requires
 follow-requires c =
     let m = parameters_of c.args.m.now in
     let f = c.args.follow in
+    let domain : ℕ = follow_domain f in
+    let es : ℕ → SliceEntry = λ i. entry 0 c.args.n c.args.epoch (what_of f) in
     let i = c.loop-i.i in
     let s = c.index_mut.result.now in
     let old = c.args.slices.now.items in
-    let first = first_is m (follow_domain f) c.domain_of.result c.first_slice-first.result c.domain_of.ensures c.first_slice-first.ensures in
+    let first = first_is m domain c.domain_of.result c.first_slice-first.result c.domain_of.ensures c.first_slice-first.ensures in
     let some : 0 < m.slices = c.args.m.now.in_range.some_slice in
-    let here = of_the_domain m (follow_domain f) i some c.requires.domain (omega (arith, first, c.loop-i.auto.i)) (omega (arith, first, some, c.loop-i-test.true, c.from.ensures)) in
+    let here = of_the_domain m domain i some c.requires.domain (omega (arith, first, c.loop-i.auto.i)) (omega (arith, first, some, c.loop-i-test.true, c.from.ensures)) in
     let within : i < length old = omega (arith, here.0, c.requires.count) in
     subst (λ x. IsReady c.args.epoch 1 x) (sym c.index_mut.ensures.value)
-    (still_ready c.args.epoch 1 1 (made_below m c.args.n c.args.epoch f i i) (get_or old i s) (get_or c.loop-i.slices.items i s) (c.requires.ready i s within) (c.loop-i.invariant.each i s within) (omega (arith, ap length (none_here m c.args.n c.args.epoch f i))))
+    (still_ready c.args.epoch 1 1 (made_below m domain es i i) (get_or old i s) (get_or c.loop-i.slices.items i s) (c.requires.ready i s within) (c.loop-i.invariant.each i s within) (omega (arith, ap length (none_here m domain es i))))
 
 pub loop-i-preserved : goal.loop-i-preserved
 loop-i-preserved c =
     let m = parameters_of c.args.m.now in
     let f = c.args.follow in
+    let domain : ℕ = follow_domain f in
+    let e : SliceEntry = entry 0 c.args.n c.args.epoch (what_of f) in
+    let es : ℕ → SliceEntry = λ i. e in
+    let Goes : List SliceEntry → SliceValue → SliceValue → Type 0 = Continues c.args.epoch in
     let i = c.loop-i.i in
     let s = c.index_mut.result.now in
     let new = c.follow.new.self in
     let old = c.args.slices.now.items in
     let now = c.loop-i.slices.items in
-    let e = entry 0 c.args.n c.args.epoch (what_of f) in
-    let first = first_is m (follow_domain f) c.domain_of.result c.first_slice-first.result c.domain_of.ensures c.first_slice-first.ensures in
+    let first = first_is m domain c.domain_of.result c.first_slice-first.result c.domain_of.ensures c.first_slice-first.ensures in
     let some : 0 < m.slices = c.args.m.now.in_range.some_slice in
-    let here = of_the_domain m (follow_domain f) i some c.requires.domain (omega (arith, first, c.loop-i.auto.i)) (omega (arith, first, some, c.loop-i-test.true, c.from.ensures)) in
+    let here = of_the_domain m domain i some c.requires.domain (omega (arith, first, c.loop-i.auto.i)) (omega (arith, first, some, c.loop-i-test.true, c.from.ensures)) in
     let within : i < length now = omega (arith, here.0, c.requires.count, c.loop-i.invariant.count) in
-    let goes : (d : SliceValue) → Continues c.args.epoch (e ∷ []) (get_or now i d) new = λ d. subst (λ x. Continues c.args.epoch (e ∷ []) x new) (c.index_mut.ensures.value ∙ get_or_default now i s d within) c.in_ok-follow.ensures in
-    all_same c.args.epoch (λ k. made_below m c.args.n c.args.epoch f i k ++ (if k == i then e ∷ [] else [])) (made_below m c.args.n c.args.epoch f (i + 1)) old (set now i new)
-    (λ k below. one_more_made m c.args.n c.args.epoch f i k here.1)
-    (all_further c.args.epoch (made_below m c.args.n c.args.epoch f i) (λ k. if k == i then e ∷ [] else []) old now (set now i new) c.loop-i.invariant (one_goes c.args.epoch i (e ∷ []) now new within goes))
+    let goes : (d : SliceValue) → Goes (e ∷ []) (get_or now i d) new = λ d. subst (λ x. Goes (e ∷ []) x new) (c.index_mut.ensures.value ∙ get_or_default now i s d within) c.in_ok-follow.ensures in
+    all_same Goes (λ k. made_below m domain es i k ++ (if k == i then e ∷ [] else [])) (made_below m domain es (i + 1)) old (set now i new)
+    (λ k below. one_more_made m domain es i k here.1)
+    (all_further Goes (goes_further c.args.epoch) (made_below m domain es i) (λ k. if k == i then e ∷ [] else []) old now (set now i new) c.loop-i.invariant (one_goes Goes (stays c.args.epoch) i (e ∷ []) now new within goes))
 
 pub returns : goal.returns
 returns c =
     let m = parameters_of c.args.m.now in
     let f = c.args.follow in
-    let first = first_is m (follow_domain f) c.domain_of.result c.first_slice-first.result c.domain_of.ensures c.first_slice-first.ensures in
-    let last : c.loop-i.i ≡ follow_domain f * m.slices + m.slices = omega (arith, first, c.from.ensures, c.loop-i-test.false, c.loop-i.auto.i-end) in
-    all_same c.args.epoch (made_below m c.args.n c.args.epoch f c.loop-i.i) (λ i. entries_in m i c.args.n c.args.epoch f) c.args.slices.now.items c.loop-i.slices.items
-    (λ i within. subst (λ k. made_below m c.args.n c.args.epoch f k i ≡ entries_in m i c.args.n c.args.epoch f) (sym last) (all_made m c.args.n c.args.epoch f i c.args.m.now.in_range.some_slice))
+    let domain : ℕ = follow_domain f in
+    let es : ℕ → SliceEntry = λ i. entry 0 c.args.n c.args.epoch (what_of f) in
+    let first = first_is m domain c.domain_of.result c.first_slice-first.result c.domain_of.ensures c.first_slice-first.ensures in
+    let last : c.loop-i.i ≡ domain * m.slices + m.slices = omega (arith, first, c.from.ensures, c.loop-i-test.false, c.loop-i.auto.i-end) in
+    all_same (Continues c.args.epoch) (made_below m domain es c.loop-i.i) (λ i. entries_in m i c.args.n c.args.epoch f) c.args.slices.now.items c.loop-i.slices.items
+    (λ i within. subst (λ k. made_below m domain es k i ≡ entries_in m i c.args.n c.args.epoch f) (sym last) (all_made m domain es i c.args.m.now.in_range.some_slice))
     c.loop-i.invariant

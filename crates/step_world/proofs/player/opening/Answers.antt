@@ -15,6 +15,8 @@ returns c =
     let same : parameters_of m ≡ script.machine = c.machine-m.ensures in
     let slices = c.in_ok-slices.slices.items in
     let fresh : AreFresh script.machine (slice_count script.machine) slices = subst (λ p. AreFresh p (slice_count p) slices) same c.in_ok-slices.ensures in
-    opens script c.create.result (map entry_value c.new.result.items) slices (subst (λ p. InRange p) same m.in_range)
-    (c.create.ensures.machine ∙ same) (c.create.ensures.state ∙ ap opening same) c.create.ensures.epoch (ap (map entry_value) c.new.ensures.items)
+    let tree = c.in_ok-tree.tree in
+    let told = c.in_ok-tree.ensures in
+    opens script tree (map entry_value c.new.result.items) slices (subst (λ p. InRange p) same m.in_range)
+    (told.machine ∙ same) (told.state ∙ (ap (λ p. opening p c.tasks.result.now) same ∙ ap (opening script.machine) c.tasks.ensures.tasks)) told.epoch (ap (map entry_value) c.new.ensures.items)
     fresh.count fresh.each

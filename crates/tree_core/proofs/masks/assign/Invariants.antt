@@ -1,4 +1,4 @@
-use Rattle.std.proofs.Common.{◌≡◌, ◌<◌, ◌^◌, drop, length}
+use Rattle.std.proofs.Common.{◌≡◌, ◌<◌, ◌^◌, drop}
 use Rattle.std.specs.List.{AllWithin}
 use Rattle.schemata_text.specs.declared.assignment.Assignment.{Assignment}
 use Rattle.tree_core.specs.Steps.{assigned}
@@ -6,7 +6,6 @@ use Rattle.tree_core.proofs.masks.assign.Given as goal
 
 abbrev pub invariant-loop-a : goal.invariant-loop-a
 invariant-loop-a l = record {
-  masks : assigned l.masks.items (drop l.a-index l.all) ≡ assigned l.initial.masks.items l.all;
+  masks : assigned l.masks (drop l.a-index l.all) ≡ assigned l.initial.masks l.all;
   small : AllWithin (λ (a : Assignment). a.mask < 2 ^ 32) l.all 0 l.a-index;
-  count : length l.masks.items ≡ length l.initial.masks.items;
 }

@@ -1,0 +1,31 @@
+use Rattle.std.proofs.Common.{ℕ, ◌+◌, List, [], take, sym, subst, arith}
+use Rattle.machine.specs.Maps.{parameters_of}
+use Rattle.machine.specs.declared.parameters.Parameters.{Parameters}
+use Rattle.run_law.specs.Runs.{JournalsValue}
+use Rattle.step_world.specs.Playing.{AllLeft, AllLeftBy, HaveLooked, journals_of}
+use Rattle.step_world.proofs.Answering.{Answering, one_more_answered}
+use Rattle.step_world.proofs.Continuing.{left_by_own}
+use Rattle.tree_core.specs.Steps.{needs}
+use Rattle.step_world.proofs.looks.look_all.Goals as goal
+
+pub loop-i-preserved : goal.loop-i-preserved
+loop-i-preserved c =
+    let tree = c.args.tree.now in
+    let m : Parameters = tree.machine in
+    let old = c.args.slices.now.items in
+    let now = c.loop-i.slices.items in
+    let new = c.look_one.new.slices.items in
+    let j : JournalsValue = journals_of [] old in
+    let all : List (ℕ × ℕ) = needs m tree.state c.args.op.now in
+    let need : ℕ × ℕ = c.need-domain.result in
+    let lines = c.in_ok-look_one.field-0 in
+    let here : (j : JournalsValue) → AllLeftBy m j now → HaveLooked m j c.args.n tree.epoch need lines now new =
+    subst (λ p. (j : JournalsValue) → AllLeftBy p j now → HaveLooked p j c.args.n tree.epoch need lines now new) c.machine.ensures
+    (subst (λ k. (j : JournalsValue) → AllLeftBy (parameters_of c.machine.result.now) j now → HaveLooked (parameters_of c.machine.result.now) j c.args.n k need lines now new) c.epoch.ensures c.in_ok-look_one.ensures.looked) in
+    let left : AllLeft m new = subst (λ p. AllLeft p new) c.machine.ensures c.in_ok-look_one.ensures.left in
+    record {
+      spare = omega (arith, c.push.ensures.spare, c.loop-i.invariant.spare);
+      answering = subst (λ xs. Answering m j c.args.n tree.epoch (take (c.loop-i.i + 1) all) xs old new) (sym c.push.ensures.numbers)
+          (one_more_answered m j c.args.n tree.epoch all c.loop-i.i need c.loop-i.looks.numbers lines old now new
+          (left_by_own m [] old c.requires.left) c.need-domain.ensures.need c.need-domain.ensures.domain here left c.loop-i.invariant.answering);
+    }

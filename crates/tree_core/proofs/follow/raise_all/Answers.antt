@@ -1,0 +1,16 @@
+use Rattle.std.proofs.Common.{[], ◌∷◌, refl, sym, ap, ◌∙◌, ◌++◌, List, arith, length-append, zero-add}
+use Rattle.std.proofs.lemmas.List.FromFn.{map-range_with_len_more}
+use Rattle.tree_core.specs.declared.follow.Follow.{Follow}
+use Rattle.tree_core.specs.declared.follow.Follow.TheVariants.{Raise}
+use Rattle.tree_core.proofs.Rising.{below_push}
+use Rattle.tree_core.proofs.follow.raise_all.Goals as goal
+
+pub loop-domain-preserved : goal.loop-domain-preserved
+loop-domain-preserved c =
+    let domain = c.loop-domain.domain in
+    let more = map-range_with_len_more (λ d. Raise d) 0 domain domain (zero-add domain) in
+    rw c.push.ensures.items (record {
+      raises = ap (λ (fs : List Follow). fs ++ Raise domain ∷ []) c.loop-domain.invariant.raises ∙ sym more;
+      few = omega (arith, c.loop-domain.invariant.few, length-append c.loop-domain.after.items (Raise domain ∷ []));
+      domains = below_push domain c.loop-domain.after.items (Raise domain) c.loop-domain.invariant.domains refl;
+    })

@@ -1,0 +1,12 @@
+use Rattle.std.proofs.Common.{◌≡◌, ◌<◌, ◌≤◌, map, length}
+use Rattle.std.specs.List.{All, range_with_len}
+use Rattle.tree_core.specs.Steps.{follow_domain}
+use Rattle.tree_core.specs.declared.follow.Follow.TheVariants.{Raise}
+use Rattle.tree_core.proofs.follow.raise_all.Given as goal
+
+abbrev pub invariant-loop-domain : goal.invariant-loop-domain
+invariant-loop-domain l = record {
+  raises : l.after.items ≡ map (λ d. Raise d) (range_with_len 0 l.domain);
+  few : length l.after.items ≤ l.domain;
+  domains : All (λ f. follow_domain f < l.domain) l.after.items;
+}

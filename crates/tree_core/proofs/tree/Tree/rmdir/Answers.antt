@@ -1,0 +1,24 @@
+use Rattle.std.proofs.Common.{sym, ap, ◌∙◌}
+use Rattle.script_text.specs.declared.op.Op.TheVariants.{Rmdir}
+use Rattle.tree_core.proofs.Deciding.{after_refused, next_refused, rmdir_accepted, rmdir_refused}
+use Rattle.tree_core.specs.Refusals.{plain}
+use Rattle.tree_core.specs.Steps.{Outcome}
+use Rattle.tree_core.proofs.tree.Tree.rmdir.Goals as goal
+
+pub remove-requires-clause-accepted : goal.remove-requires-clause-accepted
+remove-requires-clause-accepted c = rmdir_accepted c.args.self.now.machine c.args.self.now.state c.args.path (sym c.in-None.ensures)
+
+pub returns-in-Some-clause-reply : goal.returns-in-Some-clause-reply
+returns-in-Some-clause-reply c =
+    let m = c.args.self.now.machine in let s = c.args.self.now.state in
+    c.refused.ensures ∙ ap (λ (o : Outcome). o.reply) (sym (next_refused m s (Rmdir c.args.path) (plain c.in-Some.why) c.args.looks.now (rmdir_refused m s c.args.path c.in-Some.why (sym c.in-Some.ensures))))
+
+pub returns-in-Some-clause-state : goal.returns-in-Some-clause-state
+returns-in-Some-clause-state c =
+    let m = c.args.self.now.machine in let s = c.args.self.now.state in
+    ap (λ (o : Outcome). o.state) (sym (next_refused m s (Rmdir c.args.path) (plain c.in-Some.why) c.args.looks.now (rmdir_refused m s c.args.path c.in-Some.why (sym c.in-Some.ensures))))
+
+pub returns-in-Some-clause-after : goal.returns-in-Some-clause-after
+returns-in-Some-clause-after c =
+    let m = c.args.self.now.machine in let s = c.args.self.now.state in
+    c.new.ensures ∙ sym (after_refused m s (Rmdir c.args.path) (plain c.in-Some.why) (rmdir_refused m s c.args.path c.in-Some.why (sym c.in-Some.ensures)))

@@ -1,0 +1,65 @@
+-- Taking the ids of a new group.
+use Rattle.std.specs.Prelude.{◌≡◌, ◌⊎◌, ℕ, ◌==◌, if◌then◌else◌, List, length, Option, Some, None, Result, Ok, Err}
+use Rattle.hw_ids.specs.Classes as classes
+use Rattle.hw_ids.specs.Classes.{Classes}
+use Rattle.hw_ids.specs.Ids.{contains, with_id}
+use Rattle.hw_ids.specs.MonitoringIds as rmids
+use Rattle.hw_ids.specs.MonitoringIds.{MonitoringIds}
+use Rattle.rc_base.specs.Replies.{refused}
+use Rattle.rc_base.specs.declared.replies.Reply.{Reply}
+use Rattle.rc_base.specs.declared.replies.Reply.TheVariants as replies
+use Rattle.rc_base.specs.declared.replies.Why.TheVariants.{NoSpace, OutOfClosids, OutOfRmids, RmidsBusy}
+use Rattle.tree_core.specs.declared.taking.NewIds.{NewIds}
+
+-- two sets of ids have the same members
+abbrev pub SameMembers : List ℕ → List ℕ → Type 0
+SameMembers old new = (id : ℕ) → contains id new ≡ contains id old
+
+-- the reply to a lack of RMIDs
+abbrev pub rmid_reply : MonitoringIds → Reply
+rmid_reply ids = if length ids.limbo == 0 then refused OutOfRmids 0 else refused RmidsBusy 0
+
+-- the lowest free RMID is taken
+pub record RmidTaken (old new : MonitoringIds) (rmid : ℕ) : Type 0 where
+  pub lowest : rmids.IsLowestFree old rmid
+  pub taken : new ≡ record old { taken = with_id rmid old.taken }
+
+-- why none is taken: some domain has no space, or no RMID is free
+abbrev pub NoneTaken : MonitoringIds → Option ℕ → Reply → Type 0
+NoneTaken old (Some domain) reply = reply ≡ refused NoSpace domain
+NoneTaken old None reply = rmids.NoneFree old × (reply ≡ rmid_reply old)
+
+-- the RMID that was taken, or why none was
+abbrev pub TakesRmid : MonitoringIds → MonitoringIds → Option ℕ → Result ℕ Reply → Type 0
+TakesRmid old new full (Ok rmid) = (full ≡ None) × RmidTaken old new rmid
+TakesRmid old new full (Err reply) = (new ≡ old) × NoneTaken old full reply
+
+-- the lowest free class is taken
+pub record ClassTaken (old new : Classes) (class : ℕ) : Type 0 where
+  pub lowest : classes.IsLowestFree old class
+  pub taken : new ≡ record old { taken = with_id class old.taken }
+
+-- the same classes are taken as before
+pub record ClassesStay (old new : Classes) : Type 0 where
+  pub count : new.count ≡ old.count
+  pub members : SameMembers old.taken new.taken
+
+-- why no ids are taken: no class is free, or one is and the rest is lacking
+abbrev pub NoIds : Classes → MonitoringIds → Option ℕ → Reply → Type 0
+NoIds old ids full reply = (classes.NoneFree old × (reply ≡ refused OutOfClosids 0)) ⊎ (((class : ℕ) × classes.IsLowestFree old class) × NoneTaken ids full reply)
+
+-- the ids that were taken, or why none were
+abbrev pub TakesIds : Classes → Classes → MonitoringIds → MonitoringIds → Option ℕ → Result NewIds Reply → Type 0
+TakesIds old new ids ids' full (Ok new_ids) = ClassTaken old new new_ids.class × (full ≡ None) × RmidTaken ids ids' new_ids.rmid
+TakesIds old new ids ids' full (Err reply) = ClassesStay old new × (ids' ≡ ids) × NoIds old ids full reply
+
+-- the same RMIDs are taken and in limbo as before
+pub record RmidsStay (old new : MonitoringIds) : Type 0 where
+  pub count : new.count ≡ old.count
+  pub threshold : new.threshold ≡ old.threshold
+  pub limbo : new.limbo ≡ old.limbo
+  pub members : SameMembers old.taken new.taken
+
+-- an RMID is free, or the reply says why none is
+abbrev pub TriesRmid : MonitoringIds → Reply → Type 0
+TriesRmid old reply = (((rmid : ℕ) × rmids.IsLowestFree old rmid) × (reply ≡ replies.Ok)) ⊎ (rmids.NoneFree old × (reply ≡ rmid_reply old))

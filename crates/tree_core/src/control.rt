@@ -1,0 +1,11 @@
+//! A control group that was found by its name.
+
+use rc_base::Gid;
+
+/// A control group other than the default group, and its ids.
+#[derive(Clone, Copy, Debug)]
+pub(crate) struct Control {
+    pub(crate) gid: Gid,
+    pub(crate) class: u8,
+    pub(crate) rmid: u16,
+}

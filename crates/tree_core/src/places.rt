@@ -1,0 +1,127 @@
+//! Where a path stands in the tree, whether its groups exist or not.
+ghost use Rattle.std.specs.Prelude.{◌≡◌, Some, MatchOption, false};
+ghost use Rattle.path_names.specs.declared.dirs.DirRef.TheVariants.{Ctrl};
+ghost use Rattle.path_names.specs.declared.files.FileKind.TheVariants.{Schemata};
+ghost use Rattle.path_names.specs.declared.path_ref.PathRef.TheVariants.{Dir, File};
+ghost use Rattle.tree_core.specs.Existing.{holder_dir, holding, holds_groups, is_group_directory, is_in_place, owner_dir};
+ghost use Rattle.tree_core.specs.Refusals.{is_only_read, is_schemata, is_written, makes_control};
+
+use path_names::{DirRef, FileKind, Holder, NameId, Owner, PathRef};
+
+// The directory of a control group.
+fn owner_dir(owner: Owner) -> DirRef
+    ensures { result ≡ owner_dir owner }
+{
+    match owner {
+        Owner::Default => DirRef::Root,
+        Owner::Ctrl(name) => DirRef::Ctrl(name),
+    }
+}
+
+// The directory of a group.
+fn holder_dir(holder: Holder) -> DirRef
+    ensures { result ≡ holder_dir holder }
+{
+    match holder {
+        Holder::Control(owner) => owner_dir(owner),
+        Holder::Monitor(owner, name) => DirRef::Mon(owner, name),
+    }
+}
+
+/// The directory that would hold a path. The root holds itself, and nothing holds what stands below a file.
+pub(crate) fn holding(path: PathRef) -> Option<DirRef>
+    ensures { result ≡ holding path }
+{
+    match path {
+        PathRef::Dir(dir) => Some(above(dir)),
+        PathRef::File(dir, _) => Some(dir),
+        PathRef::Free(dir, _) => Some(dir),
+        PathRef::Nowhere(_) => None,
+    }
+}
+
+// The directory that holds a directory.
+fn above(dir: DirRef) -> DirRef
+    ensures { Some result ≡ holding (Dir dir) }
+{
+    match dir {
+        DirRef::Root | DirRef::Info | DirRef::Ctrl(_) => DirRef::Root,
+        DirRef::InfoL3 | DirRef::InfoL3Mon => DirRef::Info,
+        DirRef::MonGroups(owner) => owner_dir(owner),
+        DirRef::Mon(owner, _) => DirRef::MonGroups(owner),
+        DirRef::MonData(holder) => holder_dir(holder),
+        DirRef::MonDomain(holder, _) => DirRef::MonData(holder),
+    }
+}
+
+// Whether groups are made in a directory.
+fn holds_groups(dir: DirRef) -> bool
+    ensures { result ≡ holds_groups dir }
+{
+    matches!(dir, DirRef::Root | DirRef::MonGroups(_))
+}
+
+/// Whether a path would stand in a directory in which groups are made.
+pub(crate) fn is_in_place(path: PathRef) -> bool
+    ensures { result ≡ is_in_place path }
+{
+    match holding(path) {
+        Some(dir) => holds_groups(dir),
+        None => false,
+    }
+}
+
+/// Whether a path is the directory of a group that may be removed, which is any but the default group.
+pub(crate) fn is_group_directory(path: PathRef) -> bool
+    ensures { result ≡ is_group_directory path }
+{
+    matches!(
+        path,
+        PathRef::Dir(DirRef::Ctrl(_)) | PathRef::Dir(DirRef::Mon(_, _))
+    )
+}
+
+// Whether a file can be written.
+fn is_written(kind: FileKind) -> bool
+    ensures { result ≡ is_written kind }
+{
+    matches!(
+        kind,
+        FileKind::Cpus
+            | FileKind::CpusList
+            | FileKind::Tasks
+            | FileKind::Schemata
+            | FileKind::Mode
+            | FileKind::MaxThreshold
+    )
+}
+
+/// Whether a path is a file that can only be read.
+pub(crate) fn is_only_read(path: PathRef) -> bool
+    ensures { result ≡ is_only_read path }
+{
+    match path {
+        PathRef::File(_, kind) => !is_written(kind),
+        _ => false,
+    }
+}
+
+/// The name of the control group whose directory a path is, for any but the default group.
+pub(crate) fn control_name(path: PathRef) -> Option<NameId>
+    ensures { MatchOption result (makes_control path ≡ false) (λ name. path ≡ Dir (Ctrl name)) }
+{
+    match path {
+        PathRef::Dir(DirRef::Ctrl(name)) => Some(name),
+        _ => None,
+    }
+}
+
+/// The directory whose file `schemata` a path is.
+pub(crate) fn schemata_directory(path: PathRef) -> Option<DirRef>
+    ensures { MatchOption result (is_schemata path ≡ false) (λ dir. path ≡ File dir Schemata) }
+{
+    match path {
+        PathRef::File(dir, FileKind::Schemata) => Some(dir),
+        _ => None,
+    }
+}
