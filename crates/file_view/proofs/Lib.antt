@@ -1,5 +1,4 @@
 pub mod NameLines
-pub mod KnownNames
 pub mod Masks
 pub mod Shorts
 pub mod Sizes

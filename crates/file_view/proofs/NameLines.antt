@@ -1,19 +1,19 @@
 -- The lines of a listing, a name at a time.
-use Rattle.std.proofs.Common.{◌≡◌, ℕ, zero, suc, ◌+◌, ◌<◌, ◌≤◌, true, false, cond, List, [], ◌∷◌, ◌++◌, length, map, take, Option, Some, None, refl, sym, ap, ◌∙◌, subst, arith}
-use Rattle.std.specs.Prelude.{IfSome, filter, slice_get, if◌then◌else◌}
+use Rattle.std.proofs.Common.{◌≡◌, ℕ, zero, suc, ◌+◌, ◌<◌, ◌≤◌, true, false, cond, List, [], ◌∷◌, ◌++◌, length, map, take, Option, Some, None, refl, sym, ap, ◌∙◌, arith}
+use Rattle.std.specs.Prelude.{filter, slice_get, if◌then◌else◌}
 use Rattle.std.specs.List.{flat_map, range_with_len}
 use Rattle.std.proofs.lemmas.Grind.{flat_map-append}
 use Rattle.std.proofs.lemmas.List.{append_assoc, append-nil, take_all, take_more}
 use Rattle.std.proofs.lemmas.Option.{get_or_from_slice_get, slice_get_within}
 use Rattle.std.proofs.lemmas.List.Folds.{flat_map-map}
 use Rattle.std.proofs.lemmas.Simd.{map-map}
-use Rattle.group_tree.specs.declared.group.Group.{Group}
+use Rattle.tree_core.specs.Named.{Group}
 use Rattle.machine.specs.declared.parameters.Parameters.{Parameters}
 use Rattle.path_names.specs.PathTable.{Entry, domain_entry, domain_name}
 use Rattle.path_names.specs.declared.dirs.DirRef.TheVariants.{MonData}
 use Rattle.path_names.specs.declared.dirs.Holder.{Holder}
 use Rattle.rc_base.specs.declared.names.Gid.{Gid}
-use Rattle.file_view.specs.Texts.{AreNamed, fixed_names, group_name, is_listed, name_line, name_lines}
+use Rattle.file_view.specs.Texts.{fixed_names, group_name, is_listed, name_line, name_lines}
 
 -- ---- one more
 
@@ -72,11 +72,6 @@ pub lines_listed : (names : List (List ℕ)) (parent : Option Gid) (groups : Lis
     → now ≡ old ++ flat_map (group_line names parent) (take k groups) → now ≡ old ++ name_lines (map (group_name names) (filter (is_listed parent) groups))
 lines_listed names parent groups k old now all lines =
     lines ∙ ap (λ t. old ++ t) (ap (flat_map (group_line names parent)) (take_all k groups all) ∙ sym (lines_each names parent groups))
-
--- each of them is named
-pub named_at : (names : List (List ℕ)) (groups : List Group) (k : ℕ) (g : Group) → AreNamed names groups → slice_get groups k ≡ Some g → IfSome g.name (λ id. id.0 < length names)
-named_at names groups k g all is =
-    subst (λ (x : Group). IfSome x.name (λ id. id.0 < length names)) (get_or_from_slice_get groups k g g is) (all k g (slice_get_within groups k g is))
 
 -- ---- domains
 

@@ -1,11 +1,9 @@
 -- The texts of files and listings, of which `schemata`, `size` and the listings of directories are built.
 -- (Kernel documentation, "Resource alloc and monitor groups" and "Schemata files - general concepts".)
-use Rattle.std.specs.Prelude.{ℕ, Bool, ◌<◌, ◌&&◌, IfSome, List, [], ◌∷◌, ◌++◌, length, map, filter, codes, decimal, is_some, Option, Some, None}
-use Rattle.std.specs.List.{All, flat_map, join_with_byte, range_with_len}
+use Rattle.std.specs.Prelude.{ℕ, Bool, ◌&&◌, List, [], ◌∷◌, ◌++◌, map, filter, codes, decimal, is_some, Option, Some, None}
+use Rattle.std.specs.List.{flat_map, join_with_byte, range_with_len}
 use Rattle.std.specs.Option.{option_map_or}
 use Rattle.cbm.specs.Masks.{ways_of}
-use Rattle.group_tree.specs.Records.{is_control, is_monitor_of, mask_in}
-use Rattle.group_tree.specs.declared.group.Group.{Group}
 use Rattle.machine.specs.Maps.{bytes_of}
 use Rattle.machine.specs.declared.parameters.Parameters.{Parameters}
 use Rattle.path_names.specs.PathTable.{Entry, fixed_entries}
@@ -22,6 +20,7 @@ use Rattle.script_text.specs.Canonical.{name_in}
 use Rattle.script_text.specs.declared.op.Op.{Op}
 use Rattle.script_text.specs.declared.op.Op.TheVariants as ops
 use Rattle.tree_core.specs.Existing.{directory_gid, group_of, owner_gid}
+use Rattle.tree_core.specs.Named.{Group, is_control, is_monitor_of, mask_in}
 use Rattle.tree_core.specs.State.{State}
 
 -- ---- files of a group
@@ -96,10 +95,6 @@ abbrev pub groups_in : State → DirRef → List Group
 groups_in s Root = filter (is_listed None) s.groups
 groups_in s (MonGroups owner) = monitors_in s (owner_gid s owner)
 groups_in s dir = []
-
--- the name of every group is one of these
-abbrev pub AreNamed : List (List ℕ) → List Group → Type 0
-AreNamed names groups = All (λ (g : Group). IfSome g.name (λ id. id.0 < length names)) groups
 
 -- the name of a group's directory
 abbrev pub group_name : List (List ℕ) → Group → List ℕ

@@ -8,12 +8,11 @@ ghost use Rattle.file_view.specs.Texts.{file_text, group_at, group_file};
 
 use crate::schemata::push_schemata;
 use crate::size::push_size;
-use group_tree::Group;
 use machine::Machine;
 use path_names::{DirRef, FileKind, PathRef};
 use rc_base::{NoMemory, TextBuf};
 use std::alloc::Global;
-use tree_core::Tree;
+use tree_core::{Group, Tree};
 
 // Room for the text of a file of a group, in bytes.
 const GROUP_FILE_MAX: usize = 512;

@@ -3,7 +3,7 @@ ghost use Rattle.std.specs.Prelude.{◌<◌, IfOk, OnOk, length};
 ghost use Rattle.std.specs.List.{All};
 ghost use Rattle.script_text.specs.Canonical.{AreKnown, op_ids};
 ghost use Rattle.tree_core.specs.Steps.{FlushExists};
-ghost use Rattle.file_view.specs.Texts.{AreNamed};
+ghost use Rattle.tree_core.specs.Named.{AreNamed};
 
 use crate::text;
 use machine::{Machine, Parameters};
@@ -27,7 +27,7 @@ pub(crate) fn machine(rt: &impl Abort, ways: u8) -> Machine {
 }
 
 /// The opening tree of a machine.
-#[tactic(auto, using(crate::proofs::KnownNames::named_opening))]
+#[tactic(auto, using(tree_core::proofs::KnownNames::named_opening))]
 pub(crate) fn opening(alloc: Global, m: &Machine, names: &Names) -> Result<Tree, NoMemory>
     ensures { IfOk result (λ t. AreNamed names.now t.state.groups) }
 {
@@ -46,7 +46,7 @@ pub(crate) fn three_names(alloc: Global) -> Result<(Names, [NameId; 3]), NoMemor
 }
 
 // Takes a command, after the tests that `apply` leaves to its caller.
-#[tactic(auto, using(crate::proofs::KnownNames::named_next))]
+#[tactic(auto, using(tree_core::proofs::KnownNames::named_next))]
 fn take(rt: &impl Abort, tree: &mut Tree, names: &Names, op: &Op, looks: &[u64]) -> Reply
     requires flush { FlushExists tree.old.machine op.now }
     requires known { AreKnown (length names.now) (op_ids op.now) }
@@ -59,7 +59,7 @@ fn take(rt: &impl Abort, tree: &mut Tree, names: &Names, op: &Op, looks: &[u64])
 }
 
 /// Makes a control group.
-#[tactic(auto, using(crate::proofs::KnownNames::known_only))]
+#[tactic(auto, using(tree_core::proofs::KnownNames::known_only))]
 pub(crate) fn mkdir(rt: &impl Abort, tree: &mut Tree, names: &Names, name: NameId) -> Reply
     requires known { name.0 < length names.now }
     requires named { AreNamed names.now tree.old.state.groups }
@@ -70,7 +70,7 @@ pub(crate) fn mkdir(rt: &impl Abort, tree: &mut Tree, names: &Names, name: NameI
 }
 
 /// Removes a control group that no line is counted of.
-#[tactic(auto, using(crate::proofs::KnownNames::known_only))]
+#[tactic(auto, using(tree_core::proofs::KnownNames::known_only))]
 pub(crate) fn rmdir(rt: &impl Abort, tree: &mut Tree, names: &Names, name: NameId) -> Reply
     requires known { name.0 < length names.now }
     requires named { AreNamed names.now tree.old.state.groups }
@@ -81,7 +81,7 @@ pub(crate) fn rmdir(rt: &impl Abort, tree: &mut Tree, names: &Names, name: NameI
 }
 
 /// Writes to the `schemata` of a control group.
-#[tactic(auto, using(crate::proofs::KnownNames::known_only))]
+#[tactic(auto, using(tree_core::proofs::KnownNames::known_only))]
 pub(crate) fn write(
     rt: &impl Abort,
     alloc: Global,

@@ -1,14 +1,14 @@
 //! The listings of directories.
 ghost use Rattle.std.specs.Prelude.{◌≡◌, ◌<◌, ◌++◌, [], IfSome, OnErr, OnOk, length, filter, map, if◌then◌else◌};
-ghost use Rattle.file_view.specs.Texts.{AreNamed, group_name, groups_in, is_listed, list_text, name_line, name_lines};
+ghost use Rattle.file_view.specs.Texts.{group_name, groups_in, is_listed, list_text, name_line, name_lines};
+ghost use Rattle.tree_core.specs.Named.{AreNamed};
 
 use crate::fixed::push_fixed;
 use crate::lines::Lines;
-use group_tree::{Group, GroupKind, Groups};
 use path_names::{DirRef, Names};
 use rc_base::{Gid, NoMemory};
 use std::alloc::Global;
-use tree_core::Tree;
+use tree_core::{Group, GroupKind, Groups, Tree};
 
 /// Whether a group stands in the directory of groups of this parent, or in the root where none is named.
 pub(crate) fn is_listed(parent: Option<Gid>, group: &Group) -> bool

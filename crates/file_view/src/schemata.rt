@@ -1,15 +1,15 @@
 //! The file `schemata` of a group.
 ghost use Rattle.std.specs.Prelude.{◌≡◌, ◌+◌, ◌<◌, ◌≤◌, ◌^◌, ◌++◌, length};
 ghost use Rattle.std.specs.List.{All};
-ghost use Rattle.group_tree.specs.Records.{mask_in};
+ghost use Rattle.tree_core.specs.Named.{mask_in};
 ghost use Rattle.machine.specs.Maps.{parameters_of};
 ghost use Rattle.schemata_text.specs.declared.assignment.Assignment.{Assignment};
 ghost use Rattle.file_view.specs.Texts.{schemata_of, schemata_text};
 
-use group_tree::Group;
 use machine::Machine;
 use rc_base::TextBuf;
 use schemata_text::{Assignment, Assignments, print};
+use tree_core::Group;
 
 // A group's mask in a domain.
 fn mask_in(group: &Group, domain: u8) -> u32

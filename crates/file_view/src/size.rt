@@ -4,11 +4,11 @@ ghost use Rattle.machine.specs.Maps.{parameters_of};
 ghost use Rattle.file_view.specs.Texts.{size_entry, size_line, size_text};
 
 use crate::schemata::masks_of;
-use group_tree::Group;
 use machine::Machine;
 use num_text::push_dec;
 use rc_base::TextBuf;
 use schemata_text::Assignment;
+use tree_core::Group;
 
 // Adds `id=bytes`.
 fn push_entry(m: &Machine, domain: u8, mask: u32, out: &mut TextBuf)

@@ -3,12 +3,12 @@
 use crate::fixtures::{gives, lists, machine, mkdir, opening, reads, rmdir, three_names, write};
 use crate::listing::is_listed;
 use crate::reason;
-use group_tree::{Group, GroupKind};
 use path_names::{DirRef, FileKind, Holder, NameId, Owner};
 use rc_base::{Gid, NoMemory, Reply, TextBuf, Why};
 use script_text::Op;
 use std::alloc::Global;
 use std::test::Fail;
+use tree_core::{Group, GroupKind};
 
 const DEFAULT: Holder = Holder::Control(Owner::Default);
 

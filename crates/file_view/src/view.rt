@@ -1,6 +1,7 @@
 //! The text that a command gives.
 ghost use Rattle.std.specs.Prelude.{◌≡◌, ◌++◌, OnErr, OnOk};
-ghost use Rattle.file_view.specs.Texts.{AreNamed, text_of};
+ghost use Rattle.file_view.specs.Texts.{text_of};
+ghost use Rattle.tree_core.specs.Named.{AreNamed};
 
 use crate::files::push_file;
 use crate::listing::push_list;

@@ -2,8 +2,8 @@
 use Rattle.std.proofs.Common.{◌≡◌, ℕ, zero, suc, ◌<◌, List, [], ◌∷◌, ◌++◌, length, Some, sym, ◌∙◌, subst, arith}
 use Rattle.std.specs.Prelude.{All}
 use Rattle.std.proofs.lemmas.List.Elements.{All-append}
-use Rattle.file_view.proofs.KnownNames.{named_next}
-use Rattle.file_view.specs.Texts.{AreNamed}
+use Rattle.tree_core.proofs.KnownNames.{named_next}
+use Rattle.tree_core.specs.Named.{AreNamed}
 use Rattle.path_names.specs.declared.dirs.DirRef.TheVariants.{Root, Info, InfoL3, InfoL3Mon, Ctrl, MonGroups, Mon, MonData, MonDomain}
 use Rattle.path_names.specs.declared.path_ref.PathRef.TheVariants.{Dir, File, Free, Nowhere}
 use Rattle.rc_base.specs.declared.replies.Reply.{Reply}

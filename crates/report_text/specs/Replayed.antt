@@ -1,6 +1,6 @@
 -- What is seen of a tree that is taken through its history once more.
 use Rattle.std.specs.Prelude.{ℕ, ◌<◌, ◌≡◌, List, All, length}
-use Rattle.file_view.specs.Texts.{AreNamed}
+use Rattle.tree_core.specs.Named.{AreNamed}
 use Rattle.report_text.specs.declared.made.Made.{Made}
 use Rattle.run_law.specs.TreeHistory.{IsCommandThat, TreeEntryValue}
 use Rattle.script_text.specs.Values.{ScriptValue, op_at}

@@ -1,6 +1,6 @@
 //! The lines of commands.
 ghost use Rattle.std.specs.Prelude.{◌≡◌, ◌+◌, ◌<◌, ◌≤◌, ◌∷◌, [], ◌++◌, IfOk, OnOk, codes, decimal, length, map, Some};
-ghost use Rattle.file_view.specs.Texts.{AreNamed};
+ghost use Rattle.tree_core.specs.Named.{AreNamed};
 ghost use Rattle.report_text.specs.Commands.{command_line, command_lines, op_said, read_lines, reply_text};
 ghost use Rattle.report_text.specs.Made.{made_by, made_from};
 ghost use Rattle.report_text.specs.Replayed.{AreKnownGroups, IsCounted, IsReplay};

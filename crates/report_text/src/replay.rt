@@ -1,7 +1,8 @@
 //! The tree, taken through its history once more.
 ghost use Rattle.std.specs.Prelude.{◌≡◌, ◌+◌, ◌<◌, [], ◌++◌, All, IfOk, OnOk, Some, length};
 ghost use Rattle.std.specs.Option.{option_to_list};
-ghost use Rattle.file_view.specs.Texts.{AreNamed, text_of};
+ghost use Rattle.file_view.specs.Texts.{text_of};
+ghost use Rattle.tree_core.specs.Named.{AreNamed};
 ghost use Rattle.report_text.specs.Commands.{barred};
 ghost use Rattle.report_text.specs.Made.{made_by as made_in};
 ghost use Rattle.tree_core.specs.State.{opening};

@@ -75,6 +75,7 @@ fn push_made_group(
     requires counts { (gid : ℕ) → at tally.now gid ≡ counted_in journals.now (slice_count script.now.machine) gid }
     ensures { OnOk result (report.new ≡ report.old ++ group_line script.now journals.now (control_of script.now.names made)) }
 {
+    // The type of journals bounds them.
     let _tree = journals.tree();
     let name = script.names().text(made.name);
     push_group(report, made.gid, name, tally.of(made.gid))
@@ -108,6 +109,7 @@ fn push_default_group(
     requires counts { (gid : ℕ) → at tally.now gid ≡ counted_in journals.now (slice_count script.now.machine) gid }
     ensures { OnOk result (report.new ≡ report.old ++ group_line script.now journals.now default_control) }
 {
+    // The type of journals bounds them, and that of a script its machine.
     let _tree = journals.tree();
     let _machine = script.machine();
     push_group(report, 0, b"".as_slice(), tally.of(0))
@@ -203,6 +205,7 @@ fn push_report(
     requires left { AreLeft script.now journals.now caches.now }
     ensures { OnOk result (report.new ≡ report.old ++ report_of script.now journals.now) }
 {
+    // A script is light, and so a run of it has few commands.
     let _threads = script.threads();
     let made = push_commands(alloc, report, script, journals.tree())?;
     push_groups(alloc, report, script, journals, &made)?;

@@ -9,6 +9,7 @@ pub mod EveryWay
 pub mod FreeIds
 pub mod GivenBack
 pub mod Initial
+pub mod KnownNames
 pub mod Made
 pub mod Mkdir
 pub mod Owning

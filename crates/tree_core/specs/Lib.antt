@@ -2,6 +2,7 @@ pub mod Existing
 pub mod Found
 pub mod Freeing
 pub mod Kept
+pub mod Named
 pub mod Refusals
 pub mod Resolving
 pub mod Sound

@@ -13,4 +13,5 @@ mod tests;
 pub mod tree;
 
 pub use follow::{After, Follow};
+pub use group_tree::{Group, GroupKind, Groups};
 pub use tree::Tree;

@@ -185,59 +185,70 @@ fn masks(rt: &impl Abort, tree: &Tree, gid: u32) -> (u32, u32) {
     }
 }
 
-#[test]
-fn masks_of_one_group_are_written(rt: HostRuntime) -> Result<(), Fail> {
-    let two_domains = Parameters {
+// The opening tree of two caches, of which other hardware shares the last way.
+fn two_domains(rt: &impl Abort, alloc: Global) -> Result<Tree, NoMemory> {
+    let parameters = Parameters {
         domains: 2,
         cpus: 2,
         shareable: 8,
         ..small()
     };
-    let mut tree = opening(&rt, rt.alloc(), &two_domains)?;
-    let a = DirRef::Ctrl(NameId(0));
-    let nothing = refused(Errno::Enoent, Why::NoSuchPath);
-    let (reply, after) = write(&rt, rt.alloc(), &mut tree, a, FileKind::Schemata, b"L3:0=1")?;
-    assert_eq!(rt; reply, nothing);
-    assert!(rt; after.is_empty());
-    let (reply, _) = write(
-        &rt,
-        rt.alloc(),
-        &mut tree,
-        DirRef::Root,
-        FileKind::Schemata,
-        b"L3:0=3",
-    )?;
-    assert_eq!(rt; reply, Reply::Ok);
+    opening(rt, alloc, &parameters)
+}
 
-    // A new group gets the shareable bits, those of shareable groups, and the unused ones.
+#[test]
+fn new_groups_get_every_way(rt: HostRuntime) -> Result<(), Fail> {
+    let mut tree = two_domains(&rt, rt.alloc())?;
+    let root = DirRef::Root;
+    let kind = FileKind::Schemata;
+    let (reply, after) = write(&rt, rt.alloc(), &mut tree, root, kind, b"L3:0=3")?;
+    assert_eq!(rt; reply, Reply::Ok);
+    assert_eq!(rt; after.as_slice(), [Follow::Raise { domain: 0 }].as_slice());
+
+    // The shareable bits, those of shareable groups, and the unused ones.
     assert_eq!(rt; mkdir(&rt, &mut tree, A), Reply::Ok);
     assert_eq!(rt; masks(&rt, &tree, 1), (15, 15));
-    let (reply, after) = write(
-        &rt,
-        rt.alloc(),
-        &mut tree,
-        a,
-        FileKind::Schemata,
-        b" L3:1=6;0=8 ",
-    )?;
-    assert_eq!(rt; reply, Reply::Ok);
-    let each = [Follow::Raise { domain: 0 }, Follow::Raise { domain: 1 }];
-    assert_eq!(rt; after.as_slice(), each.as_slice());
-    assert_eq!(rt; masks(&rt, &tree, 1), (8, 6));
     assert_eq!(rt; masks(&rt, &tree, 0), (3, 15));
-    let (reply, _) = write(&rt, rt.alloc(), &mut tree, a, FileKind::Size, b"1")?;
-    assert_eq!(rt; reply, refused(Errno::Eacces, Why::OnlyRead));
-    assert_eq!(rt; tree.status(), refused(Errno::Eacces, Why::OnlyRead));
-
-    // Its one RMID is counted in both domains when it goes.
-    let gone = Op::Rmdir { path: A };
-    assert_eq!(rt; tree.needs(&gone), 2);
-    assert_eq!(rt; tree.need(&gone, 1), (1, 1));
     assert!(rt; 0 < tree.machine().cpus);
     let tag = tree.resolve(1, 0);
     assert_eq!(rt;
         (tag.owner, tag.class, tag.rmid, tag.mask, tag.epoch),
-        (Gid(0), 0, 0, 3, 5)
+        (Gid(0), 0, 0, 3, 2)
     );
+    Ok(())
+}
+
+#[test]
+fn masks_of_one_group_are_written(rt: HostRuntime) -> Result<(), Fail> {
+    let mut tree = two_domains(&rt, rt.alloc())?;
+    let a = DirRef::Ctrl(NameId(0));
+    let kind = FileKind::Schemata;
+    let (reply, after) = write(&rt, rt.alloc(), &mut tree, a, kind, b"L3:0=1")?;
+    assert_eq!(rt; reply, refused(Errno::Enoent, Why::NoSuchPath));
+    assert!(rt; after.is_empty());
+    assert_eq!(rt; mkdir(&rt, &mut tree, A), Reply::Ok);
+    let (reply, after) = write(&rt, rt.alloc(), &mut tree, a, kind, b" L3:1=6;0=8 ")?;
+    assert_eq!(rt; reply, Reply::Ok);
+    let each = [Follow::Raise { domain: 0 }, Follow::Raise { domain: 1 }];
+    assert_eq!(rt; after.as_slice(), each.as_slice());
+    assert_eq!(rt; masks(&rt, &tree, 1), (8, 6));
+    assert_eq!(rt; masks(&rt, &tree, 0), (15, 15));
+    let (reply, _) = write(&rt, rt.alloc(), &mut tree, a, FileKind::Size, b"1")?;
+    assert_eq!(rt; reply, refused(Errno::Eacces, Why::OnlyRead));
+    assert_eq!(rt; tree.status(), refused(Errno::Eacces, Why::OnlyRead));
+    Ok(())
+}
+
+#[test]
+fn a_removal_needs_counts(rt: HostRuntime) -> Result<(), Fail> {
+    let mut tree = two_domains(&rt, rt.alloc())?;
+    let gone = Op::Rmdir { path: A };
+    assert_eq!(rt; tree.needs(&gone), 0);
+    assert_eq!(rt; mkdir(&rt, &mut tree, A), Reply::Ok);
+
+    // Its one RMID, in both domains.
+    assert_eq!(rt; tree.needs(&gone), 2);
+    assert_eq!(rt; tree.need(&gone, 0), (0, 1));
+    assert_eq!(rt; tree.need(&gone, 1), (1, 1));
     Ok(())
 }

@@ -29,6 +29,8 @@ impl Tree {
         ensures sound { IsSound self.new.machine self.new.state }
     {
         let answer = self.take(op, looks);
+
+        // What the type keeps makes the new state a sound one.
         let _ = &self.machine;
         answer
     }

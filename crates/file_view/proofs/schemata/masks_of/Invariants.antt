@@ -1,6 +1,6 @@
 use Rattle.std.proofs.Common.{◌≡◌, ◌<◌, ◌^◌, map, length}
 use Rattle.std.specs.List.{All, range_with_len}
-use Rattle.group_tree.specs.Records.{mask_in}
+use Rattle.tree_core.specs.Named.{mask_in}
 use Rattle.schemata_text.specs.declared.assignment.Assignment.{Assignment}
 use Rattle.file_view.proofs.schemata.masks_of.Given as goal
 

@@ -1,6 +1,7 @@
 -- The names of groups are known ones, and stay so after a command whose names are known.
-use Rattle.std.proofs.Common.{◌≡◌, ℕ, zero, suc, ◌<◌, true, false, List, [], ◌∷◌, length, get_or, cond, not, refl, Option, Some, None, Result, Ok, Err, sym, ◌∙◌, arith}
-use Rattle.std.specs.Prelude.{IfSome}
+use Rattle.std.proofs.Common.{◌≡◌, ℕ, zero, suc, ◌<◌, true, false, List, [], ◌∷◌, length, get_or, cond, not, refl, Option, Some, None, Result, Ok, Err, sym, ◌∙◌, subst, arith}
+use Rattle.std.specs.Prelude.{IfSome, slice_get}
+use Rattle.std.proofs.lemmas.Option.{get_or_from_slice_get, slice_get_within}
 use Rattle.std.specs.List.{All, position_or_len}
 use Rattle.std.proofs.lemmas.List.Elements.{All-append, All-filter, All-map}
 use Rattle.std.proofs.lemmas.List.Folds.{find_at}
@@ -23,8 +24,12 @@ use Rattle.tree_core.specs.Existing.{directory_gid, group_of}
 use Rattle.tree_core.specs.Refusals.{Refusal, refusal, schemata_read}
 use Rattle.tree_core.specs.State.{State, opening}
 use Rattle.tree_core.specs.Steps.{accepted, assigned, sets_status, goes_with, made, masks_written, new_control, next, removed, removed_at, reply_of, unless, with_masks, written}
-use Rattle.file_view.specs.Texts.{AreNamed}
-use Rattle.file_view.proofs.NameLines.{named_at}
+use Rattle.tree_core.specs.Named.{AreNamed}
+
+-- a group at a place is named, as each is
+pub named_at : (names : List (List ℕ)) (groups : List Group) (k : ℕ) (g : Group) → AreNamed names groups → slice_get groups k ≡ Some g → IfSome g.name (λ id. id.0 < length names)
+named_at names groups k g all is =
+    subst (λ (x : Group). IfSome x.name (λ id. id.0 < length names)) (get_or_from_slice_get groups k g g is) (all k g (slice_get_within groups k g is))
 
 -- a group without a name, or with one of these
 abbrev pub IsNamed : List (List ℕ) → Group → Type 0

@@ -1,0 +1,31 @@
+-- The groups of a state as the crates above see them, and their names.
+use Rattle.std.specs.Prelude.{ℕ, Bool, ◌<◌, IfSome, List, length}
+use Rattle.std.specs.List.{All}
+use Rattle.group_tree.specs.Records as records
+use Rattle.group_tree.specs.declared.group.Group as groups
+use Rattle.group_tree.specs.declared.group_kind.GroupKind as kinds
+use Rattle.rc_base.specs.declared.names.Gid.{Gid}
+
+-- the record of a group
+abbrev pub Group : Type 0
+Group = groups.Group
+
+-- a control group, or a monitor group of a control group
+abbrev pub GroupKind : Type 0
+GroupKind = kinds.GroupKind
+
+-- whether this is the kind of a control group
+abbrev pub is_control : GroupKind → Bool
+is_control kind = records.is_control kind
+
+-- whether this is the kind of a monitor group of a control group
+abbrev pub is_monitor_of : Gid → GroupKind → Bool
+is_monitor_of control kind = records.is_monitor_of control kind
+
+-- the mask of a group in a domain
+abbrev pub mask_in : ℕ → Group → ℕ
+mask_in domain g = records.mask_in domain g
+
+-- the name of every group is one of these
+abbrev pub AreNamed : List (List ℕ) → List Group → Type 0
+AreNamed names groups = All (λ (g : Group). IfSome g.name (λ id. id.0 < length names)) groups
