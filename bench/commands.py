@@ -7,12 +7,9 @@ A third of the commands make and remove groups, and the others write and read th
 table: commands, bytes of script, seconds of processor time, commands a second, and the highest memory in MB. Run it on an idle
 machine.
 """
-import os
 import random
-import sys
-import tempfile
 
-from accesses import measure
+from timing import table
 
 GROUPS = [f"/tenant{number}" for number in range(12)]
 
@@ -40,19 +37,5 @@ def write_commands(script, commands):
         script.write(command(numbers, alive))
 
 
-def main():
-    if len(sys.argv) != 2:
-        sys.exit(__doc__)
-    print("commands     bytes  seconds  commands/s    MB")
-    with tempfile.TemporaryDirectory() as folder:
-        path = os.path.join(folder, "script")
-        for commands in (75_000, 150_000, 300_000):
-            with open(path, "w") as script:
-                write_commands(script, commands)
-            seconds, memory = measure(sys.argv[1], path)
-            size = os.path.getsize(path)
-            print(f"{commands:8}  {size:8}  {seconds:7.2f}  {commands / seconds:10.0f}  {memory:4.0f}")
-
-
 if __name__ == "__main__":
-    main()
+    table(__doc__, [("commands", size, write_commands) for size in (75_000, 150_000, 300_000)])
