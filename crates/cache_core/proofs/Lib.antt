@@ -1,6 +1,11 @@
-pub mod Forming
+pub mod Accesses
+pub mod Commands
+pub mod Counts
+pub mod Formed
 pub mod Histories
+pub mod KeptPlaces
 pub mod Masks
-pub mod Occupied
-pub mod Summing
-pub mod Touching
+pub mod Occupancy
+pub mod Sums
+pub mod Uses
+pub mod laws

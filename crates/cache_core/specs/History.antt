@@ -9,7 +9,7 @@ use Rattle.cache_core.specs.declared.entry.What.{What}
 use Rattle.cache_core.specs.declared.entry.What.TheVariants.{Access, Raise, Flush, Lock, Look}
 use Rattle.cache_core.specs.declared.entry.SliceEntry.{SliceEntry}
 use Rattle.cache_core.specs.Fills.{Resident, IsOutcome}
-use Rattle.cache_core.specs.Sums.{sum_below, one_if}
+use Rattle.lists.specs.Sums.{sum_below, one_if}
 
 -- A slice: how many sets and ways its domain has, into how many slices the sets are divided, and which of these it is.
 pub record Shape : Type 0 where
@@ -119,9 +119,9 @@ MayHappen m before epoch (Lock mask first_line) = floor_of before ≤ epoch
 MayHappen m before epoch (Look rmid lines) = lines ≡ lines_of m before rmid
 
 -- an entry that may follow these
-abbrev pub MayFollow : Shape → List SliceEntry → SliceEntry → Type 0
-MayFollow m before e = MayHappen m before e.epoch e.what
+abbrev pub EntryMayFollow : Shape → List SliceEntry → SliceEntry → Type 0
+EntryMayFollow m before e = MayHappen m before e.epoch e.what
 
 -- the entries are a legal history of this slice
 abbrev pub IsLegal : Shape → List SliceEntry → Type 0
-IsLegal m entries = EachFollows (MayFollow m) entries
+IsLegal m entries = EachFollows (EntryMayFollow m) entries

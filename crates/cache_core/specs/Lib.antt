@@ -2,4 +2,3 @@ pub mod Fills
 pub mod History
 pub mod Places
 pub mod Stands
-pub mod Sums

@@ -5,7 +5,7 @@ use Rattle.cbm.specs.Masks.{has_way}
 use Rattle.cache_core.specs.declared.place.Place.{Place}
 use Rattle.cache_core.specs.Fills.{Resident}
 use Rattle.cache_core.specs.History.{Shape, is_own, is_of}
-use Rattle.cache_core.specs.Sums.{sum_below, one_if}
+use Rattle.lists.specs.Sums.{sum_below, one_if}
 
 -- the place of a way
 abbrev pub place_in : List (Option Place) → ℕ → Option Place
@@ -21,7 +21,7 @@ stamp_in places way = option_map_or (λ (p : Place). p.used) (place_in places wa
 
 -- What contracts see of a cache: its shape, how many RMIDs its machine has, what each place holds and when it was used,
 -- the floor, and how many entries it has made.
-pub record State : Type 0 where
+pub record CacheValue : Type 0 where
   pub shape : Shape
   pub rmids : ℕ
   pub places : List (List (Option Place))

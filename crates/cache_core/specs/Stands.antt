@@ -9,11 +9,11 @@ use Rattle.cache_core.specs.declared.place.Place.{Place}
 use Rattle.rc_base.specs.declared.names.Tag.{Tag}
 use Rattle.cache_core.specs.Fills.{Holds, IsVictim}
 use Rattle.cache_core.specs.History.{IsOwn, held, used, floor_of, IsLegal}
-use Rattle.cache_core.specs.Places.{State, set_in, resident_in, stamp_in, place_in}
+use Rattle.cache_core.specs.Places.{set_in, resident_in, stamp_in, place_in, CacheValue}
 
 -- The cache stands for a legal history: each place of its sets holds what the history left there, the places of a set are
 -- as old as they are by the history, and the floor is the history's.
-pub record StandsFor (cache : State) (history : List SliceEntry) : Type 0 where
+pub record StandsFor (cache : CacheValue) (history : List SliceEntry) : Type 0 where
   pub legal : IsLegal cache.shape history
   pub holds : (set way : ℕ) → IsOwn cache.shape set → way < cache.shape.ways → resident_in (set_in cache.places set) way ≡ held cache.shape history set way
   pub ages :
@@ -27,11 +27,11 @@ abbrev pub entry : ℕ → ℕ → ℕ → What → SliceEntry
 entry thread op epoch what = record { thread = thread; op = op; epoch = epoch; what = what }
 
 -- Whatever the cache stood for, it now stands for that with this entry added.
-abbrev pub Adds : State → State → ℕ → What → Type 0
+abbrev pub Adds : CacheValue → CacheValue → ℕ → What → Type 0
 Adds old new epoch what = (thread op : ℕ) (history : List SliceEntry) → StandsFor old history → StandsFor new (history ++ entry thread op epoch what ∷ [])
 
 -- What an access does: nothing below the floor, and else one entry, with the hit and the way that are answered.
-abbrev pub Accesses : State → State → Tag → ℕ → Touched → Type 0
+abbrev pub Accesses : CacheValue → CacheValue → Tag → ℕ → Touched → Type 0
 Accesses old new tag line (Hit way) = Adds old new tag.epoch (Access tag.owner tag.rmid tag.mask line true way)
 Accesses old new tag line (Filled way) = Adds old new tag.epoch (Access tag.owner tag.rmid tag.mask line false way)
 Accesses old new tag line (Stale floor) = (new ≡ old) × (floor ≡ old.floor)

@@ -6,7 +6,7 @@ ghost use Rattle.cache_core.specs.declared.entry.What.TheVariants.{Raise, Flush,
 ghost use Rattle.cache_core.specs.History.{IsOwn, is_own, shape_of, lines_of, valid_of};
 ghost use Rattle.cache_core.specs.Places.{set_in, place_in};
 ghost use Rattle.cache_core.specs.Stands.{Accesses, Adds, StandsFor, IsStale, Touches, clock_after, entry};
-ghost use Rattle.cache_core.specs.Sums.{sum_below};
+ghost use Rattle.lists.specs.Sums.{sum_below};
 
 use crate::cache_set::CacheSet;
 use crate::place::Place;
@@ -30,9 +30,9 @@ pub struct Cache {
 impl Model for Cache {
     ghost use Rattle.machine.specs.Maps.{parameters_of};
     ghost use Rattle.cache_core.specs.History.{shape_of};
-    ghost use Rattle.cache_core.specs.Places.{State, IsFormed};
+    ghost use Rattle.cache_core.specs.Places.{IsFormed, CacheValue};
 
-    ghost Value = { State };
+    ghost Value = { CacheValue };
 
     ghost view = { λ c. record { shape = shape_of (parameters_of c.machine) c.slice; rmids = c.machine.rmids; places = c.sets.items; floor = c.floor; clock = c.clock } };
 
@@ -102,7 +102,7 @@ impl Cache {
     }
 
     /// How many places hold a line of this RMID, one of the machine (SDM volume 3, cache monitoring: occupancy in lines).
-    #[tactic(auto, using(crate::proofs::Summing::sum_below_next))]
+    #[tactic(auto, using(crate::proofs::Sums::sums))]
     pub fn look(&self, rmid: u16) -> u64
         requires rmid { rmid < self.now.rmids }
         ensures count { (history : List SliceEntry) → StandsFor self.now history → result ≡ lines_of self.now.shape history rmid }
@@ -116,7 +116,7 @@ impl Cache {
     }
 
     /// How many places hold a line, whatever its RMID.
-    #[tactic(auto, using(crate::proofs::Summing::sum_below_next))]
+    #[tactic(auto, using(crate::proofs::Sums::sums))]
     pub fn valid(&self) -> u64
         ensures count { (history : List SliceEntry) → StandsFor self.now history → result ≡ valid_of self.now.shape history }
         ensures sum { (history : List SliceEntry) → StandsFor self.now history → sum_below self.now.rmids (lines_of self.now.shape history) ≡ result }

@@ -126,7 +126,7 @@ impl CacheSet {
     }
 
     /// How many ways hold a line of this RMID.
-    #[tactic(auto, using(crate::proofs::Summing::sum_below_next))]
+    #[tactic(auto, using(crate::proofs::Sums::sums))]
     pub fn lines_of(&self, rmid: u16) -> u64
         ensures count { result ≡ lines_in self.now (length self.now) rmid }
         ensures bound { result ≤ 32 }
@@ -143,7 +143,7 @@ impl CacheSet {
     }
 
     /// How many ways hold a line.
-    #[tactic(auto, using(crate::proofs::Summing::sum_below_next))]
+    #[tactic(auto, using(crate::proofs::Sums::sums))]
     pub fn filled(&self) -> u64
         ensures count { result ≡ filled_in self.now (length self.now) }
         ensures bound { result ≤ 32 }

@@ -7,8 +7,8 @@ use Rattle.std.proofs.lemmas.Nat.Bits.{bit_at_above}
 use Rattle.cbm.specs.Laws.{Missing}
 use Rattle.cbm.specs.Masks.{has_way, lowest_run, ways_of}
 use Rattle.cbm.specs.Validity.{has_gaps}
-use Rattle.cbm.proofs.Checking.{lowest_run-whole}
-use Rattle.cbm.proofs.Ranges.{length-filter-some}
+use Rattle.cbm.proofs.Faults.{lowest_run-whole}
+use Rattle.lists.proofs.Filters.{length-filter_some}
 
 -- the numbers of a range that pass a test
 abbrev passing : (ℕ → Bool) → ℕ → ℕ → List ℕ
@@ -119,7 +119,7 @@ all_pass p a (suc n) whole low mid high least above under within low_passes high
       | inl lt ↦ more whole_here low (omega arith) above low_passes
       | inr le ↦ (let here : low ≡ a = omega arith in absurd (true_false (sym low_passes ∙ ap p here ∙ sym e)))
     ]
-    at true e whole_here (inl none) more = absurd (omega (arith, length-filter-some p (a + 1) n high (omega arith) (omega arith) high_passes, ap length none))
+    at true e whole_here (inl none) more = absurd (omega (arith, length-filter_some p (a + 1) n high (omega arith) (omega arith) high_passes, ap length none))
     at true e whole_here (inr f) more = first_is more f.0 f.1 f.2 (subst (λ (xs : List ℕ). lowest_run (a ∷ xs) ≡ a ∷ xs) f.2.list whole_here)
 
 -- ---- masks

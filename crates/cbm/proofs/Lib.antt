@@ -1,6 +1,4 @@
-pub mod Checking
-pub mod Finding
+pub mod Counts
+pub mod Faults
 pub mod Gaps
-pub mod Overlapping
-pub mod Ranges
-pub mod Ways
+pub mod laws

@@ -3,8 +3,8 @@
 
 pub mod fault;
 pub mod geometry;
-pub mod laws;
 pub mod sets;
+pub mod theorems;
 pub mod validity;
 
 pub use fault::CbmFault;

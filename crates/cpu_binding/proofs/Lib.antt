@@ -1,2 +1,2 @@
-pub mod Changing
-pub mod Collecting
+pub mod Changes
+pub mod Members

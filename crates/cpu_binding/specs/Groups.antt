@@ -1,20 +1,17 @@
 -- CPUs and their groups: the list has the groups of CPU 0, CPU 1 and so on.
 use Rattle.std.specs.Prelude.{◌≡◌, ℕ, ◌<◌, ◌≤◌, Bool, true, false, ◌==◌, List, length, Option, Some, None, slice_index_or, if◌then◌else◌}
+use Rattle.rc_base.specs.Gids.{default_gid}
 use Rattle.rc_base.specs.declared.names.Gid.{Gid}
 use Rattle.cpu_binding.specs.declared.groups.CpuGroups.{CpuGroups}
 use Rattle.cpu_binding.specs.Sets.{has_cpu}
-
--- the default group
-abbrev pub default_group : Gid
-default_group = record { 0 = 0 }
 
 -- in a control group, and in no monitor group of it
 abbrev pub joined : Gid → CpuGroups
 joined group = record { control = group; monitor = None }
 
 -- a CPU that is in no group but the default group
-abbrev pub opening : CpuGroups
-opening = joined default_group
+abbrev pub opening_cpu : CpuGroups
+opening_cpu = joined default_gid
 
 -- whether the group is the CPU's control group
 abbrev pub has_control : Gid → CpuGroups → Bool
@@ -30,7 +27,7 @@ has_monitor group g = is_group group g.monitor
 
 -- A control group takes these CPUs: they leave their former groups and its own monitor groups; the CPUs that it drops go to the default group.
 abbrev pub after_control : Gid → ℕ → ℕ → CpuGroups → CpuGroups
-after_control group set cpu g = if has_cpu set cpu then joined group else if has_control group g then opening else g
+after_control group set cpu g = if has_cpu set cpu then joined group else if has_control group g then opening_cpu else g
 
 -- A monitor group takes these CPUs of its parent: they leave its siblings; the CPUs that it drops count at the parent.
 abbrev pub after_monitor : Gid → ℕ → ℕ → CpuGroups → CpuGroups
@@ -45,11 +42,11 @@ pub record Changes (how : ℕ → CpuGroups → CpuGroups) (before after : List 
 
 -- some CPU of the default group is not in the set
 abbrev pub DropsSome : ℕ → List CpuGroups → Type 0
-DropsSome set groups = (cpu : ℕ) × (cpu < length groups) × (has_control default_group (slice_index_or groups cpu opening) ≡ true) × (has_cpu set cpu ≡ false)
+DropsSome set groups = (cpu : ℕ) × (cpu < length groups) × (has_control default_gid (slice_index_or groups cpu opening_cpu) ≡ true) × (has_cpu set cpu ≡ false)
 
 -- some CPU of the set is not the parent's
 abbrev pub HasOthers : Gid → ℕ → List CpuGroups → Type 0
-HasOthers parent set groups = (cpu : ℕ) × (cpu < length groups) × (has_control parent (slice_index_or groups cpu opening) ≡ false) × (has_cpu set cpu ≡ true)
+HasOthers parent set groups = (cpu : ℕ) × (cpu < length groups) × (has_control parent (slice_index_or groups cpu opening_cpu) ≡ false) × (has_cpu set cpu ≡ true)
 
 -- the CPUs of the set are those that pass the test
 pub record IsSetOf (test : CpuGroups → Bool) (groups : List CpuGroups) (set : ℕ) : Type 0 where

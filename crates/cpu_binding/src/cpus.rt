@@ -2,7 +2,8 @@
 ghost use Rattle.cpu_binding.specs.declared.groups.CpuGroups.{CpuGroups};
 ghost use Rattle.std.specs.Prelude.{◌≡◌, ◌≢◌, ◌↔◌, ◌<◌, ◌≤◌, ℕ, replicate, length, unwrap_or, slice_index_or, IsErr, OnOk, OnErr};
 ghost use Rattle.std.specs.List.{slice_get};
-ghost use Rattle.cpu_binding.specs.Groups.{Changes, DropsSome, HasOthers, IsSetOf, after_control, after_monitor, default_group, has_control, has_monitor, opening};
+ghost use Rattle.cpu_binding.specs.Groups.{Changes, DropsSome, HasOthers, IsSetOf, after_control, after_monitor, has_control, has_monitor, opening_cpu};
+ghost use Rattle.rc_base.specs.Gids.{default_gid};
 
 use crate::groups::CpuGroups;
 use crate::tables::{control_set, drops_some, give_control, give_monitor, has_others, monitor_set};
@@ -39,7 +40,7 @@ impl Cpus {
     /// So many CPUs, from 1 to 64, all in the default group.
     pub fn create(cpus: u8) -> Cpus
         requires { cpus ≤ 64 }
-        ensures { result ≡ replicate cpus opening }
+        ensures { result ≡ replicate cpus opening_cpu }
     {
         Cpus {
             groups: [CpuGroups::opening(); 64],
@@ -50,10 +51,10 @@ impl Cpus {
     /// Gives a control group this set of CPUs, bit c for CPU c. All its own monitor groups lose their CPUs.
     pub fn set_ctrl(&mut self, group: Gid, set: u64) -> Result<(), DropsDefault>
         ensures ok { OnOk result (Changes (after_control group set) self.old self.new) }
-        ensures refused { IsErr result ↔ ((group ≡ default_group) × DropsSome set self.old) }
+        ensures refused { IsErr result ↔ ((group ≡ default_gid) × DropsSome set self.old) }
         ensures err { OnErr result (self.new ≡ self.old) }
     {
-        if group == Gid(0) && drops_some(&self.groups[..self.count], set) {
+        if group.is_default() && drops_some(&self.groups[..self.count], set) {
             return Err(DropsDefault);
         }
         give_control(&mut self.groups, self.count, group, set);
@@ -75,7 +76,7 @@ impl Cpus {
 
     /// Gives all CPUs of a control group to the default group.
     pub fn remove_ctrl(&mut self, group: Gid)
-        requires { group ≢ default_group }
+        requires { group ≢ default_gid }
         ensures { Changes (after_control group 0) self.old self.new }
     {
         give_control(&mut self.groups, self.count, group, 0);

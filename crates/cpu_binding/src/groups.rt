@@ -1,6 +1,6 @@
 //! The groups of one CPU.
 ghost use Rattle.std.specs.Prelude.{◌≡◌};
-ghost use Rattle.cpu_binding.specs.Groups.{has_control, has_monitor, opening};
+ghost use Rattle.cpu_binding.specs.Groups.{has_control, has_monitor, opening_cpu};
 
 use rc_base::Gid;
 
@@ -16,10 +16,10 @@ pub struct CpuGroups {
 impl CpuGroups {
     /// A CPU that is in no group but the default group.
     pub(crate) fn opening() -> CpuGroups
-        ensures { result ≡ opening }
+        ensures { result ≡ opening_cpu }
     {
         CpuGroups {
-            control: Gid(0),
+            control: Gid::DEFAULT,
             monitor: None,
         }
     }

@@ -1,6 +1,6 @@
 //! Walks over the table of the CPUs.
 ghost use Rattle.std.specs.Prelude.{◌≡◌, ◌↔◌, ◌<◌, ◌≤◌, length, take, IsTrue, Some, if◌then◌else◌};
-ghost use Rattle.cpu_binding.specs.Groups.{Changes, DropsSome, HasOthers, IsSetOf, after_control, after_monitor, has_control, has_monitor, joined, opening};
+ghost use Rattle.cpu_binding.specs.Groups.{Changes, DropsSome, HasOthers, IsSetOf, after_control, after_monitor, has_control, has_monitor, joined, opening_cpu};
 
 use crate::groups::CpuGroups;
 use crate::sets::{has_cpu, with_cpu};
@@ -19,7 +19,7 @@ pub(crate) fn give_control(groups: &mut [CpuGroups; 64], count: usize, group: Gi
 
 // The groups of a CPU, after a control group took a set of CPUs that has this one or not.
 fn after_control(g: CpuGroups, group: Gid, is_in: bool) -> CpuGroups
-    ensures { result ≡ (if is_in then joined group else if has_control group g then opening else g) }
+    ensures { result ≡ (if is_in then joined group else if has_control group g then opening_cpu else g) }
 {
     if is_in {
         CpuGroups {
@@ -69,7 +69,7 @@ pub(crate) fn drops_some(groups: &[CpuGroups], set: u64) -> bool
     ensures { IsTrue result ↔ DropsSome set groups.now }
 {
     for (cpu, g) in groups.iter().enumerate() {
-        if g.has_control(Gid(0)) && !has_cpu(set, cpu) {
+        if g.has_control(Gid::DEFAULT) && !has_cpu(set, cpu) {
             return true;
         }
     }

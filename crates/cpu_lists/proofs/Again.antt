@@ -10,9 +10,10 @@ use Rattle.std.proofs.lemmas.Fmt.{decimal_nonempty}
 use Rattle.std.proofs.lemmas.List.Folds.{list_any-append}
 use Rattle.num_text.specs.Numbers.{has_prefix, without_prefix}
 use Rattle.num_text.specs.Printed.{hexadecimal}
-use Rattle.num_text.proofs.Digits.{not_byte, any_digits, as_hex, decimal_digits, hex_digits, hex_value, hex_some, reads_digits}
-use Rattle.num_text.proofs.Pieces.{cut_at, join_cons, split_join, split_none}
-use Rattle.num_text.proofs.Prints.{decimal_reads_back, length-filled}
+use Rattle.num_text.proofs.laws.Digits.{eqb-digit, list_any-digits, AllDigits-hexadecimal_digits, AllDigits-decimal, AllDigits-hexadecimal, digits_value-hexadecimal, length-hexadecimal_some, number_of-digits}
+use Rattle.num_text.proofs.laws.Pieces.{Cut-append, join_with_byte-cons, slice_split-join_with_byte}
+use Rattle.lists.proofs.Cuts.{slice_split-none}
+use Rattle.num_text.proofs.laws.Prints.{decimal_reads_back, length-filled}
 use Rattle.cpu_lists.specs.declared.runs.Run.{Run}
 use Rattle.cpu_lists.specs.Sets.{has, numbers_of, answer_of, Says}
 use Rattle.cpu_lists.specs.Masks.{comma, each, group_of, value_of, cpus_in, mask_cpus}
@@ -22,7 +23,7 @@ use Rattle.cpu_lists.proofs.Bits.{has_above}
 use Rattle.cpu_lists.proofs.Least.{says_all}
 use Rattle.cpu_lists.proofs.Members.{among-numbers_of}
 use Rattle.cpu_lists.proofs.Texts.{mask_is, list_is, empty_list}
-use Rattle.cpu_lists.proofs.Grouping.{one_group, two_groups}
+use Rattle.cpu_lists.proofs.MaskTexts.{one_group, two_groups}
 
 -- the numbers of a set of CPUs that exist are the set
 says_set : (cpus len set : ℕ) → cpus ≤ len → set < 2 ^ cpus → Says (Ok set) (answer_of cpus (Some (numbers_of len set)))
@@ -61,23 +62,23 @@ plain_text cs h = rw (no_prefix cs h) refl
         behind false e = e
 
 no_comma : (c : ℕ) → digit_value c < 16 → comma c ≡ false
-no_comma c h = not_byte c 44 refl h
+no_comma c h = eqb-digit c 44 refl h
 
 group_again : (width n : ℕ) → width ≤ 8 → n < 2 ^ 32 → group_of (hexadecimal width n) ≡ Some n
 group_again width n narrow small =
     let wide : n < 2 ^ 64 = omega arith in
     let text = hexadecimal width n in
     let short : length text ≤ 8 = length-filled 16 7 width n (omega arith) small wide narrow in
-    rw (le-leb (length text) 8 short) (reads_digits 16 text (hex_some width n wide) (hex_digits width n wide) ∙ ap Some (hex_value width n wide))
+    rw (le-leb (length text) 8 short) (number_of-digits 16 text (length-hexadecimal_some width n wide) (AllDigits-hexadecimal width n wide) ∙ ap Some (digits_value-hexadecimal width n wide))
 
 mask_one : (width set : ℕ) → width ≤ 8 → set < 2 ^ 32 → mask_cpus (hexadecimal width set) ≡ Some (numbers_of 32 set)
 mask_one width set narrow small =
     let wide : set < 2 ^ 64 = omega arith in
     let text = hexadecimal width set in
-    let digits : AllDigits 16 text = hex_digits width set wide in
-    let plain : without_prefix text ≡ text = plain_text text (any_digits is_x no_x text digits) in
-    let one : slice_split comma text ≡ text ∷ [] = split_none comma text (any_digits comma no_comma text digits) in
-    mask_is text (hex_some width set wide)
+    let digits : AllDigits 16 text = AllDigits-hexadecimal width set wide in
+    let plain : without_prefix text ≡ text = plain_text text (list_any-digits is_x no_x text digits) in
+    let one : slice_split comma text ≡ text ∷ [] = slice_split-none comma text (list_any-digits comma no_comma text digits) in
+    mask_is text (length-hexadecimal_some width set wide)
     ∙ ap (λ (t : List ℕ). option_map cpus_in (each group_of (slice_split comma t))) plain
     ∙ ap (λ (pieces : List (List ℕ)). option_map cpus_in (each group_of pieces)) one
     ∙ ap (option_map cpus_in) (single (group_again width set narrow small))
@@ -94,11 +95,11 @@ mask_two width high low narrow high_small low_small =
     let first = hexadecimal width high in
     let second = hexadecimal 8 low in
     let text = first ++ 44 ∷ second in
-    let first_digits : AllDigits 16 first = hex_digits width high (omega arith) in
-    let second_digits : AllDigits 16 second = hex_digits 8 low (omega arith) in
-    let no_x_text : list_any is_x text ≡ false = list_any-append is_x first (44 ∷ second) ∙ rw (any_digits is_x no_x first first_digits, any_digits is_x no_x second second_digits) refl in
+    let first_digits : AllDigits 16 first = AllDigits-hexadecimal width high (omega arith) in
+    let second_digits : AllDigits 16 second = AllDigits-hexadecimal 8 low (omega arith) in
+    let no_x_text : list_any is_x text ≡ false = list_any-append is_x first (44 ∷ second) ∙ rw (list_any-digits is_x no_x first first_digits, list_any-digits is_x no_x second second_digits) refl in
     let plain : without_prefix text ≡ text = plain_text text no_x_text in
-    let parts : slice_split comma text ≡ first ∷ second ∷ [] = split_join comma 44 refl (first ∷ second ∷ []) (omega arith) (any_digits comma no_comma first first_digits, (any_digits comma no_comma second second_digits, tt)) in
+    let parts : slice_split comma text ≡ first ∷ second ∷ [] = slice_split-join_with_byte comma 44 refl (first ∷ second ∷ []) (omega arith) (list_any-digits comma no_comma first first_digits, (list_any-digits comma no_comma second second_digits, tt)) in
     mask_is text (omega (arith, length-append first (44 ∷ second)))
     ∙ ap (λ (t : List ℕ). option_map cpus_in (each group_of (slice_split comma t))) plain
     ∙ ap (λ (pieces : List (List ℕ)). option_map cpus_in (each group_of pieces)) parts
@@ -172,7 +173,7 @@ number_again : (n : ℕ) → n < 64 → number (decimal n) ≡ Some n
 number_again n small = (let reading = decimal_reads_back n (omega arith) in rw (reading, lt-ltb n (2 ^ 64) (omega arith)) refl)
 
 no_dash : (c : ℕ) → digit_value c < 16 → dash c ≡ false
-no_dash c h = not_byte c 45 refl h
+no_dash c h = eqb-digit c 45 refl h
 
 run_again : (run : Run) → IsRun run → run_of (run_text run) ≡ Some run
 run_again run is = step (eqb run.first run.last) refl
@@ -181,12 +182,12 @@ run_again run is = step (eqb run.first run.last) refl
     step true e =
         let same : run.first ≡ run.last = eqb-true run.first run.last (sym e) in
         let small : run.first < 64 = (let high = is.small in omega arith) in
-        let plain = any_digits dash no_dash (decimal run.first) (as_hex (decimal run.first) (decimal_digits run.first (omega arith))) in
+        let plain = list_any-digits dash no_dash (decimal run.first) (AllDigits-hexadecimal_digits (decimal run.first) (AllDigits-decimal run.first (omega arith))) in
         rw (plain, number_again run.first small) (ap (λ (n : ℕ). Some (record { first = run.first; last = n })) same)
     step false e =
         let high = is.small in
         let order = is.order in
-        let cut = cut_at dash (decimal run.first) 45 (decimal run.last) (any_digits dash no_dash (decimal run.first) (as_hex (decimal run.first) (decimal_digits run.first (omega arith)))) refl in
+        let cut = Cut-append dash (decimal run.first) 45 (decimal run.last) (list_any-digits dash no_dash (decimal run.first) (AllDigits-hexadecimal_digits (decimal run.first) (AllDigits-decimal run.first (omega arith)))) refl in
         rw (cut.any, cut.before, cut.behind, number_again run.first (omega arith), number_again run.last high, le-leb run.first run.last order) refl
 
 runs_again : (runs : List Run) → AllByRecursion IsRun runs → each run_of (map run_text runs) ≡ Some runs
@@ -197,7 +198,7 @@ plain_run : (run : Run) → IsRun run → list_any comma (run_text run) ≡ fals
 plain_run run is = step (eqb run.first run.last)
   where
     plain : (n : ℕ) → n < 64 → list_any comma (decimal n) ≡ false
-    plain n small = any_digits comma no_comma (decimal n) (as_hex (decimal n) (decimal_digits n (omega arith)))
+    plain n small = list_any-digits comma no_comma (decimal n) (AllDigits-hexadecimal_digits (decimal n) (AllDigits-decimal n (omega arith)))
 
     first_small : run.first < 64
     first_small = (let order = is.order in let high = is.small in omega arith)
@@ -225,8 +226,8 @@ list_again [] all = empty_list
 list_again (run ∷ runs) all =
     let pieces = map run_text (run ∷ runs) in
     let text = join_with_byte 44 pieces in
-    let some : 0 < length text = subst (λ (t : List ℕ). 0 < length t) (sym (join_cons 44 (run_text run) (map run_text runs))) (omega (arith, some_run run all.0, length-append (run_text run) (flat_map (λ (y : List ℕ). 44 ∷ y) (map run_text runs)))) in
-    let parts : slice_split comma text ≡ pieces = split_join comma 44 refl pieces (omega arith) (plain_runs (run ∷ runs) all) in
+    let some : 0 < length text = subst (λ (t : List ℕ). 0 < length t) (sym (join_with_byte-cons 44 (run_text run) (map run_text runs))) (omega (arith, some_run run all.0, length-append (run_text run) (flat_map (λ (y : List ℕ). 44 ∷ y) (map run_text runs)))) in
+    let parts : slice_split comma text ≡ pieces = slice_split-join_with_byte comma 44 refl pieces (omega arith) (plain_runs (run ∷ runs) all) in
     list_is text some
     ∙ ap (λ (ps : List (List ℕ)). option_map (flat_map numbers_in) (each run_of ps)) parts
     ∙ ap (option_map (flat_map numbers_in)) (runs_again (run ∷ runs) all)

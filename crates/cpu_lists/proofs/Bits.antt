@@ -3,10 +3,8 @@ use Rattle.std.proofs.Common.{◌≡◌, ℕ, ◌+◌, ◌-◌, ◌*◌, ◌/◌
 use Rattle.std.specs.Int.{bit_at}
 use Rattle.std.proofs.Math.Bool.{beq}
 use Rattle.std.proofs.lemmas.Bool.{eq-eqb, eqb-true, eqb-false, cases_lt, cases_Bool}
-use Rattle.std.proofs.lemmas.Nat.{pow_pos}
 use Rattle.std.proofs.lemmas.Nat.Bits.{bit_at_above, bit_at-zero, bit_at-lt, bit_at_or, bit_at_cat_low, bit_at_cat_high, bit_at_set_same, bit_at_set_other, same_from_bits}
-use Rattle.std.proofs.Math.Nat.{lt-mul-div-succ}
-use lib.Pow.{shr-shr}
+use Rattle.lists.proofs.Bits.{bit_at-div_pow, bit_at-mod_pow, div_pow-zero}
 use Rattle.cpu_lists.specs.Sets.{has}
 
 pub one_has : (set k : ℕ) → bit_at set k ≡ 1 → has set k ≡ true
@@ -31,22 +29,11 @@ has_same a b i k e = ap (λ (b : ℕ). eqb b 1) e
 pub has_above : (set m k : ℕ) → set < 2 ^ m → m ≤ k → has set k ≡ false
 has_above set m k small le = zero_has set k (bit_at_above set m k small le)
 
--- a shifted set has the numbers from there on
-pub bit_at-shifted : (set low k : ℕ) → bit_at (set / 2 ^ low) k ≡ bit_at set (low + k)
-bit_at-shifted set low k = ap (λ (n : ℕ). n % 2) (shr-shr set low k)
-
--- the part of a set below a number has the numbers below it
-pub bit_at-part : (set end k : ℕ) → k < end → bit_at (set % 2 ^ end) k ≡ bit_at set k
-bit_at-part set end k lt =
-    let parts : set / 2 ^ end * 2 ^ end + set % 2 ^ end ≡ set = omega arith in
-    sym (ap (λ (n : ℕ). bit_at n k) (sym parts) ∙ bit_at_cat_low (set / 2 ^ end) end (set % 2 ^ end) k lt)
-
 -- a set with no number from m on is below 2 ^ m
 pub below_from_bits : (set m : ℕ) → ((k : ℕ) → m ≤ k → has set k ≡ false) → set < 2 ^ m
 below_from_bits set m h =
-    let none : set / 2 ^ m ≡ 0 = same_from_bits (set / 2 ^ m) 0 (λ i. bit_at-shifted set m i ∙ has_zero set (m + i) (h (m + i) (omega arith)) ∙ sym (bit_at-zero i)) in
-    let up : set < 2 ^ m * (0 + 1) = rw none at (lt-mul-div-succ set (pow_pos m)) in
-    omega arith
+    let none : set / 2 ^ m ≡ 0 = same_from_bits (set / 2 ^ m) 0 (λ i. bit_at-div_pow set m i ∙ has_zero set (m + i) (h (m + i) (omega arith)) ∙ sym (bit_at-zero i)) in
+    div_pow-zero set m none
 
 -- ---- a number put in
 
@@ -65,7 +52,7 @@ put_has set n k within = elim (cases_Bool (eqb k n)) [
     or_false true = refl
     or_false false = refl
 
--- ---- a group behind others: `(low << 32) | group`
+-- ---- a group after others: `(low << 32) | group`
 
 shifted_low : (low : ℕ) → low * 2 ^ 32 % 2 ^ 64 ≡ (low % 2 ^ 32) * 2 ^ 32 + 0
 shifted_low low = omega arith
@@ -74,7 +61,7 @@ pub grouped : (value low group k : ℕ) → ((i : ℕ) → i < 64 → has low i 
 grouped value low group k same small lt = has_same (bit_or (low * 2 ^ 32 % 2 ^ 64) group) (value * 2 ^ 32 + group) k k (bit_at_or (low * 2 ^ 32 % 2 ^ 64) group k ∙ elim (cases_lt k 32) [
   | inl under ↦ (let none : bit_at (low * 2 ^ 32 % 2 ^ 64) k ≡ 0 = ap (λ (n : ℕ). bit_at n k) (shifted_low low) ∙ bit_at_cat_low (low % 2 ^ 32) 32 0 k under ∙ bit_at-zero k in
       ap (λ (b : ℕ). max b (bit_at group k)) none ∙ max_zero (bit_at group k) ∙ sym (bit_at_cat_low value 32 group k under))
-  | inr over ↦ (let front : bit_at (low * 2 ^ 32 % 2 ^ 64) k ≡ bit_at low (k - 32) = ap (λ (n : ℕ). bit_at n k) (shifted_low low) ∙ bit_at_cat_high (low % 2 ^ 32) 32 0 k (omega arith) over ∙ bit_at-part low 32 (k - 32) (omega arith) in
+  | inr over ↦ (let front : bit_at (low * 2 ^ 32 % 2 ^ 64) k ≡ bit_at low (k - 32) = ap (λ (n : ℕ). bit_at n k) (shifted_low low) ∙ bit_at_cat_high (low % 2 ^ 32) 32 0 k (omega arith) over ∙ bit_at-mod_pow low 32 (k - 32) (omega arith) in
       let none : bit_at group k ≡ 0 = bit_at_above group 32 k small over in
       ap (λ (b : ℕ). max b (bit_at group k)) front ∙ ap (λ (b : ℕ). max (bit_at low (k - 32)) b) none ∙ zero_max (bit_at low (k - 32)) ∙ bits (k - 32) (same (k - 32) (omega arith)) ∙ sym (bit_at_cat_high value 32 group k small over))
 ])
@@ -97,4 +84,4 @@ moved_up value group k small le = has_same (value * 2 ^ 32 + group) value k (k -
 
 -- those that moved past 63
 pub moved_out : (low k : ℕ) → has (low / 2 ^ 32) k ≡ has low (k + 32)
-moved_out low k = has_same (low / 2 ^ 32) low k (k + 32) (bit_at-shifted low 32 k ∙ ap (bit_at low) (let e : 32 + k ≡ k + 32 = omega arith in e))
+moved_out low k = has_same (low / 2 ^ 32) low k (k + 32) (bit_at-div_pow low 32 k ∙ ap (bit_at low) (let e : 32 + k ≡ k + 32 = omega arith in e))

@@ -1,7 +1,7 @@
 -- The least of some numbers, and what it says of all of them.
-use Rattle.std.proofs.Common.{◌≡◌, ℕ, ◌-◌, ◌^◌, ◌≤◌, min, Bool, true, false, cond, ◌&&◌, ◌||◌, inl, inr, List, [], ◌∷◌, filter, Option, Some, None, Ok, Err, refl, sym, ap, subst, ◌∙◌, arith}
+use Rattle.std.proofs.Common.{◌≡◌, ℕ, ◌-◌, ◌^◌, ◌≤◌, min, Bool, true, false, cond, ◌&&◌, inl, inr, List, [], ◌∷◌, filter, Option, Some, None, Ok, Err, refl, sym, ap, subst, ◌∙◌, arith}
 use Rattle.std.specs.Prelude.{nat_le, nat_eq}
-use Rattle.std.proofs.lemmas.Bool.{eq-eqb, eqb-true, cases_lt, cases_Bool, or_cases, le-leb, leb-true}
+use Rattle.std.proofs.lemmas.Bool.{and_parts, eq-eqb, eqb-true, cases_lt, cases_Bool, or_cases, or_left, or_right, le-leb, leb-true}
 use Rattle.cpu_lists.specs.declared.fault.CpuFault.TheVariants.{NotACpu}
 use Rattle.cpu_lists.specs.Sets.{is_among, least, lesser, answer_of, judged}
 use Rattle.cpu_lists.specs.Collected.{IsLeastFrom}
@@ -10,14 +10,6 @@ use Rattle.cpu_lists.specs.Collected.{IsLeastFrom}
 pub record IsLeast (numbers : List ℕ) (n : ℕ) : Type 0 where
   pub among : is_among numbers n ≡ true
   pub lowest : (k : ℕ) → is_among numbers k ≡ true → n ≤ k
-
-or_right : (a b : Bool) → b ≡ true → (a || b) ≡ true
-or_right true b e = refl
-or_right false b e = e
-
-or_left : (a b : Bool) → a ≡ true → (a || b) ≡ true
-or_left true b e = refl
-or_left false b e = absurd cc
 
 -- what the least of a list is
 abbrev pub Tells : List ℕ → Option ℕ → Type 0
@@ -46,10 +38,6 @@ tells_cons n ns (Some m) h = record {
 pub least_tells : (numbers : List ℕ) → Tells numbers (least numbers)
 least_tells [] = λ k. refl
 least_tells (n ∷ ns) = tells_cons n ns (least ns) (least_tells ns)
-
-and_true : (a b : Bool) → (a && b) ≡ true → (a ≡ true) × (b ≡ true)
-and_true true b e = (refl, e)
-and_true false b e = absurd cc
 
 pub among-filter : (p : ℕ → Bool) (numbers : List ℕ) (k : ℕ) → is_among (filter p numbers) k ≡ (p k && is_among numbers k)
 among-filter p [] k = sym (and_false (p k))
@@ -85,7 +73,7 @@ least_is from n numbers is = settled (least (filter (nat_le from) numbers)) (lea
 
     settled : (o : Option ℕ) → Tells (filter (nat_le from) numbers) o → o ≡ Some n
     settled None none = (let fails = none n in let holds = here in absurd cc)
-    settled (Some m) tells = ap Some (same (and_true (nat_le from m) (is_among numbers m) (sym (there m) ∙ tells.among)))
+    settled (Some m) tells = ap Some (same (and_parts (nat_le from m) (is_among numbers m) (sym (there m) ∙ tells.among)))
       where
         same : (nat_le from m ≡ true) × (is_among numbers m ≡ true) → m ≡ n
         same both = elim (cases_lt m n) [

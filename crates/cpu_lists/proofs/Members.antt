@@ -7,7 +7,7 @@ use Rattle.std.specs.Str.Parse.{digits_value, AllDigits}
 use Rattle.std.specs.List.{list_all, range_with_len, flat_map, AllByRecursion}
 use Rattle.std.specs.Int.Digits.{AllBelowBase}
 use Rattle.std.proofs.Math.Nat.{pow-le-pow_right, pow-suc}
-use Rattle.std.proofs.lemmas.Bool.{eq-eqb, ne_eqb, cases_lt, le-leb, lt-leb, ltb-true, lt-ltb}
+use Rattle.std.proofs.lemmas.Bool.{and_parts, eq-eqb, ne_eqb, cases_lt, le-leb, lt-leb, ltb-true, lt-ltb}
 use Rattle.std.proofs.lemmas.Int.Digits.{digits_value-lt, number_lt, number_push}
 use Rattle.std.proofs.lemmas.List.Concat.{flat_map-append}
 use Rattle.std.proofs.lemmas.List.Folds.{list_any-append}
@@ -22,7 +22,7 @@ use Rattle.cpu_lists.specs.Lists.{numbers_in, is_within}
 use Rattle.cpu_lists.specs.Collected.{Collects}
 use Rattle.cpu_lists.proofs.Bits.{has_above, zero_has}
 use Rattle.cpu_lists.proofs.Least.{among-filter}
-use Rattle.cpu_lists.proofs.Collecting.{collects_same}
+use Rattle.cpu_lists.proofs.Additions.{collects_same}
 
 -- ---- ranges
 
@@ -67,14 +67,10 @@ among-numbers_of len set k small = among-filter (has set) (range_with_len 0 len)
 
 -- ---- groups
 
-and_both : (a b : Bool) → (a && b) ≡ true → (a ≡ true) × (b ≡ true)
-and_both true b e = (refl, e)
-and_both false b e = absurd cc
-
 all_digits : (base : ℕ) (cs : List ℕ) → list_all (λ b. is_digit b base) cs ≡ true → AllDigits base cs
 all_digits base [] h = tt
 all_digits base (c ∷ cs) h =
-    let both = and_both (is_digit c base) (list_all (λ b. is_digit b base) cs) h in
+    let both = and_parts (is_digit c base) (list_all (λ b. is_digit b base) cs) h in
     (ltb-true (digit_value c) base both.0, all_digits base cs both.1)
 
 -- eight digits at most are a number of 32 bits

@@ -13,7 +13,7 @@ use Rattle.cpu_lists.specs.Masks.{comma, each, group_of, cpus_in, mask_cpus}
 use Rattle.cpu_lists.specs.Lists.{run_of, numbers_in, list_cpus}
 use Rattle.cpu_lists.specs.Collected.{Collects, IsCollected}
 use Rattle.cpu_lists.proofs.Bits.{zero_has}
-use Rattle.cpu_lists.proofs.Answering.{all_cpus}
+use Rattle.cpu_lists.proofs.KeptNumbers.{all_cpus}
 use Rattle.cpu_lists.proofs.Members.{none_among}
 
 pub mask_is : (text : List ℕ) → 0 < length text → mask_cpus text ≡ option_map cpus_in (each group_of (slice_split comma (without_prefix text)))

@@ -27,7 +27,7 @@ value_of groups = number_from_digits (2 ^ 32) groups
 abbrev pub cpus_in : List ℕ → List ℕ
 cpus_in groups = numbers_of (32 * length groups) (value_of groups)
 
--- nothing for no CPU, or groups separated by commas, behind an optional `0x` or `0X`
+-- nothing for no CPU, or groups separated by commas, after an optional `0x` or `0X`
 unfoldable pub mask_cpus : List ℕ → Option (List ℕ)
 mask_cpus [] = Some []
 mask_cpus (b ∷ bs) = option_map cpus_in (each group_of (slice_split comma (without_prefix (b ∷ bs))))

@@ -32,7 +32,7 @@ runs_of (n ∷ ns) = joined n (runs_of ns)
 abbrev pub run_text : Run → List ℕ
 run_text run = if run.first == run.last then decimal run.first else decimal run.first ++ 45 ∷ decimal run.last
 
--- a run, behind a comma where it is not the first
+-- a run, after a comma where it is not the first
 abbrev pub element_text : Bool → Run → List ℕ
 element_text is_first run = if is_first then run_text run else 44 ∷ run_text run
 

@@ -2,15 +2,15 @@
 #![tactic(auto)]
 
 pub mod fault;
-pub mod laws;
-pub mod lists;
+pub mod list_text;
 pub mod masks;
 pub mod numbers;
 pub mod printing;
 pub mod runs;
+pub mod theorems;
 
 pub use fault::CpuFault;
-pub use lists::read_list;
+pub use list_text::read_list;
 pub use masks::read_mask;
 pub use printing::{print_list, print_mask};
 

@@ -44,7 +44,7 @@ fn groups(text: &[u8]) -> Option<Numbers>
 
 /// The set of CPUs that a mask names, bit c for CPU c, on a machine of `cpus` CPUs.
 ///
-/// The empty text names no CPU. Others are groups separated by `,`, behind an optional `0x` or
+/// The empty text names no CPU. Others are groups separated by `,`, after an optional `0x` or
 /// `0X`, each of 1 to 8 hexadecimal digits: the digits to the base 2^32 of a number, of which
 /// bit c is CPU c (kernel documentation, the format of `cpus`; the lengths of groups are this
 /// project's profile). Bad where the text is nothing of that, and NotACpu where it names a

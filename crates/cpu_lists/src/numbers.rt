@@ -104,7 +104,7 @@ impl Numbers {
         judge(self.low, self.high, cpus)
     }
 
-    /// The numbers of a mask with one more group behind it: all so far move up by 32.
+    /// The numbers of a mask with one more group after it: all so far move up by 32.
     pub fn with_group(self, group: u32) -> Numbers
         ensures { (value : ℕ) → Collects (has_number value) self
             → Collects (has_number (value * 2 ^ 32 + group)) result }

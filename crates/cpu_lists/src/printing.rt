@@ -61,7 +61,7 @@ fn push_run(run: Run, out: &mut TextBuf)
     }
 }
 
-// Adds a run, behind a comma where it is not the first.
+// Adds a run, after a comma where it is not the first.
 fn push_element(is_first: bool, run: Run, out: &mut TextBuf)
     requires order { run.first ≤ run.last }
     requires high { run.last < 64 }

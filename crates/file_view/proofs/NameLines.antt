@@ -2,14 +2,15 @@
 use Rattle.std.proofs.Common.{◌≡◌, ℕ, zero, suc, ◌+◌, ◌<◌, ◌≤◌, true, false, cond, List, [], ◌∷◌, ◌++◌, length, map, take, Option, Some, None, refl, sym, ap, ◌∙◌, arith}
 use Rattle.std.specs.Prelude.{filter, slice_get, if◌then◌else◌}
 use Rattle.std.specs.List.{flat_map, range_with_len}
-use Rattle.std.proofs.lemmas.Grind.{flat_map-append}
-use Rattle.std.proofs.lemmas.List.{append_assoc, append-nil, take_all, take_more}
+use Rattle.std.proofs.lemmas.List.{take_all, take_more}
 use Rattle.std.proofs.lemmas.Option.{get_or_from_slice_get, slice_get_within}
 use Rattle.std.proofs.lemmas.List.Folds.{flat_map-map}
 use Rattle.std.proofs.lemmas.Simd.{map-map}
+use Rattle.lists.proofs.Ranges.{flat_map-push}
 use Rattle.tree_core.specs.Named.{Group}
 use Rattle.machine.specs.declared.parameters.Parameters.{Parameters}
-use Rattle.path_names.specs.PathTable.{Entry, domain_entry, domain_name}
+use Rattle.path_names.specs.PathTable.{Entry, domain_entry, domain_name, fixed_in, fixed_name}
+use Rattle.path_names.specs.declared.dirs.DirRef.{DirRef}
 use Rattle.path_names.specs.declared.dirs.DirRef.TheVariants.{MonData}
 use Rattle.path_names.specs.declared.dirs.Holder.{Holder}
 use Rattle.rc_base.specs.declared.names.Gid.{Gid}
@@ -17,39 +18,19 @@ use Rattle.file_view.specs.Texts.{fixed_names, group_name, is_listed, name_line,
 
 -- ---- one more
 
--- one more item
-flat_push : {X : Type 0} (f : X → List ℕ) (xs : List X) (x : X) (old now new : List ℕ) → now ≡ old ++ flat_map f xs → new ≡ now ++ f x → new ≡ old ++ flat_map f (xs ++ x ∷ [])
-flat_push f xs x old now new before more =
-    let all : flat_map f (xs ++ x ∷ []) ≡ flat_map f xs ++ f x = flat_map-append f xs (x ∷ []) ∙ ap (λ t. flat_map f xs ++ t) (append-nil (f x)) in
-    more ∙ (ap (λ t. t ++ f x) before ∙ (append_assoc old (flat_map f xs) (f x) ∙ ap (λ t. old ++ t) (sym all)))
-
 -- one more item of a list
 pub item_more : {X : Type 0} (f : X → List ℕ) (xs : List X) (k : ℕ) (x : X) (old now new : List ℕ) → slice_get xs k ≡ Some x
     → now ≡ old ++ flat_map f (take k xs) → new ≡ now ++ f x → new ≡ old ++ flat_map f (take (k + 1) xs)
 item_more f xs k x old now new is before more =
     let within : k < length xs = slice_get_within xs k x is in
     let all : take (k + 1) xs ≡ take k xs ++ x ∷ [] = take_more xs k x within ∙ ap (λ y. take k xs ++ y ∷ []) (get_or_from_slice_get xs k x x is) in
-    flat_push f (take k xs) x old now new before more ∙ ap (λ ys. old ++ flat_map f ys) (sym all)
+    flat_map-push f (take k xs) x old now new before more ∙ ap (λ ys. old ++ flat_map f ys) (sym all)
 
 -- no place below the length is empty
 pub none_past : {X : Type 0} (xs : List X) (k : ℕ) → None ≡ slice_get xs k → k < length xs → ⊥
 none_past [] k is within = omega (arith, within)
 none_past (x ∷ xs) zero is within = cc
 none_past (x ∷ xs) (suc k) is within = none_past xs k is (omega (arith, within))
-
-range_push : (a n : ℕ) → range_with_len a (n + 1) ≡ range_with_len a n ++ (a + n) ∷ []
-range_push a zero = let e : a ≡ a + 0 = omega arith in ap (λ k. k ∷ []) e
-range_push a (suc n) =
-    let next : suc n + 1 ≡ suc (n + 1) = omega arith in
-    let there : (a + 1) + n ≡ a + suc n = omega arith in
-    ap (range_with_len a) next ∙ ap (λ ks. a ∷ ks) (range_push (a + 1) n ∙ ap (λ k. range_with_len (a + 1) n ++ k ∷ []) there)
-
--- one more number
-pub number_more : (f : ℕ → List ℕ) (n : ℕ) (old now new : List ℕ) → now ≡ old ++ flat_map f (range_with_len 0 n) → new ≡ now ++ f n → new ≡ old ++ flat_map f (range_with_len 0 (n + 1))
-number_more f n old now new before more =
-    let here : 0 + n ≡ n = omega arith in
-    let all : range_with_len 0 (n + 1) ≡ range_with_len 0 n ++ n ∷ [] = range_push 0 n ∙ ap (λ k. range_with_len 0 n ++ k ∷ []) here in
-    flat_push f (range_with_len 0 n) n old now new before more ∙ ap (λ ks. old ++ flat_map f ks) (sym all)
 
 -- ---- groups
 
@@ -68,6 +49,7 @@ lines_each names parent (g ∷ groups) =
       | false ↦ rest
     ]
 
+-- the lines of all groups were added
 pub lines_listed : (names : List (List ℕ)) (parent : Option Gid) (groups : List Group) (k : ℕ) (old now : List ℕ) → length groups ≤ k
     → now ≡ old ++ flat_map (group_line names parent) (take k groups) → now ≡ old ++ name_lines (map (group_name names) (filter (is_listed parent) groups))
 lines_listed names parent groups k old now all lines =
@@ -84,3 +66,8 @@ domains_listed domains k old now all lines =
 -- they are the fixed entries of `mon_data`
 pub domains_fixed : (m : Parameters) (holder : Holder) → fixed_names m (MonData holder) ≡ map domain_name (range_with_len 0 m.domains)
 domains_fixed m holder = map-map (λ (e : Entry). e.0) (domain_entry holder) (range_with_len 0 m.domains)
+
+-- the fixed entries of any other directory
+pub entries_fixed : (m : Parameters) (dir : DirRef) → ((holder : Holder) → dir ≡ MonData holder → ⊥) → fixed_names m dir ≡ map fixed_name (fixed_in dir)
+entries_fixed m (MonData holder) apart = absurd (apart holder refl)
+entries_fixed m dir apart = refl

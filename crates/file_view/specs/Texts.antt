@@ -16,12 +16,13 @@ use Rattle.path_names.specs.declared.path_ref.PathRef.TheVariants.{Dir, File}
 use Rattle.rc_base.specs.declared.names.Gid.{Gid}
 use Rattle.schemata_text.specs.Printed.{printed}
 use Rattle.schemata_text.specs.declared.assignment.Assignment.{Assignment}
-use Rattle.script_text.specs.Canonical.{name_in}
-use Rattle.script_text.specs.declared.op.Op.{Op}
-use Rattle.script_text.specs.declared.op.Op.TheVariants as ops
-use Rattle.tree_core.specs.Existing.{directory_gid, group_of, owner_gid}
+use Rattle.path_names.specs.PathTexts.{name_in}
+use Rattle.script_ops.specs.declared.op.Op.{Op}
+use Rattle.script_ops.specs.declared.op.Op.TheVariants as ops
+use Rattle.tree_law.specs.Existing.{owner_gid}
+use Rattle.tree_law.specs.Places.{group_at}
 use Rattle.tree_core.specs.Named.{Group, is_control, is_monitor_of, mask_in}
-use Rattle.tree_core.specs.State.{State}
+use Rattle.tree_law.specs.State.{State}
 
 -- ---- files of a group
 
@@ -55,13 +56,8 @@ abbrev pub file_of : Parameters → FileKind → Option Group → List ℕ
 file_of m kind None = []
 file_of m kind (Some g) = group_file m kind g
 
--- the group whose directory this is
-abbrev pub group_at : State → Option Gid → Option Group
-group_at s None = None
-group_at s (Some gid) = group_of s gid
-
 unfoldable pub file_text : Parameters → State → PathRef → List ℕ
-file_text m s (File dir kind) = file_of m kind (group_at s (directory_gid s dir))
+file_text m s (File dir kind) = file_of m kind (group_at s dir)
 file_text m s path = []
 
 -- ---- listings

@@ -3,8 +3,8 @@ ghost use Rattle.std.specs.Prelude.{◌≡◌, ◌≤◌, ◌++◌, OnErr, OnOk}
 ghost use Rattle.std.specs.Option.{option_copied};
 ghost use Rattle.machine.specs.Maps.{parameters_of};
 ghost use Rattle.path_names.specs.declared.path_ref.PathRef.TheVariants.{File};
-ghost use Rattle.tree_core.specs.Existing.{directory_gid};
-ghost use Rattle.file_view.specs.Texts.{file_text, group_at, group_file};
+ghost use Rattle.tree_law.specs.Places.{group_at};
+ghost use Rattle.file_view.specs.Texts.{file_text, group_file};
 
 use crate::schemata::push_schemata;
 use crate::size::push_size;
@@ -31,7 +31,7 @@ fn push_group_file(m: &Machine, kind: FileKind, group: &Group, out: &mut TextBuf
 
 // The record of the group whose directory this is, where it exists.
 fn find_group(tree: &Tree, dir: DirRef) -> Option<&Group>
-    ensures { option_copied result ≡ group_at tree.now.state (directory_gid tree.now.state dir) }
+    ensures { option_copied result ≡ group_at tree.now.state dir }
 {
     match tree.directory_gid(dir) {
         Some(gid) => tree.groups().get(gid),
@@ -62,7 +62,7 @@ fn push_file_in(
     }
 }
 
-/// Adds the text of a file. Nothing is added for want of memory.
+/// Adds the text of a file. Out of memory, nothing is added.
 #[tactic(auto, unfolding(crate::specs::Texts::file_text))]
 pub(crate) fn push_file(
     alloc: Global,

@@ -1,18 +1,21 @@
 //! Trees with named groups for the tests, and the texts that they give.
-ghost use Rattle.std.specs.Prelude.{◌<◌, IfOk, OnOk, length};
+ghost use Rattle.std.specs.Prelude.{◌<◌, ◌≤◌, IfOk, OnOk, length};
 ghost use Rattle.std.specs.List.{All};
-ghost use Rattle.script_text.specs.Canonical.{AreKnown, op_ids};
-ghost use Rattle.tree_core.specs.Steps.{FlushExists};
+ghost use Rattle.script_ops.specs.Canonical.{op_ids};
+ghost use Rattle.path_names.specs.NamesIn.{AreKnown};
+ghost use Rattle.script_ops.specs.Fits.{Fits};
+ghost use Rattle.tree_law.specs.State.{tasks_of};
 ghost use Rattle.tree_core.specs.Named.{AreNamed};
+ghost use Rattle.script_ops.specs.declared.limits.TheConstants.{MOST_TEXT_BYTES};
 
 use crate::text;
 use machine::{Machine, Parameters};
 use path_names::{DirRef, FileKind, NameId, Names, PathRef};
 use rc_base::{NoMemory, Reply};
-use script_text::{Bytes, Op};
+use script_ops::{Bytes, MOST_WEIGHT, Op};
 use std::alloc::Global;
 use std::process::Abort;
-use tree_core::Tree;
+use tree_core::{Tree, is_built};
 
 /// A machine with two caches of one set of so many ways.
 pub(crate) fn machine(rt: &impl Abort, ways: u8) -> Machine {
@@ -27,8 +30,8 @@ pub(crate) fn machine(rt: &impl Abort, ways: u8) -> Machine {
 }
 
 /// The opening tree of a machine.
-#[tactic(auto, using(tree_core::proofs::KnownNames::named_opening))]
-pub(crate) fn opening(alloc: Global, m: &Machine, names: &Names) -> Result<Tree, NoMemory>
+#[tactic(auto, using(tree_core::proofs::laws::KnownNames::named_opening))]
+pub(crate) fn opening_tree(alloc: Global, m: &Machine, names: &Names) -> Result<Tree, NoMemory>
     ensures { IfOk result (λ t. AreNamed names.now t.state.groups) }
 {
     Tree::create(alloc, m, [].as_slice())
@@ -46,20 +49,21 @@ pub(crate) fn three_names(alloc: Global) -> Result<(Names, [NameId; 3]), NoMemor
 }
 
 // Takes a command, after the tests that `apply` leaves to its caller.
-#[tactic(auto, using(tree_core::proofs::KnownNames::named_next))]
+#[tactic(auto, using(tree_core::proofs::laws::KnownNames::named_next))]
 fn take(rt: &impl Abort, tree: &mut Tree, names: &Names, op: &Op, looks: &[u64]) -> Reply
-    requires flush { FlushExists tree.old.machine op.now }
+    requires fits { Fits tree.old.machine (tasks_of tree.old.state) op.now }
     requires known { AreKnown (length names.now) (op_ids op.now) }
     requires named { AreNamed names.now tree.old.state.groups }
     ensures { AreNamed names.now tree.new.state.groups }
 {
-    assert!(rt; tree.epoch() < 4_000_000);
+    assert!(rt; tree.epoch() < MOST_WEIGHT);
+    assert!(rt; is_built(op));
     assert!(rt; looks.len() == tree.needs(op) as usize);
     tree.apply(op, looks).0
 }
 
 /// Makes a control group.
-#[tactic(auto, using(tree_core::proofs::KnownNames::known_only))]
+#[tactic(auto, using(tree_core::proofs::laws::KnownNames::known_only))]
 pub(crate) fn mkdir(rt: &impl Abort, tree: &mut Tree, names: &Names, name: NameId) -> Reply
     requires known { name.0 < length names.now }
     requires named { AreNamed names.now tree.old.state.groups }
@@ -70,7 +74,7 @@ pub(crate) fn mkdir(rt: &impl Abort, tree: &mut Tree, names: &Names, name: NameI
 }
 
 /// Removes a control group that no line is counted of.
-#[tactic(auto, using(tree_core::proofs::KnownNames::known_only))]
+#[tactic(auto, using(tree_core::proofs::laws::KnownNames::known_only))]
 pub(crate) fn rmdir(rt: &impl Abort, tree: &mut Tree, names: &Names, name: NameId) -> Reply
     requires known { name.0 < length names.now }
     requires named { AreNamed names.now tree.old.state.groups }
@@ -81,7 +85,7 @@ pub(crate) fn rmdir(rt: &impl Abort, tree: &mut Tree, names: &Names, name: NameI
 }
 
 /// Writes to the `schemata` of a control group.
-#[tactic(auto, using(tree_core::proofs::KnownNames::known_only))]
+#[tactic(auto, using(tree_core::proofs::laws::KnownNames::known_only))]
 pub(crate) fn write(
     rt: &impl Abort,
     alloc: Global,
@@ -91,6 +95,7 @@ pub(crate) fn write(
     text: &[u8],
 ) -> Result<Reply, NoMemory>
     requires known { name.0 < length names.now }
+    requires short { length text.now ≤ MOST_TEXT_BYTES }
     requires named { AreNamed names.now tree.old.state.groups }
     ensures { OnOk result (AreNamed names.now tree.new.state.groups) }
 {
@@ -99,7 +104,7 @@ pub(crate) fn write(
     Ok(take(rt, tree, names, &Op::Write { path, text }, [].as_slice()))
 }
 
-/// Whether an op gives this text, behind what stood there.
+/// Whether an op gives this text, after what stood there.
 pub(crate) fn gives(
     alloc: Global,
     tree: &Tree,

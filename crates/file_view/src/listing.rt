@@ -4,9 +4,10 @@ ghost use Rattle.file_view.specs.Texts.{group_name, groups_in, is_listed, list_t
 ghost use Rattle.tree_core.specs.Named.{AreNamed};
 
 use crate::fixed::push_fixed;
-use crate::lines::Lines;
+use crate::lines::push_name;
 use path_names::{DirRef, Names};
 use rc_base::{Gid, NoMemory};
+use script_ops::GrowingText;
 use std::alloc::Global;
 use tree_core::{Group, GroupKind, Groups, Tree};
 
@@ -22,13 +23,13 @@ pub(crate) fn is_listed(parent: Option<Gid>, group: &Group) -> bool
 }
 
 // Adds the name of a group.
-fn push_name(names: &Names, group: &Group, out: &mut Lines) -> Result<(), NoMemory>
+fn push_group_name(names: &Names, group: &Group, out: &mut GrowingText) -> Result<(), NoMemory>
     requires { IfSome group.now.name (λ id. id.0 < length names.now) }
     ensures { OnOk result (out.new ≡ out.old ++ name_line (group_name names.now group.now)) }
 {
     match group.name {
-        Some(id) => out.push_name(names.text(id)),
-        None => out.push_name(b""),
+        Some(id) => push_name(out, names.text(id)),
+        None => push_name(out, b""),
     }
 }
 
@@ -37,13 +38,13 @@ fn push_group(
     names: &Names,
     parent: Option<Gid>,
     group: &Group,
-    out: &mut Lines,
+    out: &mut GrowingText,
 ) -> Result<(), NoMemory>
     requires { IfSome group.now.name (λ id. id.0 < length names.now) }
     ensures { OnOk result (out.new ≡ out.old ++ (if is_listed parent group.now then name_line (group_name names.now group.now) else [])) }
 {
     if is_listed(parent, group) {
-        push_name(names, group, out)
+        push_group_name(names, group, out)
     } else {
         Ok(())
     }
@@ -54,7 +55,7 @@ pub(crate) fn push_groups(
     groups: &Groups,
     names: &Names,
     parent: Option<Gid>,
-    out: &mut Lines,
+    out: &mut GrowingText,
 ) -> Result<(), NoMemory>
     requires { AreNamed names.now groups.now.groups }
     ensures { OnOk result (out.new ≡ out.old ++ name_lines (map (group_name names.now) (filter (is_listed parent) groups.now.groups))) }
@@ -68,7 +69,12 @@ pub(crate) fn push_groups(
 }
 
 // Adds the names of the groups whose directories stand in a directory.
-fn push_groups_in(tree: &Tree, names: &Names, dir: DirRef, out: &mut Lines) -> Result<(), NoMemory>
+fn push_groups_in(
+    tree: &Tree,
+    names: &Names,
+    dir: DirRef,
+    out: &mut GrowingText,
+) -> Result<(), NoMemory>
     requires { AreNamed names.now tree.now.state.groups }
     ensures { OnOk result (out.new ≡ out.old ++ name_lines (map (group_name names.now) (groups_in tree.now.state dir))) }
 {
@@ -82,8 +88,8 @@ fn push_groups_in(tree: &Tree, names: &Names, dir: DirRef, out: &mut Lines) -> R
     }
 }
 
-/// Adds the names of a directory's fixed entries and those of the groups in it, each on its line. Nothing is added for want of
-/// memory.
+/// Adds the names of a directory's fixed entries and those of the groups in it, each on its line. Out of
+/// memory, nothing is added.
 #[tactic(auto, unfolding(crate::specs::Texts::list_text))]
 pub(crate) fn push_list(
     alloc: Global,
@@ -96,7 +102,7 @@ pub(crate) fn push_list(
     ensures ok { OnOk result (out.new.items ≡ out.old.items ++ list_text tree.now.machine tree.now.state names.now dir) }
     ensures err { OnErr result (out.new.items ≡ out.old.items) }
 {
-    let mut lines = Lines::create(alloc);
+    let mut lines = GrowingText::create(alloc)?;
     push_fixed(tree.machine(), dir, &mut lines)?;
     push_groups_in(tree, names, dir, &mut lines)?;
     match out.extend_from_slice(lines.bytes()) {

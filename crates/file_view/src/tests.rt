@@ -1,11 +1,13 @@
 //! Texts worked out by hand.
 
-use crate::fixtures::{gives, lists, machine, mkdir, opening, reads, rmdir, three_names, write};
+use crate::fixtures::{
+    gives, lists, machine, mkdir, opening_tree, reads, rmdir, three_names, write,
+};
 use crate::listing::is_listed;
 use crate::reason;
 use path_names::{DirRef, FileKind, Holder, NameId, Owner};
 use rc_base::{Gid, NoMemory, Reply, TextBuf, Why};
-use script_text::Op;
+use script_ops::Op;
 use std::alloc::Global;
 use std::test::Fail;
 use tree_core::{Group, GroupKind};
@@ -16,7 +18,7 @@ const DEFAULT: Holder = Holder::Control(Owner::Default);
 fn directories_are_listed(rt: HostRuntime) -> Result<(), Fail> {
     let alloc = rt.alloc();
     let (names, _) = three_names(alloc)?;
-    let tree = opening(alloc, &machine(&rt, 4), &names)?;
+    let tree = opening_tree(alloc, &machine(&rt, 4), &names)?;
     for (dir, want) in [
         (
             DirRef::Root,
@@ -44,7 +46,7 @@ fn directories_are_listed(rt: HostRuntime) -> Result<(), Fail> {
 fn groups_are_listed_in_order_of_creation(rt: HostRuntime) -> Result<(), Fail> {
     let alloc = rt.alloc();
     let (names, [a, b, c]) = three_names(alloc)?;
-    let mut tree = opening(alloc, &machine(&rt, 4), &names)?;
+    let mut tree = opening_tree(alloc, &machine(&rt, 4), &names)?;
     assert_eq!(rt; mkdir(&rt, &mut tree, &names, a), Reply::Ok);
     assert_eq!(rt; mkdir(&rt, &mut tree, &names, b), Reply::Ok);
     assert_eq!(rt; rmdir(&rt, &mut tree, &names, a), Reply::Ok);
@@ -62,7 +64,7 @@ fn groups_are_listed_in_order_of_creation(rt: HostRuntime) -> Result<(), Fail> {
 fn files_are_those_of_their_group(rt: HostRuntime) -> Result<(), Fail> {
     let alloc = rt.alloc();
     let (names, [_, b, _]) = three_names(alloc)?;
-    let mut tree = opening(alloc, &machine(&rt, 20), &names)?;
+    let mut tree = opening_tree(alloc, &machine(&rt, 20), &names)?;
     assert_eq!(rt; mkdir(&rt, &mut tree, &names, b), Reply::Ok);
     let reply = write(&rt, alloc, &mut tree, &names, b, b"L3:0=f0;1=6".as_slice())?;
     assert_eq!(rt; reply, Reply::Ok);

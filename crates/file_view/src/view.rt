@@ -7,13 +7,13 @@ use crate::files::push_file;
 use crate::listing::push_list;
 use path_names::{Names, PathRef};
 use rc_base::NoMemory;
-use script_text::Op;
+use script_ops::Op;
 use std::alloc::Global;
 use tree_core::Tree;
 
 /// Adds the text that an accepted read or list gives (kernel documentation, "Resource alloc and monitor groups" and
 /// "Schemata files - general concepts"): that of a file, or the names in a directory, each on its line, the fixed entries first
-/// and then the groups in order of creation. No other op gives one. Nothing is added for want of memory.
+/// and then the groups in order of creation. No other op gives one. Out of memory, nothing is added.
 #[tactic(auto, unfolding(crate::specs::Texts::text_of))]
 pub fn text(
     alloc: Global,

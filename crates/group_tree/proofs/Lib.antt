@@ -1,4 +1,3 @@
-pub mod Editing
-pub mod EveryWay
-pub mod Found
-pub mod Joining
+pub mod Edits
+pub mod Lookups
+pub mod Unions

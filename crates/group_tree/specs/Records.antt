@@ -1,5 +1,6 @@
 -- What is asked of the record of one group.
 use Rattle.std.specs.Prelude.{ℕ, Bool, true, false, ◌&&◌, not, ◌==◌, Option, Some, None, replicate, slice_index}
+use Rattle.rc_base.specs.Gids.{default_gid}
 use Rattle.rc_base.specs.declared.names.Gid.{Gid}
 use Rattle.rc_base.specs.declared.names.Mode.{Mode}
 use Rattle.rc_base.specs.declared.names.Mode.TheVariants.{Shareable, Exclusive, LockSetup, Locked}
@@ -10,7 +11,7 @@ use Rattle.group_tree.specs.declared.group_kind.GroupKind.TheVariants.{Control, 
 
 -- the record that stands in a free place
 abbrev pub blank : Group
-blank = record { gid = record { 0 = 0 }; name = None; kind = Control; mode = Shareable; class = None; rmid = None; masks = replicate 8 0 }
+blank = record { gid = default_gid; name = None; kind = Control; mode = Shareable; class = None; rmid = None; masks = replicate 8 0 }
 
 -- whether a group has this gid
 abbrev pub has_gid : Gid → Group → Bool

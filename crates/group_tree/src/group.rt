@@ -33,7 +33,7 @@ impl Default for Group {
 
     fn default() -> Self {
         Group {
-            gid: Gid(0),
+            gid: Gid::DEFAULT,
             name: None,
             kind: GroupKind::Control,
             mode: Mode::Shareable,

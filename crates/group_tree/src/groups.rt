@@ -3,7 +3,8 @@ ghost use Rattle.std.specs.Prelude.{◌≡◌, ◌<◌, ◌≤◌, ◌≢◌, �
 ghost use Rattle.std.specs.List.{list_any};
 ghost use Rattle.std.specs.Option.{option_copied, option_map};
 ghost use Rattle.group_tree.specs.Lists.{IsTree, has_group, replaced, without};
-ghost use Rattle.group_tree.specs.Opening.{opening};
+ghost use Rattle.group_tree.specs.Opening.{opening_groups};
+ghost use Rattle.machine.specs.Maps.{parameters_of};
 ghost use Rattle.group_tree.specs.Others.{IsUseByOthers};
 ghost use Rattle.group_tree.specs.Records.{has_gid, is_control_named, is_monitor_named};
 
@@ -44,7 +45,7 @@ impl Groups {
     /// The groups of a machine at the start: the default group, shareable and with every way of each cache (kernel
     /// documentation, "Resource alloc and monitor groups"). It never answers NoMemory, since the places lie in the value itself.
     pub fn create(m: &Machine) -> Result<Groups, NoMemory>
-        ensures { result ≡ Ok (opening m.now) }
+        ensures { result ≡ Ok (opening_groups (parameters_of m.now)) }
     {
         let mut records = ArrayVec::new();
         records.push(default_group(m));
@@ -69,7 +70,7 @@ impl Groups {
         !self.records.is_full()
     }
 
-    /// Adds a group with a new gid behind the others.
+    /// Adds a group with a new gid after the others.
     pub fn insert(&mut self, g: Group)
         requires fresh { has_group g.gid self.old.groups ≡ false }
         requires place { length self.old.groups < PLACES }

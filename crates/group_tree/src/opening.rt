@@ -1,5 +1,6 @@
 //! The default group at the start.
 ghost use Rattle.std.specs.Prelude.{◌≡◌, ◌≤◌, ◌-◌, ◌++◌, replicate};
+ghost use Rattle.machine.specs.Maps.{parameters_of};
 ghost use Rattle.group_tree.specs.Opening.{default_group};
 
 use crate::group::Group;
@@ -9,10 +10,10 @@ use rc_base::{Gid, Mode};
 
 /// The default group of a machine.
 pub(crate) fn default_group(m: &Machine) -> Group
-    ensures { result ≡ default_group m.now }
+    ensures { result ≡ default_group (parameters_of m.now) }
 {
     Group {
-        gid: Gid(0),
+        gid: Gid::DEFAULT,
         name: None,
         kind: GroupKind::Control,
         mode: Mode::Shareable,

@@ -18,7 +18,10 @@ fn an_exclusive_group_keeps_others_out(rt: HostRuntime) {
     let p0 = control(1, 0, Mode::Shareable, in_first(4, 0x3));
     assert!(rt; insert(&mut groups, p0));
     assert_eq!(rt; groups.others(Some(Gid(1)), 3), used(0x0, 0xff, 0x0, 0x0));
-    assert_eq!(rt; groups.others(Some(Gid(0)), 3), used(0x0, 0x3, 0x0, 0x0));
+    assert_eq!(rt;
+        groups.others(Some(Gid::DEFAULT), 3),
+        used(0x0, 0x3, 0x0, 0x0)
+    );
     let first = default_group(in_first(4, 0xfc));
     let p0 = control(1, 0, Mode::Exclusive, in_first(4, 0x3));
     let p1 = control(2, 1, Mode::Shareable, in_first(4, 0xfc));
@@ -28,7 +31,7 @@ fn an_exclusive_group_keeps_others_out(rt: HostRuntime) {
         (None, 0, used(0x0, 0xfc, 0x3, 0x0)),
         (None, 3, used(0x0, 0xfc, 0x3, 0x0)),
         (None, 4, used(0x0, 0x0, 0x0, 0x0)),
-        (Some(Gid(0)), 1, used(0x0, 0xfc, 0x3, 0x0)),
+        (Some(Gid::DEFAULT), 1, used(0x0, 0xfc, 0x3, 0x0)),
         (Some(Gid(1)), 1, used(0x0, 0xfc, 0x0, 0x0)),
         (Some(Gid(2)), 1, used(0x0, 0xfc, 0x3, 0x0)),
     ] {
@@ -59,7 +62,7 @@ fn groups_are_listed_and_counted(rt: HostRuntime) {
     for (gid, domain, want) in [
         (None, 0, used(0xc0, 0x7, 0x30, 0x0)),
         (None, 1, used(0xc0, 0x7, 0x20, 0x10)),
-        (Some(Gid(0)), 0, used(0xc0, 0x6, 0x30, 0x0)),
+        (Some(Gid::DEFAULT), 0, used(0xc0, 0x6, 0x30, 0x0)),
         (Some(Gid(2)), 0, used(0xc0, 0x7, 0x0, 0x0)),
         (Some(Gid(3)), 0, used(0xc0, 0x7, 0x30, 0x0)),
         (Some(Gid(5)), 1, used(0xc0, 0x1, 0x20, 0x10)),
@@ -92,11 +95,11 @@ fn groups_are_listed_and_counted(rt: HostRuntime) {
 
     // The others stay in their order, and a new record stands in the place of the old one.
     let now_exclusive = control(5, 6, Mode::Exclusive, in_first(2, 0x6));
-    assert!(rt; !remove(&mut groups, Gid(0)) && !remove(&mut groups, Gid(7)));
+    assert!(rt; !remove(&mut groups, Gid::DEFAULT) && !remove(&mut groups, Gid(7)));
     assert!(rt; remove(&mut groups, Gid(3)) && !replace(&mut groups, monitor(3, 8, 0)));
     assert!(rt; replace(&mut groups, now_exclusive));
     for (place, want) in [
-        (0, Some(Gid(0))),
+        (0, Some(Gid::DEFAULT)),
         (1, Some(Gid(2))),
         (2, Some(Gid(4))),
         (3, Some(Gid(5))),
@@ -115,6 +118,6 @@ fn groups_are_listed_and_counted(rt: HostRuntime) {
     }
     assert!(rt; !insert(&mut groups, monitor(500, 500, 0)));
     assert_eq!(rt; groups.len() as usize, PLACES);
-    assert_eq!(rt; groups.find_mon(Gid(0), NameId(421)), Some(Gid(421)));
+    assert_eq!(rt; groups.find_mon(Gid::DEFAULT, NameId(421)), Some(Gid(421)));
     assert!(rt; remove(&mut groups, Gid(100)) && groups.has_place());
 }

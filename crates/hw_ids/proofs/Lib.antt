@@ -1,5 +1,5 @@
 pub mod FreeClasses
 pub mod FreeRmids
-pub mod Membership
 pub mod Places
-pub mod Released
+pub mod Releases
+pub mod laws

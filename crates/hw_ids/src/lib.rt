@@ -2,11 +2,11 @@
 #![tactic(auto)]
 
 pub mod class_ids;
-pub mod laws;
 pub mod rmids;
 #[cfg(test)]
 mod tests;
+pub mod theorems;
 
 pub use class_ids::{ClassIds, MAX_CLASSES};
-pub use laws::members;
 pub use rmids::{MAX_RMIDS, NoRmid, Rmids};
+pub use theorems::members;

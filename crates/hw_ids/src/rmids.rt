@@ -103,7 +103,7 @@ impl Rmids {
         }
     }
 
-    /// Gives an RMID up, of whose lines the fullest cache holds this many bytes.
+    /// Gives an RMID up. The fullest cache holds this many bytes of its lines.
     pub fn free(&mut self, rmid: u16, bytes: u64)
         requires taken { IsTrue (contains rmid self.old.taken) }
         requires not_default { rmid ≢ 0 }

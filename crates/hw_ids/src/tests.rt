@@ -1,8 +1,8 @@
 //! Ids at the edges of their numbers, and RMIDs on their way through limbo.
 
 use crate::class_ids::ClassIds;
-use crate::laws::members;
 use crate::rmids::{NoRmid, Rmids};
+use crate::theorems::members;
 
 #[test]
 fn classes(rt: HostRuntime) {

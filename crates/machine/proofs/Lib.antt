@@ -1,3 +1,3 @@
-pub mod Fitting
-pub mod RangeTest
+pub mod Masks
 pub mod Slices
+pub mod laws

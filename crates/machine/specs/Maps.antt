@@ -11,6 +11,10 @@ parameters_of m = record { domains = m.domains; sets = m.sets; ways = m.ways; cl
 abbrev pub domain_of : Parameters → ℕ → ℕ
 domain_of p cpu = cpu * p.domains / p.cpus
 
+-- the line of an address, which has 64 bytes
+abbrev pub line_of : ℕ → ℕ
+line_of address = address / 64
+
 -- the set of a line
 abbrev pub set_of : Parameters → ℕ → ℕ
 set_of p line = line % p.sets

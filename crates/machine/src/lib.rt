@@ -3,6 +3,7 @@
 
 pub mod machine;
 pub mod parameters;
+pub mod slice_numbers;
 
 pub use machine::Machine;
 pub use parameters::Parameters;

@@ -182,7 +182,6 @@ fn maps_are_those_of_the_rules(rt: HostRuntime) {
         ..Parameters::default()
     };
     let machine = Machine::checked(&parameters).expect(&rt, "the parameters are in range");
-    assert_eq!(rt; machine.ways, 12);
     assert_eq!(rt; machine.full(), 0xfff);
     assert_eq!(rt; machine.cache_bytes(), 3072);
     assert_eq!(rt; machine.bytes_of(0xa1), 768);
@@ -192,7 +191,9 @@ fn maps_are_those_of_the_rules(rt: HostRuntime) {
         assert_eq!(rt; machine.set_of(line), set);
         assert_eq!(rt; machine.slice_of(line), slice);
     }
-    assert!(rt; machine.cpus == 8);
+    assert!(rt; machine.cpus == 8 && machine.domains == 3 && machine.slices == 2);
+    assert_eq!(rt; (machine.slice_count(), machine.slice_number(2, 1)), (6, 5));
+    assert_eq!(rt; (machine.first_slice(1), machine.line_slice(1, 3)), (2, 3));
     for (cpu, domain) in [(0, 0), (2, 0), (3, 1), (5, 1), (6, 2), (7, 2)] {
         assert!(rt; cpu < machine.cpus);
         assert_eq!(rt; machine.domain_of(cpu), domain);

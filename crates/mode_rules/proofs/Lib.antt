@@ -1,2 +1,2 @@
-pub mod Placed
-pub mod Starting
+pub mod Space
+pub mod laws

@@ -1,6 +1,4 @@
-pub mod Cuts
-pub mod Digits
-pub mod Pieces
+pub mod Numerals
 pub mod Prints
-pub mod Spelling
 pub mod Trims
+pub mod laws

@@ -1,4 +1,3 @@
 pub mod Blanks
 pub mod Numbers
 pub mod Printed
-pub mod Words

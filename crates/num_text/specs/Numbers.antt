@@ -18,15 +18,15 @@ dec_of text = number_of 10 text
 abbrev pub has_prefix : List ℕ → Bool
 has_prefix text = starts_with nat_eq text (codes "0x") || starts_with nat_eq text (codes "0X")
 
--- the text behind an optional `0x` or `0X`
+-- the text after an optional `0x` or `0X`
 abbrev pub without_prefix : List ℕ → List ℕ
 without_prefix text = if has_prefix text then drop 2 text else text
 
--- the hexadecimal number that a text spells, behind an optional `0x` or `0X`
+-- the hexadecimal number that a text spells, after an optional `0x` or `0X`
 abbrev pub hex_of : List ℕ → Option ℕ
 hex_of text = number_of 16 (without_prefix text)
 
--- the number that a text spells, hexadecimal behind `0x` or `0X` and else decimal
+-- the number that a text spells, hexadecimal after `0x` or `0X` and else decimal
 abbrev pub num_of : List ℕ → Option ℕ
 num_of text = if has_prefix text then number_of 16 (drop 2 text) else number_of 10 text
 

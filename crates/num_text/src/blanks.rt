@@ -1,6 +1,6 @@
 //! Blanks: spaces and tabs.
 ghost use Rattle.std.specs.Prelude.{◌≡◌, ◌≤◌, ◌-◌, length};
-ghost use Rattle.num_text.specs.Blanks.{trim as trimmed, is_blank as blank, blanks_before, blanks_behind};
+ghost use Rattle.num_text.specs.Blanks.{trim as trimmed, is_blank as blank, blanks_before, blanks_after};
 
 /// Whether a byte is a space or a tab.
 pub fn is_blank(byte: u8) -> bool
@@ -22,7 +22,7 @@ pub fn leading_blanks(text: &[u8]) -> usize
 #[tactic(auto, using(crate::proofs::Trims::one_less))]
 fn last_word_end(text: &[u8]) -> usize
     ensures fits { result ≤ length text.now }
-    ensures value { result ≡ length text.now - blanks_behind text.now }
+    ensures value { result ≡ length text.now - blanks_after text.now }
 {
     let mut end = text.len();
     while end > 0 && is_blank(text[end - 1]) {

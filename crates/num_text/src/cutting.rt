@@ -1,7 +1,6 @@
-//! Cutting a text at a separator, and comparing a text with a word.
+//! Cutting a text at a separator.
 ghost use Rattle.std.specs.Prelude.{◌≡◌, ◌<◌, ◌==◌, length, false, true, MatchOption, position};
 ghost use Rattle.std.specs.List.{before_first, after_first, list_any};
-ghost use Rattle.num_text.specs.Words.{is_text};
 
 // Where such a byte first stands.
 fn place(text: &[u8], byte: u8) -> Option<usize>
@@ -10,9 +9,9 @@ fn place(text: &[u8], byte: u8) -> Option<usize>
     text.iter().position(|b| *b == byte)
 }
 
-/// What stands before the first such byte, and what stands behind it; the whole text and None
+/// What stands before the first such byte, and what stands after it; the whole text and None
 /// where there is none.
-#[tactic(auto, using(crate::proofs::Cuts::cuts))]
+#[tactic(auto, using(lists::proofs::Cuts::positions))]
 pub fn cut(text: &[u8], byte: u8) -> (&[u8], Option<&[u8]>)
     ensures front { result.0.now ≡ before_first (λ b. b == byte) text.now }
     ensures back { MatchOption result.1
@@ -25,12 +24,4 @@ pub fn cut(text: &[u8], byte: u8) -> (&[u8], Option<&[u8]>)
         None => (text, None),
         Some(i) => (&text[..i], Some(&text[i + 1..])),
     }
-}
-
-/// Whether a text is this word.
-#[tactic(auto, unfolding(crate::specs::Words::is_text))]
-pub fn is(text: &[u8], word: &[u8]) -> bool
-    ensures { result ≡ is_text text.now word.now }
-{
-    text == word
 }

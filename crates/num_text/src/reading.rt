@@ -36,14 +36,14 @@ fn all_digits(text: &[u8]) -> bool
     text.iter().all(|b| char::from(*b).is_digit(10))
 }
 
-#[tactic(auto, using(crate::proofs::Spelling::some_number))]
+#[tactic(auto, using(crate::proofs::Numerals::some_number))]
 fn is_dec(text: &[u8]) -> bool
     ensures { result ≡ is_some (dec_of text.now) }
 {
     !text.is_empty() && all_digits(text)
 }
 
-/// The text behind an optional `0x` or `0X`.
+/// The text after an optional `0x` or `0X`.
 pub fn after_prefix(text: &[u8]) -> &[u8]
     ensures { result.now ≡ without_prefix text.now }
 {
@@ -63,7 +63,7 @@ pub fn read_dec(text: &[u8]) -> Option<u64>
 
 /// The decimal number that a text spells, and 2^64 - 1 where it is above that. None where the
 /// text is empty or has a byte that is no decimal digit (this project's profile).
-#[tactic(auto, using(crate::proofs::Spelling::cappings))]
+#[tactic(auto, using(crate::proofs::Numerals::cappings))]
 pub fn read_dec_capped(text: &[u8]) -> Option<u64>
     ensures { result ≡ capped (dec_of text.now) }
 {
@@ -76,7 +76,7 @@ pub fn read_dec_capped(text: &[u8]) -> Option<u64>
     }
 }
 
-/// The hexadecimal number that a text spells, in digits of either case, behind an optional `0x`
+/// The hexadecimal number that a text spells, in digits of either case, after an optional `0x`
 /// or `0X`. None where no digit is left, another byte stands there, or the number is above
 /// 2^64 - 1 (this project's profile).
 pub fn read_hex(text: &[u8]) -> Option<u64>
@@ -85,7 +85,7 @@ pub fn read_hex(text: &[u8]) -> Option<u64>
     read_digits(after_prefix(text), 16)
 }
 
-/// The number that a text spells: hexadecimal behind `0x` or `0X`, decimal elsewhere. None as
+/// The number that a text spells: hexadecimal after `0x` or `0X`, decimal elsewhere. None as
 /// for `read_hex` and `read_dec` (this project's profile).
 pub fn read_num(text: &[u8]) -> Option<u64>
     ensures { result ≡ below (2 ^ 64) (num_of text.now) }

@@ -1,7 +1,7 @@
 ghost use Rattle.std.specs.Prelude.{◌≤◌};
 
 use super::*;
-use rc_base::{NoMemory, TextBuf};
+use rc_base::{NoMemory, TextBuf, is_text};
 use std::alloc::Global;
 use std::test::*;
 
@@ -65,10 +65,9 @@ fn prints_hex(alloc: Global, n: u64, width: u8, want: &[u8]) -> Result<bool, NoM
 
 #[test]
 fn texts_are_cut_and_printed(rt: HostRuntime) {
-    assert!(rt; is(trim(b" \t L 3\t ".as_slice()), b"L 3".as_slice()));
-    assert!(rt; is(trim(b" \t".as_slice()), b"".as_slice()));
-    assert!(rt; !is(b"L3 ".as_slice(), b"L3".as_slice()));
-    assert!(rt; is(after_prefix(b"0Xc".as_slice()), b"c".as_slice()));
+    assert!(rt; is_text(trim(b" \t L 3\t ".as_slice()), b"L 3".as_slice()));
+    assert!(rt; is_text(trim(b" \t".as_slice()), b"".as_slice()));
+    assert!(rt; is_text(after_prefix(b"0Xc".as_slice()), b"c".as_slice()));
     assert!(rt; is_blank(b'\t'));
     assert_eq!(rt; leading_blanks(b"\t x".as_slice()), 2);
     assert_eq!(rt;

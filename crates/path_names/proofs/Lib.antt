@@ -1,6 +1,9 @@
 pub mod Domains
-pub mod Interning
-pub mod Leading
-pub mod Parting
+pub mod FirstComponent
+pub mod FixedEntries
+pub mod KnownIds
+pub mod NameTable
 pub mod PathCounts
 pub mod PathOf
+pub mod Pieces
+pub mod Walks

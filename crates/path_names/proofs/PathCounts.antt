@@ -15,19 +15,22 @@ use Rattle.path_names.specs.declared.dirs.Owner.TheVariants.{Default as TheDefau
 use Rattle.path_names.specs.declared.names.NameId.{NameId}
 use Rattle.path_names.specs.declared.path_ref.PathRef.{PathRef}
 use Rattle.path_names.specs.declared.path_ref.PathRef.TheVariants.{Dir, File, Free, Nowhere}
-use Rattle.path_names.specs.Components.{is_text}
+use Rattle.rc_base.specs.Texts.{is_text}
 use Rattle.path_names.specs.NamesIn.{owner_ids, holder_ids, dir_ids, path_ids}
 use Rattle.path_names.specs.Interned.{Keeps, interned}
 use Rattle.path_names.specs.PathTable.{Entry, domain_entry, entry_of, fixed_entries, named}
 
+-- a control group has one name at most
 owner_le : (owner : Owner) → length (owner_ids owner) ≤ 1
 owner_le TheDefault = omega arith
 owner_le (Named name) = omega arith
 
+-- a group has two names at most
 holder_le : (holder : Holder) → length (holder_ids holder) ≤ 2
 holder_le (Control owner) = omega (arith, owner_le owner)
 holder_le (Monitor owner name) = omega (arith, owner_le owner, length-append (owner_ids owner) (name.0 ∷ []))
 
+-- a directory has two names at most
 pub dir_le : (dir : DirRef) → length (dir_ids dir) ≤ 2
 dir_le Root = omega arith
 dir_le Info = omega arith
@@ -39,6 +42,7 @@ dir_le (Mon owner name) = omega (arith, owner_le owner, length-append (owner_ids
 dir_le (MonData holder) = holder_le holder
 dir_le (MonDomain holder domain) = holder_le holder
 
+-- a path has three names at most
 pub path_le : (path : PathRef) → length (path_ids path) ≤ 3
 path_le (Dir dir) = omega (arith, dir_le dir)
 path_le (File dir kind) = omega (arith, dir_le dir)
@@ -51,10 +55,12 @@ of_all test n [] all path found = absurd (none-some path found)
 of_all test n (e ∷ es) all path found = elim (test e.0) as (λ b. cond b (Some e.1) (lookup test es) ≡ Some path → path_ids path ≡ n)
     [ true ↦ (λ here. subst (λ p. path_ids p ≡ n) (same_Some e.1 path here) all.0) | false ↦ (λ later. of_all test n es all.1 path later) ] found
 
+-- the entries of domains have the names of their group
 domains_hold : (holder : Holder) (from n : ℕ) → AllByRecursion (λ e. path_ids e.1 ≡ holder_ids holder) (map (domain_entry holder) (range_with_len from n))
 domains_hold holder from zero = tt
 domains_hold holder from (suc n) = (refl, domains_hold holder (from + 1) n)
 
+-- the entries of a directory have its names
 table_holds : (domains : ℕ) (dir : DirRef) → AllByRecursion (λ e. path_ids e.1 ≡ dir_ids dir) (fixed_entries domains dir)
 table_holds domains Root = (refl, (refl, (refl, (refl, (refl, (refl, (refl, (refl, (refl, tt)))))))))
 table_holds domains Info = (refl, (refl, (refl, tt)))
@@ -83,17 +89,21 @@ named_ids (Mon owner group) name = refl
 named_ids (MonData holder) name = refl
 named_ids (MonDomain holder domain) name = refl
 
+-- a name that comes is one name more at most
 pub length_interned : (name : List ℕ) (names : List (List ℕ)) → length (interned name names) ≤ length names + 1
 length_interned name names = elim (list_any (bytes_eq name) names) as (λ b. length (cond b names (names ++ name ∷ [])) ≤ length names + 1)
     [ true ↦ omega arith | false ↦ grind (arith, common_steps) ]
 
+-- the same names are kept
 pub keeps_all : (names : List (List ℕ)) → Keeps names names
 keeps_all names = grind (arith, common_steps)
 
+-- a name that comes keeps the others
 pub keeps_interned : (name : List ℕ) (names : List (List ℕ)) → Keeps names (interned name names)
 keeps_interned name names = elim (list_any (bytes_eq name) names) as (λ b. take (length names) (cond b names (names ++ name ∷ [])) ≡ names)
     [ true ↦ keeps_all names | false ↦ grind (arith, common_steps) ]
 
+-- the front of a front
 take_front : (n m : ℕ) (xs : List (List ℕ)) → n ≤ m → take n (take m xs) ≡ take n xs
 take_front zero m xs h = refl
 take_front (suc n) zero xs h = absurd (omega arith)
@@ -105,6 +115,7 @@ keeps_on a b c first second =
     let shorter : length a ≤ length b = let e = ap length first in grind (arith, common_steps) in
     sym (take_front (length a) (length b) c shorter) ∙ ap (take (length a)) second ∙ first
 
+-- names are only added
 pub interned_longer : (name : List ℕ) (names : List (List ℕ)) → length names ≤ length (interned name names)
 interned_longer name names = elim (list_any (bytes_eq name) names) as (λ b. length names ≤ length (cond b names (names ++ name ∷ [])))
     [ true ↦ omega arith | false ↦ grind (arith, common_steps) ]

@@ -1,11 +1,7 @@
 -- The components of a path.
 use Rattle.std.specs.Prelude.{ℕ, Bool, false, not, ◌==◌, ◌&&◌, ◌||◌, nat_le, List, [], ◌∷◌, length, Option, Some, None, codes, if◌then◌else◌}
 use Rattle.std.specs.List.{list_all, slice_split}
-use Rattle.std.specs.Str.{bytes_eq}
-
--- whether the bytes are these
-unfoldable pub is_text : List ℕ → List ℕ → Bool
-is_text bytes text = bytes_eq bytes text
+use Rattle.rc_base.specs.Texts.{is_text}
 
 -- the byte `/`
 abbrev pub is_slash : ℕ → Bool
@@ -23,7 +19,7 @@ is_dots name = is_text name (codes ".") || is_text name (codes "..")
 unfoldable pub is_component : List ℕ → Bool
 is_component name = nat_le 1 (length name) && nat_le (length name) 255 && list_all is_visible name && not (is_dots name)
 
--- the parts between the slashes, behind a first byte
+-- the parts between the slashes, after a first byte
 abbrev pub components : List ℕ → List (List ℕ)
 components [] = []
 components (first ∷ rest) = slice_split is_slash rest

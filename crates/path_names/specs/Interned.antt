@@ -16,5 +16,6 @@ Keeps old new = take (length old) new ≡ old
 abbrev pub number_of : List ℕ → List (List ℕ) → ℕ
 number_of name names = position_or_len (bytes_eq name) names
 
+-- the same as the number of a name
 abbrev pub id_of : List ℕ → List (List ℕ) → NameId
 id_of name names = record { 0 = number_of name names }

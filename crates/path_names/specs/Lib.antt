@@ -3,3 +3,4 @@ pub mod Interned
 pub mod NamesIn
 pub mod PathTable
 pub mod Reading
+pub mod PathTexts

@@ -9,10 +9,33 @@ use Rattle.path_names.specs.declared.dirs.Holder.{Holder}
 use Rattle.path_names.specs.declared.dirs.Holder.TheVariants.{Control, Monitor}
 use Rattle.path_names.specs.declared.dirs.Owner.{Owner}
 use Rattle.path_names.specs.declared.dirs.Owner.TheVariants.{Default as TheDefault, Ctrl as Named}
+use Rattle.path_names.specs.declared.files.FileKind.{FileKind}
 use Rattle.path_names.specs.declared.files.FileKind.TheVariants.{Cpus, CpusList, Tasks, Schemata, Mode, Size, Occupancy, LastStatus, NumClosids, CbmMask, MinCbmBits, ShareableBits, BitUsage, SparseMasks, NumRmids, MonFeatures, MaxThreshold}
+use Rattle.path_names.specs.declared.fixed.FixedEntry.{FixedEntry}
+use Rattle.path_names.specs.declared.fixed.FixedEntry.TheVariants as fixed
 use Rattle.path_names.specs.declared.path_ref.PathRef.{PathRef}
 use Rattle.path_names.specs.declared.path_ref.PathRef.TheVariants.{Dir, File, Free}
-use Rattle.path_names.specs.Components.{is_text}
+use Rattle.rc_base.specs.Texts.{is_text}
+
+-- the name of a file, by its kind
+abbrev pub file_name : FileKind → List ℕ
+file_name Cpus = codes "cpus"
+file_name CpusList = codes "cpus_list"
+file_name Tasks = codes "tasks"
+file_name Schemata = codes "schemata"
+file_name Mode = codes "mode"
+file_name Size = codes "size"
+file_name Occupancy = codes "llc_occupancy"
+file_name LastStatus = codes "last_cmd_status"
+file_name NumClosids = codes "num_closids"
+file_name CbmMask = codes "cbm_mask"
+file_name MinCbmBits = codes "min_cbm_bits"
+file_name ShareableBits = codes "shareable_bits"
+file_name BitUsage = codes "bit_usage"
+file_name SparseMasks = codes "sparse_masks"
+file_name NumRmids = codes "num_rmids"
+file_name MonFeatures = codes "mon_features"
+file_name MaxThreshold = codes "max_threshold_occupancy"
 
 -- an entry of a directory: its name, and what it is
 abbrev pub Entry : Type 0
@@ -26,60 +49,59 @@ domain_name domain = codes "mon_L3_" ++ (48 + domain / 10) ∷ (48 + domain % 10
 abbrev pub domain_entry : Holder → ℕ → Entry
 domain_entry holder domain = (domain_name domain, Dir (MonDomain holder domain))
 
--- the fixed entries of a control group
-abbrev pub control_entries : DirRef → Owner → List Entry
-control_entries dir owner =
-    (codes "cpus", File dir Cpus)
-    ∷ (codes "cpus_list", File dir CpusList)
-    ∷ (codes "mode", File dir Mode)
-    ∷ (codes "mon_data", Dir (MonData (Control owner)))
-    ∷ (codes "mon_groups", Dir (MonGroups owner))
-    ∷ (codes "schemata", File dir Schemata)
-    ∷ (codes "size", File dir Size)
-    ∷ (codes "tasks", File dir Tasks)
-    ∷ []
+-- the group of a directory; the default group where it is no other group's
+abbrev pub holder_at : DirRef → Holder
+holder_at (Ctrl name) = Control (Named name)
+holder_at (Mon owner name) = Monitor owner name
+holder_at dir = Control TheDefault
 
--- the fixed entries of a directory, on a machine with so many domains, in the order in which they are listed
+-- the control group of a directory; the default group where it is no other control group's
+abbrev pub owner_at : DirRef → Owner
+owner_at (Ctrl name) = Named name
+owner_at dir = TheDefault
+
+-- the name of a fixed entry
+abbrev pub fixed_name : FixedEntry → List ℕ
+fixed_name (fixed.File kind) = file_name kind
+fixed_name fixed.Info = codes "info"
+fixed_name fixed.InfoL3 = codes "L3"
+fixed_name fixed.InfoL3Mon = codes "L3_MON"
+fixed_name fixed.MonData = codes "mon_data"
+fixed_name fixed.MonGroups = codes "mon_groups"
+
+-- what a fixed entry is in its directory
+abbrev pub fixed_path : DirRef → FixedEntry → PathRef
+fixed_path dir (fixed.File kind) = File dir kind
+fixed_path dir fixed.Info = Dir Info
+fixed_path dir fixed.InfoL3 = Dir InfoL3
+fixed_path dir fixed.InfoL3Mon = Dir InfoL3Mon
+fixed_path dir fixed.MonData = Dir (MonData (holder_at dir))
+fixed_path dir fixed.MonGroups = Dir (MonGroups (owner_at dir))
+
+-- the fixed entries of a directory, but for the domains of `mon_data`, in the order in which they are listed
+abbrev pub fixed_in : DirRef → List FixedEntry
+fixed_in Root = fixed.File Cpus ∷ fixed.File CpusList ∷ fixed.Info ∷ fixed.File Mode ∷ fixed.MonData ∷ fixed.MonGroups ∷ fixed.File Schemata ∷ fixed.File Size ∷ fixed.File Tasks ∷ []
+fixed_in (Ctrl name) = fixed.File Cpus ∷ fixed.File CpusList ∷ fixed.File Mode ∷ fixed.MonData ∷ fixed.MonGroups ∷ fixed.File Schemata ∷ fixed.File Size ∷ fixed.File Tasks ∷ []
+fixed_in (Mon owner name) = fixed.File Cpus ∷ fixed.File CpusList ∷ fixed.MonData ∷ fixed.File Tasks ∷ []
+fixed_in (MonGroups owner) = []
+fixed_in (MonData holder) = []
+fixed_in (MonDomain holder domain) = fixed.File Occupancy ∷ []
+fixed_in Info = fixed.InfoL3 ∷ fixed.InfoL3Mon ∷ fixed.File LastStatus ∷ []
+fixed_in InfoL3 = fixed.File BitUsage ∷ fixed.File CbmMask ∷ fixed.File MinCbmBits ∷ fixed.File NumClosids ∷ fixed.File ShareableBits ∷ fixed.File SparseMasks ∷ []
+fixed_in InfoL3Mon = fixed.File MaxThreshold ∷ fixed.File MonFeatures ∷ fixed.File NumRmids ∷ []
+
+-- a fixed entry of a directory, with its name
+abbrev pub entry_in : DirRef → FixedEntry → Entry
+entry_in dir entry = (fixed_name entry, fixed_path dir entry)
+
+-- all fixed entries of a directory, on a machine with so many domains, in the order in which they are listed
 abbrev pub fixed_entries : ℕ → DirRef → List Entry
-fixed_entries domains Root =
-    (codes "cpus", File Root Cpus)
-    ∷ (codes "cpus_list", File Root CpusList)
-    ∷ (codes "info", Dir Info)
-    ∷ (codes "mode", File Root Mode)
-    ∷ (codes "mon_data", Dir (MonData (Control TheDefault)))
-    ∷ (codes "mon_groups", Dir (MonGroups TheDefault))
-    ∷ (codes "schemata", File Root Schemata)
-    ∷ (codes "size", File Root Size)
-    ∷ (codes "tasks", File Root Tasks)
-    ∷ []
-fixed_entries domains (Ctrl name) = control_entries (Ctrl name) (Named name)
-fixed_entries domains (Mon owner name) =
-    (codes "cpus", File (Mon owner name) Cpus)
-    ∷ (codes "cpus_list", File (Mon owner name) CpusList)
-    ∷ (codes "mon_data", Dir (MonData (Monitor owner name)))
-    ∷ (codes "tasks", File (Mon owner name) Tasks)
-    ∷ []
-fixed_entries domains (MonGroups owner) = []
 fixed_entries domains (MonData holder) = map (domain_entry holder) (range_with_len 0 domains)
-fixed_entries domains (MonDomain holder domain) = (codes "llc_occupancy", File (MonDomain holder domain) Occupancy) ∷ []
-fixed_entries domains Info =
-    (codes "L3", Dir InfoL3)
-    ∷ (codes "L3_MON", Dir InfoL3Mon)
-    ∷ (codes "last_cmd_status", File Info LastStatus)
-    ∷ []
-fixed_entries domains InfoL3 =
-    (codes "bit_usage", File InfoL3 BitUsage)
-    ∷ (codes "cbm_mask", File InfoL3 CbmMask)
-    ∷ (codes "min_cbm_bits", File InfoL3 MinCbmBits)
-    ∷ (codes "num_closids", File InfoL3 NumClosids)
-    ∷ (codes "shareable_bits", File InfoL3 ShareableBits)
-    ∷ (codes "sparse_masks", File InfoL3 SparseMasks)
-    ∷ []
-fixed_entries domains InfoL3Mon =
-    (codes "max_threshold_occupancy", File InfoL3Mon MaxThreshold)
-    ∷ (codes "mon_features", File InfoL3Mon MonFeatures)
-    ∷ (codes "num_rmids", File InfoL3Mon NumRmids)
-    ∷ []
+fixed_entries domains dir = map (entry_in dir) (fixed_in dir)
+
+-- the entry of this name among these of a directory
+abbrev pub entry_among : DirRef → List ℕ → List FixedEntry → Option PathRef
+entry_among dir name entries = lookup (λ known. is_text name known) (map (entry_in dir) entries)
 
 -- the fixed entry of this name
 unfoldable pub entry_of : ℕ → DirRef → List ℕ → Option PathRef

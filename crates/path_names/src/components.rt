@@ -1,15 +1,9 @@
 //! The components of a path.
 ghost use Rattle.std.specs.Prelude.{◌≡◌, ◌<◌, ◌≤◌, [], ◌∷◌, length, MatchOption};
 ghost use Rattle.std.specs.List.{list_all, position_or_len, slice_split};
-ghost use Rattle.path_names.specs.Components.{components, is_component, is_dots, is_slash, is_text, is_visible, is_well_formed};
+ghost use Rattle.path_names.specs.Components.{components, is_component, is_dots, is_slash, is_visible, is_well_formed};
 
-/// Whether the bytes are these.
-#[tactic(auto, unfolding(crate::specs::Components::is_text))]
-pub(crate) fn is(bytes: &[u8], text: &[u8]) -> bool
-    ensures { result ≡ is_text bytes.now text.now }
-{
-    bytes == text
-}
+use rc_base::is_text;
 
 /// Whether the text is components that each follow a slash.
 #[tactic(auto, unfolding(crate::specs::Components::is_well_formed))]
@@ -19,7 +13,7 @@ pub(crate) fn is_well_formed(text: &[u8]) -> bool
     text.first() == Some(&b'/') && are_components(text)
 }
 
-// Whether all parts between slashes, behind the first byte, are components.
+// Whether all parts between slashes, after the first byte, are components.
 fn are_components(text: &[u8]) -> bool
     ensures { result ≡ list_all is_component (components text.now) }
 {
@@ -33,7 +27,7 @@ fn are_components(text: &[u8]) -> bool
     true
 }
 
-/// The part behind the first byte, up to the next slash, and what is left from that slash on.
+/// The part after the first byte, up to the next slash, and what is left from that slash on.
 pub(crate) fn next_component(text: &[u8]) -> Option<(&[u8], &[u8])>
     ensures { MatchOption result (components text.now ≡ []) (λ p. (components text.now ≡ p.0.now ∷ components p.1.now) × (length p.1.now < length text.now)) }
 {
@@ -79,5 +73,5 @@ fn are_visible(name: &[u8]) -> bool
 fn is_dots(name: &[u8]) -> bool
     ensures { result ≡ is_dots name.now }
 {
-    is(name, b".") || is(name, b"..")
+    is_text(name, b".") || is_text(name, b"..")
 }

@@ -5,14 +5,18 @@ pub mod components;
 pub mod dirs;
 pub mod entries;
 pub mod files;
+pub mod fixed;
 pub mod names;
 pub mod path_ref;
+pub mod path_text;
 pub mod paths;
 #[cfg(test)]
 mod tests;
 
 pub use dirs::{DirRef, Holder, Owner};
 pub use files::FileKind;
+pub use fixed::{FixedEntry, domain_name, fixed_in};
 pub use names::{NameId, Names};
 pub use path_ref::PathRef;
-pub use paths::{PathFault, read_path};
+pub use path_text::push_path;
+pub use paths::{MOST_PATH_NAMES, PathFault, read_path};

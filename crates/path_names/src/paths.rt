@@ -4,14 +4,18 @@ ghost use Rattle.path_names.specs.Components.{components};
 ghost use Rattle.path_names.specs.NamesIn.{dir_ids, path_ids};
 ghost use Rattle.path_names.specs.Interned.{Keeps};
 ghost use Rattle.path_names.specs.PathTable.{entry_of};
+ghost use Rattle.path_names.specs.declared.paths.TheConstants.{MOST_PATH_NAMES};
 ghost use Rattle.path_names.specs.Reading.{entry_or_named, or_nowhere, path_of, reached};
 
-use crate::components::{is, is_well_formed, next_component};
+use crate::components::{is_well_formed, next_component};
 use crate::dirs::DirRef;
 use crate::entries::{entry, named};
 use crate::names::Names;
 use crate::path_ref::PathRef;
-use rc_base::NoMemory;
+use rc_base::{NoMemory, is_text};
+
+/// How many names a path adds at most to those that were known.
+pub const MOST_PATH_NAMES: usize = 4;
 
 /// Why a path was not read.
 #[derive(Clone, Copy, Debug, PartialEq, Eq)]
@@ -19,7 +23,7 @@ pub enum PathFault {
     /// The text is neither `/` nor components that each follow a `/`. A component is 1 to 255 bytes from `!` to `~`
     /// without `/`, and neither `.` nor `..` (this project's profile).
     Bad,
-    /// Want of memory for a name.
+    /// Out of memory for a name.
     NoMemory,
 }
 
@@ -47,10 +51,10 @@ pub fn read_path(text: &[u8], domains: u8, names: &mut Names) -> Result<PathRef,
 
     // The names in the path are known, and they are few.
     ensures ids { IfOk result (λ path. All (λ id. id < length names.new) (path_ids path)) }
-    ensures few { length names.new ≤ length names.old + 4 }
+    ensures few { length names.new ≤ length names.old + MOST_PATH_NAMES }
     ensures bytes { length names.new ≤ length names.old + length text.now }
 {
-    if is(text, b"/") {
+    if is_text(text, b"/") {
         return Ok(PathRef::Dir(DirRef::Root));
     }
     if !is_well_formed(text) {

@@ -1,9 +1,10 @@
-//! Paths of every kind, and names that come twice.
+//! Paths of every kind, read and printed, and names that come twice.
 
 use crate::dirs::{DirRef, Holder, Owner};
 use crate::files::FileKind;
 use crate::names::{NameId, Names};
 use crate::path_ref::PathRef;
+use crate::path_text::push_path;
 use crate::paths::{PathFault, read_path};
 use std::alloc::Global;
 use std::process::Abort;
@@ -277,5 +278,34 @@ fn names(rt: HostRuntime) -> Result<(), PathFault> {
     let c = names.intern(b"c")?;
     assert_eq!(rt; c, NameId(2));
     assert_eq!(rt; names.text(c), b"c".as_slice());
+    Ok(())
+}
+
+// What a path prints, after it was read.
+fn printed(alloc: Global, text: &[u8]) -> Result<Vec<u8>, PathFault> {
+    let mut names = Names::create(alloc)?;
+    let path = read_path(text, 2, &mut names)?;
+    let mut out = Vec::new(alloc);
+    push_path(&mut out, &names, path)?;
+    Ok(out)
+}
+
+#[test]
+fn paths_print_as_they_are_read(rt: HostRuntime) -> Result<(), PathFault> {
+    let texts: [&[u8]; 9] = [
+        b"/",
+        b"/info/L3/bit_usage",
+        b"/info/L3_MON/num_rmids",
+        b"/g/schemata",
+        b"/mon_groups/m/tasks",
+        b"/g/mon_groups/m/mon_data/mon_L3_01/llc_occupancy",
+        b"/mon_data/mon_L3_00",
+        b"/info/x",
+        b"/cpus/x",
+    ];
+    for text in texts {
+        let out = printed(rt.alloc(), text)?;
+        assert_eq!(rt; out.as_slice(), text, "{text:?}");
+    }
     Ok(())
 }

@@ -1,4 +1,6 @@
 pub mod Buffers
 pub mod Follows
+pub mod Gids
 pub mod Reasons
 pub mod Replies
+pub mod Texts

@@ -6,12 +6,14 @@ pub mod names;
 pub mod reasons;
 pub mod replies;
 pub mod text_buf;
+pub mod texts;
 
 pub use look_list::LookList;
 pub use names::{Gid, Mode, NoMemory, Tag};
 pub use reasons::{Argument, Wording};
 pub use replies::{Errno, Reply, Why};
 pub use text_buf::{TEXT_MAX, TextBuf};
+pub use texts::is_text;
 
 #[cfg(test)]
 mod tests;

@@ -1,8 +1,10 @@
-//! Names of things: want of memory, groups, modes, and the tag of an access.
+//! Names of things: memory that is used up, groups, modes, and the tag of an access.
+ghost use Rattle.std.specs.Prelude.{◌≡◌};
+ghost use Rattle.rc_base.specs.Gids.{is_default};
 
 use std::alloc::{AllocError, AllocFailed};
 
-/// Want of memory, and nothing else.
+/// Out of memory, and nothing else.
 #[derive(Clone, Copy, Debug, PartialEq, Eq)]
 pub struct NoMemory;
 
@@ -21,6 +23,18 @@ impl<T: Drop> From<AllocFailed<T>> for NoMemory {
 /// The serial number of a group: 0 is the default group, and a number is never used again (this project's profile).
 #[derive(Clone, Copy, Debug, PartialEq, Eq, PartialOrd, Ord)]
 pub struct Gid(pub u32);
+
+impl Gid {
+    /// The default group's number.
+    pub const DEFAULT: Gid = Gid(0);
+
+    /// Whether it is the default group's number.
+    pub fn is_default(self) -> bool
+        ensures { result ≡ is_default self }
+    {
+        self.0 == 0
+    }
+}
 
 /// The modes of a control group, as its `mode` file names them (kernel documentation, "Resource alloc and monitor groups").
 #[derive(Clone, Copy, Debug, PartialEq, Eq)]

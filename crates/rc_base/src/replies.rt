@@ -82,7 +82,7 @@ pub enum Why {
     NoColon,
     /// A schemata line names another resource than L3.
     BadResource,
-    /// A schemata line has nothing behind its colon.
+    /// A schemata line has nothing after its colon.
     NoValue,
     /// A schemata entry has no equals sign.
     NoEquals,

@@ -1,6 +1,6 @@
-//! Buffers with their room, and some rows of the table of reasons.
+//! Buffers with their room, some rows of the table of reasons, the default group, and texts.
 
-use crate::{Argument, Errno, LookList, Reply, TextBuf, Why};
+use crate::{Argument, Errno, Gid, LookList, Reply, TextBuf, Why, is_text};
 use std::test::Fail;
 
 #[test]
@@ -47,4 +47,13 @@ fn reasons_have_their_errors_and_texts(rt: HostRuntime) -> Result<(), Fail> {
     );
     assert_eq!(rt; Why::WrongCpu.number(), 42);
     Ok(())
+}
+
+#[test]
+fn names_and_texts_are_told_apart(rt: HostRuntime) {
+    assert!(rt; Gid::DEFAULT.is_default());
+    assert!(rt; !Gid(1).is_default());
+    assert!(rt; is_text(b"L3".as_slice(), b"L3".as_slice()));
+    assert!(rt; !is_text(b"L3 ".as_slice(), b"L3".as_slice()));
+    assert!(rt; !is_text(b"".as_slice(), b"L3".as_slice()));
 }

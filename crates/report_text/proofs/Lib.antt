@@ -1,6 +1,6 @@
-pub mod Few
-pub mod Lines
-pub mod Naming
+pub mod FewCommands
+pub mod GroupLines
 pub mod Pieces
-pub mod Tallying
-pub mod Told
+pub mod Replays
+pub mod SliceCaches
+pub mod TallyBounds

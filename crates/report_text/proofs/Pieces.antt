@@ -1,50 +1,29 @@
 -- Pieces of the report.
 use Rattle.std.proofs.Common.{◌≡◌, ℕ, zero, suc, ◌+◌, ◌<◌, List, [], ◌∷◌, ◌++◌, length, map, take, get_or, Option, Some, None, Result, Ok, Err, refl, sym, ap, ◌∙◌, subst, arith}
 use Rattle.std.specs.Prelude.{OnOk, decimal}
-use Rattle.std.specs.List.{flat_map, range_with_len}
-use Rattle.std.proofs.lemmas.Grind.{flat_map-append}
 use Rattle.std.proofs.lemmas.List.{append_assoc, append-nil, map-append, take_more, length-take, length-map}
 use Rattle.report_text.specs.Commands.{command_line, command_lines, op_said}
 use Rattle.run_law.specs.Entries.{entry_value}
 use Rattle.report_text.specs.Made.{made_by, made_from}
 use Rattle.report_text.specs.Replayed.{IsCounted}
 use Rattle.report_text.specs.declared.made.Made.{Made}
-use Rattle.rc_base.proofs.Following.{follows_at}
-use Rattle.run_law.specs.TreeHistory.{IsCommandThat, IsLegalTree, MayFollow, TreeEntryValue, state_after, tree_after, tree_from}
+use Rattle.rc_base.proofs.laws.Histories.{EachFollows-at}
+use Rattle.run_law.proofs.laws.TreeHistory.{tree_from-push}
+use Rattle.run_law.specs.TreeHistory.{IsCommandThat, IsLegalTree, TreeEntryValue, state_after, tree_after, tree_from, CommandMayFollow}
 use Rattle.run_law.specs.declared.journals.TreeEntry.{TreeEntry}
-use Rattle.script_text.specs.Values.{ScriptValue, op_at}
-use Rattle.script_text.specs.declared.op.Op.{Op}
-use Rattle.tree_core.specs.State.{State, opening}
-
-range_push : (a n : ℕ) → range_with_len a (n + 1) ≡ range_with_len a n ++ (a + n) ∷ []
-range_push a zero = let e : a ≡ a + 0 = omega arith in ap (λ k. k ∷ []) e
-range_push a (suc n) =
-    let next : suc n + 1 ≡ suc (n + 1) = omega arith in
-    let there : (a + 1) + n ≡ a + suc n = omega arith in
-    ap (range_with_len a) next ∙ ap (λ ks. a ∷ ks) (range_push (a + 1) n ∙ ap (λ k. range_with_len (a + 1) n ++ k ∷ []) there)
-
--- one more number
-pub range_more : (f : ℕ → List ℕ) (n : ℕ) (old now then : List ℕ) → now ≡ old ++ flat_map f (range_with_len 0 n) → then ≡ now ++ f n → then ≡ old ++ flat_map f (range_with_len 0 (n + 1))
-range_more f n old now then before more =
-    let here : 0 + n ≡ n = omega arith in
-    let all : flat_map f (range_with_len 0 (n + 1)) ≡ flat_map f (range_with_len 0 n) ++ f n =
-    ap (flat_map f) (range_push 0 n ∙ ap (λ k. range_with_len 0 n ++ k ∷ []) here) ∙ (flat_map-append f (range_with_len 0 n) (n ∷ []) ∙ ap (λ t. flat_map f (range_with_len 0 n) ++ t) (append-nil (f n))) in
-    more ∙ (ap (λ t. t ++ f n) before ∙ (append_assoc old (flat_map f (range_with_len 0 n)) (f n) ∙ ap (λ t. old ++ t) (sym all)))
+use Rattle.script_ops.specs.Values.{ScriptValue, op_at}
+use Rattle.script_ops.specs.declared.op.Op.{Op}
+use Rattle.tree_law.specs.State.{State, opening}
 
 -- one more command
-command_lines_push : (script : ScriptValue) (s : State) (k : ℕ) (hs : List TreeEntryValue) (h : TreeEntryValue)
+command_lines-push : (script : ScriptValue) (s : State) (k : ℕ) (hs : List TreeEntryValue) (h : TreeEntryValue)
     → command_lines script s k (hs ++ h ∷ []) ≡ command_lines script s k hs ++ command_line script (tree_from script s hs) (k + length hs) h
-command_lines_push script s k [] h = let e : k + 0 ≡ k = omega arith in rw e (append-nil (command_line script s k h))
-command_lines_push script s k (x ∷ hs) h =
+command_lines-push script s k [] h = let e : k + 0 ≡ k = omega arith in rw e (append-nil (command_line script s k h))
+command_lines-push script s k (x ∷ hs) h =
     let then : State = state_after script.machine s x.looks (op_at script x.thread x.op) in
     let e : (k + 1) + length hs ≡ k + suc (length hs) = omega arith in
-    ap (λ rest. command_line script s k x ++ rest) (command_lines_push script then (k + 1) hs h ∙ ap (λ n. command_lines script then (k + 1) hs ++ command_line script (tree_from script then hs) n h) e)
+    ap (λ rest. command_line script s k x ++ rest) (command_lines-push script then (k + 1) hs h ∙ ap (λ n. command_lines script then (k + 1) hs ++ command_line script (tree_from script then hs) n h) e)
     ∙ sym (append_assoc (command_line script s k x) (command_lines script then (k + 1) hs) (command_line script (tree_from script then hs) (k + suc (length hs)) h))
-
-state_push : (script : ScriptValue) (s : State) (hs : List TreeEntryValue) (h : TreeEntryValue)
-    → tree_from script s (hs ++ h ∷ []) ≡ state_after script.machine (tree_from script s hs) h.looks (op_at script h.thread h.op)
-state_push script s [] h = refl
-state_push script s (x ∷ hs) h = state_push script (state_after script.machine s x.looks (op_at script x.thread x.op)) hs h
 
 -- the entries up to one, and that one
 entries_more : (es : List TreeEntry) (k : ℕ) (e : TreeEntry) → k < length es → e ≡ get_or es k e → map entry_value (take (k + 1) es) ≡ map entry_value (take k es) ++ entry_value e ∷ []
@@ -65,7 +44,7 @@ command_lines_more script s es k e state old now then within is at before last =
     more
     ∙ (ap (λ t. t ++ command_line script here k (entry_value e)) before
     ∙ (append_assoc old (command_lines script s 0 hs) (command_line script here k (entry_value e))
-    ∙ ap (λ t. old ++ t) (sym (ap (command_lines script s 0) (entries_more es k e within is) ∙ (command_lines_push script s 0 hs (entry_value e) ∙ ap (λ n. command_lines script s 0 hs ++ command_line script here n (entry_value e)) z)))))
+    ∙ ap (λ t. old ++ t) (sym (ap (command_lines script s 0) (entries_more es k e within is) ∙ (command_lines-push script s 0 hs (entry_value e) ∙ ap (λ n. command_lines script s 0 hs ++ command_line script here n (entry_value e)) z)))))
 
 -- the state after one command more
 pub state_more : (script : ScriptValue) (s now then : State) (es : List TreeEntry) (k : ℕ) (e : TreeEntry) → k < length es → e ≡ get_or es k e
@@ -74,17 +53,18 @@ pub state_more : (script : ScriptValue) (s now then : State) (es : List TreeEntr
 state_more script s now then es k e within is before more =
     more
     ∙ (ap (λ t. state_after script.machine t e.looks.numbers (op_at script e.thread e.op)) before
-    ∙ sym (ap (tree_from script s) (entries_more es k e within is) ∙ state_push script s (map entry_value (take k es)) (entry_value e)))
+    ∙ sym (ap (tree_from script s) (entries_more es k e within is) ∙ tree_from-push script s (map entry_value (take k es)) (entry_value e)))
 
 -- ---- groups that were made
 
-made_push : (script : ScriptValue) (s : State) (hs : List TreeEntryValue) (h : TreeEntryValue)
+-- one more command
+made_from-push : (script : ScriptValue) (s : State) (hs : List TreeEntryValue) (h : TreeEntryValue)
     → made_from script s (hs ++ h ∷ []) ≡ made_from script s hs ++ made_by (tree_from script s hs) (op_at script h.thread h.op) h.reply
-made_push script s [] h = append-nil (made_by s (op_at script h.thread h.op) h.reply)
-made_push script s (x ∷ hs) h =
+made_from-push script s [] h = append-nil (made_by s (op_at script h.thread h.op) h.reply)
+made_from-push script s (x ∷ hs) h =
     let then : State = state_after script.machine s x.looks (op_at script x.thread x.op) in
     let own : List Made = made_by s (op_at script x.thread x.op) x.reply in
-    ap (λ rest. own ++ rest) (made_push script then hs h)
+    ap (λ rest. own ++ rest) (made_from-push script then hs h)
     ∙ sym (append_assoc own (made_from script then hs) (made_by (tree_from script then hs) (op_at script h.thread h.op) h.reply))
 
 -- the groups that were made, after one command more
@@ -97,20 +77,23 @@ made_more script s now made then es k e within is at before more =
     more
     ∙ (ap (λ all. all ++ made_by now (op_at script e.thread e.op) e.reply) before
     ∙ (ap (λ t. made_from script s hs ++ made_by t (op_at script e.thread e.op) e.reply) at
-    ∙ sym (ap (made_from script s) (entries_more es k e within is) ∙ made_push script s hs (entry_value e))))
+    ∙ sym (ap (made_from script s) (entries_more es k e within is) ∙ made_from-push script s hs (entry_value e))))
 
 -- ---- counts that were given
 
+-- the first entries
 take_map : (f : TreeEntry → TreeEntryValue) (es : List TreeEntry) (k : ℕ) → take k (map f es) ≡ map f (take k es)
 take_map f es zero = refl
 take_map f [] (suc k) = refl
 take_map f (e ∷ es) (suc k) = ap (λ rest. f e ∷ rest) (take_map f es k)
 
+-- one entry
 at_map : (f : TreeEntry → TreeEntryValue) (es : List TreeEntry) (k : ℕ) (e : TreeEntry) → get_or (map f es) k (f e) ≡ f (get_or es k e)
 at_map f [] k e = refl
 at_map f (x ∷ es) zero e = refl
 at_map f (x ∷ es) (suc k) e = at_map f es k e
 
+-- the first of two facts on a command
 first_of : (P Q : Op → Type 0) (op : Option Op) → IsCommandThat (λ o. P o × Q o) op → IsCommandThat P op
 first_of P Q None h = h
 first_of P Q (Some o) h = (h.0, h.1.0)
@@ -121,9 +104,9 @@ pub counted_at : (script : ScriptValue) (es : List TreeEntry) (k : ℕ) (e : Tre
 unfolding tree_after
 counted_at script es k e now legal within is at =
     let many : k < length (map entry_value es) = omega (arith, within, length-map es entry_value) in
-    let here : MayFollow script (take k (map entry_value es)) (get_or (map entry_value es) k (entry_value e)) = follows_at (MayFollow script) (map entry_value es) k (entry_value e) legal many in
+    let here : CommandMayFollow script (take k (map entry_value es)) (get_or (map entry_value es) k (entry_value e)) = EachFollows-at (CommandMayFollow script) (map entry_value es) k (entry_value e) legal many in
     let entry : get_or (map entry_value es) k (entry_value e) ≡ entry_value e = at_map entry_value es k e ∙ ap entry_value (sym is) in
-    let own : MayFollow script (take k (map entry_value es)) (entry_value e) = subst (λ x. MayFollow script (take k (map entry_value es)) x) entry here in
+    let own : CommandMayFollow script (take k (map entry_value es)) (entry_value e) = subst (λ x. CommandMayFollow script (take k (map entry_value es)) x) entry here in
     let state : tree_after script (take k (map entry_value es)) ≡ now = ap (tree_after script) (take_map entry_value es k) ∙ sym at in
     let counted : IsCounted script (tree_after script (take k (map entry_value es))) (entry_value e) = first_of _ _ (op_at script e.thread e.op) own in
     subst (λ s. IsCounted script s (entry_value e)) state counted

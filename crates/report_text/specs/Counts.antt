@@ -1,12 +1,12 @@
 -- Counts of accesses, hits and misses over the entries of slices.
 use Rattle.std.specs.Prelude.{ℕ, Bool, true, false, not, ◌==◌, ◌&&◌, List, ◌++◌, count_by, codes, decimal}
-use Rattle.cache_core.specs.Sums.{sum_below}
+use Rattle.lists.specs.Sums.{sum_below}
 use Rattle.cache_core.specs.declared.entry.SliceEntry.{SliceEntry}
 use Rattle.cache_core.specs.declared.entry.What.{What}
 use Rattle.cache_core.specs.declared.entry.What.TheVariants.{Access}
-use Rattle.run_law.specs.Runs.{JournalsValue, slice_at}
-use Rattle.run_law.specs.Slices.{slice_count}
-use Rattle.script_text.specs.Values.{ScriptValue}
+use Rattle.run_law.specs.Journals.{JournalsValue, slice_at}
+use Rattle.machine.specs.Slices.{slice_count}
+use Rattle.script_ops.specs.Values.{ScriptValue}
 
 -- an access of this group
 abbrev pub is_access_of : ℕ → What → Bool

@@ -6,11 +6,11 @@ use Rattle.rc_base.specs.declared.replies.Reply.{Reply}
 use Rattle.rc_base.specs.declared.replies.Reply.TheVariants as replies
 use Rattle.report_text.specs.declared.made.Made.{Made}
 use Rattle.run_law.specs.TreeHistory.{TreeEntryValue, state_after}
-use Rattle.script_text.specs.Canonical.{path_text}
-use Rattle.script_text.specs.Values.{ScriptValue, op_at}
-use Rattle.script_text.specs.declared.op.Op.{Op}
-use Rattle.script_text.specs.declared.op.Op.TheVariants.{Mkdir}
-use Rattle.tree_core.specs.State.{State, opening}
+use Rattle.path_names.specs.PathTexts.{path_text}
+use Rattle.script_ops.specs.Values.{ScriptValue, op_at}
+use Rattle.script_ops.specs.declared.op.Op.{Op}
+use Rattle.script_ops.specs.declared.op.Op.TheVariants.{Mkdir}
+use Rattle.tree_law.specs.State.{State, opening}
 
 -- the control group that an accepted mkdir makes in a state
 abbrev pub made_by : State → Option Op → Reply → List Made

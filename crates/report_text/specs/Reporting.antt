@@ -2,7 +2,7 @@
 use Rattle.std.specs.Prelude.{ℕ, ◌*◌, Bool, true, false, nat_lt, if◌then◌else◌, List, [], ◌++◌, length, count_by, codes, decimal}
 use Rattle.std.specs.List.{flat_map, range_with_len}
 use Rattle.cache_core.specs.History.{lines_of, valid_of}
-use Rattle.cache_core.specs.Sums.{sum_below}
+use Rattle.lists.specs.Sums.{sum_below}
 use Rattle.rc_base.specs.declared.replies.Reply.{Reply}
 use Rattle.rc_base.specs.declared.replies.Reply.TheVariants as replies
 use Rattle.report_text.specs.Commands.{command_lines}
@@ -10,11 +10,12 @@ use Rattle.report_text.specs.Counts.{counts_text, is_access, is_access_of}
 use Rattle.report_text.specs.Made.{Control, controls}
 use Rattle.report_text.specs.Tallies.{counts_told}
 use Rattle.report_text.specs.declared.counts.Counts.{Counts}
-use Rattle.run_law.specs.Runs.{JournalsValue, slice_at}
-use Rattle.run_law.specs.Slices.{shape_in, slice_number}
+use Rattle.run_law.specs.Journals.{JournalsValue, slice_at}
+use Rattle.run_law.specs.Slices.{shape_in}
+use Rattle.machine.specs.Slices.{slice_number}
 use Rattle.run_law.specs.TreeHistory.{TreeEntryValue}
-use Rattle.script_text.specs.Values.{ScriptValue}
-use Rattle.tree_core.specs.State.{opening}
+use Rattle.script_ops.specs.Values.{ScriptValue}
+use Rattle.tree_law.specs.State.{opening}
 
 -- ---- the line of a group
 

@@ -1,12 +1,12 @@
 -- The accesses, hits and misses of each group, by its gid.
 use Rattle.std.specs.Prelude.{ℕ, ◌+◌, ◌≤◌, Bool, not, ◌==◌, ◌&&◌, if◌then◌else◌, List, ◌++◌, codes, count_by, decimal, slice_index_or}
-use Rattle.cache_core.specs.Sums.{one_if, sum_below}
+use Rattle.lists.specs.Sums.{one_if, sum_below}
 use Rattle.cache_core.specs.declared.entry.SliceEntry.{SliceEntry}
 use Rattle.cache_core.specs.declared.entry.What.{What}
 use Rattle.cache_core.specs.declared.entry.What.TheVariants.{Access}
 use Rattle.report_text.specs.Counts.{is_access_of, is_hit}
 use Rattle.report_text.specs.declared.counts.Counts.{Counts}
-use Rattle.run_law.specs.Runs.{JournalsValue, slice_at}
+use Rattle.run_law.specs.Journals.{JournalsValue, slice_at}
 
 -- no access
 abbrev pub nothing : Counts

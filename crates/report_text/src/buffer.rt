@@ -2,22 +2,22 @@
 ghost use Rattle.std.specs.Prelude.{◌≡◌, [], ◌∷◌, ◌++◌, IfOk, OnOk, decimal, length};
 ghost use Rattle.rc_base.specs.Reasons.{reason_text};
 ghost use Rattle.report_text.specs.Commands.{barred, reply_text};
-ghost use Rattle.script_text.specs.Canonical.{AreKnown, op_ids, op_text};
+ghost use Rattle.script_ops.specs.Canonical.{op_ids, op_text};
+ghost use Rattle.path_names.specs.NamesIn.{AreKnown, path_ids};
+ghost use Rattle.path_names.specs.PathTexts.{path_text};
 
 use file_view::reason;
-use num_text::push_dec;
-use path_names::Names;
+use path_names::{Names, PathRef};
 use rc_base::{NoMemory, Reply, TextBuf, Why};
-use script_text::{Op, next_line, push_op};
+use script_ops::{GrowingText, Op, next_line};
 use std::alloc::Global;
 use std::marker::Model;
 
 /// The text of a report under construction. Contracts see its bytes. After an error the text is not to be used.
 #[derive(Drop)]
 pub struct ReportText {
-    alloc: Global,
-    text: Vec<u8>,
-    short: TextBuf,
+    text: GrowingText,
+    reason: TextBuf,
 }
 
 impl Model for ReportText {
@@ -25,9 +25,9 @@ impl Model for ReportText {
 
     ghost Value = { List ℕ };
 
-    ghost view = { λ r. r.text.items };
+    ghost view = { λ r. r.text };
 
-    ghost invariant = { λ r. (r.short.bytes ≡ []) × (128 ≤ r.short.spare) };
+    ghost invariant = { λ r. (r.reason.bytes ≡ []) × (128 ≤ r.reason.spare) };
 }
 
 impl ReportText {
@@ -35,45 +35,33 @@ impl ReportText {
     pub fn create(alloc: Global) -> Result<ReportText, NoMemory>
         ensures { IfOk result (λ r. r ≡ []) }
     {
-        let short = TextBuf::with_room(alloc, 128)?;
-        let text = Vec::new(alloc);
-        Ok(ReportText { alloc, text, short })
+        let reason = TextBuf::with_room(alloc, 128)?;
+        let text = GrowingText::create(alloc)?;
+        Ok(ReportText { text, reason })
     }
 
     /// Adds these bytes.
     pub fn push(&mut self, piece: &[u8]) -> Result<(), NoMemory>
         ensures { OnOk result (self.new ≡ self.old ++ piece.now) }
     {
-        match self.text.extend_from_slice(piece) {
-            Ok(()) => Ok(()),
-            Err(_) => Err(NoMemory),
-        }
+        self.text.push(piece)
     }
 
     /// Adds a number in decimal.
     pub fn push_decimal(&mut self, n: u64) -> Result<(), NoMemory>
         ensures { OnOk result (self.new ≡ self.old ++ decimal n) }
     {
-        push_dec(n, &mut self.short);
-        let added = self.text.extend_from_slice(self.short.bytes());
-        self.short.clear();
-        match added {
-            Ok(()) => Ok(()),
-            Err(_) => Err(NoMemory),
-        }
+        self.text.push_decimal(n)
     }
 
     // Adds the text of a reason.
     fn push_reason(&mut self, why: Why, arg: u64) -> Result<(), NoMemory>
         ensures { OnOk result (self.new ≡ self.old ++ reason_text why arg) }
     {
-        reason(why, arg, &mut self.short);
-        let added = self.text.extend_from_slice(self.short.bytes());
-        self.short.clear();
-        match added {
-            Ok(()) => Ok(()),
-            Err(_) => Err(NoMemory),
-        }
+        reason(why, arg, &mut self.reason);
+        let added = self.text.push(self.reason.bytes());
+        self.reason.clear();
+        added
     }
 
     /// Adds a reply.
@@ -90,15 +78,23 @@ impl ReportText {
         }
     }
 
+    /// Adds the canonical text of a path.
+    pub fn push_path(&mut self, names: &Names, path: PathRef) -> Result<(), NoMemory>
+        requires { AreKnown (length names.now) (path_ids path) }
+        ensures { OnOk result (self.new ≡ self.old ++ path_text names.now path) }
+    {
+        self.text.push_path(names, path)
+    }
+
     /// Adds the canonical text of an op.
     pub fn push_op(&mut self, op: &Op, names: &Names) -> Result<(), NoMemory>
         requires { AreKnown (length names.now) (op_ids op.now) }
         ensures { OnOk result (self.new ≡ self.old ++ op_text names.now op.now) }
     {
-        push_op(self.alloc, op, names, &mut self.text)
+        self.text.push_op(names, op)
     }
 
-    /// Adds each line of a text behind a bar.
+    /// Adds each line of a text after a bar.
     pub fn push_barred(&mut self, file: &[u8]) -> Result<(), NoMemory>
         ensures { OnOk result (self.new ≡ self.old ++ barred file.now) }
     {
@@ -110,7 +106,7 @@ impl ReportText {
         Ok(())
     }
 
-    // Adds a line behind a bar.
+    // Adds a line after a bar.
     fn push_line(&mut self, line: &[u8]) -> Result<(), NoMemory>
         ensures { OnOk result (self.new ≡ self.old ++ (124 ∷ line.now ++ 10 ∷ [])) }
     {
@@ -123,6 +119,6 @@ impl ReportText {
     pub fn into_bytes(self) -> Vec<u8>
         ensures { result.items ≡ self }
     {
-        self.text
+        self.text.into_bytes()
     }
 }

@@ -6,20 +6,23 @@ ghost use Rattle.report_text.specs.Made.{made_by, made_from};
 ghost use Rattle.report_text.specs.Replayed.{AreKnownGroups, IsCounted, IsReplay};
 ghost use Rattle.run_law.specs.Entries.{entry_value};
 ghost use Rattle.run_law.specs.TreeHistory.{IsLegalTree, state_after};
-ghost use Rattle.script_text.specs.Canonical.{IsNamed};
-ghost use Rattle.script_text.specs.Values.{op_at};
-ghost use Rattle.tree_core.specs.State.{opening};
-ghost use Rattle.tree_core.specs.Steps.{FlushExists, needs};
+ghost use Rattle.script_ops.specs.Canonical.{IsNamed};
+ghost use Rattle.script_ops.specs.Values.{op_at};
+ghost use Rattle.tree_law.specs.State.{opening};
+ghost use Rattle.tree_law.specs.Steps.{needs};
+ghost use Rattle.run_law.specs.Ops.{EachCommand};
+ghost use Rattle.tree_core.specs.Built.{IsBuilt};
+ghost use Rattle.script_ops.specs.declared.limits.TheConstants.{MOST_WEIGHT};
 
 use crate::buffer::ReportText;
 use crate::made::Made;
 use crate::replay::Replay;
 use rc_base::{NoMemory, Reply};
 use run_law::TreeEntry;
-use script_text::{Op, Script};
+use script_ops::{Op, Script};
 use std::alloc::Global;
 
-// Adds a reply behind a colon.
+// Adds a reply after a colon.
 fn push_result(report: &mut ReportText, reply: Reply) -> Result<(), NoMemory>
     ensures { OnOk result (report.new ≡ report.old ++ (codes ": " ++ reply_text reply ++ 10 ∷ [])) }
 {
@@ -95,8 +98,9 @@ fn push_command(
 // Takes the op of an entry once more.
 fn take(replay: &mut Replay, script: &Script, entry: &TreeEntry) -> Result<(), NoMemory>
     requires replay { IsReplay script.now replay.old }
+    requires built { EachCommand IsBuilt script.now }
     requires counted { IsCounted script.now replay.old.tree.state (entry_value entry.now) }
-    requires epoch { replay.old.tree.epoch < 4000000 }
+    requires epoch { replay.old.tree.epoch < MOST_WEIGHT }
     ensures replay { OnOk result (IsReplay script.now replay.new) }
     ensures state { OnOk result (replay.new.tree.state ≡ state_after script.now.machine replay.old.tree.state entry.now.looks.numbers (op_at script.now entry.now.thread entry.now.op)) }
     ensures epoch { OnOk result (replay.new.tree.epoch ≡ replay.old.tree.epoch + 1) }
@@ -115,8 +119,9 @@ pub(crate) fn push_commands(
     script: &Script,
     tree: &[TreeEntry],
 ) -> Result<Vec<Made>, NoMemory>
+    requires built { EachCommand IsBuilt script.now }
     requires legal { IsLegalTree script.now (map entry_value tree.now) }
-    requires few { length tree.now ≤ 4000000 }
+    requires few { length tree.now ≤ MOST_WEIGHT }
     ensures text { OnOk result (report.new ≡ report.old ++ command_lines script.now (opening script.now.machine script.now.tasks) 0 (map entry_value tree.now)) }
     ensures made { IfOk result (λ made. made.items ≡ made_from script.now (opening script.now.machine script.now.tasks) (map entry_value tree.now)) }
     ensures known { IfOk result (λ made. AreKnownGroups script.now.names made.items) }

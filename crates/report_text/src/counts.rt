@@ -1,18 +1,24 @@
 //! Counts of accesses, hits and misses.
-ghost use Rattle.std.specs.Prelude.{◌≡◌, ◌<◌, ◌≤◌, ◌^◌, ◌&&◌, not, count_by, length};
-ghost use Rattle.cache_core.specs.Sums.{sum_below};
+ghost use Rattle.std.specs.Prelude.{◌≡◌, ◌++◌, OnOk, ◌<◌, ◌≤◌, ◌^◌, ◌&&◌, not, count_by, length};
+ghost use Rattle.lists.specs.Sums.{sum_below};
 ghost use Rattle.cache_core.specs.declared.entry.SliceEntry.{SliceEntry as Entry};
 ghost use Rattle.report_text.specs.Counts.{is_access as access_in, is_hit as hit_in};
-ghost use Rattle.run_law.specs.Runs.{slice_at};
+ghost use Rattle.report_text.specs.Tallies.{counts_told};
+ghost use Rattle.run_law.specs.Journals.{slice_at};
 
+use crate::buffer::ReportText;
 use cache_core::{SliceEntry, What};
+use rc_base::NoMemory;
 use run_law::Journals;
 
 /// How many accesses, hits and misses there were.
 #[derive(Clone, Copy, Debug, PartialEq, Eq)]
 pub struct Counts {
+    /// Hits and misses together.
     pub accesses: u64,
+    /// Accesses that found their line.
     pub hits: u64,
+    /// Accesses that filled it.
     pub misses: u64,
 }
 
@@ -89,4 +95,16 @@ pub(crate) fn counts_of_all(journals: &Journals, slices: u32) -> Counts
         all.misses += here.misses;
     }
     all
+}
+
+/// Adds counts of accesses.
+pub(crate) fn push_counts(report: &mut ReportText, counts: Counts) -> Result<(), NoMemory>
+    ensures { OnOk result (report.new ≡ report.old ++ counts_told counts) }
+{
+    report.push(b"accesses ".as_slice())?;
+    report.push_decimal(counts.accesses)?;
+    report.push(b" hits ".as_slice())?;
+    report.push_decimal(counts.hits)?;
+    report.push(b" misses ".as_slice())?;
+    report.push_decimal(counts.misses)
 }

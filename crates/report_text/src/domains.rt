@@ -4,24 +4,36 @@ ghost use Rattle.std.specs.List.{flat_map, range_with_len};
 ghost use Rattle.cache_core.specs.History.{lines_of, valid_of};
 ghost use Rattle.report_text.specs.Reporting.{domain_line, rmid_lines, rmid_text, rmids_text, valid_lines};
 ghost use Rattle.run_law.specs.Caches.{AreLeft};
-ghost use Rattle.run_law.specs.Runs.{slice_at};
-ghost use Rattle.run_law.specs.Slices.{shape_in, slice_count, slice_number};
+ghost use Rattle.run_law.specs.Journals.{slice_at};
+ghost use Rattle.run_law.specs.Slices.{shape_in};
+ghost use Rattle.machine.specs.Slices.{slice_count, slice_number};
+ghost use Rattle.report_text.specs.declared.domains.TheConstants.{MOST_LINES};
 
 use crate::buffer::ReportText;
 use cache_core::Cache;
 use rc_base::NoMemory;
 use run_law::Journals;
-use script_text::Script;
+use script_ops::Script;
+
+// How many lines a cache holds at most: 65,536 sets of 32 ways.
+const MOST_LINES: u64 = 2_097_152;
+
+/// How many slices there are, over all domains.
+pub(crate) fn slices_of(script: &Script) -> u32
+    ensures slices { result ≡ slice_count script.now.machine }
+    ensures few { result ≤ 32 }
+{
+    u32::from(script.machine().slice_count())
+}
 
 // The number of a slice over all domains.
-#[tactic(auto, using(crate::proofs::Lines::number_within))]
 fn number_of(script: &Script, domain: u8, slice: u8) -> usize
     requires domain { domain < script.now.machine.domains }
     requires slice { slice < script.now.machine.slices }
     ensures number { result ≡ slice_number script.now.machine domain slice }
     ensures within { result < slice_count script.now.machine }
 {
-    usize::from(domain) * usize::from(script.machine().slices) + usize::from(slice)
+    script.machine().slice_number(domain, slice)
 }
 
 // How many places of slice i hold a line of an RMID at the end.
@@ -36,7 +48,7 @@ fn lines_in_slice(
     requires within { i < slice_count script.now.machine }
     requires rmid { rmid < script.now.machine.rmids }
     ensures lines { result ≡ lines_of (shape_in script.now.machine i) (slice_at journals.now i) rmid }
-    ensures few { result ≤ 2097152 }
+    ensures few { result ≤ MOST_LINES }
 {
     let _machine = script.machine();
     caches[i].look(rmid)
@@ -47,7 +59,7 @@ fn valid_in_slice(script: &Script, journals: &Journals, caches: &[Cache], i: usi
     requires left { AreLeft script.now journals.now caches.now }
     requires within { i < slice_count script.now.machine }
     ensures lines { result ≡ valid_of (shape_in script.now.machine i) (slice_at journals.now i) }
-    ensures few { result ≤ 2097152 }
+    ensures few { result ≤ MOST_LINES }
 {
     let _machine = script.machine();
     caches[i].valid()

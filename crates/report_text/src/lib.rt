@@ -5,6 +5,7 @@ mod buffer;
 mod commands;
 mod counts;
 mod domains;
+mod groups;
 pub mod made;
 mod replay;
 pub mod report;

@@ -5,15 +5,18 @@ ghost use Rattle.file_view.specs.Texts.{text_of};
 ghost use Rattle.tree_core.specs.Named.{AreNamed};
 ghost use Rattle.report_text.specs.Commands.{barred};
 ghost use Rattle.report_text.specs.Made.{made_by as made_in};
-ghost use Rattle.tree_core.specs.State.{opening};
-ghost use Rattle.tree_core.specs.Steps.{FlushExists, needs, next};
+ghost use Rattle.tree_law.specs.State.{opening, tasks_of};
+ghost use Rattle.tree_law.specs.Steps.{needs, next};
+ghost use Rattle.script_ops.specs.Fits.{Fits};
+ghost use Rattle.tree_core.specs.Built.{IsBuilt};
+ghost use Rattle.script_ops.specs.declared.limits.TheConstants.{MOST_WEIGHT};
 
 use crate::buffer::ReportText;
 use crate::made::Made;
 use file_view::text;
 use path_names::{DirRef, Names, PathRef};
 use rc_base::{NoMemory, Reply};
-use script_text::{Op, Script};
+use script_ops::{Op, Script};
 use std::alloc::Global;
 use std::marker::Model;
 use tree_core::Tree;
@@ -66,7 +69,7 @@ impl Replay {
         })
     }
 
-    /// Adds the text that an op gives in this state, line by line behind bars.
+    /// Adds the text that an op gives in this state, line by line after bars.
     pub fn push_read(&self, names: &Names, op: &Op, report: &mut ReportText) -> Result<(), NoMemory>
         requires { AreNamed names.now self.now.tree.state.groups }
         ensures { OnOk result (report.new ≡ report.old ++ barred (text_of self.now.tree.machine self.now.tree.state names.now op.now)) }
@@ -78,9 +81,10 @@ impl Replay {
 
     /// Takes a command once more, with its counts and its reply.
     pub fn take(&mut self, op: &Op, looks: &[u64], reply: Reply) -> Result<(), NoMemory>
-        requires flush { FlushExists self.old.tree.machine op.now }
+        requires fits { Fits self.old.tree.machine (tasks_of self.old.tree.state) op.now }
+        requires built { IsBuilt op.now }
         requires looks { length looks.now ≡ length (needs self.old.tree.machine self.old.tree.state op.now) }
-        requires epoch { self.old.tree.epoch < 4000000 }
+        requires epoch { self.old.tree.epoch < MOST_WEIGHT }
         ensures machine { OnOk result (self.new.tree.machine ≡ self.old.tree.machine) }
         ensures state { OnOk result (self.new.tree.state ≡ (next self.old.tree.machine self.old.tree.state op.now looks.now).state) }
         ensures epoch { OnOk result (self.new.tree.epoch ≡ self.old.tree.epoch + 1) }

@@ -1,4 +1,4 @@
-pub mod Appending
-pub mod Concluding
-pub mod Consuming
+pub mod Ends
+pub mod InputBytes
 pub mod Threads
+pub mod WrittenBytes

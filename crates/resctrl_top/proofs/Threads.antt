@@ -1,49 +1,47 @@
--- Scripts of few threads.
-use Rattle.std.proofs.Common.{◌≡◌, ℕ, ◌<◌, ◌≤◌, Bool, true, false, ◌&&◌, List, [], ◌∷◌, length, inl, inr, refl, sym, ◌∙◌, arith}
-use Rattle.std.specs.Prelude.{nat_le, slice_index_or}
+-- Whether scripts of no thread and of one are built.
+use Rattle.std.proofs.Common.{◌≡◌, ℕ, ◌<◌, ◌≤◌, Bool, true, false, ◌&&◌, List, [], ◌∷◌, length, refl, arith}
+use Rattle.std.specs.Prelude.{slice_index_or}
 use Rattle.std.specs.List.{list_all}
-use Rattle.std.proofs.lemmas.Bool.{cases_lt, lt-leb}
-use Rattle.resctrl_top.specs.Built.{are_built, is_built}
-use Rattle.script_text.specs.Values.{ScriptValue, ops_of, threads_of}
-use Rattle.script_text.specs.declared.op.Op.{Op}
+use Rattle.resctrl_top.specs.Built.{are_off_monitors, is_built}
+use Rattle.script_ops.specs.Values.{ScriptValue, ops_of, threads_of}
+use Rattle.script_ops.specs.declared.op.Op.{Op}
+use Rattle.std.proofs.lemmas.Bool.{and_parts}
+use Rattle.step_world.specs.Playable.{is_playable}
+use Rattle.step_world.proofs.laws.Playable.{length-threads_of}
 
-none : (names : List (List ℕ)) (threads : List (List Op)) → length threads ≡ 0 → (nat_le (length threads) 1 && list_all (are_built names) threads) ≡ true
-none names [] h = refl
-none names (t ∷ ts) h = absurd (omega arith)
+-- no thread names a path
+no_threads : (names : List (List ℕ)) (threads : List (List Op)) → length threads ≡ 0 → list_all (are_off_monitors names) threads ≡ true
+no_threads names [] h = refl
+no_threads names (t ∷ ts) h = absurd (omega arith)
 
-one : (names : List (List ℕ)) (threads : List (List Op)) → length threads ≡ 1 → (nat_le (length threads) 1 && list_all (are_built names) threads) ≡ are_built names (slice_index_or threads 0 [])
-one names [] h = absurd (omega arith)
-one names (t ∷ []) h = and_true (are_built names t)
+-- the only thread does or does not
+first_thread : (names : List (List ℕ)) (threads : List (List Op)) → 0 < length threads → length threads ≤ 1 → list_all (are_off_monitors names) threads ≡ are_off_monitors names (slice_index_or threads 0 [])
+first_thread names [] some few = absurd (omega arith)
+first_thread names (t ∷ []) some few = and_true (are_off_monitors names t)
   where
     and_true : (b : Bool) → (b && true) ≡ b
     and_true true = refl
     and_true false = refl
-one names (t ∷ u ∷ ts) h = absurd (omega arith)
+first_thread names (t ∷ u ∷ ts) some few = absurd (omega arith)
 
-more : (names : List (List ℕ)) (threads : List (List Op)) → 1 < length threads → (nat_le (length threads) 1 && list_all (are_built names) threads) ≡ false
-more names threads h = rw (lt-leb (length threads) 1 h) refl
-
--- a script of no thread can be played
-pub no_thread : (script : ScriptValue) → length (threads_of script) ≡ 0 → is_built script ≡ true
+-- what cannot be played is not built
+pub is_built-unplayable : (script : ScriptValue) → is_playable script ≡ false → is_built script ≡ false
 unfolding is_built
-no_thread script h = none script.names (threads_of script) h
+is_built-unplayable script cannot = rw cannot refl
 
--- a script of one thread can be played where its ops can
-pub one_thread : (script : ScriptValue) → length (threads_of script) ≡ 1 → is_built script ≡ are_built script.names (ops_of script 0)
+-- what can be played and has no thread is built
+pub is_built-no_thread : (script : ScriptValue) → is_playable script ≡ true → length (threads_of script) ≡ 0 → is_built script ≡ true
 unfolding is_built
-one_thread script h = one script.names (threads_of script) h
+is_built-no_thread script can none = rw can (no_threads script.names (threads_of script) none)
 
--- no script of more can
-pub more_threads : (script : ScriptValue) → 1 < length (threads_of script) → is_built script ≡ false
+-- what can be played and has a thread is built where the thread names no path below a monitor group's directory
+pub is_built-thread : (script : ScriptValue) → is_playable script ≡ true → 0 < length (threads_of script) → is_built script ≡ are_off_monitors script.names (ops_of script 0)
 unfolding is_built
-more_threads script h = more script.names (threads_of script) h
+is_built-thread script can some = rw can (first_thread script.names (threads_of script) some (length-threads_of script can))
 
--- a script that can be played has few threads
-pub few_threads : (script : ScriptValue) → is_built script ≡ true → length (threads_of script) ≤ 1
+-- what is built can be played
+pub is_playable-built : (script : ScriptValue) → is_built script ≡ true → is_playable script ≡ true
 unfolding is_built
-few_threads script h = elim (cases_lt 1 (length (threads_of script))) [
-  | inl many ↦ absurd (let no : (nat_le (length (threads_of script)) 1 && list_all (are_built script.names) (threads_of script)) ≡ false = more script.names (threads_of script) many in let wrong : true ≡ false = sym h ∙ no in cc)
-  | inr few ↦ few
-]
+is_playable-built script built = (and_parts (is_playable script) (list_all (are_off_monitors script.names) (threads_of script)) built).0
 
-pub ruleset threads = (no_thread, one_thread, more_threads)
+pub ruleset threads = (is_built-unplayable, is_built-no_thread, is_built-thread)

@@ -1,33 +1,18 @@
--- What is built so far: scripts of at most one thread, whose ops are accesses, flushes, and commands on control groups, their
--- `schemata` and their `size`.
-use Rattle.std.specs.Prelude.{ℕ, Bool, true, false, not, ◌&&◌, ◌||◌, nat_eq, nat_le, codes, List, [], ◌∷◌, drop, length, take}
+-- What is built so far: scripts that can be played, that name no path below a monitor group's directory.
+use Rattle.std.specs.Prelude.{ℕ, Bool, true, false, not, ◌&&◌, ◌||◌, nat_eq, codes, List, [], ◌∷◌, drop, take}
 use Rattle.std.specs.List.{list_all, list_any, position_or_len, starts_with}
-use Rattle.path_names.specs.Components.{is_slash, is_text}
-use Rattle.path_names.specs.PathTable.{Entry, fixed_entries}
-use Rattle.path_names.specs.declared.dirs.DirRef.{DirRef}
-use Rattle.path_names.specs.declared.dirs.DirRef.TheVariants.{Root, Mon, MonData, MonDomain}
-use Rattle.path_names.specs.declared.dirs.Holder.{Holder}
-use Rattle.path_names.specs.declared.dirs.Holder.TheVariants.{Control, Monitor}
-use Rattle.path_names.specs.declared.files.FileKind.{FileKind}
-use Rattle.path_names.specs.declared.files.FileKind.TheVariants.{Schemata, Size}
+use Rattle.path_names.specs.Components.{is_slash}
+use Rattle.rc_base.specs.Texts.{is_text}
+use Rattle.path_names.specs.PathTable.{fixed_in, fixed_name}
+use Rattle.path_names.specs.declared.fixed.FixedEntry.{FixedEntry}
+use Rattle.path_names.specs.declared.dirs.DirRef.TheVariants.{Root}
 use Rattle.path_names.specs.declared.path_ref.PathRef.{PathRef}
-use Rattle.path_names.specs.declared.path_ref.PathRef.TheVariants.{Dir, File, Free, Nowhere}
-use Rattle.script_text.specs.Canonical.{name_in}
-use Rattle.script_text.specs.Values.{ScriptValue, threads_of}
-use Rattle.script_text.specs.declared.op.Op.{Op}
-use Rattle.script_text.specs.declared.op.Op.TheVariants as ops
-
--- a group whose lines are counted is a monitor group
-abbrev pub is_monitor : Holder → Bool
-is_monitor (Control owner) = false
-is_monitor (Monitor owner name) = true
-
--- the directory of a monitor group, or one below it
-abbrev pub is_of_monitor : DirRef → Bool
-is_of_monitor (Mon owner name) = true
-is_of_monitor (MonData holder) = is_monitor holder
-is_of_monitor (MonDomain holder domain) = is_monitor holder
-is_of_monitor dir = false
+use Rattle.path_names.specs.declared.path_ref.PathRef.TheVariants.{Nowhere}
+use Rattle.path_names.specs.PathTexts.{name_in}
+use Rattle.script_ops.specs.Values.{ScriptValue, threads_of}
+use Rattle.script_ops.specs.declared.op.Op.{Op}
+use Rattle.script_ops.specs.declared.op.Op.TheVariants as ops
+use Rattle.step_world.specs.Playable.{is_playable}
 
 -- a text that begins with `/mon_groups/`
 abbrev pub is_in_monitors : List ℕ → Bool
@@ -35,9 +20,9 @@ is_in_monitors text = starts_with nat_eq text (codes "/mon_groups/")
 
 -- the name of a fixed entry of the root
 abbrev pub is_fixed : List ℕ → Bool
-is_fixed name = list_any (λ (fixed : Entry). is_text name fixed.0) (fixed_entries 1 Root)
+is_fixed name = list_any (λ (entry : FixedEntry). is_text name (fixed_name entry)) (fixed_in Root)
 
--- behind a slash: the name of a control group, and in it `/mon_groups/`
+-- after a slash: the name of a control group, and in it `/mon_groups/`
 abbrev pub is_in_own_monitors : List ℕ → Bool
 is_in_own_monitors path = not (is_fixed (take (position_or_len is_slash path) path)) && is_in_monitors (drop (position_or_len is_slash path) path)
 
@@ -46,39 +31,24 @@ abbrev pub is_below_monitor : List ℕ → Bool
 is_below_monitor [] = false
 is_below_monitor (slash ∷ path) = is_in_monitors (slash ∷ path) || is_in_own_monitors path
 
--- a path that may be made, removed and listed; of one that leads nowhere the text tells
-abbrev pub is_built_path : List (List ℕ) → PathRef → Bool
-is_built_path names (Dir dir) = not (is_of_monitor dir)
-is_built_path names (File dir kind) = not (is_of_monitor dir)
-is_built_path names (Free dir name) = not (is_of_monitor dir)
-is_built_path names (Nowhere name) = not (is_below_monitor (name_in names name))
+-- a path whose text leads below the directory of a monitor group; of those that lead somewhere the tree tells
+abbrev pub leads_below_monitor : List (List ℕ) → PathRef → Bool
+leads_below_monitor names (Nowhere name) = is_below_monitor (name_in names name)
+leads_below_monitor names path = false
 
--- a kind of file that may be read and written
-abbrev pub is_built_kind : FileKind → Bool
-is_built_kind Schemata = true
-is_built_kind Size = true
-is_built_kind kind = false
+-- an op without such a path
+abbrev pub is_off_monitors : List (List ℕ) → Op → Bool
+is_off_monitors names (ops.Mkdir path) = not (leads_below_monitor names path)
+is_off_monitors names (ops.Rmdir path) = not (leads_below_monitor names path)
+is_off_monitors names (ops.List path) = not (leads_below_monitor names path)
+is_off_monitors names (ops.Read path) = not (leads_below_monitor names path)
+is_off_monitors names (ops.Write path text) = not (leads_below_monitor names path)
+is_off_monitors names op = true
 
--- a path that may be read and written
-abbrev pub is_built_file : List (List ℕ) → PathRef → Bool
-is_built_file names (File dir kind) = is_built_kind kind && is_built_path names (File dir kind)
-is_built_file names path = is_built_path names path
+-- ops without such paths
+abbrev pub are_off_monitors : List (List ℕ) → List Op → Bool
+are_off_monitors names all = list_all (is_off_monitors names) all
 
--- an op that can be played
-abbrev pub is_built_op : List (List ℕ) → Op → Bool
-is_built_op names (ops.Mkdir path) = is_built_path names path
-is_built_op names (ops.Rmdir path) = is_built_path names path
-is_built_op names (ops.List path) = is_built_path names path
-is_built_op names (ops.Read path) = is_built_file names path
-is_built_op names (ops.Write path text) = is_built_file names path
-is_built_op names (ops.Access task cpu addr) = true
-is_built_op names (ops.Flush domain) = true
-is_built_op names op = false
-
--- all ops of a thread
-abbrev pub are_built : List (List ℕ) → List Op → Bool
-are_built names all = list_all (is_built_op names) all
-
--- a script that can be played
+-- a script that can be played, and that names no path below a monitor group's directory
 unfoldable pub is_built : ScriptValue → Bool
-is_built script = nat_le (length (threads_of script)) 1 && list_all (are_built script.names) (threads_of script)
+is_built script = is_playable script && list_all (are_off_monitors script.names) (threads_of script)

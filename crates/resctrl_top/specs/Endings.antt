@@ -8,8 +8,9 @@ use Rattle.resctrl_top.specs.Meaning.{meaning, refusal_line}
 use Rattle.resctrl_top.specs.Outside.{IsToTheEnd, AppendsSome}
 use Rattle.resctrl_top.specs.declared.refusal.Refusal.{Refusal}
 use Rattle.report_text.specs.Reporting.{report_of}
-use Rattle.run_law.specs.Runs.{JournalsValue, IsRun}
-use Rattle.script_text.specs.Values.{ScriptValue}
+use Rattle.run_law.specs.Runs.{IsRun}
+use Rattle.run_law.specs.Journals.{JournalsValue}
+use Rattle.script_ops.specs.Values.{ScriptValue}
 
 -- A call as it is seen from outside: whether its words are a form, the bytes that the source had left and those that the sink
 -- had taken before and has taken now, where they tell them, and how often each had failed before and has failed now.

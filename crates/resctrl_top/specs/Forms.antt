@@ -1,7 +1,7 @@
--- Which words behind the program's name are a form.
+-- Which words after the program's name are a form.
 use Rattle.std.specs.Prelude.{ℕ, Bool, false, List, [], ◌∷◌, ◌++◌, codes, string_bytes, String}
 use Rattle.std.specs.declared.alloc.Global.{Global}
-use Rattle.num_text.specs.Words.{is_text}
+use Rattle.rc_base.specs.Texts.{is_text}
 
 -- the one word `step`
 abbrev pub is_form : List (String Global) → Bool

@@ -5,15 +5,12 @@ use Rattle.resctrl_top.specs.declared.input.InputError.{InputError}
 use Rattle.resctrl_top.specs.declared.input.InputError.TheVariants as inputs
 use Rattle.resctrl_top.specs.declared.refusal.Refusal.{Refusal}
 use Rattle.resctrl_top.specs.declared.refusal.Refusal.TheVariants.{BadLine, NotBuilt, TooLarge}
+use Rattle.script_ops.specs.declared.limits.TheConstants.{MOST_SCRIPT_BYTES}
 use Rattle.script_text.specs.Reading.{script_of}
-use Rattle.script_text.specs.Values.{ScriptValue}
+use Rattle.script_ops.specs.Values.{ScriptValue}
 use Rattle.script_text.specs.declared.fault.LineFault.{LineFault}
 use Rattle.script_text.specs.declared.fault.LineFault.TheVariants as faults
 use Rattle.script_text.specs.declared.fault.ScriptFault.{ScriptFault}
-
--- the greatest script in bytes
-abbrev pub most_bytes : ℕ
-most_bytes = 67108864
 
 -- a script that can be played; of one that cannot, and of bytes that are none, why
 abbrev pub played : Result ScriptValue ScriptFault → Result ScriptValue Refusal
@@ -23,7 +20,7 @@ played (Err fault) = Err (BadLine fault)
 -- What the bytes to the end mean. Too many bytes are refused before a line is looked at, and a script that holds something
 -- that is not built yet only where every line is good.
 unfoldable pub meaning : List ℕ → Result ScriptValue Refusal
-meaning bytes = if nat_lt most_bytes (length bytes) then Err TooLarge else played (script_of bytes)
+meaning bytes = if nat_lt MOST_SCRIPT_BYTES (length bytes) then Err TooLarge else played (script_of bytes)
 
 -- ---- the line of a refusal: `line L: WHAT`, where line 0 stands for the whole
 

@@ -33,7 +33,9 @@ impl Status {
 /// How a call ended, and what happened in the run where there was one.
 #[derive(Drop)]
 pub struct Ended {
+    /// How it ended.
     pub status: Status,
+    /// The journals of the run, and None where nothing was played or memory was not found.
     pub journals: Option<Journals>,
 }
 

@@ -9,11 +9,9 @@ use crate::built::is_built;
 use crate::refusal::Refusal;
 use rc_base::NoMemory;
 use rc_stream::{Failed, Source};
-use script_text::{Script, ScriptError, read_script};
+use script_ops::{MOST_SCRIPT_BYTES, Script};
+use script_text::{ScriptError, read_script};
 use std::alloc::Global;
-
-/// The most bytes of a script (this project's profile).
-pub const MOST_BYTES: usize = 67_108_864;
 
 /// Why no script was read.
 #[derive(Clone, Copy, Debug, PartialEq, Eq)]
@@ -81,8 +79,8 @@ pub(crate) fn read_all<S: Source>(alloc: Global, source: &mut S) -> Result<Vec<u
         return Err(ReadError::NoMemory);
     };
     let mut bytes = Vec::new(alloc);
-    while bytes.len() <= MOST_BYTES {
-        let room = PIECE.min(MOST_BYTES + 1 - bytes.len());
+    while bytes.len() <= MOST_SCRIPT_BYTES {
+        let room = PIECE.min(MOST_SCRIPT_BYTES + 1 - bytes.len());
         match read_piece(source, &mut buffer[..room], &mut bytes) {
             Ok(0) => return Ok(bytes),
             Ok(_) => {}
@@ -98,7 +96,7 @@ fn script_in(alloc: Global, bytes: &[u8]) -> Result<Script, InputError>
     ensures meant { MeansAs result (meaning bytes.now) }
     ensures built { IfOk result (λ script. built_script script ≡ true) }
 {
-    if bytes.len() > MOST_BYTES {
+    if bytes.len() > MOST_SCRIPT_BYTES {
         return Err(InputError::Bad(Refusal::TooLarge));
     }
     match read_script(alloc, bytes) {

@@ -11,7 +11,7 @@ pub mod words;
 
 pub use built::is_built;
 pub use ended::{Ended, Status};
-pub use input::{MOST_BYTES, read_input};
+pub use input::read_input;
 pub use refusal::Refusal;
 pub use top::top_step;
 pub use words::{USAGE, is_form};

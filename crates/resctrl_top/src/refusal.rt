@@ -9,7 +9,7 @@ use script_text::{LineFault, ScriptFault};
 pub enum Refusal {
     /// They are no script: the first bad line, and its first fault.
     BadLine(ScriptFault),
-    /// They are more than 67,108,864.
+    /// They are more than `MOST_SCRIPT_BYTES`.
     TooLarge,
     /// The script holds something that is not built yet.
     NotBuilt,

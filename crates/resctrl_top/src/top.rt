@@ -6,7 +6,9 @@ ghost use Rattle.resctrl_top.specs.Built.{is_built as built_script};
 ghost use Rattle.resctrl_top.specs.Meaning.{refusal_line};
 ghost use Rattle.report_text.specs.Reporting.{report_of};
 ghost use Rattle.run_law.specs.Caches.{AreLeft};
+ghost use Rattle.run_law.specs.Ops.{EachCommand};
 ghost use Rattle.run_law.specs.Runs.{IsRun};
+ghost use Rattle.tree_core.specs.Built.{IsBuilt};
 
 use crate::ended::{Ended, Status, with_journals, without_journals};
 use crate::input::{InputError, read_input};
@@ -17,7 +19,7 @@ use num_text::push_dec;
 use rc_base::{NoMemory, TextBuf};
 use rc_stream::{Failed, Sink, Source};
 use run_law::Journals;
-use script_text::Script;
+use script_ops::Script;
 use std::alloc::Global;
 use step_world::{Played, play};
 
@@ -72,6 +74,7 @@ fn hand_over<K: Sink>(sink: &mut K, text: &[u8], script: &Script, journals: Jour
 // Writes the report of what was played.
 fn tell<K: Sink>(alloc: Global, script: &Script, played: Played, sink: &mut K) -> Ended
     requires faults { K.faults sink.old < 2 ^ 64 - 1 }
+    requires built { EachCommand IsBuilt script.now }
     requires run { IsRun script.now played.journals }
     requires caches { AreLeft script.now played.journals played.caches.items }
     ensures { Reports script.now (K.taken sink.old) (K.taken sink.new) (K.faults sink.old) (K.faults sink.new) result.status result.journals ⊎ SaysNothing (K.taken sink.old) (K.taken sink.new) (K.faults sink.old) (K.faults sink.new) result.status result.journals }
@@ -95,7 +98,7 @@ fn perform<K: Sink>(alloc: Global, script: &Script, sink: &mut K) -> Ended
     }
 }
 
-/// Reads a script from the source, plays it and writes its report to the sink. The words are those behind the program's
+/// Reads a script from the source, plays it and writes its report to the sink. The words are those after the program's
 /// name; where they are no form, the sink gets the usage line and the source is not called.
 ///
 /// What the answer says of the call is told by its status, which comes as `Ends` and `IsComplete` say: `Done` with the

@@ -1,8 +1,8 @@
-//! The words behind the program's name.
+//! The words after the program's name.
 ghost use Rattle.std.specs.Prelude.{◌≡◌};
 ghost use Rattle.resctrl_top.specs.Forms.{is_form as is_a_form, usage_line};
 
-use num_text::is;
+use rc_base::is_text;
 
 /// What is said of words that are no form.
 pub const USAGE: &str =
@@ -13,7 +13,7 @@ pub fn is_form(words: &[String]) -> bool
     ensures { result ≡ is_a_form words.now }
 {
     match words {
-        [word] => is(word.as_bytes(), b"step".as_slice()),
+        [word] => is_text(word.as_bytes(), b"step".as_slice()),
         _ => false,
     }
 }

@@ -1,6 +1,11 @@
 pub mod Caches
 pub mod Entries
+pub mod Journals
+pub mod Looks
 pub mod Ops
+pub mod Order
+pub mod Owed
 pub mod Runs
 pub mod Slices
 pub mod TreeHistory
+pub mod Truth

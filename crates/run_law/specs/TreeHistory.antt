@@ -4,10 +4,10 @@ use Rattle.machine.specs.declared.parameters.Parameters.{Parameters}
 use Rattle.rc_base.specs.Follows.{EachFollows}
 use Rattle.rc_base.specs.declared.replies.Reply.{Reply}
 use Rattle.run_law.specs.Ops.{is_command}
-use Rattle.script_text.specs.Values.{ScriptValue, op_at}
-use Rattle.script_text.specs.declared.op.Op.{Op}
-use Rattle.tree_core.specs.State.{State, opening}
-use Rattle.tree_core.specs.Steps.{next, needs}
+use Rattle.script_ops.specs.Values.{ScriptValue, op_at}
+use Rattle.script_ops.specs.declared.op.Op.{Op}
+use Rattle.tree_law.specs.State.{State, opening}
+use Rattle.tree_law.specs.Steps.{next, needs}
 
 -- a command in the tree's journal: the op, its reply, and the counts that it was given
 pub record TreeEntryValue : Type 0 where
@@ -37,12 +37,12 @@ IsCommandThat P (Some op) = IsTrue (is_command op) × P op
 
 -- an entry that may follow these: its op is a command of the script, it was given as many counts as the command needs, and
 -- its reply is the one that the state gives
-abbrev pub MayFollow : ScriptValue → List TreeEntryValue → TreeEntryValue → Type 0
-MayFollow script before e =
+abbrev pub CommandMayFollow : ScriptValue → List TreeEntryValue → TreeEntryValue → Type 0
+CommandMayFollow script before e =
     IsCommandThat
     (λ op. (length e.looks ≡ length (needs script.machine (tree_after script before) op)) × (e.reply ≡ (next script.machine (tree_after script before) op e.looks).reply))
     (op_at script e.thread e.op)
 
 -- the entries are a legal history of the tree
 abbrev pub IsLegalTree : ScriptValue → List TreeEntryValue → Type 0
-IsLegalTree script entries = EachFollows (MayFollow script) entries
+IsLegalTree script entries = EachFollows (CommandMayFollow script) entries

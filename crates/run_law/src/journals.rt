@@ -1,7 +1,7 @@
 //! What happened in a run: the commands that the tree took, and the entries of each slice.
 ghost use Rattle.std.specs.Prelude.{◌≡◌, ◌<◌, length, map};
 ghost use Rattle.run_law.specs.Entries.{entry_value};
-ghost use Rattle.run_law.specs.Runs.{slice_at};
+ghost use Rattle.run_law.specs.Journals.{slice_at};
 
 use cache_core::SliceEntry;
 use rc_base::{LookList, Reply};
@@ -61,7 +61,7 @@ pub struct Journals {
 impl Model for Journals {
     ghost use Rattle.std.specs.Prelude.{map};
     ghost use Rattle.run_law.specs.Entries.{entry_value};
-    ghost use Rattle.run_law.specs.Runs.{JournalsValue};
+    ghost use Rattle.run_law.specs.Journals.{JournalsValue};
 
     ghost Value = { JournalsValue };
 

@@ -17,18 +17,19 @@ use Rattle.schemata_text.specs.Items.{Item, Entry, newline, semicolon, equals, w
 use Rattle.schemata_text.specs.Reading.{line_of, entry_of, reading_from, is_of, domains_of, AreLawful}
 use Rattle.schemata_text.specs.Printed.{ReadsBack, printed, entry_text, mask_digits}
 use Rattle.num_text.specs.Printed.{hexadecimal}
-use Rattle.num_text.specs.Words.{is_text}
-use Rattle.num_text.proofs.Digits.{not_byte, no_blank, any_digits, as_hex, decimal_digits, hex_digits, trim_none}
-use Rattle.num_text.proofs.Pieces.{cut_at, any_join, split_join, split_none}
-use Rattle.num_text.proofs.Prints.{decimal_reads_back, hexadecimal_reads_back}
-use Rattle.schemata_text.proofs.Following.{entry_says, line_says, done}
+use Rattle.rc_base.specs.Texts.{is_text}
+use Rattle.num_text.proofs.laws.Digits.{eqb-digit, is_blank-digit, list_any-digits, AllDigits-hexadecimal_digits, AllDigits-decimal, AllDigits-hexadecimal, trim-none}
+use Rattle.num_text.proofs.laws.Pieces.{Cut-append, list_any-join_with_byte, slice_split-join_with_byte}
+use Rattle.lists.proofs.Cuts.{slice_split-none}
+use Rattle.num_text.proofs.laws.Prints.{decimal_reads_back, hexadecimal_reads_back}
+use Rattle.schemata_text.proofs.Items.{entry_says, line_says, done}
 
 -- a test that passes no digit passes nothing of an entry, if not its `=`
 plain_entry : (q : ℕ → Bool) (ways : ℕ) (a : Assignment) → ((c : ℕ) → digit_value c < 16 → q c ≡ false) → q 61 ≡ false → a.domain < 8 → a.mask < 2 ^ 32 → list_any q (entry_text ways a) ≡ false
 plain_entry q ways a none sep few small =
     let dec = decimal a.domain in
     let hex = hexadecimal (mask_digits ways) a.mask in
-    list_any-append q dec (61 ∷ hex) ∙ rw (any_digits q none dec (as_hex dec (decimal_digits a.domain (omega arith))), sep) (any_digits q none hex (hex_digits (mask_digits ways) a.mask (omega arith)))
+    list_any-append q dec (61 ∷ hex) ∙ rw (list_any-digits q none dec (AllDigits-hexadecimal_digits dec (AllDigits-decimal a.domain (omega arith))), sep) (list_any-digits q none hex (AllDigits-hexadecimal (mask_digits ways) a.mask (omega arith)))
 
 entry_again : (g : Geometry) (domains : ℕ) (before : List Assignment) (a : Assignment) → domains ≤ 8 → a.domain < domains → list_any (is_of a.domain) before ≡ false → a.mask < 2 ^ 32 → checked g a.mask ≡ Ok a.mask → entry_of g domains before (entry_text g.len a) ≡ Ok a
 unfolding entry_of
@@ -36,10 +37,10 @@ entry_again g domains before a few lt fresh small valid =
     let dec = decimal a.domain in
     let hex = hexadecimal (mask_digits g.len) a.mask in
     let fits : a.mask < 2 ^ 64 = omega arith in
-    let dec_digits = as_hex dec (decimal_digits a.domain (omega arith)) in
-    let cut = cut_at equals dec 61 hex (any_digits equals (λ c h. not_byte c 61 refl h) dec dec_digits) refl in
-    let trim_dec : trim dec ≡ dec = trim_none dec (any_digits is_blank no_blank dec dec_digits) in
-    let trim_hex : trim hex ≡ hex = trim_none hex (any_digits is_blank no_blank hex (hex_digits (mask_digits g.len) a.mask fits)) in
+    let dec_digits = AllDigits-hexadecimal_digits dec (AllDigits-decimal a.domain (omega arith)) in
+    let cut = Cut-append equals dec 61 hex (list_any-digits equals (λ c h. eqb-digit c 61 refl h) dec dec_digits) refl in
+    let trim_dec : trim dec ≡ dec = trim-none dec (list_any-digits is_blank is_blank-digit dec dec_digits) in
+    let trim_hex : trim hex ≡ hex = trim-none hex (list_any-digits is_blank is_blank-digit hex (AllDigits-hexadecimal (mask_digits g.len) a.mask fits)) in
     let dec_is : dec_of dec ≡ Some a.domain = decimal_reads_back a.domain (omega arith) in
     let hex_is : hex_of hex ≡ Some a.mask = hexadecimal_reads_back (mask_digits g.len) a.mask fits in
     rw (cut.any, cut.before, cut.behind, trim_dec, dec_is, lt-ltb a.domain domains lt, fresh, trim_hex, hex_is, lt-ltb a.mask (2 ^ 64) fits, valid) refl
@@ -87,12 +88,12 @@ reads_back g domains all len few some lawful small =
     let pieces = map (entry_text g.len) all in
     let rest = join_with_byte 59 pieces in
     let text : List ℕ = 76 ∷ 51 ∷ 58 ∷ rest in
-    let one_line : list_any newline text ≡ false = any_join newline 59 refl pieces (pieces_plain newline g.len domains all (λ c h. not_byte c 10 refl h) refl few lawful.exist small) in
-    let no_blank : list_any is_blank rest ≡ false = any_join is_blank 59 refl pieces (pieces_plain is_blank g.len domains all no_blank refl few lawful.exist small) in
-    let parts : slice_split semicolon rest ≡ pieces = split_join semicolon 59 refl pieces (some_pieces all some) (pieces_plain semicolon g.len domains all (λ c h. not_byte c 59 refl h) refl few lawful.exist small) in
+    let one_line : list_any newline text ≡ false = list_any-join_with_byte newline 59 refl pieces (pieces_plain newline g.len domains all (λ c h. eqb-digit c 10 refl h) refl few lawful.exist small) in
+    let is_blank-digit : list_any is_blank rest ≡ false = list_any-join_with_byte is_blank 59 refl pieces (pieces_plain is_blank g.len domains all is_blank-digit refl few lawful.exist small) in
+    let parts : slice_split semicolon rest ≡ pieces = slice_split-join_with_byte semicolon 59 refl pieces (some_pieces all some) (pieces_plain semicolon g.len domains all (λ c h. eqb-digit c 59 refl h) refl few lawful.exist small) in
     let items : items_of_rest rest ≡ map Entry pieces = ap (λ (ps : List (List ℕ)). map Entry (without_empty_last ps)) parts ∙ ap (map Entry) (nothing_dropped g.len all) in
-    let lines : items_of text ≡ items_of_line text ++ [] = rw (split_none newline text one_line) refl in
-    let good : line_of text ≡ Ok tt = rw (trim_none rest no_blank, ne_eqb (length rest) 0 (not_zero (length rest) (join_some g.len all some))) refl in
+    let lines : items_of text ≡ items_of_line text ++ [] = rw (slice_split-none newline text one_line) refl in
+    let good : line_of text ≡ Ok tt = rw (trim-none rest is_blank-digit, ne_eqb (length rest) 0 (not_zero (length rest) (join_some g.len all some))) refl in
     ap (reading_from g domains []) lines
     ∙ line_says g domains [] text (items_of_rest rest ++ []) good
     ∙ ap (λ (is : List Item). reading_from g domains [] (is ++ [])) items

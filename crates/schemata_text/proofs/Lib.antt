@@ -1,4 +1,5 @@
 pub mod Again
-pub mod Entries
-pub mod Following
-pub mod Lawful
+pub mod Items
+pub mod Parts
+pub mod Room
+pub mod laws

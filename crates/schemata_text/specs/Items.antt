@@ -20,7 +20,7 @@ semicolon b = b == 59
 abbrev pub equals : ℕ → Bool
 equals b = b == 61
 
--- all pieces but an empty last one behind another
+-- all pieces but an empty last one after another
 abbrev pub without_empty_last : List (List ℕ) → List (List ℕ)
 without_empty_last [] = []
 without_empty_last (x ∷ []) = x ∷ []
@@ -32,7 +32,7 @@ without_empty_last (x ∷ (b ∷ bs) ∷ more) = x ∷ without_empty_last ((b �
 abbrev pub items_of_rest : List ℕ → List Item
 items_of_rest rest = map Entry (without_empty_last (slice_split semicolon rest))
 
--- a line, and the entries of what stands behind its first colon
+-- a line, and the entries of what stands after its first colon
 abbrev pub items_of_line : List ℕ → List Item
 items_of_line line = Line line ∷ items_of_rest (after_first colon line)
 

@@ -3,7 +3,7 @@ use Rattle.std.specs.Prelude.{◌≡◌, ℕ, ◌^◌, ◌<◌, Bool, not, ◌==
 use Rattle.std.specs.List.{list_any, before_first, after_first, IsDistinct, AllByRecursion}
 use Rattle.num_text.specs.Numbers.{dec_of, hex_of, below}
 use Rattle.num_text.specs.Blanks.{trim}
-use Rattle.num_text.specs.Words.{is_text}
+use Rattle.rc_base.specs.Texts.{is_text}
 use Rattle.cbm.specs.declared.geometry.Geometry.{Geometry}
 use Rattle.cbm.specs.declared.fault.CbmFault.{CbmFault}
 use Rattle.cbm.specs.Validity.{checked}
@@ -30,7 +30,7 @@ or_fault (Some x) fault = Ok x
 
 -- ---- what an item says
 
--- a line has a colon, names the L3 before it, and has a value behind it
+-- a line has a colon, names the L3 before it, and has a value after it
 unfoldable pub line_of : List ℕ → Result (Unit {0}) TextFault
 line_of line = do
   a ← fault_if (not (list_any colon line)) NoColon
@@ -64,7 +64,7 @@ entry_of g domains before entry = do
   mask ← mask_of g bits
   Ok (record { domain = domain; mask = mask })
 
--- these assignments and those of the items behind them, or the fault of the first bad item
+-- these assignments and those of the items after them, or the fault of the first bad item
 unfoldable pub reading_from : Geometry → ℕ → List Assignment → List Item → Result (List Assignment) TextFault
 reading_from g domains before [] = Ok before
 reading_from g domains before (Line line ∷ items) = line_of line >>= λ _. reading_from g domains before items

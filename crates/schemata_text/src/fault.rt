@@ -9,7 +9,7 @@ pub enum TextFault {
     NoColon,
     /// A line's name, without the blanks around it, is not `L3`.
     BadResource,
-    /// Nothing but blanks stands behind a line's first `:`.
+    /// Nothing but blanks stands after a line's first `:`.
     NoValue,
     /// An entry has no `=`.
     NoEquals,

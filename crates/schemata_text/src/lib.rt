@@ -3,9 +3,9 @@
 
 pub mod assignment;
 pub mod fault;
-pub mod laws;
 pub mod printing;
 pub mod reading;
+pub mod theorems;
 
 pub use assignment::{Assignment, Assignments};
 pub use fault::TextFault;

@@ -8,7 +8,8 @@ ghost use Rattle.schemata_text.specs.Reading.{AreLawful, Continues, Gives, domai
 use crate::assignment::{Assignment, Assignments};
 use crate::fault::TextFault;
 use cbm::{Geometry, check};
-use num_text::{cut, is, read_dec, read_hex, trim};
+use num_text::{cut, read_dec, read_hex, trim};
+use rc_base::is_text;
 
 // The domain of an id.
 fn domain(id: &[u8], domains: u8) -> Result<u8, TextFault>
@@ -58,7 +59,7 @@ fn entry(
     }
 }
 
-// What stands behind the colon of a good line.
+// What stands after the colon of a good line.
 #[tactic(auto, unfolding(crate::specs::Reading::line_of))]
 fn line(text: &[u8]) -> Result<&[u8], TextFault>
     ensures { MatchResult result
@@ -69,7 +70,7 @@ fn line(text: &[u8]) -> Result<&[u8], TextFault>
     let Some(rest) = rest else {
         return Err(TextFault::NoColon);
     };
-    if !is(trim(name), b"L3".as_slice()) {
+    if !is_text(trim(name), b"L3".as_slice()) {
         return Err(TextFault::BadResource);
     }
     if trim(rest).is_empty() {
@@ -123,8 +124,8 @@ fn entries(rest: &[u8], g: &Geometry, domains: u8, all: &mut Assignments) -> Res
 /// The assignments of a text, in its order, or the fault of its first bad item from left to right.
 ///
 /// A text is lines separated by newlines. A line is `L3`, a `:`, and entries separated by `;`; an
-/// empty last entry behind a `;` is dropped. An entry is the number of a domain, a `=`, and a mask
-/// in hexadecimal, behind an optional `0x` or `0X`. Blanks around each of these are dropped
+/// empty last entry after a `;` is dropped. An entry is the number of a domain, a `=`, and a mask
+/// in hexadecimal, after an optional `0x` or `0X`. Blanks around each of these are dropped
 /// (kernel documentation, the format of `schemata`; the blanks, the empty last entry and the
 /// order of faults are this project's profile).
 pub fn read(text: &[u8], g: &Geometry, domains: u8) -> Result<Assignments, TextFault>

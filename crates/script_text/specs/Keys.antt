@@ -3,11 +3,12 @@ use Rattle.std.specs.Prelude.{ℕ, Bool, ◌==◌, nat_le, nat_eq, List, [], ◌
 use Rattle.std.specs.Option.{option_and_then, option_or}
 use Rattle.std.specs.List.{list_any, before_first, after_first, starts_with}
 use Rattle.num_text.specs.Numbers.{dec_of, number_of}
-use Rattle.num_text.specs.Words.{is_text}
+use Rattle.rc_base.specs.Texts.{is_text}
 use Rattle.machine.specs.declared.parameters.Parameters.{Parameters}
 use Rattle.machine.specs.Ranges.{is_machine}
 use Rattle.script_text.specs.declared.keys.Keys.{Keys}
 
+-- the byte `=`
 abbrev pub equals : ℕ → Bool
 equals b = b == 61
 
@@ -19,7 +20,7 @@ at_most high number = option_and_then (λ n. if nat_le n high then Some n else N
 abbrev pub once : Bool → ℕ → Option ℕ → Option ℕ
 once given high number = if given then None else at_most high number
 
--- hexadecimal digits behind an optional `0x`
+-- hexadecimal digits after an optional `0x`
 abbrev pub mask_of : List ℕ → Option ℕ
 mask_of text = number_of 16 (if starts_with nat_eq text (codes "0x") then drop 2 text else text)
 
@@ -62,6 +63,7 @@ keys_from keys (word ∷ words) = if list_any equals word then option_and_then (
 abbrev pub no_keys : Keys
 no_keys = record { domains = None; sets = None; ways = None; classes = None; rmids = None; cpus = None; min = None; shareable = None; threshold = None; sparse = None; slices = None }
 
+-- the keys of words
 abbrev pub keys_of : List (List ℕ) → Option Keys
 keys_of words = keys_from no_keys words
 

@@ -1,7 +1,7 @@
 -- The kinds of line, by their first words, and where each may stand.
 use Rattle.std.specs.Prelude.{ℕ, Bool, true, false, List, codes, Option, Some, None, if◌then◌else◌}
 use Rattle.std.specs.Option.{option_or}
-use Rattle.num_text.specs.Words.{is_text}
+use Rattle.rc_base.specs.Texts.{is_text}
 use Rattle.script_text.specs.declared.kind.Place.{Place}
 use Rattle.script_text.specs.declared.kind.Place.TheVariants as places
 use Rattle.script_text.specs.declared.kind.Kind.{Kind}
@@ -35,10 +35,11 @@ access_kind word =
     if is_text word (codes "sweep") then Some kinds.Sweep else
     if is_text word (codes "touch") then Some kinds.Touch else None
 
+-- the kind of a line that begins with this word
 unfoldable pub kind_of : List ℕ → Option Kind
 kind_of word = option_or (part_kind word) (option_or (command_kind word) (access_kind word))
 
--- Where a line may stand: the machine line first, tasks behind it, an order directly behind `phase`, a thread in a phase, and
+-- Where a line may stand: the machine line first, tasks after it, an order directly after `phase`, a thread in a phase, and
 -- an op in a thread.
 abbrev pub may_stand : Kind → Place → Bool
 may_stand kinds.Machine places.Start = true

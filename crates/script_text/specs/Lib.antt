@@ -4,12 +4,8 @@ pub mod Tasks
 pub mod Arguments
 pub mod Escapes
 pub mod Paths
-pub mod Weights
-pub mod Fits
-pub mod Values
 pub mod States
 pub mod Kinds
 pub mod Meaning
 pub mod Reading
-pub mod Canonical
 pub mod Table

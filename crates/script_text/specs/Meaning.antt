@@ -1,28 +1,30 @@
--- What a line means, behind the lines before it.
-use Rattle.std.specs.Prelude.{◌≡◌, ℕ, ◌+◌, ◌*◌, Bool, not, ◌&&◌, ◌==◌, nat_lt, List, [], ◌∷◌, ◌++◌, length, map, codes, Option, Some, None, Result, Ok, Err, if◌then◌else◌}
+-- What a line means, after the lines before it.
+use Rattle.std.specs.Prelude.{◌≡◌, ℕ, ◌+◌, ◌*◌, Bool, not, ◌&&◌, ◌==◌, nat_lt, nat_le, List, [], ◌∷◌, ◌++◌, length, map, codes, Option, Some, None, Result, Ok, Err, if◌then◌else◌}
 use Rattle.std.specs.List.{list_any, range_with_len}
-use Rattle.num_text.specs.Words.{is_text}
+use Rattle.rc_base.specs.Texts.{is_text}
 use Rattle.path_names.specs.declared.path_ref.PathRef.{PathRef}
 use Rattle.script_text.specs.declared.fault.LineFault.{LineFault}
 use Rattle.script_text.specs.declared.fault.LineFault.TheVariants.{BadByte, NoMachine, UnknownWord, OutOfPlace, BadMachine, BadTasks, BadArgument, BadPath, UnknownTask, BadEscape, TooLarge}
 use Rattle.script_text.specs.declared.fault.LineError.{LineError}
 use Rattle.script_text.specs.declared.fault.LineError.TheVariants as errors
 use Rattle.script_text.specs.declared.arguments.Sweep.{Sweep}
-use Rattle.script_text.specs.declared.op.Op.{Op}
-use Rattle.script_text.specs.declared.op.Op.TheVariants as ops
+use Rattle.script_ops.specs.declared.op.Op.{Op}
+use Rattle.script_ops.specs.declared.op.Op.TheVariants as ops
 use Rattle.script_text.specs.declared.kind.Place.TheVariants as places
 use Rattle.script_text.specs.declared.kind.Kind.{Kind}
 use Rattle.script_text.specs.declared.kind.Kind.TheVariants as kinds
 use Rattle.script_text.specs.Lines.{is_bad, is_comment, words, behind_word}
-use Rattle.script_text.specs.States.{State, close_thread, close_phase, is_start}
+use Rattle.script_text.specs.States.{ReaderState, close_thread, close_phase, is_start}
 use Rattle.script_text.specs.Arguments.{access_of, flush_of, sweep_of, touch_of, order_of, only, first_of}
 use Rattle.script_text.specs.Escapes.{unescaped, text_behind}
 use Rattle.script_text.specs.Keys.{machine_of}
 use Rattle.script_text.specs.Kinds.{kind_of, may_stand}
 use Rattle.script_text.specs.Paths.{Named, named}
 use Rattle.script_text.specs.Tasks.{declared, task_of, count_of}
-use Rattle.script_text.specs.Weights.{weight_of}
+use Rattle.script_ops.specs.Weights.{weight_of}
+use Rattle.script_ops.specs.declared.limits.TheConstants.{MOST_WEIGHT, MOST_TASKS, MOST_TEXT_BYTES, MOST_ORDER, MOST_PHASES, MOST_PHASE_THREADS}
 
+-- a value and what follows it, or its fault
 infixl 10 ◌>>=◌
 abbrev pub ◌>>=◌ : {A B : Type 0} → Result A LineFault → (A → Result B LineFault) → Result B LineFault
 (Ok x) >>= f = f x
@@ -40,22 +42,23 @@ or_fault (Some x) fault = Ok x
 -- ---- parts of a meaning
 
 -- ops at the end of the open thread
-abbrev pub with_ops : State → ℕ → List Op → Result State LineFault
-with_ops s weight ops = if nat_lt 4000000 (s.weight + weight) then Err TooLarge else Ok (record s { ops = s.ops ++ ops; weight = s.weight + weight })
+abbrev pub with_ops : ReaderState → ℕ → List Op → Result ReaderState LineFault
+with_ops s weight ops = if nat_lt MOST_WEIGHT (s.weight + weight) then Err TooLarge else Ok (record s { ops = s.ops ++ ops; weight = s.weight + weight })
 
 -- one op
-abbrev pub with_op : State → Op → Result State LineFault
+abbrev pub with_op : ReaderState → Op → Result ReaderState LineFault
 with_op s op = with_ops s (weight_of s.machine op) (op ∷ [])
 
-abbrev pub with_names : State → List (List ℕ) → State
+-- the state with these names
+abbrev pub with_names : ReaderState → List (List ℕ) → ReaderState
 with_names s names = record s { names = names }
 
 -- what a word names here
-abbrev pub named_in : State → List ℕ → Option (Option Named)
+abbrev pub named_in : ReaderState → List ℕ → Option (Option Named)
 named_in s word = named s.machine.domains s.names word
 
 -- what a line's only argument names
-unfoldable pub path_alone : State → List ℕ → Result Named LineFault
+unfoldable pub path_alone : ReaderState → List ℕ → Result Named LineFault
 path_alone s rest = do
   word ← or_fault (only (words rest)) BadArgument
   found ← or_fault (named_in s word) BadPath
@@ -69,27 +72,28 @@ access_at task w i = ops.Access task w.first.cpu (w.first.at + i * w.stride)
 abbrev pub sweep_ops : ℕ → Sweep → List Op
 sweep_ops task w = map (access_at task w) (range_with_len 0 w.count)
 
--- ---- what a line of each kind means, by what stands behind its first word
+-- ---- what a line of each kind means, by what stands after its first word
 
-unfoldable pub means : Kind → State → List ℕ → Result State LineFault
+-- the state after a line of this kind, or its first fault
+unfoldable pub means : Kind → ReaderState → List ℕ → Result ReaderState LineFault
 means kinds.Machine s rest = do
   m ← or_fault (machine_of (words rest)) BadMachine
   Ok (record s { place = places.Head; machine = m })
 means kinds.Tasks s rest = do
   tasks ← or_fault (declared s.tasks (words rest)) BadTasks
-  a ← unless (nat_lt 4096 (count_of tasks)) TooLarge
+  a ← unless (nat_lt MOST_TASKS (count_of tasks)) TooLarge
   Ok (record s { tasks = tasks })
 means kinds.Phase s rest = do
   a ← unless (not (length (words rest) == 0)) BadArgument
-  b ← unless (nat_lt 63 (length (close_phase s).phases)) TooLarge
+  b ← unless (nat_le MOST_PHASES (length (close_phase s).phases)) TooLarge
   Ok (record (close_phase s) { place = places.Opened })
 means kinds.Order s rest = do
   numbers ← or_fault (order_of (words rest)) BadArgument
-  a ← unless (nat_lt 4000000 (length numbers)) TooLarge
+  a ← unless (nat_lt MOST_ORDER (length numbers)) TooLarge
   Ok (record s { place = places.Ordered; order = numbers })
 means kinds.Thread s rest = do
   a ← unless (not (length (words rest) == 0)) BadArgument
-  b ← unless (nat_lt 15 (length (close_thread s).threads)) TooLarge
+  b ← unless (nat_le MOST_PHASE_THREADS (length (close_thread s).threads)) TooLarge
   Ok (record (close_thread s) { place = places.Thread })
 means kinds.Mkdir s rest = do
   p ← path_alone s rest
@@ -102,7 +106,7 @@ means kinds.Write s rest = do
   found ← or_fault (named_in s word) BadPath
   text ← or_fault (unescaped (text_behind rest)) BadEscape
   p ← or_fault found TooLarge
-  a ← unless (nat_lt 4096 (length text)) TooLarge
+  a ← unless (nat_lt MOST_TEXT_BYTES (length text)) TooLarge
   with_op (with_names s p.1) (ops.Write p.0 text)
 means kinds.Read s rest = do
   p ← path_alone s rest
@@ -132,7 +136,7 @@ means kinds.Touch s rest = do
   with_op (with_names s p.1) (ops.Touch p.0 t.1.at task t.1.cpu)
 
 -- what a line means that begins with this word
-unfoldable pub word_means : State → List ℕ → List ℕ → Result State LineFault
+unfoldable pub word_means : ReaderState → List ℕ → List ℕ → Result ReaderState LineFault
 word_means s word rest = do
   a ← unless (is_start s.place && not (is_text word (codes "machine"))) NoMachine
   kind ← or_fault (kind_of word) UnknownWord
@@ -140,32 +144,33 @@ word_means s word rest = do
   means kind s rest
 
 -- A comment and a line without words say nothing.
-abbrev pub said_by : State → List (List ℕ) → List ℕ → Result State LineFault
+abbrev pub said_by : ReaderState → List (List ℕ) → List ℕ → Result ReaderState LineFault
 said_by s [] rest = Ok s
 said_by s (word ∷ words) rest = word_means s word rest
 
-abbrev pub says : State → List ℕ → Result State LineFault
+-- what a line says that is no comment
+abbrev pub says : ReaderState → List ℕ → Result ReaderState LineFault
 says s line = said_by s (words line) (behind_word line)
 
--- what a line means behind these, or its first fault
-unfoldable pub line_meaning : State → List ℕ → Result State LineFault
+-- what a line means after these, or its first fault
+unfoldable pub line_meaning : ReaderState → List ℕ → Result ReaderState LineFault
 line_meaning s line = do
   a ← unless (list_any is_bad line) BadByte
   if is_comment line then Ok s else says s line
 
 -- ---- what the readers promise
 
--- An error is this fault, or want of memory.
+-- An error is this fault, or out of memory.
 abbrev pub Fails : {A : Type 0} → LineError → Result A LineFault → Type 0
 Fails errors.NoMemory meaning = Unit {0}
 Fails (errors.Fault f) meaning = meaning ≡ Err f
 
 -- What a function left behind is this meaning, unless memory ran out.
-abbrev pub Means : Result (Unit {0}) LineError → State → Result State LineFault → Type 0
+abbrev pub Means : Result (Unit {0}) LineError → ReaderState → Result ReaderState LineFault → Type 0
 Means (Ok u) after meaning = meaning ≡ Ok after
 Means (Err e) after meaning = Fails e meaning
 
 -- A function found what the line's only argument names, and added its names alone.
-abbrev pub FindsAlone : Result PathRef LineError → State → State → Result Named LineFault → Type 0
+abbrev pub FindsAlone : Result PathRef LineError → ReaderState → ReaderState → Result Named LineFault → Type 0
 FindsAlone (Ok path) before after meaning = (meaning ≡ Ok (path, after.names)) × (after ≡ with_names before after.names)
 FindsAlone (Err e) before after meaning = Fails e meaning

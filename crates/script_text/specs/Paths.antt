@@ -6,6 +6,7 @@ use Rattle.path_names.specs.Reading.{path_of}
 use Rattle.script_text.specs.declared.fault.LineError.{LineError}
 use Rattle.script_text.specs.declared.fault.LineError.TheVariants as errors
 use Rattle.script_text.specs.declared.fault.LineFault.TheVariants.{BadPath}
+use Rattle.script_ops.specs.declared.limits.TheConstants.{MOST_PATH_BYTES}
 
 -- what a path names, and the names that are known then
 abbrev pub Named : Type 0
@@ -13,7 +14,7 @@ Named = PathRef × List (List ℕ)
 
 -- What a word names: nothing where it is no path. A word of more than 2,048 bytes is too long to say, and no bad path.
 abbrev pub named : ℕ → List (List ℕ) → List ℕ → Option (Option Named)
-named domains names word = if nat_lt 2048 (length word) then Some None else option_map (λ p. Some p) (path_of domains names word)
+named domains names word = if nat_lt MOST_PATH_BYTES (length word) then Some None else option_map (λ p. Some p) (path_of domains names word)
 
 -- A function found what a word names, unless memory ran out.
 abbrev pub Finds : Result (Option PathRef) LineError → List (List ℕ) → Option (Option Named) → Type 0

@@ -2,19 +2,21 @@
 use Rattle.std.specs.Prelude.{◌≡◌, ℕ, ◌*◌, ◌+◌, ◌≤◌, List, [], ◌∷◌, ◌++◌, length, if◌then◌else◌, Bool, true, false, All, sum_by}
 use Rattle.machine.specs.declared.parameters.Parameters.{Parameters}
 use Rattle.machine.specs.Maps.{parameters_of}
-use Rattle.script_text.specs.declared.op.Op.{Op}
+use Rattle.script_ops.specs.declared.op.Op.{Op}
 use Rattle.script_text.specs.declared.tasks.TaskRange.{TaskRange}
 use Rattle.script_text.specs.declared.reader.Reader.{Reader}
 use Rattle.script_text.specs.declared.kind.Place.{Place}
 use Rattle.script_text.specs.declared.kind.Place.TheVariants.{Start, Head, Thread}
 use Rattle.script_text.specs.Tasks.{RiseFrom, ids_of}
-use Rattle.script_text.specs.Values.{PhaseValue, threads_in}
-use Rattle.script_text.specs.Canonical.{AreNamed}
-use Rattle.script_text.specs.Fits.{AreFit}
-use Rattle.script_text.specs.Weights.{weights_of}
+use Rattle.script_ops.specs.Values.{PhaseValue, threads_in}
+use Rattle.script_ops.specs.Canonical.{AreNamed}
+use Rattle.script_ops.specs.Fits.{AreFit}
+use Rattle.script_ops.specs.Weights.{weights_of}
+use Rattle.path_names.specs.declared.paths.TheConstants.{MOST_PATH_NAMES}
+use Rattle.script_ops.specs.declared.limits.TheConstants.{MOST_PHASES, MOST_PHASE_THREADS, MOST_WEIGHT}
 
 -- The lines so far: the phases that are closed, the order and the closed threads of the open phase, and the ops of the open thread.
-pub record State : Type 0 where
+pub record ReaderState : Type 0 where
   pub place : Place
   pub machine : Parameters
   pub tasks : List TaskRange
@@ -25,47 +27,49 @@ pub record State : Type 0 where
   pub ops : List Op
   pub weight : ℕ
 
+-- whether no machine line was read
 abbrev pub is_start : Place → Bool
 is_start Start = true
 is_start place = false
 
+-- whether a machine line was read and no phase was
 abbrev pub is_head : Place → Bool
 is_head Head = true
 is_head place = false
 
+-- whether a thread is open
 abbrev pub is_thread : Place → Bool
 is_thread Thread = true
 is_thread place = false
 
 -- the open thread, if there is one, is closed
-abbrev pub close_thread : State → State
+abbrev pub close_thread : ReaderState → ReaderState
 close_thread s = if is_thread s.place then record s { threads = s.threads ++ s.ops ∷ []; ops = [] } else s
 
 -- the open phase, if there is one, is closed
-abbrev pub close_phase : State → State
+abbrev pub close_phase : ReaderState → ReaderState
 close_phase s = if is_head s.place then s else record (close_thread s) { phases = s.phases ++ (record { order = s.order; threads = (close_thread s).threads }) ∷ []; order = []; threads = [] }
 
 -- the state of a reader
-abbrev pub state_of : Reader → State
+abbrev pub state_of : Reader → ReaderState
 state_of r = record { place = r.place; machine = parameters_of r.machine; tasks = r.tasks.items; names = r.names; phases = r.phases.items; order = r.order.items; threads = r.threads.items; ops = r.ops.items; weight = r.weight }
 
--- What the lines so far keep to, with at most so many closed phases and closed threads of the open phase, and so many names of
--- an op that is not yet pushed. An op weighs 1 at least and names four names at most, so
--- that these stay few.
-pub record InLimits (most threads_most extra : ℕ) (s : State) : Type 0 where
-  pub names : length s.names ≤ 4 * s.weight + extra
-  pub weight : s.weight ≤ 4000000
+-- What the lines so far keep to, where so many phases and so many threads of the open phase may still be closed, with so many
+-- names of an op that is not yet pushed. An op weighs 1 at least and has few names, so that these stay few.
+pub record InLimits (more_phases more_threads extra : ℕ) (s : ReaderState) : Type 0 where
+  pub names : length s.names ≤ MOST_PATH_NAMES * s.weight + extra
+  pub weight : s.weight ≤ MOST_WEIGHT
   pub tasks : RiseFrom 0 s.tasks
-  pub phases : length s.phases ≤ most
-  pub threads : length s.threads ≤ threads_most
-  pub each : All (λ p. length p.threads ≤ 16) s.phases
+  pub phases : length s.phases + more_phases ≤ MOST_PHASES
+  pub threads : length s.threads + more_threads ≤ MOST_PHASE_THREADS
+  pub each : All (λ p. length p.threads ≤ MOST_PHASE_THREADS) s.phases
   pub ops_named : AreNamed (length s.names) s.ops
   pub threads_named : All (AreNamed (length s.names)) s.threads
   pub phases_named : All (AreNamed (length s.names)) (threads_in s.phases)
 
--- one phase more can be closed
-abbrev pub IsSound : State → Type 0
-IsSound s = InLimits 63 15 0 s
+-- one phase more can be closed, and one thread more
+abbrev pub IsSound : ReaderState → Type 0
+IsSound s = InLimits 1 1 0 s
 
 -- before the first phase
 abbrev pub is_early : Place → Bool
@@ -74,18 +78,18 @@ is_early Head = true
 is_early place = false
 
 -- before the first phase there are no ops
-abbrev pub BeginsBare : State → Type 0
+abbrev pub BeginsBare : ReaderState → Type 0
 BeginsBare s = is_early s.place ≡ true → (s.ops ≡ []) × (s.threads ≡ []) × (s.phases ≡ [])
 
 -- The ops so far are of the machine and its tasks, and weigh no more than is counted.
-pub record IsFit (s : State) : Type 0 where
+pub record IsFit (s : ReaderState) : Type 0 where
   pub ops : AreFit s.machine (ids_of s.tasks) s.ops
   pub threads : All (AreFit s.machine (ids_of s.tasks)) s.threads
   pub phases : All (AreFit s.machine (ids_of s.tasks)) (threads_in s.phases)
   pub light : sum_by (weights_of s.machine) (threads_in s.phases) + sum_by (weights_of s.machine) s.threads + weights_of s.machine s.ops ≤ s.weight
-  pub counted : s.weight ≤ 4000000
+  pub counted : s.weight ≤ MOST_WEIGHT
 
 -- what the lines so far keep to, whatever the next one is
-pub record IsReady (s : State) : Type 0 where
+pub record IsReady (s : ReaderState) : Type 0 where
   pub bare : BeginsBare s
   pub fit : IsFit s

@@ -1,14 +1,14 @@
 -- The faults of a line as a table: which faults it has, and the order in which they are tried.
-use Rattle.std.specs.Prelude.{◌≡◌, ℕ, ◌+◌, Bool, true, false, not, ◌&&◌, ◌||◌, ◌==◌, nat_lt, List, [], ◌∷◌, length, codes, Option, Some, None, Result, Ok, Err, is_none}
+use Rattle.std.specs.Prelude.{◌≡◌, ℕ, ◌+◌, Bool, true, false, not, ◌&&◌, ◌||◌, ◌==◌, nat_lt, nat_le, List, [], ◌∷◌, length, codes, Option, Some, None, Result, Ok, Err, is_none}
 use Rattle.std.specs.List.{list_any, find}
-use Rattle.num_text.specs.Words.{is_text}
+use Rattle.rc_base.specs.Texts.{is_text}
 use Rattle.path_names.specs.declared.path_ref.PathRef.{PathRef}
 use Rattle.script_text.specs.declared.fault.LineFault.{LineFault}
 use Rattle.script_text.specs.declared.fault.LineFault.TheVariants.{BadByte, NoMachine, UnknownWord, OutOfPlace, BadMachine, BadTasks, BadArgument, BadPath, UnknownTask, BadEscape, TooLarge}
 use Rattle.script_text.specs.declared.arguments.Use.{Use}
 use Rattle.script_text.specs.declared.arguments.Sweep.{Sweep}
-use Rattle.script_text.specs.declared.op.Op.{Op}
-use Rattle.script_text.specs.declared.op.Op.TheVariants as ops
+use Rattle.script_ops.specs.declared.op.Op.{Op}
+use Rattle.script_ops.specs.declared.op.Op.TheVariants as ops
 use Rattle.script_text.specs.declared.kind.Kind.{Kind}
 use Rattle.script_text.specs.declared.kind.Kind.TheVariants as kinds
 use Rattle.script_text.specs.Arguments.{access_of, flush_of, sweep_of, touch_of, order_of, only, first_of}
@@ -18,9 +18,10 @@ use Rattle.script_text.specs.Kinds.{kind_of, may_stand}
 use Rattle.script_text.specs.Lines.{is_bad, is_comment, words, behind_word}
 use Rattle.script_text.specs.Meaning.{line_meaning, named_in}
 use Rattle.script_text.specs.Paths.{Named}
-use Rattle.script_text.specs.States.{State, close_thread, close_phase, is_start}
+use Rattle.script_text.specs.States.{ReaderState, close_thread, close_phase, is_start}
 use Rattle.script_text.specs.Tasks.{declared, task_of, count_of}
-use Rattle.script_text.specs.Weights.{weight_of}
+use Rattle.script_ops.specs.Weights.{weight_of}
+use Rattle.script_ops.specs.declared.limits.TheConstants.{MOST_WEIGHT, MOST_TASKS, MOST_TEXT_BYTES, MOST_ORDER, MOST_PHASES, MOST_PHASE_THREADS}
 
 -- the order in which the faults are tried
 abbrev pub order : List LineFault
@@ -32,47 +33,48 @@ passes test None = false
 passes test (Some x) = test x
 
 -- a task that is not declared
-abbrev pub no_task : State → ℕ → Bool
+abbrev pub no_task : ReaderState → ℕ → Bool
 no_task s id = is_none (task_of s.tasks id)
 
 -- a weight that passes the limit of the script
-abbrev pub is_over : State → ℕ → Bool
-is_over s weight = nat_lt 4000000 (s.weight + weight)
+abbrev pub is_over : ReaderState → ℕ → Bool
+is_over s weight = nat_lt MOST_WEIGHT (s.weight + weight)
 
 -- a word that is no path
-abbrev pub no_path : State → List ℕ → Bool
+abbrev pub no_path : ReaderState → List ℕ → Bool
 no_path s word = is_none (named_in s word)
 
 -- a path that is too long, or an op of it that weighs too much
-abbrev pub is_over_at : State → (PathRef → Op) → Option Named → Bool
+abbrev pub is_over_at : ReaderState → (PathRef → Op) → Option Named → Bool
 is_over_at s op None = true
 is_over_at s op (Some p) = is_over s (weight_of s.machine (op p.0))
 
-abbrev pub path_over : State → (PathRef → Op) → List ℕ → Bool
+-- a word whose path is too long, or whose op weighs too much
+abbrev pub path_over : ReaderState → (PathRef → Op) → List ℕ → Bool
 path_over s op word = passes (λ found. is_over_at s op found) (named_in s word)
 
 -- the faults of a line of one path
-abbrev pub path_fault : State → (PathRef → Op) → List ℕ → LineFault → Bool
+abbrev pub path_fault : ReaderState → (PathRef → Op) → List ℕ → LineFault → Bool
 path_fault s op rest BadArgument = is_none (only (words rest))
 path_fault s op rest BadPath = passes (λ word. no_path s word) (only (words rest))
 path_fault s op rest TooLarge = passes (λ word. path_over s op word) (only (words rest))
 path_fault s op rest fault = false
 
 -- a text that is too long, or a write of it that weighs too much
-abbrev pub text_over : State → List ℕ → List ℕ → Bool
-text_over s word text = nat_lt 4096 (length text) || path_over s (λ path. ops.Write path text) word
+abbrev pub text_over : ReaderState → List ℕ → List ℕ → Bool
+text_over s word text = nat_lt MOST_TEXT_BYTES (length text) || path_over s (λ path. ops.Write path text) word
 
--- the faults of what stands behind the first word, in a line of each kind
-unfoldable pub argument_fault : Kind → State → List ℕ → LineFault → Bool
+-- the faults of what stands after the first word, in a line of each kind
+unfoldable pub argument_fault : Kind → ReaderState → List ℕ → LineFault → Bool
 argument_fault kinds.Machine s rest BadMachine = is_none (machine_of (words rest))
 argument_fault kinds.Tasks s rest BadTasks = is_none (declared s.tasks (words rest))
-argument_fault kinds.Tasks s rest TooLarge = passes (λ all. nat_lt 4096 (count_of all)) (declared s.tasks (words rest))
+argument_fault kinds.Tasks s rest TooLarge = passes (λ all. nat_lt MOST_TASKS (count_of all)) (declared s.tasks (words rest))
 argument_fault kinds.Phase s rest BadArgument = not (length (words rest) == 0)
-argument_fault kinds.Phase s rest TooLarge = nat_lt 63 (length (close_phase s).phases)
+argument_fault kinds.Phase s rest TooLarge = nat_le MOST_PHASES (length (close_phase s).phases)
 argument_fault kinds.Order s rest BadArgument = is_none (order_of (words rest))
-argument_fault kinds.Order s rest TooLarge = passes (λ numbers. nat_lt 4000000 (length numbers)) (order_of (words rest))
+argument_fault kinds.Order s rest TooLarge = passes (λ numbers. nat_lt MOST_ORDER (length numbers)) (order_of (words rest))
 argument_fault kinds.Thread s rest BadArgument = not (length (words rest) == 0)
-argument_fault kinds.Thread s rest TooLarge = nat_lt 15 (length (close_thread s).threads)
+argument_fault kinds.Thread s rest TooLarge = nat_le MOST_PHASE_THREADS (length (close_thread s).threads)
 argument_fault kinds.Mkdir s rest fault = path_fault s (λ path. ops.Mkdir path) rest fault
 argument_fault kinds.Rmdir s rest fault = path_fault s (λ path. ops.Rmdir path) rest fault
 argument_fault kinds.Read s rest fault = path_fault s (λ path. ops.Read path) rest fault
@@ -98,7 +100,7 @@ argument_fault kinds.Touch s rest TooLarge = passes (λ (t : List ℕ × Use). p
 argument_fault kind s rest fault = false
 
 -- the faults of a line that begins with this word
-unfoldable pub word_fault : State → List ℕ → List ℕ → LineFault → Bool
+unfoldable pub word_fault : ReaderState → List ℕ → List ℕ → LineFault → Bool
 word_fault s word rest BadByte = false
 word_fault s word rest NoMachine = is_start s.place && not (is_text word (codes "machine"))
 word_fault s word rest UnknownWord = is_none (kind_of word)
@@ -106,19 +108,20 @@ word_fault s word rest OutOfPlace = passes (λ k. not (may_stand k s.place)) (ki
 word_fault s word rest fault = passes (λ k. argument_fault k s rest fault) (kind_of word)
 
 -- A comment and a line without words have none of these.
-abbrev pub said_fault : State → List (List ℕ) → List ℕ → LineFault → Bool
+abbrev pub said_fault : ReaderState → List (List ℕ) → List ℕ → LineFault → Bool
 said_fault s [] rest fault = false
 said_fault s (word ∷ words) rest fault = word_fault s word rest fault
 
--- whether a line has a fault, behind these
-unfoldable pub has_fault : State → List ℕ → LineFault → Bool
+-- whether a line has a fault, after these
+unfoldable pub has_fault : ReaderState → List ℕ → LineFault → Bool
 has_fault s line BadByte = list_any is_bad line
 has_fault s line fault = not (is_comment line) && said_fault s (words line) (behind_word line) fault
 
+-- the fault that a meaning is
 abbrev pub fault_of : {A : Type 0} → Result A LineFault → Option LineFault
 fault_of (Ok s) = None
 fault_of (Err fault) = Some fault
 
 -- The fault of a line is the first that it has in that order.
 abbrev pub FaultsInOrder : Type 0
-FaultsInOrder = (s : State) (line : List ℕ) → find (has_fault s line) order ≡ fault_of (line_meaning s line)
+FaultsInOrder = (s : ReaderState) (line : List ℕ) → find (has_fault s line) order ≡ fault_of (line_meaning s line)

@@ -8,6 +8,7 @@ use Rattle.script_text.specs.declared.fault.LineError.TheVariants as errors
 use Rattle.script_text.specs.declared.fault.LineFault.TheVariants.{BadTasks}
 use Rattle.script_text.specs.declared.tasks.TaskRange.{TaskRange}
 
+-- the byte `-`
 abbrev pub dash : ℕ → Bool
 dash b = b == 45
 
@@ -15,6 +16,7 @@ dash b = b == 45
 abbrev pub id_of : List ℕ → Option ℕ
 id_of text = option_and_then (λ n. if n == 0 then None else Some n) (below (2 ^ 32) (dec_of text))
 
+-- the tasks from one to another, if the first is no greater
 abbrev pub range_of : ℕ → ℕ → Option TaskRange
 range_of first last = if nat_lt last first then None else Some (record { first = first; last = last })
 
@@ -47,10 +49,11 @@ abbrev pub declared : List TaskRange → List (List ℕ) → Option (List TaskRa
 declared all [] = None
 declared all (word ∷ words) = declared_from all (word ∷ words)
 
+-- whether a range has this task
 abbrev pub has_task : ℕ → TaskRange → Bool
 has_task id t = nat_le t.first id && nat_le id t.last
 
--- each range begins behind the end of the one before it, and the first no lower than this
+-- each range begins after the end of the one before it, and the first no lower than this
 abbrev pub RiseFrom : ℕ → List TaskRange → Type 0
 RiseFrom low [] = Unit {0}
 RiseFrom low (t ∷ ts) = (low ≤ t.first) × (t.first ≤ t.last) × RiseFrom (t.last + 1) ts
@@ -63,6 +66,7 @@ task_of all id = if nat_lt id (2 ^ 32) && list_any (has_task id) all then Some i
 abbrev pub size_of : TaskRange → ℕ
 size_of t = t.last + 1 - t.first
 
+-- how many tasks ranges have
 abbrev pub count_of : List TaskRange → ℕ
 count_of all = sum_by size_of all
 

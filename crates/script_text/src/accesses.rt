@@ -7,14 +7,14 @@ ghost use Rattle.script_text.specs.declared.kind.Kind.TheVariants as kinds;
 
 use crate::arguments::{Sweep, access_args, sweep_args, touch_args};
 use crate::fault::{LineError, LineFault};
-use crate::op::Op;
 use crate::paths::find_path;
 use crate::reader::Reader;
 use crate::tasks::declared_task;
+use script_ops::Op;
 
 impl Reader {
     /// `access TASK CPU ADDR`
-    #[tactic(auto, unfolding(crate::specs::Meaning::means), using(crate::proofs::Keeping::keeping))]
+    #[tactic(auto, unfolding(crate::specs::Meaning::means), using(crate::proofs::Limits::keeping))]
     pub fn access(&mut self, text: &[u8]) -> Result<(), LineError>
         requires { IsSound (state_of self.old) }
         ensures said { Means result (state_of self.new) (means kinds.Access (state_of self.old) text.now) }
@@ -32,7 +32,7 @@ impl Reader {
     }
 
     /// `sweep TASK CPU ADDR COUNT STRIDE`
-    #[tactic(auto, unfolding(crate::specs::Meaning::means), using(crate::proofs::Keeping::keeping))]
+    #[tactic(auto, unfolding(crate::specs::Meaning::means), using(crate::proofs::Limits::keeping))]
     pub fn sweep(&mut self, text: &[u8]) -> Result<(), LineError>
         requires { IsSound (state_of self.old) }
         ensures said { Means result (state_of self.new) (means kinds.Sweep (state_of self.old) text.now) }
@@ -48,7 +48,7 @@ impl Reader {
     }
 
     /// `touch PATH OFFSET TASK CPU`
-    #[tactic(auto, unfolding(crate::specs::Meaning::means), using(crate::proofs::Keeping::keeping))]
+    #[tactic(auto, unfolding(crate::specs::Meaning::means), using(crate::proofs::Limits::keeping))]
     pub fn touch(&mut self, text: &[u8]) -> Result<(), LineError>
         requires { IsSound (state_of self.old) }
         ensures said { Means result (state_of self.new) (means kinds.Touch (state_of self.old) text.now) }

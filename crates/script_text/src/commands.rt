@@ -1,27 +1,27 @@
 //! The lines that are commands.
 ghost use Rattle.std.specs.Prelude.{IfOk, length, OnOk};
 ghost use Rattle.script_text.specs.States.{state_of, InLimits, IsSound};
-ghost use Rattle.path_names.specs.NamesIn.{path_ids};
-ghost use Rattle.script_text.specs.Canonical.{AreKnown};
+ghost use Rattle.path_names.specs.NamesIn.{path_ids, AreKnown};
 ghost use Rattle.script_text.specs.Meaning.{means, Means, FindsAlone, path_alone};
 ghost use Rattle.script_text.specs.declared.kind.Kind.TheVariants as kinds;
+ghost use Rattle.path_names.specs.declared.paths.TheConstants.{MOST_PATH_NAMES};
 
 use crate::arguments::flush_args;
 use crate::escapes::{behind_one, unescape};
 use crate::fault::{LineError, LineFault};
-use crate::op::Op;
 use crate::paths::find_path;
 use crate::reader::Reader;
 use crate::words::{next_word, no_word, one_word};
 use path_names::PathRef;
+use script_ops::{MOST_TEXT_BYTES, Op};
 
 impl Reader {
     // What the line's only argument names.
-    #[tactic(auto, unfolding(crate::specs::Meaning::path_alone), using(crate::proofs::Keeping::keeping))]
+    #[tactic(auto, unfolding(crate::specs::Meaning::path_alone), using(crate::proofs::Limits::keeping))]
     fn path_alone(&mut self, text: &[u8]) -> Result<PathRef, LineError>
         requires { IsSound (state_of self.old) }
         ensures said { FindsAlone result (state_of self.old) (state_of self.new) (path_alone (state_of self.old) text.now) }
-        ensures limits { OnOk result (InLimits 63 15 4 (state_of self.new)) }
+        ensures limits { OnOk result (InLimits 1 1 MOST_PATH_NAMES (state_of self.new)) }
         ensures known { IfOk result (λ path. AreKnown (length self.new.names) (path_ids path)) }
     {
         let Some(word) = one_word(text) else {
@@ -87,7 +87,7 @@ impl Reader {
     }
 
     /// `write PATH` or `write PATH TEXT`
-    #[tactic(auto, unfolding(crate::specs::Meaning::means), using(crate::proofs::Keeping::keeping))]
+    #[tactic(auto, unfolding(crate::specs::Meaning::means), using(crate::proofs::Limits::keeping))]
     pub fn write(&mut self, text: &[u8]) -> Result<(), LineError>
         requires { IsSound (state_of self.old) }
         ensures said { Means result (state_of self.new) (means kinds.Write (state_of self.old) text.now) }
@@ -107,14 +107,14 @@ impl Reader {
         let Some(path) = path else {
             return Err(LineError::Fault(LineFault::TooLarge));
         };
-        if text.as_slice().len() > 4096 {
+        if text.as_slice().len() > MOST_TEXT_BYTES {
             return Err(LineError::Fault(LineFault::TooLarge));
         }
         self.push(Op::Write { path, text })
     }
 
     /// `flush` or `flush DEC`
-    #[tactic(auto, unfolding(crate::specs::Meaning::means), using(crate::proofs::Keeping::keeping))]
+    #[tactic(auto, unfolding(crate::specs::Meaning::means), using(crate::proofs::Limits::keeping))]
     pub fn flush(&mut self, text: &[u8]) -> Result<(), LineError>
         requires { IsSound (state_of self.old) }
         ensures said { Means result (state_of self.new) (means kinds.Flush (state_of self.old) text.now) }
@@ -127,7 +127,7 @@ impl Reader {
     }
 
     /// `tick`
-    #[tactic(auto, unfolding(crate::specs::Meaning::means), using(crate::proofs::Keeping::keeping))]
+    #[tactic(auto, unfolding(crate::specs::Meaning::means), using(crate::proofs::Limits::keeping))]
     pub fn tick(&mut self, text: &[u8]) -> Result<(), LineError>
         requires { IsSound (state_of self.old) }
         ensures said { Means result (state_of self.new) (means kinds.Tick (state_of self.old) text.now) }

@@ -3,11 +3,11 @@ ghost use Rattle.std.specs.Prelude.{◌≡◌, ◌<◌, ◌≤◌, ◌∷◌, le
 ghost use Rattle.std.specs.Option.{option_map};
 ghost use Rattle.script_text.specs.Escapes.{unescaped, Unescapes};
 
-use crate::bytes::Bytes;
 use crate::fault::{LineError, LineFault};
+use script_ops::Bytes;
 use std::alloc::Global;
 
-// The byte that a text means behind a backslash, and what stands behind it.
+// The byte that a text means after a backslash, and what stands after it.
 #[tactic(auto, unfolding(crate::specs::Escapes::unescaped))]
 fn escaped_byte(text: &[u8]) -> Option<(u8, &[u8])>
     ensures { MatchOption result (unescaped (92 ∷ text.now) ≡ None) (λ p. (unescaped (92 ∷ text.now) ≡ option_map (λ bytes. p.0 ∷ bytes) (unescaped p.1.now)) × (length p.1.now ≤ length text.now)) }
@@ -20,8 +20,8 @@ fn escaped_byte(text: &[u8]) -> Option<(u8, &[u8])>
     }
 }
 
-// The byte that a text begins with, its escape read, and what stands behind it.
-#[tactic(auto, using(crate::proofs::Escaping::plain))]
+// The byte that a text begins with, its escape read, and what stands after it.
+#[tactic(auto, using(crate::proofs::EscapedBytes::plain))]
 fn first_byte(text: &[u8]) -> Option<(u8, &[u8])>
     requires { 0 < length text.now }
     ensures { MatchOption result (unescaped text.now ≡ None) (λ p. (unescaped text.now ≡ option_map (λ bytes. p.0 ∷ bytes) (unescaped p.1.now)) × (length p.1.now < length text.now)) }
@@ -54,7 +54,7 @@ pub fn unescape(alloc: Global, text: &[u8]) -> Result<Bytes, LineError>
     }
 }
 
-/// What stands behind the first byte.
+/// What stands after the first byte.
 pub fn behind_one(text: &[u8]) -> &[u8]
     ensures { result.now ≡ drop 1 text.now }
 {

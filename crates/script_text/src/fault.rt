@@ -1,6 +1,6 @@
 //! What is wrong with a script.
 ghost use Rattle.std.specs.Prelude.{◌≡◌};
-ghost use Rattle.script_text.specs.declared.fault.LineError.TheVariants.{NoMemory as WantOfMemory};
+ghost use Rattle.script_text.specs.declared.fault.LineError.TheVariants.{NoMemory as OutOfMemory};
 
 use rc_base::NoMemory;
 use std::alloc::{AllocError, AllocFailed};
@@ -40,7 +40,7 @@ pub enum LineError {
 }
 
 impl From<AllocError> for LineError {
-    ghost from_gives = { λ _ e. e ≡ WantOfMemory };
+    ghost from_gives = { λ _ e. e ≡ OutOfMemory };
 
     fn from(_: AllocError) -> Self {
         LineError::NoMemory
@@ -48,7 +48,7 @@ impl From<AllocError> for LineError {
 }
 
 impl<T: Drop> From<AllocFailed<T>> for LineError {
-    ghost from_gives = { λ _ e. e ≡ WantOfMemory };
+    ghost from_gives = { λ _ e. e ≡ OutOfMemory };
 
     fn from(_: AllocFailed<T>) -> Self {
         LineError::NoMemory
@@ -56,7 +56,7 @@ impl<T: Drop> From<AllocFailed<T>> for LineError {
 }
 
 impl From<NoMemory> for LineError {
-    ghost from_gives = { λ _ e. e ≡ WantOfMemory };
+    ghost from_gives = { λ _ e. e ≡ OutOfMemory };
 
     fn from(_: NoMemory) -> Self {
         LineError::NoMemory
@@ -77,6 +77,6 @@ pub struct ScriptFault {
 pub enum ScriptError {
     /// The text is no script.
     Bad(ScriptFault),
-    /// Want of memory.
+    /// Out of memory.
     NoMemory,
 }

@@ -3,7 +3,8 @@ ghost use Rattle.std.specs.Prelude.{◌≡◌, ◌<◌, ◌-◌, ◌≤◌, ◌^
 ghost use Rattle.num_text.specs.Numbers.{dec_of, below};
 ghost use Rattle.script_text.specs.Keys.{once, mask_of, cache_key, id_key, mask_key, with_key, no_keys};
 
-use num_text::{is, read_dec, read_digits};
+use num_text::{read_dec, read_digits};
+use rc_base::is_text;
 
 /// The keys of a machine line so far.
 #[derive(Clone, Copy, Debug, PartialEq, Eq)]
@@ -36,7 +37,7 @@ fn number(given: bool, high: u64, text: &[u8]) -> Option<u64>
     }
 }
 
-// Hexadecimal digits behind an optional `0x`.
+// Hexadecimal digits after an optional `0x`.
 fn mask_digits(text: &[u8]) -> Option<u64>
     ensures { result ≡ below (2 ^ 64) (mask_of text.now) }
 {
@@ -63,19 +64,19 @@ fn mask(given: bool, text: &[u8]) -> Option<u32>
 fn cache_key(keys: Keys, key: &[u8], value: &[u8]) -> Option<Keys>
     ensures { result ≡ cache_key keys key.now value.now }
 {
-    if is(key, b"domains") {
+    if is_text(key, b"domains") {
         let n = number(keys.domains.is_some(), 8, value)?;
         let domains = Some(n as u8);
         Some(Keys { domains, ..keys })
-    } else if is(key, b"sets") {
+    } else if is_text(key, b"sets") {
         let n = number(keys.sets.is_some(), 65_536, value)?;
         let sets = Some(n as u32);
         Some(Keys { sets, ..keys })
-    } else if is(key, b"ways") {
+    } else if is_text(key, b"ways") {
         let n = number(keys.ways.is_some(), 32, value)?;
         let ways = Some(n as u8);
         Some(Keys { ways, ..keys })
-    } else if is(key, b"slices") {
+    } else if is_text(key, b"slices") {
         let n = number(keys.slices.is_some(), 1, value)?;
         let slices = Some(n as u8);
         Some(Keys { slices, ..keys })
@@ -88,15 +89,15 @@ fn cache_key(keys: Keys, key: &[u8], value: &[u8]) -> Option<Keys>
 fn id_key(keys: Keys, key: &[u8], value: &[u8]) -> Option<Keys>
     ensures { result ≡ id_key keys key.now value.now }
 {
-    if is(key, b"classes") {
+    if is_text(key, b"classes") {
         let n = number(keys.classes.is_some(), 64, value)?;
         let classes = Some(n as u8);
         Some(Keys { classes, ..keys })
-    } else if is(key, b"rmids") {
+    } else if is_text(key, b"rmids") {
         let n = number(keys.rmids.is_some(), 256, value)?;
         let rmids = Some(n as u16);
         Some(Keys { rmids, ..keys })
-    } else if is(key, b"cpus") {
+    } else if is_text(key, b"cpus") {
         let n = number(keys.cpus.is_some(), 64, value)?;
         let cpus = Some(n as u8);
         Some(Keys { cpus, ..keys })
@@ -109,19 +110,19 @@ fn id_key(keys: Keys, key: &[u8], value: &[u8]) -> Option<Keys>
 fn mask_key(keys: Keys, key: &[u8], value: &[u8]) -> Option<Keys>
     ensures { result ≡ mask_key keys key.now value.now }
 {
-    if is(key, b"min") {
+    if is_text(key, b"min") {
         let n = number(keys.min.is_some(), 32, value)?;
         let min = Some(n as u8);
         Some(Keys { min, ..keys })
-    } else if is(key, b"shareable") {
+    } else if is_text(key, b"shareable") {
         let n = mask(keys.shareable.is_some(), value)?;
         let shareable = Some(n);
         Some(Keys { shareable, ..keys })
-    } else if is(key, b"threshold") {
+    } else if is_text(key, b"threshold") {
         let n = number(keys.threshold.is_some(), 67_108_864, value)?;
         let threshold = Some(n);
         Some(Keys { threshold, ..keys })
-    } else if is(key, b"sparse") {
+    } else if is_text(key, b"sparse") {
         let n = number(keys.sparse.is_some(), 0, value)?;
         let sparse = Some(n as u8);
         Some(Keys { sparse, ..keys })

@@ -2,7 +2,7 @@
 ghost use Rattle.std.specs.Prelude.{◌≡◌};
 ghost use Rattle.script_text.specs.Kinds.{part_kind, command_kind, access_kind, kind_of, may_stand};
 
-use num_text::is;
+use rc_base::is_text;
 
 /// Where the next line stands.
 #[derive(Clone, Copy, Debug, PartialEq, Eq)]
@@ -11,7 +11,7 @@ pub enum Place {
     Start,
     /// Behind it, and before the first phase.
     Head,
-    /// Directly behind `phase`.
+    /// Directly after `phase`.
     Opened,
     /// Behind a phase's order.
     Ordered,
@@ -43,15 +43,15 @@ pub enum Kind {
 fn part_kind(word: &[u8]) -> Option<Kind>
     ensures { result ≡ part_kind word.now }
 {
-    if is(word, b"machine") {
+    if is_text(word, b"machine") {
         Some(Kind::Machine)
-    } else if is(word, b"tasks") {
+    } else if is_text(word, b"tasks") {
         Some(Kind::Tasks)
-    } else if is(word, b"phase") {
+    } else if is_text(word, b"phase") {
         Some(Kind::Phase)
-    } else if is(word, b"order") {
+    } else if is_text(word, b"order") {
         Some(Kind::Order)
-    } else if is(word, b"thread") {
+    } else if is_text(word, b"thread") {
         Some(Kind::Thread)
     } else {
         None
@@ -62,19 +62,19 @@ fn part_kind(word: &[u8]) -> Option<Kind>
 fn command_kind(word: &[u8]) -> Option<Kind>
     ensures { result ≡ command_kind word.now }
 {
-    if is(word, b"mkdir") {
+    if is_text(word, b"mkdir") {
         Some(Kind::Mkdir)
-    } else if is(word, b"rmdir") {
+    } else if is_text(word, b"rmdir") {
         Some(Kind::Rmdir)
-    } else if is(word, b"write") {
+    } else if is_text(word, b"write") {
         Some(Kind::Write)
-    } else if is(word, b"read") {
+    } else if is_text(word, b"read") {
         Some(Kind::Read)
-    } else if is(word, b"list") {
+    } else if is_text(word, b"list") {
         Some(Kind::List)
-    } else if is(word, b"flush") {
+    } else if is_text(word, b"flush") {
         Some(Kind::Flush)
-    } else if is(word, b"tick") {
+    } else if is_text(word, b"tick") {
         Some(Kind::Tick)
     } else {
         None
@@ -85,11 +85,11 @@ fn command_kind(word: &[u8]) -> Option<Kind>
 fn access_kind(word: &[u8]) -> Option<Kind>
     ensures { result ≡ access_kind word.now }
 {
-    if is(word, b"access") {
+    if is_text(word, b"access") {
         Some(Kind::Access)
-    } else if is(word, b"sweep") {
+    } else if is_text(word, b"sweep") {
         Some(Kind::Sweep)
-    } else if is(word, b"touch") {
+    } else if is_text(word, b"touch") {
         Some(Kind::Touch)
     } else {
         None

@@ -7,10 +7,10 @@ use crate::fault::{LineError, LineFault};
 use crate::kind::{Kind, Place, kind_named, may_stand};
 use crate::reader::Reader;
 use crate::words::{has_bad_byte, is_comment, next_word};
-use num_text::is;
+use rc_base::is_text;
 
 impl Reader {
-    // What stands behind the first word of a line of this kind.
+    // What stands after the first word of a line of this kind.
     fn arguments(&mut self, kind: Kind, text: &[u8]) -> Result<(), LineError>
         requires { IsSound (state_of self.old) }
         ensures said { Means result (state_of self.new) (means kind (state_of self.old) text.now) }
@@ -45,7 +45,7 @@ impl Reader {
         let Some((word, rest)) = next_word(text) else {
             return Ok(());
         };
-        if self.place == Place::Start && !is(word, b"machine") {
+        if self.place == Place::Start && !is_text(word, b"machine") {
             return Err(LineError::Fault(LineFault::NoMachine));
         }
         let Some(kind) = kind_named(word) else {

@@ -1,23 +1,22 @@
 //! What was read of a script so far.
 ghost use Rattle.std.specs.Prelude.{◌≡◌, ◌+◌, ◌*◌, ◌-◌, ◌<◌, ◌^◌, length, Ok, OnOk, IfOk};
 ghost use Rattle.script_text.specs.States.{state_of, close_thread, close_phase, InLimits, IsSound, IsFit, IsReady};
-ghost use Rattle.script_text.specs.Reading.{Reads, finished, opening, script_in};
-ghost use Rattle.script_text.specs.Canonical.{AreKnown, op_ids};
+ghost use Rattle.script_text.specs.Reading.{Reads, finished, nothing_read, script_in};
+ghost use Rattle.path_names.specs.NamesIn.{AreKnown};
+ghost use Rattle.script_ops.specs.Canonical.{op_ids};
 ghost use Rattle.script_text.specs.Meaning.{with_op, with_ops, sweep_ops, Means};
+ghost use Rattle.path_names.specs.declared.paths.TheConstants.{MOST_PATH_NAMES};
 
 use crate::accesses::push_accesses;
 use crate::arguments::Sweep;
 use crate::fault::{LineError, LineFault, ScriptError, ScriptFault};
 use crate::kind::Place;
 use crate::machine_line::usual_machine;
-use crate::op::Op;
-use crate::phase::{Ops, Phase};
-use crate::script::Script;
 use crate::tasks::{TaskRange, push_ids};
-use crate::weights::weight_of;
 use machine::Machine;
 use path_names::Names;
 use rc_base::NoMemory;
+use script_ops::{MOST_WEIGHT, Op, Ops, Phase, Script, weight_of};
 use std::alloc::Global;
 use std::mem;
 
@@ -38,9 +37,9 @@ pub struct Reader {
 
 impl Reader {
     /// Nothing was read.
-    #[tactic(auto, using(crate::proofs::Fitting::ready_at_opening))]
+    #[tactic(auto, using(crate::proofs::Readiness::ready_nothing_read))]
     pub fn create(alloc: Global) -> Result<Reader, NoMemory>
-        ensures opening { IfOk result (λ r. state_of r ≡ opening) }
+        ensures opening { IfOk result (λ r. state_of r ≡ nothing_read) }
         ensures sound { IfOk result (λ r. IsSound (state_of r)) }
         ensures ready { IfOk result (λ r. IsReady (state_of r)) }
     {
@@ -59,7 +58,7 @@ impl Reader {
         })
     }
 
-    /// The script, behind its last line.
+    /// The script, after its last line.
     pub fn finish(self, lines: u32) -> Result<Script, ScriptError>
         requires lines { lines + 1 < 2 ^ 32 }
         requires sound { IsSound (state_of self) }
@@ -80,7 +79,7 @@ impl Reader {
     }
 
     fn into_script(self) -> Result<Script, ScriptError>
-        requires limits { InLimits 64 15 0 (state_of self) }
+        requires limits { InLimits 0 1 0 (state_of self) }
         requires fit { IsFit (state_of self) }
         ensures { Reads result (Ok (script_in (state_of self))) }
     {
@@ -98,27 +97,22 @@ impl Reader {
         } = self;
         let mut tasks = Vec::new(alloc);
         match push_ids(&mut tasks, &ranges) {
-            Ok(()) => Ok(Script {
-                machine,
-                tasks,
-                names,
-                phases,
-            }),
+            Ok(()) => Ok(Script::new(machine, tasks, names, phases)),
             Err(NoMemory) => Err(ScriptError::NoMemory),
         }
     }
 
     /// Adds an op to the open thread.
-    #[tactic(auto, using(crate::proofs::Keeping::keeping))]
+    #[tactic(auto, using(crate::proofs::Limits::keeping))]
     pub fn push(&mut self, op: Op) -> Result<(), LineError>
-        requires limits { InLimits 63 15 4 (state_of self.old) }
+        requires limits { InLimits 1 1 MOST_PATH_NAMES (state_of self.old) }
         requires known { AreKnown (length self.old.names) (op_ids op) }
         ensures said { Means result (state_of self.new) (with_op (state_of self.old) op) }
         ensures sound { OnOk result (IsSound (state_of self.new)) }
     {
         let weight = weight_of(&self.machine, &op);
         let total = match self.weight.checked_add(weight) {
-            Some(total) if total <= 4_000_000 => total,
+            Some(total) if total <= MOST_WEIGHT => total,
             _ => return Err(LineError::Fault(LineFault::TooLarge)),
         };
         self.ops.push(op)?;
@@ -127,7 +121,7 @@ impl Reader {
     }
 
     /// Adds the accesses of a sweep to the open thread. The room for all is taken at once.
-    #[tactic(auto, using(crate::proofs::Keeping::keeping))]
+    #[tactic(auto, using(crate::proofs::Limits::keeping))]
     pub fn push_sweep(&mut self, task: u32, sweep: &Sweep) -> Result<(), LineError>
         requires sound { IsSound (state_of self.old) }
         requires some { 0 < sweep.now.count }
@@ -136,7 +130,7 @@ impl Reader {
         ensures sound { OnOk result (IsSound (state_of self.new)) }
     {
         let total = match self.weight.checked_add(sweep.count) {
-            Some(total) if total <= 4_000_000 => total,
+            Some(total) if total <= MOST_WEIGHT => total,
             _ => return Err(LineError::Fault(LineFault::TooLarge)),
         };
         self.ops.reserve(sweep.count as usize)?;
@@ -149,25 +143,25 @@ impl Reader {
     }
 
     /// The open thread, if there is one, is closed.
-    #[tactic(auto, using(crate::proofs::Keeping::keeping))]
+    #[tactic(auto, using(crate::proofs::Limits::keeping))]
     pub fn close_thread(&mut self) -> Result<(), LineError>
         requires { IsSound (state_of self.old) }
         ensures said { Means result (state_of self.new) (Ok (close_thread (state_of self.old))) }
-        ensures limits { OnOk result (InLimits 63 16 0 (state_of self.new)) }
+        ensures limits { OnOk result (InLimits 1 0 0 (state_of self.new)) }
     {
         if self.place == Place::Thread {
             let ops = mem::replace(&mut self.ops, Vec::new(self.alloc));
-            self.threads.push(Ops { ops })?;
+            self.threads.push(Ops::from_vec(ops))?;
         }
         Ok(())
     }
 
     /// The open phase, if there is one, is closed.
-    #[tactic(auto, using(crate::proofs::Keeping::keeping))]
+    #[tactic(auto, using(crate::proofs::Limits::keeping))]
     pub fn close_phase(&mut self) -> Result<(), LineError>
         requires { IsSound (state_of self.old) }
         ensures said { Means result (state_of self.new) (Ok (close_phase (state_of self.old))) }
-        ensures limits { OnOk result (InLimits 64 15 0 (state_of self.new)) }
+        ensures limits { OnOk result (InLimits 0 1 0 (state_of self.new)) }
     {
         if self.place == Place::Head {
             return Ok(());
@@ -178,7 +172,7 @@ impl Reader {
         }
         let order = mem::replace(&mut self.order, Vec::new(self.alloc));
         let threads = mem::replace(&mut self.threads, Vec::new(self.alloc));
-        self.phases.push(Phase { order, threads })?;
+        self.phases.push(Phase::new(order, threads))?;
         Ok(())
     }
 }

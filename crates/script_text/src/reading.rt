@@ -6,8 +6,7 @@ ghost use Rattle.script_text.specs.Reading.{Reads, reading_from, script_of, loca
 
 use crate::fault::{LineError, ScriptError, ScriptFault};
 use crate::reader::Reader;
-use crate::script::Script;
-use crate::text_lines::next_line;
+use script_ops::{Script, next_line};
 use std::alloc::Global;
 
 fn at(error: LineError, line: u32) -> ScriptError
@@ -30,7 +29,7 @@ pub fn read_script(alloc: Global, text: &[u8]) -> Result<Script, ScriptError>
     }
 }
 
-// The script of all lines of a text, behind what was read before.
+// The script of all lines of a text, after what was read before.
 fn read_lines(reader: Reader, text: &[u8]) -> Result<Script, ScriptError>
     requires sound { IsSound (state_of reader) }
     requires ready { IsReady (state_of reader) }

@@ -11,6 +11,7 @@ use crate::machine_line::machine_args;
 use crate::reader::Reader;
 use crate::tasks::{declare, is_too_many};
 use crate::words::no_word;
+use script_ops::{MOST_ORDER, MOST_PHASE_THREADS, MOST_PHASES};
 
 impl Reader {
     /// `machine KEY=VALUE ...`
@@ -59,7 +60,7 @@ impl Reader {
             Ok(()) => {}
             Err(error) => return Err(error),
         }
-        if self.phases.len() > 63 {
+        if self.phases.len() >= MOST_PHASES {
             return Err(LineError::Fault(LineFault::TooLarge));
         }
         self.place = Place::Opened;
@@ -78,7 +79,7 @@ impl Reader {
             Ok(()) => {}
             Err(error) => return Err(error),
         }
-        if order.len() > 4_000_000 {
+        if order.len() > MOST_ORDER {
             return Err(LineError::Fault(LineFault::TooLarge));
         }
         self.order = order;
@@ -100,7 +101,7 @@ impl Reader {
             Ok(()) => {}
             Err(error) => return Err(error),
         }
-        if self.threads.len() > 15 {
+        if self.threads.len() >= MOST_PHASE_THREADS {
             return Err(LineError::Fault(LineFault::TooLarge));
         }
         self.place = Place::Thread;

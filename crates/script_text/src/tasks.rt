@@ -3,11 +3,13 @@ ghost use Rattle.std.specs.Prelude.{◌≡◌, ◌<◌, ◌≤◌, ◌++◌, nat
 ghost use Rattle.std.specs.List.{list_any, position_or_len, AllWithin};
 ghost use Rattle.script_text.specs.Lines.{words};
 ghost use Rattle.script_text.specs.Tasks.{tasks_of, id_of, range_of, declared, declared_from, meets, is_behind, has_task, task_of, count_of, ids_in, ids_of, Declares, RiseFrom};
+ghost use Rattle.script_ops.specs.declared.limits.TheConstants.{MOST_TASKS};
 
 use crate::fault::{LineError, LineFault};
 use crate::words::{next_word, no_word};
 use num_text::{cut, read_dec};
 use rc_base::NoMemory;
+use script_ops::MOST_TASKS;
 
 /// Tasks that one word declares, from the first id to the last.
 #[derive(Clone, Copy, Debug, PartialEq, Eq)]
@@ -65,7 +67,7 @@ fn ended(all: &[TaskRange], id: u32) -> usize
 }
 
 // Whether a range meets this one: if any does, the first that does not end before this one begins.
-#[tactic(auto, using(crate::proofs::Searching::meeting))]
+#[tactic(auto, using(crate::proofs::TaskSearch::meeting))]
 fn meets_any(all: &[TaskRange], t: TaskRange) -> bool
     requires rising { RiseFrom 0 all.now }
     requires order { t.first ≤ t.last }
@@ -87,7 +89,7 @@ fn place(all: &[TaskRange], t: TaskRange) -> usize
 }
 
 /// Adds the tasks of the words of a line.
-#[tactic(auto, unfolding(crate::specs::Tasks::declared_from), using(crate::proofs::Rising::inserted))]
+#[tactic(auto, unfolding(crate::specs::Tasks::declared_from), using(crate::proofs::TaskRanges::inserted))]
 pub fn declare(all: &mut Vec<TaskRange>, text: &[u8]) -> Result<(), LineError>
     requires { RiseFrom 0 all.old.items }
     ensures said { Declares result all.new.items (declared all.old.items (words text.now)) }
@@ -117,19 +119,19 @@ pub fn declare(all: &mut Vec<TaskRange>, text: &[u8]) -> Result<(), LineError>
 
 /// Whether there are more tasks than a script may declare.
 pub fn is_too_many(all: &[TaskRange]) -> bool
-    ensures { result ≡ nat_lt 4096 (count_of all.now) }
+    ensures { result ≡ nat_lt MOST_TASKS (count_of all.now) }
 {
     let mut count: u64 = 0;
     for t in all {
         count += (u64::from(t.last) + 1).saturating_sub(u64::from(t.first));
-        if count > 4096 {
+        if count > MOST_TASKS {
             return true;
         }
     }
     false
 }
 
-#[tactic(auto, using(crate::proofs::Searching::searching))]
+#[tactic(auto, using(crate::proofs::TaskSearch::searching))]
 fn is_declared(all: &[TaskRange], id: u32) -> bool
     requires { RiseFrom 0 all.now }
     ensures { result ≡ list_any (has_task id) all.now }

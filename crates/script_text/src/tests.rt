@@ -1,12 +1,10 @@
 //! Scripts and texts that are none, worked out by hand from the grammar.
 ghost use Rattle.std.specs.Prelude.{◌<◌, length};
-ghost use Rattle.script_text.specs.Values.{threads_of};
+ghost use Rattle.script_ops.specs.Values.{threads_of};
 
-use crate::bytes::Bytes;
 use crate::fault::{LineFault, ScriptError, ScriptFault};
-use crate::printing::push_op;
 use crate::reading::read_script;
-use crate::script::Script;
+use script_ops::{Bytes, Script, push_op};
 use std::alloc::{AllocError, Global};
 use std::process::Abort;
 use std::test::Fail;
@@ -31,7 +29,7 @@ fn bad(line: u32, what: LineFault) -> Result<(), ScriptError> {
     Err(ScriptError::Bad(ScriptFault { line, what }))
 }
 
-// A piece, so many pieces behind it, and the end.
+// A piece, so many pieces after it, and the end.
 fn repeated(
     alloc: Global,
     head: &[u8],
@@ -386,7 +384,7 @@ fn listing(alloc: Global, script: &Script) -> Result<Vec<u8>, Fail> {
     Ok(text)
 }
 
-// The orders of all phases, one behind the other.
+// The orders of all phases, one after the other.
 fn orders(alloc: Global, script: &Script) -> Result<Vec<u32>, Fail> {
     let mut orders = Vec::new(alloc);
     for phase in 0..script.phases() {

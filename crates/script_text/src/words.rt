@@ -7,7 +7,7 @@ ghost use Rattle.script_text.specs.Lines.{words, is_bad, from_word, behind_word,
 use num_text::{is_blank, leading_blanks};
 
 // How many bytes the first word has, where a text begins with it.
-#[tactic(auto, using(crate::proofs::Parting::within))]
+#[tactic(auto, using(crate::proofs::FirstWord::within))]
 fn word_len(text: &[u8]) -> usize
     ensures fits { result ≤ length text.now }
     ensures value { result ≡ position_or_len blank text.now }
@@ -22,7 +22,7 @@ fn from_word(text: &[u8]) -> &[u8]
     &text[leading_blanks(text)..]
 }
 
-/// The first word, and what stands behind it.
+/// The first word, and what stands after it.
 pub fn next_word(text: &[u8]) -> Option<(&[u8], &[u8])>
     ensures words { MatchOption result (words text.now ≡ []) (λ p. (words text.now ≡ p.0.now ∷ words p.1.now) × (length p.1.now < length text.now)) }
     ensures behind { IfSome result (λ p. p.1.now ≡ behind_word text.now) }

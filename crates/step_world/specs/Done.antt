@@ -2,10 +2,13 @@
 use Rattle.std.specs.Prelude.{◌≡◌, ℕ, ◌<◌, ◌≤◌, IsTrue, length, filter, Some}
 use Rattle.cache_core.specs.declared.entry.SliceEntry.{SliceEntry}
 use Rattle.run_law.specs.Ops.{is_command}
-use Rattle.run_law.specs.Runs.{AreMatched, AreTrue, At, HasMarks, JournalsValue, Makes, is_made_by, is_taken_from, slice_at}
+use Rattle.run_law.specs.Looks.{AreMatched}
+use Rattle.run_law.specs.Truth.{AreTrue, is_made_by, is_taken_from}
+use Rattle.run_law.specs.Journals.{At, JournalsValue, slice_at}
+use Rattle.run_law.specs.Order.{HasMarks, Makes}
 use Rattle.run_law.specs.TreeHistory.{IsLegalTree, TreeEntryValue}
-use Rattle.script_text.specs.Values.{ScriptValue, op_at}
-use Rattle.script_text.specs.declared.op.Op.{Op}
+use Rattle.script_ops.specs.Values.{ScriptValue, op_at}
+use Rattle.script_ops.specs.declared.op.Op.{Op}
 
 -- The first n ops of thread 0 stand in these journals: all entries are of these ops and of no later epoch, the tree's history
 -- is legal, every entry true to its op and every command given what its looks counted, and each op is there once and in order.

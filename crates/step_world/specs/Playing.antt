@@ -1,29 +1,28 @@
 -- The tree and the slices while a script is played.
 use Rattle.std.specs.Prelude.{◌≡◌, ℕ, ◌+◌, ◌*◌, ◌^◌, ◌<◌, ◌≤◌, Bool, ◌==◌, if◌then◌else◌, List, [], ◌∷◌, ◌++◌, length, map, slice_index_or}
 use Rattle.cache_core.specs.History.{lines_of}
-use Rattle.cache_core.specs.Places.{State}
+use Rattle.cache_core.specs.Places.{CacheValue}
 use Rattle.cache_core.specs.Stands.{StandsFor, entry}
-use Rattle.cache_core.specs.Sums.{sum_below}
+use Rattle.lists.specs.Sums.{sum_below}
 use Rattle.cache_core.specs.declared.entry.SliceEntry.{SliceEntry}
-use Rattle.cache_core.specs.declared.entry.What.{What}
 use Rattle.cache_core.specs.declared.entry.What.TheVariants as whats
 use Rattle.machine.specs.Ranges.{InRange}
 use Rattle.machine.specs.declared.parameters.Parameters.{Parameters}
 use Rattle.rc_base.specs.declared.names.Tag.{Tag}
 use Rattle.run_law.specs.Caches.{IsCacheOf}
-use Rattle.run_law.specs.Runs.{JournalsValue, slice_at}
-use Rattle.run_law.specs.Slices.{domain_in, shape_in, slice_count, slice_number}
+use Rattle.run_law.specs.Journals.{JournalsValue, slice_at}
+use Rattle.run_law.specs.Owed.{is_entered_in, what_of}
+use Rattle.run_law.specs.Slices.{shape_in}
+use Rattle.machine.specs.Slices.{domain_in, slice_count, slice_number}
 use Rattle.run_law.specs.TreeHistory.{TreeEntryValue, tree_after}
-use Rattle.script_text.specs.Values.{ScriptValue}
+use Rattle.script_ops.specs.Values.{ScriptValue}
 use Rattle.step_world.specs.Done.{AreDone}
-use Rattle.tree_core.specs.State.{TreeValue}
-use Rattle.tree_core.specs.Steps.{follow_domain}
-use Rattle.tree_core.specs.declared.follow.Follow.{Follow}
-use Rattle.tree_core.specs.declared.follow.Follow.TheVariants as follows
+use Rattle.tree_core.specs.Values.{TreeValue}
+use Rattle.tree_law.specs.declared.follow.Follow.{Follow}
 
 -- a slice that is played: its cache, and its entries so far
 pub record SliceValue : Type 0 where
-  pub cache : State
+  pub cache : CacheValue
   pub entries : List SliceEntry
 
 -- the journals so far
@@ -59,18 +58,13 @@ pub record IsReady (epoch room : ℕ) (s : SliceValue) : Type 0 where
 abbrev pub HasAccessed : ℕ → Tag → ℕ → SliceValue → SliceValue → Type 0
 HasAccessed n tag line old new = (hit : Bool) × (way : ℕ) × Continues tag.epoch (entry 0 n tag.epoch (whats.Access tag.owner tag.rmid tag.mask line hit way) ∷ []) old new
 
--- what a follow-up is in a slice's journal
-abbrev pub what_of : Follow → What
-what_of (follows.Raise domain) = whats.Raise
-what_of (follows.Flush domain) = whats.Flush
-
 -- an entry where slice i is of this domain, and none where it is not
 abbrev pub in_domain : Parameters → ℕ → ℕ → SliceEntry → List SliceEntry
 in_domain m i domain e = if domain == domain_in m i then e ∷ [] else []
 
 -- the entries of a follow-up of op n in slice i
 abbrev pub entries_in : Parameters → ℕ → ℕ → ℕ → Follow → List SliceEntry
-entries_in m i n epoch f = in_domain m i (follow_domain f) (entry 0 n epoch (what_of f))
+entries_in m i n epoch f = if is_entered_in m i f then entry 0 n epoch (what_of f) ∷ [] else []
 
 -- ---- looks, which change no cache
 
@@ -96,7 +90,7 @@ AllLeft m slices = (i : ℕ) (d : SliceValue) → i < length slices → IsCacheO
 abbrev pub AllLeftBy : Parameters → JournalsValue → List SliceValue → Type 0
 AllLeftBy m j slices = (i : ℕ) (d : SliceValue) → i < length slices → IsCacheOf m i (slice_at j i) (slice_index_or slices i d).cache
 
--- how many lines of an RMID slice i holds behind these journals
+-- how many lines of an RMID slice i holds after these journals
 abbrev pub lines_in : Parameters → JournalsValue → ℕ → ℕ → ℕ
 lines_in m j i rmid = lines_of (shape_in m i) (slice_at j i) rmid
 
@@ -108,7 +102,7 @@ lines_in_first m j need number = sum_below number (λ x. lines_in m j (slice_num
 abbrev pub lines_of_need : Parameters → JournalsValue → ℕ × ℕ → ℕ
 lines_of_need m j need = lines_in_first m j need m.slices
 
--- the look of op n at an RMID in slice i behind these journals
+-- the look of op n at an RMID in slice i after these journals
 abbrev pub look_at : Parameters → JournalsValue → ℕ → ℕ → ℕ → ℕ → SliceEntry
 look_at m j n epoch rmid i = entry 0 n epoch (whats.Look rmid (lines_in m j i rmid))
 

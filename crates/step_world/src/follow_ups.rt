@@ -2,11 +2,11 @@
 ghost use Rattle.std.specs.Prelude.{◌≡◌, ◌<◌, All, length, OnOk};
 ghost use Rattle.std.specs.List.{flat_map};
 ghost use Rattle.machine.specs.Maps.{parameters_of};
-ghost use Rattle.run_law.specs.Slices.{slice_count};
+ghost use Rattle.machine.specs.Slices.{slice_count};
 ghost use Rattle.step_world.specs.Playing.{AllContinue, IsReady, entries_in};
-ghost use Rattle.tree_core.specs.Steps.{follow_domain};
+ghost use Rattle.tree_core.specs.Follows.{IsRaiseOrFlush};
+ghost use Rattle.tree_law.specs.Steps.{follow_domain};
 
-use crate::numbers::first_slice;
 use crate::slice::Slice;
 use machine::Machine;
 use rc_base::NoMemory;
@@ -19,6 +19,8 @@ fn domain_of(follow: Follow) -> u8
     match follow {
         Follow::Raise { domain } => domain,
         Follow::Flush { domain } => domain,
+        Follow::Lock { domain, .. } => domain,
+        Follow::Touch { tag, .. } => tag.domain,
     }
 }
 
@@ -32,10 +34,11 @@ fn follow_one(
 ) -> Result<(), NoMemory>
     requires count { length slices.old.items ≡ slice_count (parameters_of m.now) }
     requires domain { follow_domain follow < m.now.domains }
+    requires plain { IsRaiseOrFlush follow }
     requires ready { All (IsReady epoch 1) slices.old.items }
     ensures { OnOk result (AllContinue epoch (λ i. entries_in (parameters_of m.now) i n epoch follow) slices.old.items slices.new.items) }
 {
-    let first = first_slice(m, domain_of(follow));
+    let first = m.first_slice(domain_of(follow));
     for i in first..first + usize::from(m.slices) {
         slices[i].follow(n, epoch, follow)?;
     }
@@ -52,6 +55,7 @@ pub(crate) fn follow_all(
 ) -> Result<(), NoMemory>
     requires count { length slices.old.items ≡ slice_count (parameters_of m.now) }
     requires domains { All (λ f. follow_domain f < m.now.domains) follows.now }
+    requires plain { All IsRaiseOrFlush follows.now }
     requires ready { All (IsReady epoch (length follows.now)) slices.old.items }
     ensures { OnOk result (AllContinue epoch (λ i. flat_map (entries_in (parameters_of m.now) i n epoch) follows.now) slices.old.items slices.new.items) }
 {

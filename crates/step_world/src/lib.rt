@@ -1,14 +1,15 @@
 //! Plays a script of one thread over all slices of its machine, op by op.
 #![tactic(auto)]
 
+mod empty_slices;
 mod follow_ups;
 mod looks;
-mod numbers;
-mod opening;
+pub mod playable;
 pub mod played;
 mod player;
 mod slice;
 
+pub use playable::is_playable;
 pub use played::{Played, play};
 
 #[cfg(test)]

@@ -2,16 +2,18 @@
 ghost use Rattle.std.specs.Prelude.{◌≡◌, ◌<◌, All, length, map, IfOk, OnOk, [], ◌∷◌};
 ghost use Rattle.std.specs.List.{flat_map};
 ghost use Rattle.machine.specs.Maps.{parameters_of};
-ghost use Rattle.run_law.specs.Runs.{JournalsValue};
-ghost use Rattle.run_law.specs.Slices.{slice_count};
+ghost use Rattle.run_law.specs.Journals.{JournalsValue};
+ghost use Rattle.machine.specs.Slices.{slice_count};
 ghost use Rattle.step_world.specs.Playing.{AllLeft, AllLeftBy, AllNote, HaveLooked, journals_of, lines_of_need, looks_in};
-ghost use Rattle.tree_core.specs.Steps.{needs};
+ghost use Rattle.script_ops.specs.Fits.{Fits};
+ghost use Rattle.tree_core.specs.Built.{IsBuilt};
+ghost use Rattle.tree_law.specs.State.{tasks_of};
+ghost use Rattle.tree_law.specs.Steps.{needs};
 
-use crate::numbers::first_slice;
 use crate::slice::Slice;
 use machine::Machine;
 use rc_base::{LookList, NoMemory};
-use script_text::Op;
+use script_ops::Op;
 use std::alloc::Global;
 use tree_core::Tree;
 
@@ -31,10 +33,9 @@ fn look_one(
     ensures looked { (j : JournalsValue) → AllLeftBy (parameters_of m.now) j slices.old.items → IfOk result (λ lines. HaveLooked (parameters_of m.now) j n epoch (domain, rmid) lines slices.old.items slices.new.items) }
     ensures left { OnOk result (AllLeft (parameters_of m.now) slices.new.items) }
 {
-    let first = first_slice(m, domain);
     let mut lines = 0;
     for slice in 0..m.slices {
-        lines += slices[first + usize::from(slice)].look(n, epoch, rmid)?;
+        lines += slices[m.slice_number(domain, slice)].look(n, epoch, rmid)?;
     }
     Ok(lines)
 }
@@ -50,6 +51,8 @@ pub(crate) fn look_all(
 ) -> Result<LookList, NoMemory>
     requires count { length slices.old.items ≡ slice_count tree.now.machine }
     requires left { AllLeft tree.now.machine slices.old.items }
+    requires fits { Fits tree.now.machine (tasks_of tree.now.state) op.now }
+    requires built { IsBuilt op.now }
     ensures looks { IfOk result (λ looks. looks.numbers ≡ map (lines_of_need tree.now.machine (journals_of [] slices.old.items)) (needs tree.now.machine tree.now.state op.now)) }
     ensures entries { OnOk result (AllNote (λ i. flat_map (looks_in tree.now.machine (journals_of [] slices.old.items) i n tree.now.epoch) (needs tree.now.machine tree.now.state op.now)) slices.old.items slices.new.items) }
     ensures domains { OnOk result (All (λ need. need.0 < tree.now.machine.domains) (needs tree.now.machine tree.now.state op.now)) }

@@ -1,20 +1,21 @@
 //! The tree and the slices while a script is played.
 ghost use Rattle.std.specs.Prelude.{◌≡◌, ◌+◌, ◌<◌, ◌≤◌, All, length, map, IfOk, OnOk, Some, IsTrue};
 ghost use Rattle.run_law.specs.Entries.{entry_value};
-ghost use Rattle.run_law.specs.Ops.{is_command};
-ghost use Rattle.script_text.specs.Fits.{Fits};
-ghost use Rattle.script_text.specs.Values.{op_at, ops_of};
-ghost use Rattle.script_text.specs.declared.op.Op.TheVariants.{Access};
+ghost use Rattle.run_law.specs.Ops.{EachCommand, is_command};
+ghost use Rattle.script_ops.specs.Fits.{Fits};
+ghost use Rattle.script_ops.specs.Values.{op_at, ops_of};
+ghost use Rattle.script_ops.specs.declared.op.Op.TheVariants.{Access};
 ghost use Rattle.step_world.specs.Playing.{IsAt};
+ghost use Rattle.tree_core.specs.Built.{IsBuilt};
+ghost use Rattle.script_ops.specs.declared.limits.TheConstants.{MOST_WEIGHT};
 
+use crate::empty_slices::empty_slices;
 use crate::follow_ups::follow_all;
 use crate::looks::look_all;
-use crate::numbers::line_slice;
-use crate::opening::empty_slices;
 use crate::slice::Slice;
 use rc_base::NoMemory;
 use run_law::TreeEntry;
-use script_text::{Op, Script};
+use script_ops::{Op, Script};
 use std::alloc::Global;
 use tree_core::Tree;
 
@@ -38,12 +39,12 @@ fn access(
     requires at { IsAt script.now n player.old.tree (map entry_value player.old.commands.items) player.old.slices.items }
     requires op { op_at script.now 0 n ≡ Some (Access task cpu addr) }
     requires cpu { cpu < script.now.machine.cpus }
-    requires clock { n < 4000000 }
+    requires clock { n < MOST_WEIGHT }
     ensures { OnOk result (IsAt script.now (n + 1) player.new.tree (map entry_value player.new.commands.items) player.new.slices.items) }
 {
     let tag = player.tree.resolve(task, cpu);
     let line = addr / 64;
-    let slice = line_slice(script.machine(), tag.domain, line);
+    let slice = script.machine().line_slice(tag.domain, line);
     player.slices[slice].access(n, &tag, line)
 }
 
@@ -59,7 +60,8 @@ fn take(
     requires op { op_at script.now 0 n ≡ Some op.now }
     requires command { IsTrue (is_command op.now) }
     requires fits { Fits script.now.machine script.now.tasks op.now }
-    requires clock { n < 4000000 }
+    requires built { IsBuilt op.now }
+    requires clock { n < MOST_WEIGHT }
     ensures { OnOk result (IsAt script.now (n + 1) player.new.tree (map entry_value player.new.commands.items) player.new.slices.items) }
 {
     let looks = look_all(alloc, &mut player.slices, &player.tree, n, op)?;
@@ -92,7 +94,8 @@ fn step(
     requires at { IsAt script.now n player.old.tree (map entry_value player.old.commands.items) player.old.slices.items }
     requires op { op_at script.now 0 n ≡ Some op.now }
     requires fits { Fits script.now.machine script.now.tasks op.now }
-    requires clock { n < 4000000 }
+    requires built { EachCommand IsBuilt script.now }
+    requires clock { n < MOST_WEIGHT }
     ensures { OnOk result (IsAt script.now (n + 1) player.new.tree (map entry_value player.new.commands.items) player.new.slices.items) }
 {
     match op {
@@ -102,7 +105,7 @@ fn step(
 }
 
 /// The tree and the slices before the first op.
-pub(crate) fn opening(alloc: Global, script: &Script) -> Result<Player, NoMemory>
+pub(crate) fn opening_player(alloc: Global, script: &Script) -> Result<Player, NoMemory>
     ensures { IfOk result (λ p. IsAt script.now 0 p.tree (map entry_value p.commands.items) p.slices.items) }
 {
     let m = script.machine();
@@ -125,7 +128,8 @@ pub(crate) fn play_ops(
     requires at { IsAt script.now 0 player.old.tree (map entry_value player.old.commands.items) player.old.slices.items }
     requires ops { ops.now ≡ ops_of script.now 0 }
     requires fit { All (Fits script.now.machine script.now.tasks) ops.now }
-    requires few { length ops.now ≤ 4000000 }
+    requires built { EachCommand IsBuilt script.now }
+    requires few { length ops.now ≤ MOST_WEIGHT }
     ensures { OnOk result (IsAt script.now (length (ops_of script.now 0)) player.new.tree (map entry_value player.new.commands.items) player.new.slices.items) }
 {
     for (n, op) in ops.iter().enumerate() {

@@ -4,8 +4,10 @@ ghost use Rattle.cache_core.specs.History.{IsOwn};
 ghost use Rattle.cache_core.specs.Stands.{StandsFor, entry as entry_of};
 ghost use Rattle.cache_core.specs.declared.entry.What.TheVariants as whats;
 ghost use Rattle.machine.specs.Maps.{parameters_of};
-ghost use Rattle.run_law.specs.Slices.{slice_number};
-ghost use Rattle.step_world.specs.Playing.{Continues, HasAccessed, HasLooked, IsFresh, IsReady, what_of};
+ghost use Rattle.tree_core.specs.Follows.{IsRaiseOrFlush};
+ghost use Rattle.machine.specs.Slices.{slice_number};
+ghost use Rattle.step_world.specs.Playing.{Continues, HasAccessed, HasLooked, IsFresh, IsReady};
+ghost use Rattle.run_law.specs.Owed.{what_of};
 
 use cache_core::{Cache, SliceEntry, Touched, What};
 use machine::Machine;
@@ -108,9 +110,10 @@ impl Slice {
         Ok(lines)
     }
 
-    /// Does what follows the command of op n, and notes it.
+    /// Does what follows the command of op n, a raise or a flush, and notes it.
     pub(crate) fn follow(&mut self, n: u32, epoch: u64, follow: Follow) -> Result<(), NoMemory>
-        requires { IsReady epoch 1 self.old }
+        requires plain { IsRaiseOrFlush follow }
+        requires ready { IsReady epoch 1 self.old }
         ensures { OnOk result (Continues epoch (entry_of 0 n epoch (what_of follow) ∷ []) self.old self.new) }
     {
         let what = match follow {
@@ -122,6 +125,7 @@ impl Slice {
                 self.cache.flush(epoch);
                 What::Flush
             }
+            Follow::Lock { .. } | Follow::Touch { .. } => unreachable!(),
         };
         self.entries.push(command_entry(n, epoch, what))?;
         Ok(())

@@ -1,7 +1,7 @@
 //! Scripts that are played, with the journals worked out by hand.
 ghost use Rattle.std.specs.Prelude.{◌≡◌, length, vec_len, IfOk};
 
-use crate::{Played, play};
+use crate::{Played, is_playable, play};
 use cache_core::{SliceEntry, What};
 use rc_base::{Errno, Gid, Reply, Why};
 use script_text::read_script;
@@ -15,7 +15,7 @@ fn played(rt: &impl Abort, alloc: Global, text: &str) -> Result<Played, Fail>
 {
     assert!(rt; text.len() <= 1 << 27);
     let script = read_script(alloc, text.as_bytes())?;
-    assert!(rt; script.threads() <= 1);
+    assert!(rt; is_playable(&script));
     Ok(play(alloc, &script)?)
 }
 

@@ -1,4 +1,4 @@
-pub mod Changing
-pub mod Rising
+pub mod Changes
 pub mod Membership
-pub mod Bound
+pub mod Order
+pub mod Places

@@ -1,15 +1,12 @@
 -- Tasks and their groups.
 use Rattle.std.specs.Prelude.{ℕ, ◌<◌, Bool, ◌==◌, List, Option, map, filter, find, AllPairs, if◌then◌else◌}
+use Rattle.rc_base.specs.Gids.{default_gid}
 use Rattle.rc_base.specs.declared.names.Gid.{Gid}
 use Rattle.task_binding.specs.declared.binding.Binding.{Binding}
 
--- the default group
-abbrev pub default_group : Gid
-default_group = record { 0 = 0 }
-
 -- a task as it is declared: in the default group
-abbrev pub opening : ℕ → Binding
-opening task = record { task = task; control = default_group; monitor = default_group }
+abbrev pub opening_binding : ℕ → Binding
+opening_binding task = record { task = task; control = default_gid; monitor = default_gid }
 
 -- whether this is the binding of the task
 abbrev pub is_of : ℕ → Binding → Bool

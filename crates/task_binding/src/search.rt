@@ -1,7 +1,8 @@
 //! Looking through the bindings, which are in the order of their tasks.
 ghost use Rattle.std.specs.Prelude.{◌≡◌, ◌≢◌, ◌<◌, ◌≤◌, length, All, IfSome, IfNone};
 ghost use Rattle.std.specs.List.{AllWithin, HoldsAt, slice_get};
-ghost use Rattle.task_binding.specs.Bindings.{AreRising, changed, control_members, counted, default_group, has_control, has_monitor, joined, monitor_members};
+ghost use Rattle.task_binding.specs.Bindings.{AreRising, changed, control_members, counted, has_control, has_monitor, joined, monitor_members};
+ghost use Rattle.rc_base.specs.Gids.{default_gid};
 
 use crate::binding::Binding;
 use rc_base::Gid;
@@ -45,12 +46,12 @@ fn lower_bound(bindings: &[Binding], task: u64) -> usize
 
 /// Moves the tasks of a control group to the default group.
 pub(crate) fn change_control(bindings: &mut [Binding], group: Gid)
-    ensures { bindings.new ≡ changed (has_control group) (joined default_group) bindings.old }
+    ensures { bindings.new ≡ changed (has_control group) (joined default_gid) bindings.old }
 {
     for b in bindings.iter_mut() {
         if b.control == group {
-            b.control = Gid(0);
-            b.monitor = Gid(0);
+            b.control = Gid::DEFAULT;
+            b.monitor = Gid::DEFAULT;
         }
     }
 }

@@ -2,7 +2,8 @@
 ghost use Rattle.std.specs.Prelude.{◌≡◌, ◌≢◌, ◌↔◌, ◌<◌, map, Some, None, Ok, Err, IsSome, IsSomeAnd, IfOk, OnOk, OnErr};
 ghost use Rattle.std.specs.List.{slice_get};
 ghost use Rattle.std.specs.List.Sorted.{IsStrictlyIncreasing};
-ghost use Rattle.task_binding.specs.Bindings.{binding_of, changed, control_members, counted, default_group, has_control, has_monitor, is_of, joined, monitor_members, opening};
+ghost use Rattle.task_binding.specs.Bindings.{binding_of, changed, control_members, counted, has_control, has_monitor, is_of, joined, monitor_members, opening_binding};
+ghost use Rattle.rc_base.specs.Gids.{default_gid};
 
 use crate::binding::{BindFault, Binding};
 use crate::search::{change_control, change_monitor, nth_of_control, nth_of_monitor, place_of};
@@ -32,9 +33,9 @@ impl Tasks {
     /// These tasks, all in the default group.
     pub fn create(alloc: Global, ids: &[u32]) -> Result<Tasks, NoMemory>
         requires { IsStrictlyIncreasing ids.now }
-        ensures { IfOk result (λ tasks. tasks ≡ map opening ids.now) }
+        ensures { IfOk result (λ tasks. tasks ≡ map opening_binding ids.now) }
     {
-        let bindings = openings(alloc, ids)?;
+        let bindings = opening_bindings(alloc, ids)?;
         Ok(Tasks { bindings })
     }
 
@@ -74,7 +75,7 @@ impl Tasks {
 
     /// Moves all tasks of a control group to the default group.
     pub fn unbind_ctrl(&mut self, group: Gid)
-        ensures { self.new ≡ changed (has_control group) (joined default_group) self.old }
+        ensures { self.new ≡ changed (has_control group) (joined default_gid) self.old }
     {
         change_control(&mut self.bindings, group);
     }
@@ -118,19 +119,19 @@ impl Tasks {
 }
 
 // The tasks as they are declared.
-fn openings(alloc: Global, ids: &[u32]) -> Result<Vec<Binding>, AllocError>
-    ensures { IfOk result (λ bindings. bindings.items ≡ map opening ids.now) }
+fn opening_bindings(alloc: Global, ids: &[u32]) -> Result<Vec<Binding>, AllocError>
+    ensures { IfOk result (λ bindings. bindings.items ≡ map opening_binding ids.now) }
 {
-    ids.iter().map(|id| opening(*id)).collect(alloc)
+    ids.iter().map(|id| opening_binding(*id)).collect(alloc)
 }
 
 // A task as it is declared.
-fn opening(task: u32) -> Binding
-    ensures { result ≡ opening task }
+fn opening_binding(task: u32) -> Binding
+    ensures { result ≡ opening_binding task }
 {
     Binding {
         task,
-        control: Gid(0),
-        monitor: Gid(0),
+        control: Gid::DEFAULT,
+        monitor: Gid::DEFAULT,
     }
 }

@@ -11,9 +11,9 @@ use std::vec::Vec;
 #[test]
 fn bindings(rt: HostRuntime) -> Result<(), NoMemory> {
     let mut tasks = Tasks::create(rt.alloc(), [3, 7, 4_294_967_295].as_slice())?;
-    assert_eq!(rt; tasks.ctrl_member(Gid(0), 0), Some(3));
-    assert_eq!(rt; tasks.ctrl_member(Gid(0), 2), Some(4_294_967_295));
-    assert_eq!(rt; tasks.mon_member(Gid(0), 3), None);
+    assert_eq!(rt; tasks.ctrl_member(Gid::DEFAULT, 0), Some(3));
+    assert_eq!(rt; tasks.ctrl_member(Gid::DEFAULT, 2), Some(4_294_967_295));
+    assert_eq!(rt; tasks.mon_member(Gid::DEFAULT, 3), None);
 
     // Only declared tasks are bound, and a number past 32 bits is none.
     assert_eq!(rt; tasks.bind_ctrl(4, Gid(1)), Err(BindFault::NoTask));
@@ -21,17 +21,20 @@ fn bindings(rt: HostRuntime) -> Result<(), NoMemory> {
         tasks.bind_ctrl(4_294_967_299, Gid(1)),
         Err(BindFault::NoTask)
     );
-    assert_eq!(rt; tasks.bind_mon(0, Gid(0), Gid(1)), Err(BindFault::NoTask));
+    assert_eq!(rt;
+        tasks.bind_mon(0, Gid::DEFAULT, Gid(1)),
+        Err(BindFault::NoTask)
+    );
     assert_eq!(rt; tasks.bind_ctrl(7, Gid(1)), Ok(()));
     assert_eq!(rt; tasks.bind_ctrl(3, Gid(1)), Ok(()));
-    assert_eq!(rt; tasks.ctrl_member(Gid(0), 0), Some(4_294_967_295));
+    assert_eq!(rt; tasks.ctrl_member(Gid::DEFAULT, 0), Some(4_294_967_295));
     assert_eq!(rt; tasks.ctrl_member(Gid(1), 0), Some(3));
     assert_eq!(rt; tasks.ctrl_member(Gid(1), 1), Some(7));
     assert_eq!(rt; tasks.ctrl_member(Gid(1), 2), None);
 
     // A monitor group takes tasks of its parent alone.
     assert_eq!(rt;
-        tasks.bind_mon(7, Gid(0), Gid(2)),
+        tasks.bind_mon(7, Gid::DEFAULT, Gid(2)),
         Err(BindFault::OtherControl)
     );
     assert_eq!(rt; tasks.bind_mon(7, Gid(1), Gid(2)), Ok(()));
@@ -51,14 +54,14 @@ fn bindings(rt: HostRuntime) -> Result<(), NoMemory> {
     assert_eq!(rt; tasks.mon_member(Gid(1), 1), Some(7));
     tasks.unbind_ctrl(Gid(1));
     assert_eq!(rt; tasks.ctrl_member(Gid(1), 0), None);
-    assert_eq!(rt; tasks.mon_member(Gid(0), 2), Some(4_294_967_295));
+    assert_eq!(rt; tasks.mon_member(Gid::DEFAULT, 2), Some(4_294_967_295));
     Ok(())
 }
 
 #[test]
 fn groups(rt: HostRuntime) -> Result<(), NoMemory> {
     let tasks = Tasks::create(rt.alloc(), [5].as_slice())?;
-    assert_eq!(rt; tasks.groups_of(5), (Gid(0), Gid(0)));
+    assert_eq!(rt; tasks.groups_of(5), (Gid::DEFAULT, Gid::DEFAULT));
     Ok(())
 }
 
@@ -67,15 +70,15 @@ fn groups(rt: HostRuntime) -> Result<(), NoMemory> {
 fn many_tasks(rt: HostRuntime) -> Result<(), NoMemory> {
     let ids = numbers(rt.alloc())?;
     let mut tasks = Tasks::create(rt.alloc(), ids.as_slice())?;
-    assert_eq!(rt; tasks.ctrl_member(Gid(0), 4_095), Some(4_095));
-    assert_eq!(rt; tasks.ctrl_member(Gid(0), 4_096), None);
+    assert_eq!(rt; tasks.ctrl_member(Gid::DEFAULT, 4_095), Some(4_095));
+    assert_eq!(rt; tasks.ctrl_member(Gid::DEFAULT, 4_096), None);
     assert_eq!(rt; tasks.bind_ctrl(4_096, Gid(1)), Err(BindFault::NoTask));
     assert_eq!(rt; tasks.bind_ctrl(4_095, Gid(1)), Ok(()));
     assert_eq!(rt; tasks.bind_ctrl(0, Gid(1)), Ok(()));
     assert_eq!(rt; tasks.ctrl_member(Gid(1), 0), Some(0));
     assert_eq!(rt; tasks.mon_member(Gid(1), 1), Some(4_095));
-    assert_eq!(rt; tasks.ctrl_member(Gid(0), 4_093), Some(4_094));
-    assert_eq!(rt; tasks.ctrl_member(Gid(0), 4_094), None);
+    assert_eq!(rt; tasks.ctrl_member(Gid::DEFAULT, 4_093), Some(4_094));
+    assert_eq!(rt; tasks.ctrl_member(Gid::DEFAULT, 4_094), None);
     Ok(())
 }
 

@@ -6,10 +6,10 @@ use Rattle.hw_ids.specs.Ids.{contains}
 use Rattle.hw_ids.specs.MonitoringIds as rmid_table
 use Rattle.hw_ids.specs.MonitoringIds.{MonitoringIds}
 use Rattle.machine.specs.declared.parameters.Parameters.{Parameters}
-use Rattle.tree_core.proofs.Initial.{find_least, find_none}
-use Rattle.tree_core.specs.Kept.{AreTaken}
-use Rattle.tree_core.specs.Space.{class_is_free, free_class, free_rmid, rmid_is_free}
-use Rattle.tree_core.specs.State.{State}
+use Rattle.tree_core.proofs.InitialMasks.{find_least, find_none}
+use Rattle.tree_core.specs.Tables.{AreTaken}
+use Rattle.tree_law.specs.Space.{class_is_free, free_class, free_rmid, rmid_is_free}
+use Rattle.tree_law.specs.State.{State}
 
 -- ---- classes
 

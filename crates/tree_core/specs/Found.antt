@@ -4,9 +4,9 @@ use Rattle.group_tree.specs.declared.group.Group.{Group}
 use Rattle.machine.specs.declared.parameters.Parameters.{Parameters}
 use Rattle.path_names.specs.declared.dirs.DirRef.TheVariants.{Ctrl}
 use Rattle.path_names.specs.declared.names.NameId.{NameId}
-use Rattle.tree_core.specs.Existing.{directory_gid, group_of}
-use Rattle.tree_core.specs.Freeing.{rmids_with}
-use Rattle.tree_core.specs.State.{State}
+use Rattle.tree_law.specs.Existing.{directory_gid, group_of}
+use Rattle.tree_law.specs.Freeing.{rmids_with}
+use Rattle.tree_law.specs.State.{State}
 use Rattle.tree_core.specs.declared.control.Control.{Control}
 
 -- a group with its class and its RMID, which are not the default group's; no other RMID goes with it

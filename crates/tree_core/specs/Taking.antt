@@ -7,7 +7,6 @@ use Rattle.hw_ids.specs.MonitoringIds as rmids
 use Rattle.hw_ids.specs.MonitoringIds.{MonitoringIds}
 use Rattle.rc_base.specs.Replies.{refused}
 use Rattle.rc_base.specs.declared.replies.Reply.{Reply}
-use Rattle.rc_base.specs.declared.replies.Reply.TheVariants as replies
 use Rattle.rc_base.specs.declared.replies.Why.TheVariants.{NoSpace, OutOfClosids, OutOfRmids, RmidsBusy}
 use Rattle.tree_core.specs.declared.taking.NewIds.{NewIds}
 
@@ -59,7 +58,3 @@ pub record RmidsStay (old new : MonitoringIds) : Type 0 where
   pub threshold : new.threshold ≡ old.threshold
   pub limbo : new.limbo ≡ old.limbo
   pub members : SameMembers old.taken new.taken
-
--- an RMID is free, or the reply says why none is
-abbrev pub TriesRmid : MonitoringIds → Reply → Type 0
-TriesRmid old reply = (((rmid : ℕ) × rmids.IsLowestFree old rmid) × (reply ≡ replies.Ok)) ⊎ (rmids.NoneFree old × (reply ≡ rmid_reply old))

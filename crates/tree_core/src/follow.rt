@@ -2,32 +2,14 @@
 ghost use Rattle.std.specs.Prelude.{◌≡◌, ◌<◌, ◌≤◌, [], ◌∷◌, filter, map};
 ghost use Rattle.std.specs.List.{All, list_any, range_with_len};
 ghost use Rattle.schemata_text.specs.Reading.{is_of};
-ghost use Rattle.tree_core.specs.Steps.{follow_domain, names_domain};
-ghost use Rattle.tree_core.specs.declared.follow.Follow.TheVariants.{Flush, Raise};
+ghost use Rattle.tree_core.specs.Follows.{IsRaiseOrFlush};
+ghost use Rattle.tree_law.specs.Steps.{follow_domain};
+ghost use Rattle.tree_law.specs.commands.Schemata.{names_domain};
+ghost use Rattle.tree_law.specs.declared.follow.Follow.TheVariants.{Flush, Raise};
 
 use arrayvec::ArrayVec;
 use schemata_text::Assignment;
-
-/// What an accepted command does next in each slice of a domain.
-#[derive(Clone, Copy, Debug, PartialEq, Eq)]
-pub enum Follow {
-    /// Tags that are older become stale.
-    Raise { domain: u8 },
-    /// Every way is emptied.
-    Flush { domain: u8 },
-}
-
-/// The follow-up that stands in a free place of a list.
-impl Default for Follow {
-    ghost use Rattle.std.specs.Prelude.{◌≡◌};
-    ghost use Rattle.tree_core.specs.declared.follow.Follow.TheVariants.{Raise};
-
-    ghost is_default = { λ f. f ≡ Raise 0 };
-
-    fn default() -> Self {
-        Follow::Raise { domain: 0 }
-    }
-}
+pub use tree_law::Follow;
 
 /// What follows one command, in order: at most one in each domain.
 pub type After = ArrayVec<Follow, 8>;
@@ -45,6 +27,7 @@ pub(crate) fn raises(domains: u8, all: &[Assignment]) -> After
     ensures raises { result.items
         ≡ map (λ d. Raise d) (filter (names_domain all.now) (range_with_len 0 domains)) }
     ensures domains { All (λ f. follow_domain f < domains) result.items }
+    ensures plain { All IsRaiseOrFlush result.items }
 {
     let mut after = After::new();
     for domain in 0..domains {
@@ -60,6 +43,7 @@ pub(crate) fn raise_all(domains: u8) -> After
     requires { domains ≤ 8 }
     ensures raises { result.items ≡ map (λ d. Raise d) (range_with_len 0 domains) }
     ensures domains { All (λ f. follow_domain f < domains) result.items }
+    ensures plain { All IsRaiseOrFlush result.items }
 {
     let mut after = After::new();
     for domain in 0..domains {
@@ -73,6 +57,7 @@ pub(crate) fn flushes(domains: u8) -> After
     requires { domains ≤ 8 }
     ensures flushes { result.items ≡ map (λ d. Flush d) (range_with_len 0 domains) }
     ensures domains { All (λ f. follow_domain f < domains) result.items }
+    ensures plain { All IsRaiseOrFlush result.items }
 {
     let mut after = After::new();
     for domain in 0..domains {

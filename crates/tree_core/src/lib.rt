@@ -1,6 +1,7 @@
 //! The tree of groups: what each command does to it, and whose an access is.
 #![tactic(auto)]
 
+pub mod built;
 mod control;
 pub mod follow;
 mod looks;
@@ -12,6 +13,7 @@ mod taking;
 mod tests;
 pub mod tree;
 
+pub use built::is_built;
 pub use follow::{After, Follow};
 pub use group_tree::{Group, GroupKind, Groups};
 pub use tree::Tree;

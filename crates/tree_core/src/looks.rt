@@ -1,6 +1,6 @@
 //! Counts of lines.
 ghost use Rattle.std.specs.Prelude.{◌≡◌};
-ghost use Rattle.tree_core.specs.Freeing.{greatest};
+ghost use Rattle.tree_law.specs.Freeing.{greatest};
 
 /// The greatest of these counts, and 0 where there is none.
 pub(crate) fn greatest(looks: &[u64]) -> u64

@@ -2,7 +2,7 @@
 ghost use Rattle.std.specs.Prelude.{◌≡◌, ◌<◌, ◌^◌, length, slice_index, slice_set};
 ghost use Rattle.std.specs.List.{All};
 ghost use Rattle.schemata_text.specs.declared.assignment.Assignment.{Assignment};
-ghost use Rattle.tree_core.specs.Steps.{assigned};
+ghost use Rattle.tree_law.specs.commands.Schemata.{assigned};
 
 use schemata_text::Assignment;
 

@@ -3,8 +3,10 @@ ghost use Rattle.std.specs.Prelude.{◌≡◌, Some, MatchOption, false};
 ghost use Rattle.path_names.specs.declared.dirs.DirRef.TheVariants.{Ctrl};
 ghost use Rattle.path_names.specs.declared.files.FileKind.TheVariants.{Schemata};
 ghost use Rattle.path_names.specs.declared.path_ref.PathRef.TheVariants.{Dir, File};
-ghost use Rattle.tree_core.specs.Existing.{holder_dir, holding, holds_groups, is_group_directory, is_in_place, owner_dir};
-ghost use Rattle.tree_core.specs.Refusals.{is_only_read, is_schemata, is_written, makes_control};
+ghost use Rattle.tree_law.specs.Existing.{holder_dir, holding, holds_groups, is_group_directory, is_in_place, owner_dir};
+ghost use Rattle.tree_core.specs.Places.{is_schemata};
+ghost use Rattle.tree_law.specs.commands.Mkdir.{makes_control};
+ghost use Rattle.tree_law.specs.commands.Write.{is_only_read, is_written};
 
 use path_names::{DirRef, FileKind, Holder, NameId, Owner, PathRef};
 
@@ -54,8 +56,8 @@ fn above(dir: DirRef) -> DirRef
     }
 }
 
-// Whether groups are made in a directory.
-fn holds_groups(dir: DirRef) -> bool
+/// Whether groups are made in a directory.
+pub(crate) fn holds_groups(dir: DirRef) -> bool
     ensures { result ≡ holds_groups dir }
 {
     matches!(dir, DirRef::Root | DirRef::MonGroups(_))

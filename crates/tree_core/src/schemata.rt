@@ -2,9 +2,9 @@
 ghost use Rattle.std.specs.Prelude.{◌≡◌, IfOk};
 ghost use Rattle.machine.specs.Maps.{parameters_of};
 ghost use Rattle.schemata_text.specs.Reading.{AreLawful, Gives};
-ghost use Rattle.tree_core.specs.Refusals.{mask_reason, schemata_read, text_refusal};
-ghost use Rattle.tree_core.specs.Space.{geometry_of};
-ghost use Rattle.tree_core.specs.Steps.{reply_of};
+ghost use Rattle.tree_law.specs.commands.Schemata.{mask_reason, schemata_read, text_refusal};
+ghost use Rattle.tree_law.specs.Space.{geometry_of};
+ghost use Rattle.tree_law.specs.Refusals.{reply_of};
 
 use cbm::CbmFault;
 use machine::Machine;
@@ -13,6 +13,7 @@ use rc_base::{Reply, Why};
 use schemata_text::{Assignments, TextFault, read};
 
 /// The assignments of a text, or its first fault.
+#[tactic(auto, unfolding(tree_law::specs::commands::Schemata::schemata_read))]
 pub(crate) fn read_schemata(m: &Machine, text: &[u8]) -> Result<Assignments, TextFault>
     ensures exact { Gives (λ v. v.items) result (schemata_read (parameters_of m.now) text.now) }
     ensures lawful { IfOk result (λ v. AreLawful (geometry_of (parameters_of m.now)) m.now.domains v.items) }

@@ -1,7 +1,7 @@
 //! The ids of a new group.
 ghost use Rattle.std.specs.Prelude.{IsTrue};
 ghost use Rattle.hw_ids.specs.Ids.{contains};
-ghost use Rattle.tree_core.specs.Taking.{RmidsStay, TakesIds, TakesRmid, TriesRmid};
+ghost use Rattle.tree_core.specs.Taking.{TakesIds, TakesRmid};
 
 use hw_ids::{ClassIds, NoRmid, Rmids};
 use rc_base::{Reply, Why};
@@ -26,7 +26,7 @@ pub(crate) fn take_ids(
     let Some(class) = classes.take() else {
         return Err(Reply::refused(Why::OutOfClosids, 0));
     };
-    match take_rmid_behind(rmids, full) {
+    match take_rmid(rmids, full) {
         Ok(rmid) => Ok(NewIds { class, rmid }),
         Err(reply) => {
             classes.give(class);
@@ -36,7 +36,7 @@ pub(crate) fn take_ids(
 }
 
 // Takes the lowest free RMID, where no domain lacks space.
-fn take_rmid_behind(rmids: &mut Rmids, full: Option<u8>) -> Result<u16, Reply>
+fn take_rmid(rmids: &mut Rmids, full: Option<u8>) -> Result<u16, Reply>
     ensures { TakesRmid rmids.old rmids.new full result }
 {
     if let Some(domain) = full {
@@ -46,20 +46,5 @@ fn take_rmid_behind(rmids: &mut Rmids, full: Option<u8>) -> Result<u16, Reply>
         Ok(rmid) => Ok(rmid),
         Err(NoRmid::Spent) => Err(Reply::refused(Why::OutOfRmids, 0)),
         Err(NoRmid::Limbo) => Err(Reply::refused(Why::RmidsBusy, 0)),
-    }
-}
-
-/// Whether an RMID is free, or why none is. Nothing changes.
-pub(crate) fn try_rmid(rmids: &mut Rmids) -> Reply
-    requires default_rmid { IsTrue (contains 0 rmids.old.taken) }
-    ensures stay { RmidsStay rmids.old rmids.new }
-    ensures said { TriesRmid rmids.old result }
-{
-    match take_rmid_behind(rmids, None) {
-        Ok(rmid) => {
-            rmids.free(rmid, 0);
-            Reply::Ok
-        }
-        Err(reply) => reply,
     }
 }

@@ -1,10 +1,14 @@
 //! Commands of control groups, with the answers worked out by hand.
 
-use crate::{After, Follow, Tree};
+ghost use Rattle.std.specs.Prelude.{IsTrue};
+ghost use Rattle.script_ops.specs.Fits.{Fits};
+ghost use Rattle.tree_law.specs.State.{tasks_of};
+
+use crate::{After, Follow, Tree, is_built};
 use machine::{Machine, Parameters};
 use path_names::{DirRef, FileKind, NameId, Owner, PathRef};
 use rc_base::{Errno, Gid, NoMemory, Reply, Why};
-use script_text::{Bytes, Op};
+use script_ops::{Bytes, MOST_WEIGHT, Op};
 use std::alloc::Global;
 use std::process::Abort;
 use std::test::Fail;
@@ -30,16 +34,26 @@ fn opening(rt: &impl Abort, alloc: Global, parameters: &Parameters) -> Result<Tr
     Tree::create(alloc, &machine, &[])
 }
 
+// Whether an op fits the machine and its tasks; the ops that are no commands are not asked.
+fn fits(tree: &Tree, op: &Op) -> bool
+    ensures { IsTrue result → Fits tree.now.machine (tasks_of tree.now.state) op.now }
+{
+    match op {
+        Op::Flush {
+            domain: Some(domain),
+        } => *domain < tree.machine().domains,
+        Op::Write { text, .. } => text.as_slice().len() <= 4096,
+        Op::Access { .. } | Op::Touch { .. } => false,
+        _ => true,
+    }
+}
+
 // Takes a command, after the tests that `apply` leaves to its caller.
 fn take(rt: &impl Abort, tree: &mut Tree, op: &Op, looks: &[u64]) -> (Reply, After) {
-    assert!(rt; tree.epoch() < 4_000_000);
+    assert!(rt; fits(tree, op));
+    assert!(rt; is_built(op));
+    assert!(rt; tree.epoch() < MOST_WEIGHT);
     assert!(rt; looks.len() == tree.needs(op) as usize);
-    if let Op::Flush {
-        domain: Some(domain),
-    } = op
-    {
-        assert!(rt; *domain < tree.machine().domains);
-    }
     tree.apply(op, looks)
 }
 
@@ -243,12 +257,41 @@ fn masks_of_one_group_are_written(rt: HostRuntime) -> Result<(), Fail> {
 fn a_removal_needs_counts(rt: HostRuntime) -> Result<(), Fail> {
     let mut tree = two_domains(&rt, rt.alloc())?;
     let gone = Op::Rmdir { path: A };
+    assert!(rt; fits(&tree, &gone));
+    assert!(rt; is_built(&gone));
     assert_eq!(rt; tree.needs(&gone), 0);
     assert_eq!(rt; mkdir(&rt, &mut tree, A), Reply::Ok);
 
     // Its one RMID, in both domains.
+    assert!(rt; fits(&tree, &gone));
     assert_eq!(rt; tree.needs(&gone), 2);
     assert_eq!(rt; tree.need(&gone, 0), (0, 1));
     assert_eq!(rt; tree.need(&gone, 1), (1, 1));
+    Ok(())
+}
+
+#[test]
+fn commands_that_are_built(rt: HostRuntime) -> Result<(), Fail> {
+    let monitor = PathRef::Dir(DirRef::Mon(Owner::Default, NameId(0)));
+    let tasks = PathRef::File(DirRef::Root, FileKind::Tasks);
+    let schemata = PathRef::File(DirRef::Ctrl(NameId(0)), FileKind::Schemata);
+    for (op, want) in [
+        (Op::Mkdir { path: A }, true),
+        (Op::Mkdir { path: monitor }, false),
+        (Op::Rmdir { path: monitor }, false),
+        (Op::List { path: monitor }, false),
+        (Op::Read { path: schemata }, true),
+        (Op::Read { path: tasks }, false),
+        (
+            Op::Read {
+                path: PathRef::Nowhere(NameId(1)),
+            },
+            true,
+        ),
+        (Op::Flush { domain: None }, true),
+        (Op::Tick, false),
+    ] {
+        assert_eq!(rt; is_built(&op), want);
+    }
     Ok(())
 }

@@ -1,6 +1,6 @@
 //! Which paths exist, and whose group a directory is.
 ghost use Rattle.std.specs.Prelude.{◌≡◌};
-ghost use Rattle.tree_core.specs.Existing.{dir_exists, directory_gid, holder_gid, is_directory, is_file, is_held, owner_gid, path_exists};
+ghost use Rattle.tree_law.specs.Existing.{dir_exists, directory_gid, holder_gid, is_directory, is_file, is_held, owner_gid, path_exists};
 
 use super::Tree;
 use crate::places::holding;
@@ -13,7 +13,7 @@ impl Tree {
         ensures { result ≡ owner_gid self.now.state owner }
     {
         match owner {
-            Owner::Default => Some(Gid(0)),
+            Owner::Default => Some(Gid::DEFAULT),
             Owner::Ctrl(name) => self.groups.find_ctrl(name),
         }
     }
@@ -36,7 +36,7 @@ impl Tree {
         ensures { result ≡ directory_gid self.now.state dir }
     {
         match dir {
-            DirRef::Root => Some(Gid(0)),
+            DirRef::Root => Some(Gid::DEFAULT),
             DirRef::Ctrl(name) => self.owner_gid(Owner::Ctrl(name)),
             DirRef::Mon(owner, name) => self.holder_gid(Holder::Monitor(owner, name)),
             _ => None,

@@ -1,8 +1,7 @@
 //! The ways of a new group.
-ghost use Rattle.std.specs.Prelude.{◌≡◌, ◌<◌, ℕ, IfSome};
-ghost use Rattle.tree_core.specs.Sound.{IsValid};
-ghost use Rattle.tree_core.specs.Space.{full_domain, initial_mask};
-ghost use Rattle.tree_core.specs.Steps.{initial_masks};
+ghost use Rattle.std.specs.Prelude.{◌≡◌, ◌<◌};
+ghost use Rattle.tree_law.specs.Space.{full_domain, initial_mask};
+ghost use Rattle.tree_law.specs.commands.Mkdir.{initial_masks};
 
 use super::Tree;
 use mode_rules::initial_mask;
@@ -11,8 +10,7 @@ impl Tree {
     // A new group's mask in a domain, where there is space.
     fn initial_mask(&self, domain: u8) -> Option<u32>
         requires { domain < self.now.machine.domains }
-        ensures mask { result ≡ initial_mask self.now.machine self.now.state domain }
-        ensures valid { IfSome result (IsValid self.now.machine) }
+        ensures { result ≡ initial_mask self.now.machine self.now.state domain }
     {
         let used = self.groups.others(None, domain);
         initial_mask(&used, &self.machine.geometry())
@@ -32,9 +30,7 @@ impl Tree {
 
     /// A new group's mask in each domain, and 0 where there is no space or no such domain.
     pub(crate) fn initial_masks(&self) -> [u32; 8]
-        ensures masks { result ≡ initial_masks self.now.machine self.now.state }
-        ensures valid { (domain : ℕ) → domain < self.now.machine.domains
-            → IfSome (initial_mask self.now.machine self.now.state domain) (IsValid self.now.machine) }
+        ensures { result ≡ initial_masks self.now.machine self.now.state }
     {
         let mut masks = [0; 8];
         for domain in 0..self.machine.domains {

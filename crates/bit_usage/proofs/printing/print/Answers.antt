@@ -2,7 +2,7 @@ use Rattle.std.proofs.Common.{◌∙◌, sym, ap, arith}
 use Rattle.std.proofs.lemmas.List.{append-nil}
 use Rattle.rc_base.specs.Buffers.{Roomy}
 use Rattle.mode_rules.specs.declared.domain_use.DomainUse.{DomainUse}
-use Rattle.bit_usage.proofs.Joining.{first_bytes, first_len, next_bytes, next_len, usage_none}
+use Rattle.bit_usage.proofs.Domains.{first_bytes, first_len, next_bytes, next_len, usage_none}
 use Rattle.bit_usage.proofs.printing.print.Goals as goal
 use Rattle.bit_usage.proofs.printing.print.Goals.{then-id-gt0, else-id-gt0}
 

@@ -1,5 +1,5 @@
 use Rattle.std.proofs.Common.{arith}
-use Rattle.cbm.proofs.Ways.{count_ones-ways}
+use Rattle.cbm.proofs.Counts.{count_ones-ways}
 use Rattle.cbm.proofs.sets.count.Goals as goal
 
 pub returns : goal.returns

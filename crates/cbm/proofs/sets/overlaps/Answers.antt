@@ -2,7 +2,7 @@ use Rattle.std.proofs.Common.{◌≡◌, ℕ, zero, suc, ◌<◌, ◌^◌, eqb, 
 use Rattle.std.proofs.lemmas.Bool.{ne_eqb}
 use Rattle.std.proofs.lemmas.Nat.{and_le_l}
 use Rattle.cbm.specs.Masks.{overlaps}
-use Rattle.cbm.proofs.Ways.{overlaps-none, overlaps-some}
+use Rattle.cbm.proofs.Counts.{overlaps-none, overlaps-some}
 use Rattle.cbm.proofs.sets.overlaps.Goals as goal
 
 common : (a b n : ℕ) → bit_and a b ≡ n → n < 2 ^ 64 → not (eqb n 0) ≡ overlaps a b

@@ -1,5 +1,5 @@
 use Rattle.cpu_binding.specs.Groups.{has_control}
-use Rattle.cpu_binding.proofs.Collecting.{Collected}
+use Rattle.cpu_binding.proofs.Members.{Collected}
 use Rattle.cpu_binding.proofs.tables.control_set.Given as goal
 
 abbrev pub invariant-loop-cpu : goal.invariant-loop-cpu

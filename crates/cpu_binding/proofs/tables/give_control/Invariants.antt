@@ -1,6 +1,6 @@
 use Rattle.cpu_binding.specs.Groups.{after_control}
 use Rattle.std.proofs.Common.{◌≡◌, length}
-use Rattle.cpu_binding.proofs.Changing.{ChangedTo}
+use Rattle.cpu_binding.proofs.Changes.{ChangedTo}
 use Rattle.cpu_binding.proofs.tables.give_control.Given as goal
 
 abbrev pub invariant-loop-cpu : goal.invariant-loop-cpu

@@ -1,5 +1,5 @@
 use Rattle.cpu_binding.specs.Groups.{has_monitor}
-use Rattle.cpu_binding.proofs.Collecting.{Collected}
+use Rattle.cpu_binding.proofs.Members.{Collected}
 use Rattle.cpu_binding.proofs.tables.monitor_set.Given as goal
 
 abbrev pub invariant-loop-cpu : goal.invariant-loop-cpu

@@ -1,7 +1,7 @@
 use Rattle.std.proofs.Common.{◌≡◌, ℕ, ◌^◌, ◌<◌, true, false, List, [], ◌∷◌, ◌++◌, length, Some, None, sym, ap, subst, ◌∙◌, refl}
 use Rattle.std.specs.List.{list_any, before_first, after_first}
 use Rattle.cpu_lists.specs.Masks.{group_of, value_of, comma}
-use Rattle.cpu_lists.proofs.Parting.{SoFar, nothing_done, bad_piece, last_piece, next_piece}
+use Rattle.cpu_lists.proofs.Pieces.{SoFar, nothing_done, bad_piece, last_piece, next_piece}
 use Rattle.cpu_lists.proofs.Members.{nothing_collected, groups_collected, group_collected, group_below, all_push}
 use Rattle.cpu_lists.proofs.masks.groups.Goals as goal
 

@@ -3,7 +3,7 @@ use Rattle.std.specs.Int.Digits.{AllBelowBase}
 use Rattle.cpu_lists.specs.Sets.{has}
 use Rattle.cpu_lists.specs.Masks.{group_of, value_of}
 use Rattle.cpu_lists.specs.Collected.{Collects}
-use Rattle.cpu_lists.proofs.Parting.{SoFar}
+use Rattle.cpu_lists.proofs.Pieces.{SoFar}
 use Rattle.cpu_lists.proofs.masks.groups.Given as goal
 
 abbrev pub invariant-groups : goal.invariant-groups

@@ -1,5 +1,5 @@
 use Rattle.std.proofs.Common.{[], arith}
-use Rattle.cpu_lists.proofs.Answering.{stranger_low, stranger_high, all_cpus, exist}
+use Rattle.cpu_lists.proofs.KeptNumbers.{stranger_low, stranger_high, all_cpus, exist}
 use Rattle.cpu_lists.proofs.numbers.judge.Goals as goal
 
 pub returns-then-stranger-lt64-clause-said : goal.returns-then-stranger-lt64-clause-said

@@ -1,7 +1,7 @@
 use Rattle.std.proofs.Common.{subst}
 use Rattle.cpu_lists.specs.Sets.{has}
 use Rattle.cpu_lists.specs.Collected.{IsBeyond}
-use Rattle.cpu_lists.proofs.Collecting.{raised_some, raised_kept, raised_nothing}
+use Rattle.cpu_lists.proofs.Additions.{raised_some, raised_kept, raised_nothing}
 use Rattle.cpu_lists.proofs.numbers.raised.Goals as goal
 
 pub returns-then-moved-ne0 : goal.returns-then-moved-ne0

@@ -1,6 +1,6 @@
 use Rattle.std.proofs.Common.{subst}
 use Rattle.cpu_lists.specs.Collected.{IsBeyond}
-use Rattle.cpu_lists.proofs.Collecting.{run_below, run_alone, run_beside}
+use Rattle.cpu_lists.proofs.Additions.{run_below, run_alone, run_beside}
 use Rattle.cpu_lists.proofs.numbers.with_high.Goals as goal
 
 pub returns-then-run-lt64 : goal.returns-then-run-lt64

@@ -3,7 +3,7 @@ use Rattle.std.proofs.lemmas.Bool.{ne_eqb}
 use Rattle.std.proofs.lemmas.List.{append-nil}
 use Rattle.cpu_lists.specs.Sets.{numbers_from}
 use Rattle.cpu_lists.specs.Printed.{list_text, runs_of, element_text}
-use Rattle.cpu_lists.proofs.Running.{text_of, text_none, text_some, list_text_is}
+use Rattle.cpu_lists.proofs.RunsOfSets.{text_of, text_none, text_some, list_text_is}
 use Rattle.cpu_lists.proofs.printing.print_list.Goals as goal
 
 pub runs-init : goal.runs-init

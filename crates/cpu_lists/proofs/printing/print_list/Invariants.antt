@@ -1,7 +1,7 @@
 use Rattle.std.proofs.Common.{◌≡◌, ◌≤◌, ◌*◌, ◌+◌, ◌-◌, ◌++◌, eqb, length}
 use Rattle.cpu_lists.specs.Sets.{numbers_from}
 use Rattle.cpu_lists.specs.Printed.{list_text, runs_of}
-use Rattle.cpu_lists.proofs.Running.{text_of}
+use Rattle.cpu_lists.proofs.RunsOfSets.{text_of}
 use Rattle.cpu_lists.proofs.printing.print_list.Given as goal
 
 abbrev pub invariant-runs : goal.invariant-runs

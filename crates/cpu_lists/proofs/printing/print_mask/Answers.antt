@@ -1,8 +1,8 @@
 use Rattle.std.proofs.Common.{◌≡◌, ℕ, ◌+◌, ◌-◌, ◌/◌, ◌%◌, ◌^◌, ◌++◌, ◌∷◌, [], List, length, sym, ap, ◌∙◌, arith, append_assoc, length-append, div-le_self, lt_of_le_of_lt}
 use Rattle.num_text.specs.Printed.{hexadecimal}
-use Rattle.num_text.proofs.Prints.{length-hexadecimal}
+use Rattle.num_text.proofs.laws.Prints.{length-hexadecimal}
 use Rattle.cpu_lists.specs.Printed.{digits_for}
-use Rattle.cpu_lists.proofs.Grouping.{one_group, two_groups}
+use Rattle.cpu_lists.proofs.MaskTexts.{one_group, two_groups}
 use Rattle.cpu_lists.proofs.printing.print_mask.Goals as goal
 
 pub push-requires : goal.push-requires

@@ -1,7 +1,7 @@
 use Rattle.std.proofs.Common.{◌≡◌, ◌+◌, length, decimal, arith, refl, ◌∙◌}
 use Rattle.std.proofs.lemmas.Bool.{eq-eqb, ne_eqb}
 use Rattle.cpu_lists.specs.Printed.{run_text}
-use Rattle.cpu_lists.proofs.Running.{number_short, length-run}
+use Rattle.cpu_lists.proofs.RunsOfSets.{number_short, length-run}
 use Rattle.cpu_lists.proofs.printing.push_run.Goals as goal
 
 pub push-requires : goal.push-requires

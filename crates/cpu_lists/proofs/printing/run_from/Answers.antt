@@ -1,7 +1,7 @@
 use Rattle.std.proofs.Common.{◌≡◌, ◌<◌, true, false, inl, inr, sym, ap, ◌∙◌, arith}
 use Rattle.std.proofs.lemmas.Bool.{cases_lt}
 use Rattle.cpu_lists.specs.Sets.{has}
-use Rattle.cpu_lists.proofs.Running.{no_run, first_run}
+use Rattle.cpu_lists.proofs.RunsOfSets.{no_run, first_run}
 use Rattle.cpu_lists.proofs.printing.run_from.Goals as goal
 
 pub returns-then-first-eq64 : goal.returns-then-first-eq64

@@ -1,6 +1,6 @@
 use Rattle.std.proofs.Common.{◌≡◌, ◌<◌, length, get_or, true, ap, ◌∙◌, arith}
 use Rattle.group_tree.specs.Records.{has_gid}
-use Rattle.group_tree.proofs.Editing.{without_at}
+use Rattle.group_tree.proofs.Edits.{without_at}
 use Rattle.group_tree.proofs.edit.take_out.Goals as goal
 
 pub returns : goal.returns

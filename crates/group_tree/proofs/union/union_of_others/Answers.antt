@@ -1,6 +1,6 @@
 use Rattle.std.proofs.Common.{◌+◌, take, bit_or, ap, ◌∙◌, sym, subst}
 use Rattle.group_tree.specs.Others.{IsUnionOfOthers}
-use Rattle.group_tree.proofs.Joining.{used_joined, used_same}
+use Rattle.group_tree.proofs.Unions.{used_joined, used_same}
 use Rattle.group_tree.proofs.union.union_of_others.Goals as goal
 use Rattle.group_tree.proofs.union.union_of_others.Goals.{then-is_other_in, else-is_other_in}
 

@@ -2,7 +2,7 @@ use Rattle.std.proofs.Common.{◌≡◌, ◌<◌, length, take, get_or, sym, ari
 use Rattle.std.proofs.lemmas.Grind.{common_steps}
 use Rattle.std.proofs.Math.Seq.{take-set-lt}
 use Rattle.hw_ids.specs.declared.rmids.Use.TheVariants.{Free}
-use Rattle.hw_ids.proofs.Released.{in_bytes, released_end, released_skip, released_start, released_test}
+use Rattle.hw_ids.proofs.Releases.{in_bytes, released_end, released_skip, released_start, released_test}
 use Rattle.hw_ids.proofs.rmids.release.Goals as goal
 use Rattle.hw_ids.proofs.rmids.release.Goals.{then-is_limbo, else-is_limbo}
 

@@ -1,5 +1,5 @@
 use Rattle.std.proofs.Common.{◌≡◌, length, take}
-use Rattle.hw_ids.proofs.Released.{Released}
+use Rattle.hw_ids.proofs.Releases.{Released}
 use Rattle.hw_ids.proofs.rmids.release.Given as goal
 
 abbrev pub invariant-loop-rmid : goal.invariant-loop-rmid

@@ -1,4 +1,4 @@
-use Rattle.machine.proofs.Fitting.{fits_shifted, fits_wide}
+use Rattle.machine.proofs.Masks.{fits_shifted, fits_wide}
 use Rattle.machine.proofs.parameters.fits.Goals as goal
 use Rattle.std.proofs.Common.{arith}
 

@@ -1,5 +1,6 @@
 use Rattle.std.proofs.Common.{arith}
-use Rattle.mode_rules.proofs.Starting.{shifted_one, ways_of-union}
+use Rattle.cbm.proofs.laws.LowestRuns.{shifted_one}
+use Rattle.mode_rules.proofs.laws.StartingWays.{ways_of-union}
 use Rattle.mode_rules.proofs.placing.given_or_free.Goals as goal
 
 pub returns : goal.returns

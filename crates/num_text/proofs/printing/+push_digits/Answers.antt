@@ -1,13 +1,14 @@
 use Rattle.std.proofs.Common.{◌-◌, ◌/◌, ◌%◌, false, [], ◌∷◌, arith, append_assoc}
 use Rattle.std.specs.Fmt.{digit_glyph}
 use Rattle.num_text.specs.Printed.{filled}
-use Rattle.num_text.proofs.Prints.{filled_more, filled_zero, filled_last, length-filled_more, length-filled_zero, length-filled_last, front_smaller}
+use Rattle.num_text.proofs.Prints.{div-lt_number}
+use Rattle.num_text.proofs.laws.Prints.{filled-last, filled-more, filled-zero, length-filled_last, length-filled_more, length-filled_zero}
 use Rattle.num_text.proofs.printing.+push_digits.Goals as goal
 
 pub push_digits-requires : goal.push_digits-requires
 push_digits-requires t c =
     let shorter = length-filled_more c.args.base c.args.width c.args.n c.requires.low c.if-n-base.true c.ranges.n.fits in
-    let smaller = front_smaller c.args.base c.args.n c.requires.low c.if-n-base.true in
+    let smaller = div-lt_number c.args.base c.args.n c.requires.low c.if-n-base.true in
     rw c.saturating_sub.ensures (omega arith, (c.requires.low, (c.requires.high, omega arith)))
 
 pub push-requires : goal.push-requires
@@ -31,7 +32,7 @@ push-requires-else-width-gt1 t c = omega (arith, length-filled_last c.args.base 
 
 pub returns-then-n-base-clause-bytes : goal.returns-then-n-base-clause-bytes
 returns-then-n-base-clause-bytes t c =
-    let step = filled_more c.args.base c.args.width c.args.n c.requires.low c.if-n-base.true c.ranges.n.fits in
+    let step = filled-more c.args.base c.args.width c.args.n c.requires.low c.if-n-base.true c.ranges.n.fits in
     let joined = append_assoc c.args.out.now.bytes (filled c.args.base (c.args.width - 1) (c.args.n / c.args.base)) (digit_glyph false (c.args.n % c.args.base) ∷ []) in
     cc
 
@@ -43,7 +44,7 @@ returns-then-n-base-clause-spare t c =
 
 pub returns-then-width-gt1-clause-bytes : goal.returns-then-width-gt1-clause-bytes
 returns-then-width-gt1-clause-bytes t c =
-    let step = filled_zero c.args.base c.args.width c.args.n c.requires.low c.if-n-base.false c.if-width-gt1.true in
+    let step = filled-zero c.args.base c.args.width c.args.n c.requires.low c.if-n-base.false c.if-width-gt1.true in
     let joined = append_assoc c.args.out.now.bytes (filled c.args.base (c.args.width - 1) 0) (digit_glyph false c.args.n ∷ []) in
     cc
 
@@ -54,7 +55,7 @@ returns-then-width-gt1-clause-spare t c =
 
 pub returns-else-width-gt1-clause-bytes : goal.returns-else-width-gt1-clause-bytes
 returns-else-width-gt1-clause-bytes t c =
-    let step = filled_last c.args.base c.args.width c.args.n c.requires.low c.if-n-base.false c.if-width-gt1.false in
+    let step = filled-last c.args.base c.args.width c.args.n c.requires.low c.if-n-base.false c.if-width-gt1.false in
     cc
 
 pub returns-else-width-gt1-clause-spare : goal.returns-else-width-gt1-clause-spare

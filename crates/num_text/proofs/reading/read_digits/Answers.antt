@@ -3,7 +3,7 @@ use Rattle.std.specs.Str.Parse.{digits_value, AllDigits}
 use Rattle.std.proofs.lemmas.List.{take_all}
 use Rattle.std.proofs.lemmas.Grind.{common_steps}
 use Rattle.std.proofs.lemmas.Int.Digits.{digits_value_more, digits_more}
-use Rattle.num_text.proofs.Spelling.{too_great, is_read}
+use Rattle.num_text.proofs.Numerals.{too_great, is_read}
 use Rattle.num_text.proofs.reading.read_digits.Goals as goal
 
 pub returns-in_default-checked_mul : goal.returns-in_default-checked_mul

@@ -1,4 +1,4 @@
-use Rattle.path_names.proofs.Parting.{first_component}
+use Rattle.path_names.proofs.FirstComponent.{first_component}
 use Rattle.path_names.proofs.components.cut.Goals as goal
 
 pub returns-clause-parts : goal.returns-clause-parts

@@ -1,7 +1,7 @@
 use Rattle.std.proofs.Common.{List, ℕ, Some, ◌∙◌, ap, arith}
 use Rattle.path_names.specs.Components.{components}
 use Rattle.path_names.specs.Reading.{reached_from}
-use Rattle.path_names.proofs.Leading.{off_directory}
+use Rattle.path_names.proofs.Walks.{off_directory}
 use Rattle.path_names.proofs.PathCounts.{path_le}
 use Rattle.path_names.proofs.paths.walk.Goals as goal
 

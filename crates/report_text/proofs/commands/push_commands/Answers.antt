@@ -1,5 +1,7 @@
-use Rattle.std.proofs.Common.{arith}
-use Rattle.tree_core.specs.State.{opening}
+use Rattle.std.proofs.Common.{sym, arith}
+use Rattle.std.proofs.lemmas.List.{append-nil}
+use Rattle.tree_law.specs.State.{opening}
+use Rattle.report_text.proofs.Replays.{replayed-opening}
 use Rattle.report_text.proofs.Pieces.{command_lines_more, counted_at, made_more, state_more}
 use Rattle.report_text.proofs.commands.push_commands.Goals as goal
 
@@ -23,4 +25,16 @@ loop-k-preserved c =
       epoch = let late = told.epoch in let early = before.epoch in omega (arith, late, early);
       made = made_more script start now c.loop-k.replay.made c.take.new.replay.made es k e c.loop-k-test.true c.index-tree-k.is before.state before.made told.made;
       text = command_lines_more script start es k e now c.args.report.now c.loop-k.report c.push_command.new.report c.loop-k-test.true c.index-tree-k.is before.state before.text c.in_ok-push_command.ensures;
+    }
+
+pub loop-k-init : goal.loop-k-init
+loop-k-init c =
+    let first = c.in_ok-replay.ensures in
+    let epoch = first.epoch in
+    record {
+      replay = replayed-opening c.args.script.now c.in_ok-replay.replay first.machine first.state first.made;
+      state = first.state;
+      epoch = omega (arith, epoch);
+      made = first.made;
+      text = sym (append-nil c.args.report.now);
     }

@@ -4,7 +4,7 @@ use Rattle.report_text.specs.Made.{made_from}
 use Rattle.report_text.specs.Replayed.{IsReplay}
 use Rattle.run_law.specs.Entries.{entry_value}
 use Rattle.run_law.specs.TreeHistory.{tree_from}
-use Rattle.tree_core.specs.State.{opening}
+use Rattle.tree_law.specs.State.{opening}
 use Rattle.report_text.proofs.commands.push_commands.Given as goal
 
 abbrev pub invariant-loop-k : goal.invariant-loop-k

@@ -1,8 +1,8 @@
 use Rattle.std.proofs.Common.{◌≡◌, ◌≤◌, ◌^◌, ◌&&◌, not, count_by, ◌*◌}
-use Rattle.cache_core.specs.Sums.{sum_below}
+use Rattle.lists.specs.Sums.{sum_below}
 use Rattle.cache_core.specs.declared.entry.SliceEntry.{SliceEntry as Entry}
 use Rattle.report_text.specs.Counts.{is_access as access_in, is_hit as hit_in}
-use Rattle.run_law.specs.Runs.{slice_at}
+use Rattle.run_law.specs.Journals.{slice_at}
 use Rattle.report_text.proofs.counts.counts_of_all.Given as goal
 
 abbrev pub invariant-loop-i : goal.invariant-loop-i

@@ -1,8 +1,9 @@
 use Rattle.std.proofs.Common.{ap, ◌∙◌, arith}
 use Rattle.cache_core.specs.History.{lines_of}
-use Rattle.run_law.specs.Runs.{slice_at}
-use Rattle.run_law.specs.Slices.{shape_in, slice_number}
-use Rattle.report_text.proofs.Lines.{sum_more}
+use Rattle.run_law.specs.Journals.{slice_at}
+use Rattle.run_law.specs.Slices.{shape_in}
+use Rattle.machine.specs.Slices.{slice_number}
+use Rattle.report_text.proofs.SliceCaches.{sum_more}
 use Rattle.report_text.proofs.domains.lines_of_rmid.Goals as goal
 
 pub loop-slice-preserved : goal.loop-slice-preserved

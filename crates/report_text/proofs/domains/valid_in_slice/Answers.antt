@@ -1,8 +1,10 @@
-use Rattle.std.proofs.Common.{◌≡◌, ap, ◌∙◌, arith}
+use Rattle.std.proofs.Common.{◌≡◌, ap, ◌∙◌, subst, arith}
 use Rattle.cache_core.specs.History.{valid_of}
-use Rattle.run_law.specs.Runs.{slice_at}
+use Rattle.run_law.specs.Journals.{slice_at}
+use Rattle.machine.specs.Ranges.{InRange}
 use Rattle.run_law.specs.Slices.{shape_in}
-use Rattle.report_text.proofs.Lines.{few_valid, left_at}
+use Rattle.run_law.proofs.laws.Lines.{valid_of-few}
+use Rattle.report_text.proofs.SliceCaches.{left_at}
 use Rattle.report_text.proofs.domains.valid_in_slice.Goals as goal
 
 pub returns-clause-lines : goal.returns-clause-lines
@@ -16,4 +18,5 @@ returns-clause-few c =
     let entries = slice_at c.args.journals.now c.args.i in
     let left = left_at c.args.script.now c.args.journals.now c.args.caches.now c.args.i c.index-caches-i.result c.requires.left c.requires.within c.index-caches-i.is in
     let is : c.valid.result ≡ valid_of (shape_in c.args.script.now.machine c.args.i) entries = c.valid.ensures.count entries left.stands ∙ ap (λ m. valid_of m entries) left.shape in
-    omega (arith, is, few_valid c.args.script.now.machine c.machine-machine.result.now c.args.i entries c.machine-machine.ensures)
+    let range : InRange c.args.script.now.machine = subst InRange c.machine-machine.ensures c.machine-machine.result.now.in_range in
+    omega (arith, is, valid_of-few c.args.script.now.machine c.args.i entries range)

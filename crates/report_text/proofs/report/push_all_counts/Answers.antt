@@ -1,10 +1,10 @@
 use Rattle.std.proofs.Common.{◌++◌, ◌&&◌, not, count_by, ap, ◌∙◌}
-use Rattle.cache_core.specs.Sums.{sum_below}
+use Rattle.lists.specs.Sums.{sum_below}
 use Rattle.cache_core.specs.declared.entry.SliceEntry.{SliceEntry}
 use Rattle.report_text.specs.Counts.{is_access, is_hit}
-use Rattle.run_law.specs.Runs.{slice_at}
+use Rattle.run_law.specs.Journals.{slice_at}
 use Rattle.report_text.proofs.Pieces.{on_ok}
-use Rattle.report_text.proofs.Told.{all_is}
+use Rattle.report_text.proofs.GroupLines.{all_is}
 use Rattle.report_text.proofs.report.push_all_counts.Goals as goal
 
 pub returns : goal.returns

@@ -1,11 +1,11 @@
 use Rattle.std.proofs.Common.{◌++◌, length, ap, ◌∙◌, arith}
 use Rattle.std.proofs.lemmas.List.{length-map}
 use Rattle.run_law.specs.Entries.{entry_value}
-use Rattle.report_text.proofs.Few.{few_commands}
+use Rattle.report_text.proofs.FewCommands.{few_commands}
 use Rattle.report_text.proofs.Pieces.{on_ok}
-use Rattle.report_text.proofs.Told.{whole}
+use Rattle.report_text.proofs.GroupLines.{whole}
 use Rattle.report_text.specs.Commands.{command_lines}
-use Rattle.tree_core.specs.State.{opening}
+use Rattle.tree_law.specs.State.{opening}
 use Rattle.report_text.proofs.report.push_report.Goals as goal
 
 pub push_commands-requires-clause-few : goal.push_commands-requires-clause-few

@@ -1,7 +1,7 @@
 use Rattle.std.proofs.Common.{◌≡◌, ◌<◌, ◌≤◌, length, take, vec_len, arith}
 use Rattle.std.proofs.lemmas.List.{length-take}
 use Rattle.std.proofs.lemmas.Grind.{common_steps}
-use Rattle.resctrl_top.proofs.Consuming.{read_to_end, read_too_much}
+use Rattle.resctrl_top.proofs.InputBytes.{read_to_end, read_too_much}
 use Rattle.resctrl_top.proofs.input.read_all.Goals as goal
 
 pub returns-in-Ok-eq0-clause-bytes : goal.returns-in-Ok-eq0-clause-bytes

@@ -1,6 +1,6 @@
 use Rattle.std.proofs.Common.{subst}
 use Rattle.resctrl_top.specs.Meaning.{MeansAs, meaning}
-use Rattle.resctrl_top.proofs.Concluding.{has_read}
+use Rattle.resctrl_top.proofs.Ends.{has_read}
 use Rattle.resctrl_top.proofs.input.read_input.Goals as goal
 
 pub returns-in-Ok-clause-read : goal.returns-in-Ok-clause-read

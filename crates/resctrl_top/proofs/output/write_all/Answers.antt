@@ -1,7 +1,7 @@
 use Rattle.std.proofs.Common.{◌-◌, ◌≤◌, drop, arith, subst, ◌∙◌}
 use Rattle.std.proofs.lemmas.List.{take-take, length-take, length-drop}
 use Rattle.std.specs.Io.KnownBytes.{Appends}
-use Rattle.resctrl_top.proofs.Appending.{appends_more, appends_some}
+use Rattle.resctrl_top.proofs.WrittenBytes.{appends_more, appends_some}
 use Rattle.resctrl_top.proofs.output.write_all.Goals as goal
 
 pub loop-at-preserved : goal.loop-at-preserved

@@ -1,5 +1,5 @@
 use Rattle.std.proofs.Common.{◌≡◌, ◌≤◌, ◌*◌, ◌+◌, ◌++◌, length, take}
-use Rattle.schemata_text.proofs.Entries.{others_text}
+use Rattle.schemata_text.proofs.laws.Entries.{others_text}
 use Rattle.schemata_text.proofs.printing.print.Given as goal
 
 abbrev pub invariant-loop-a : goal.invariant-loop-a

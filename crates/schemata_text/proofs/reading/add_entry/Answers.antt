@@ -1,20 +1,21 @@
 use Rattle.std.proofs.Common.{◌≡◌, ◌<◌, false, length, sym, arith}
 use Rattle.std.specs.List.{list_any}
 use Rattle.schemata_text.specs.Reading.{is_of}
-use Rattle.schemata_text.proofs.Lawful.{lawful_push, room}
-use Rattle.schemata_text.proofs.Following.{entry_says, entry_fails}
+use Rattle.schemata_text.proofs.laws.Lawful.{AreLawful-push}
+use Rattle.schemata_text.proofs.Room.{length-lawful}
+use Rattle.schemata_text.proofs.Items.{entry_says, entry_fails}
 use Rattle.schemata_text.proofs.reading.add_entry.Goals as goal
 
 pub push-requires : goal.push-requires
 push-requires c =
     let fresh : (c.in-Ok.found.domain < c.args.domains) × (list_any (is_of c.in-Ok.found.domain) c.args.all.now.items ≡ false) = rw c.as_slice.ensures.value at c.in-Ok.ensures.fresh in
-    let free : length c.args.all.now.items < c.args.domains = room c.args.g.now c.args.domains c.args.all.now.items c.in-Ok.found c.requires.lawful fresh.0 fresh.1 c.in-Ok.ensures.valid in
+    let free : length c.args.all.now.items < c.args.domains = length-lawful c.args.g.now c.args.domains c.args.all.now.items c.in-Ok.found c.requires.lawful fresh.0 fresh.1 c.in-Ok.ensures.valid in
     omega arith
 
 pub returns-in-Ok-clause-lawful : goal.returns-in-Ok-clause-lawful
 returns-in-Ok-clause-lawful c =
     let fresh : (c.in-Ok.found.domain < c.args.domains) × (list_any (is_of c.in-Ok.found.domain) c.args.all.now.items ≡ false) = rw c.as_slice.ensures.value at c.in-Ok.ensures.fresh in
-    rw c.push.ensures.items (lawful_push c.args.g.now c.args.domains c.args.all.now.items c.in-Ok.found c.requires.lawful fresh.0 fresh.1 c.in-Ok.ensures.valid)
+    rw c.push.ensures.items (AreLawful-push c.args.g.now c.args.domains c.args.all.now.items c.in-Ok.found c.requires.lawful fresh.0 fresh.1 c.in-Ok.ensures.valid)
 
 pub returns-in-Ok-clause-said : goal.returns-in-Ok-clause-said
 returns-in-Ok-clause-said c more =

@@ -3,7 +3,7 @@ use Rattle.std.specs.List.{list_any, after_first}
 use Rattle.std.proofs.lemmas.Bool.{eqb-true}
 use Rattle.std.proofs.lemmas.List.{nil_from_length}
 use Rattle.schemata_text.specs.Items.{semicolon}
-use Rattle.schemata_text.proofs.Following.{rest_ends, rest_closes, rest_goes_on, rest_fails}
+use Rattle.schemata_text.proofs.Items.{rest_ends, rest_closes, rest_goes_on, rest_fails}
 use Rattle.schemata_text.proofs.reading.entries.Goals as goal
 
 pub returns-in-Err-clause-said : goal.returns-in-Err-clause-said

@@ -2,12 +2,12 @@ use Rattle.std.proofs.Common.{◌≡◌, ◌<◌, ℕ, true, false, List, [], �
 use Rattle.std.specs.List.{list_any, after_first, before_first}
 use Rattle.schemata_text.specs.Items.{Item, newline, colon, items_of, items_of_rest}
 use Rattle.schemata_text.specs.Reading.{reading_from, line_of}
-use Rattle.schemata_text.proofs.Following.{line_says, line_fails, first_line, last_line, more_lines, done}
-use Rattle.schemata_text.proofs.Lawful.{lawful_none}
+use Rattle.schemata_text.proofs.Items.{line_says, line_fails, first_line, last_line, more_lines, done}
+use Rattle.schemata_text.proofs.laws.Lawful.{AreLawful-none}
 use Rattle.schemata_text.proofs.reading.read.Goals as goal
 
 pub lines-init : goal.lines-init
-lines-init c = rw c.new-all.ensures (record { lawful = lawful_none c.args.g.now c.args.domains; said = refl })
+lines-init c = rw c.new-all.ensures (record { lawful = AreLawful-none c.args.g.now c.args.domains; said = refl })
 
 pub returns-in-Err-clause-exact : goal.returns-in-Err-clause-exact
 returns-in-Err-clause-exact c =

@@ -1,7 +1,7 @@
 use Rattle.std.proofs.Common.{◌++◌, ◌∷◌, [], List, ℕ, map, sym, ap, ◌∙◌, append_assoc, arith}
 use Rattle.std.specs.List.{range_with_len}
 use Rattle.std.proofs.lemmas.List.FromFn.{map-range_with_len_more}
-use Rattle.script_text.specs.declared.op.Op.{Op}
+use Rattle.script_ops.specs.declared.op.Op.{Op}
 use Rattle.script_text.specs.Meaning.{access_at}
 use Rattle.script_text.proofs.accesses.push_accesses.Goals as goal
 

@@ -1,7 +1,7 @@
 use Rattle.std.proofs.Common.{◌≡◌, ℕ, List, [], length, Some, sym, ap, ◌∙◌}
 use Rattle.std.proofs.lemmas.Bool.{eqb-true}
 use Rattle.std.proofs.lemmas.List.{nil_from_length}
-use Rattle.script_text.proofs.Escaping.{ended}
+use Rattle.script_text.proofs.EscapedBytes.{ended}
 use Rattle.script_text.proofs.escapes.unescape.Goals as goal
 
 pub returns-then-is_empty : goal.returns-then-is_empty

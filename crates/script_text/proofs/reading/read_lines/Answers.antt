@@ -1,12 +1,12 @@
 use Rattle.std.proofs.Common.{◌≡◌, ◌<◌, [], ◌∷◌, length, Result, IfOk, sym, ap, subst, ◌∙◌, arith}
 use Rattle.std.specs.Str.Lines.{lines}
-use Rattle.script_text.specs.Values.{ScriptValue}
+use Rattle.script_ops.specs.Values.{ScriptValue}
 use Rattle.script_text.specs.declared.fault.ScriptFault.{ScriptFault}
-use Rattle.script_text.specs.States.{State, state_of, IsReady}
+use Rattle.script_text.specs.States.{ReaderState, state_of, IsReady}
 use Rattle.script_text.specs.Reading.{reading_from, Reads}
 use Rattle.script_text.specs.declared.fault.LineFault.{LineFault}
-use Rattle.script_text.proofs.Follows.{good_line, bad_line, no_line}
-use Rattle.script_text.proofs.Fitting.{line_ready}
+use Rattle.script_text.proofs.NextLine.{good_line, bad_line, no_line}
+use Rattle.script_text.proofs.Readiness.{line_ready}
 use Rattle.script_text.proofs.reading.read_lines.Goals as goal
 
 pub returns-in_default : goal.returns-in_default
@@ -29,5 +29,5 @@ lines-preserved c =
       said = c.lines.invariant.said ∙ ap (reading_from c.lines.number (state_of c.lines.reader)) next.0 ∙ good_line c.lines.number (state_of c.lines.reader) (state_of c.line.new.self) c.in-Some.line.now (lines c.in-Some.rest.now) c.in-Ok.ensures.said;
       few = omega (arith, next.1);
       sound = c.in-Ok.ensures.sound;
-      ready = subst (λ (r : Result State LineFault). IfOk r IsReady) c.in-Ok.ensures.said (line_ready (state_of c.lines.reader) c.in-Some.line.now c.lines.invariant.ready);
+      ready = subst (λ (r : Result ReaderState LineFault). IfOk r IsReady) c.in-Ok.ensures.said (line_ready (state_of c.lines.reader) c.in-Some.line.now c.lines.invariant.ready);
     }

@@ -1,7 +1,7 @@
 use Rattle.std.proofs.Common.{ltb, ltb-true, ltb-false, rules}
 use Rattle.std.proofs.lemmas.List.Sorted.{IsPartitionPoint-from_clause, IsPartitionedBy-ltb}
 use Rattle.script_text.specs.declared.tasks.TaskRange.{TaskRange}
-use Rattle.script_text.proofs.Searching.{ends_rise}
+use Rattle.script_text.proofs.TaskSearch.{ends_rise}
 use Rattle.script_text.proofs.tasks.ended.Goals as goal
 
 pub returns : goal.returns

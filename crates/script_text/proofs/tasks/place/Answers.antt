@@ -1,7 +1,7 @@
 use Rattle.std.proofs.Common.{leb, leb-true, leb-false, rules}
 use Rattle.std.proofs.lemmas.List.Sorted.{IsPartitionPoint-from_clause, IsPartitionedBy-leb}
 use Rattle.script_text.specs.declared.tasks.TaskRange.{TaskRange}
-use Rattle.script_text.proofs.Searching.{firsts_rise, place_is}
+use Rattle.script_text.proofs.TaskSearch.{firsts_rise, place_is}
 use Rattle.script_text.proofs.tasks.place.Goals as goal
 
 pub returns-clause-place : goal.returns-clause-place

@@ -1,6 +1,6 @@
 use Rattle.std.proofs.Common.{◌+◌, ◌++◌, ◌∷◌, [], List, ℕ, sym, ap, ◌∙◌, append_assoc}
 use Rattle.std.specs.List.{range_with_len}
-use Rattle.script_text.proofs.Ranges.{range_more}
+use Rattle.lists.proofs.Ranges.{range_with_len-suc}
 use Rattle.script_text.proofs.tasks.push_range.Goals as goal
 
 pub loop-i-preserved : goal.loop-i-preserved
@@ -11,4 +11,4 @@ loop-i-preserved c =
     ∙ ap (λ (n : ℕ). c.loop-i.ids.items ++ (n + i) ∷ []) c.from-in-loop-i.ensures
     ∙ ap (λ (ids : List ℕ). ids ++ (a + i) ∷ []) c.loop-i.invariant
     ∙ append_assoc c.args.ids.now.items (range_with_len a i) ((a + i) ∷ [])
-    ∙ ap (λ (ids : List ℕ). c.args.ids.now.items ++ ids) (sym (range_more a i))
+    ∙ ap (λ (ids : List ℕ). c.args.ids.now.items ++ ids) (sym (range_with_len-suc a i))

@@ -4,7 +4,7 @@ use Rattle.std.proofs.lemmas.Bool.{eqb-true, eqb-false}
 use Rattle.std.proofs.lemmas.List.{nil_from_length}
 use Rattle.num_text.specs.Blanks.{is_blank, blanks_before}
 use Rattle.script_text.specs.Lines.{words}
-use Rattle.script_text.proofs.Parting.{Behind, words_behind, word_behind}
+use Rattle.script_text.proofs.FirstWord.{Behind, words_behind, word_behind}
 use Rattle.script_text.proofs.words.next_word.Goals as goal
 
 pub returns-then-is_empty : goal.returns-then-is_empty

@@ -1,8 +1,8 @@
 use Rattle.std.proofs.Common.{◌+◌, ◌<◌, ◌≤◌, length, take, get_or, arith}
 use Rattle.std.proofs.lemmas.List.{length-take}
 use Rattle.machine.specs.Maps.{parameters_of}
-use Rattle.step_world.proofs.Continuing.{still_ready}
-use Rattle.step_world.proofs.Following.{all_entries_in, all_few}
+use Rattle.step_world.proofs.Slices.{still_ready}
+use Rattle.step_world.proofs.CommandEntries.{all_entries_in, all_few}
 use Rattle.step_world.proofs.follow_ups.follow_all.Goals as goal
 
 pub follow_one-requires-clause-ready : goal.follow_one-requires-clause-ready

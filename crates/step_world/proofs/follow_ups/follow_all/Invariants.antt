@@ -1,7 +1,7 @@
 use Rattle.std.proofs.Common.{take}
 use Rattle.machine.specs.Maps.{parameters_of}
 use Rattle.step_world.specs.Playing.{AllContinue}
-use Rattle.step_world.proofs.Following.{all_entries_in}
+use Rattle.step_world.proofs.CommandEntries.{all_entries_in}
 use Rattle.step_world.proofs.follow_ups.follow_all.Given as goal
 
 abbrev pub invariant-loop-follow : goal.invariant-loop-follow

@@ -4,11 +4,12 @@ use Rattle.std.proofs.lemmas.List.{get_or_default}
 use Rattle.cache_core.specs.Stands.{entry}
 use Rattle.cache_core.specs.declared.entry.SliceEntry.{SliceEntry}
 use Rattle.machine.specs.Maps.{parameters_of}
-use Rattle.step_world.specs.Playing.{Continues, IsReady, SliceValue, entries_in, what_of}
-use Rattle.tree_core.specs.Steps.{follow_domain}
-use Rattle.step_world.proofs.Continuing.{all_further, all_same, goes_further, none_go, one_goes, stays, still_ready}
-use Rattle.step_world.proofs.Following.{all_made, made_below, none_here, none_made, one_more_made}
-use Rattle.step_world.proofs.Numbering.{first_is, of_the_domain}
+use Rattle.step_world.specs.Playing.{Continues, IsReady, SliceValue, entries_in}
+use Rattle.run_law.specs.Owed.{what_of}
+use Rattle.tree_law.specs.Steps.{follow_domain}
+use Rattle.step_world.proofs.Slices.{all_further, all_same, goes_further, none_go, one_goes, stays, still_ready}
+use Rattle.step_world.proofs.CommandEntries.{all_made, entries_in-domain, made_below, none_here, none_made, one_more_made}
+use Rattle.step_world.proofs.SliceNumbers.{first_is, of_the_domain}
 use Rattle.step_world.proofs.follow_ups.follow_one.Goals as goal
 
 pub loop-i-init : goal.loop-i-init
@@ -23,8 +24,8 @@ loop-i-init c =
     (λ i within. subst (λ k. [] ≡ made_below m domain es k i) first (none_made m domain es i c.args.m.now.in_range.some_slice))
     (none_go (Continues c.args.epoch) (stays c.args.epoch) old)
 
-pub follow-requires : goal.follow-requires
-follow-requires c =
+pub follow-requires-clause-ready : goal.follow-requires-clause-ready
+follow-requires-clause-ready c =
     let m = parameters_of c.args.m.now in
     let f = c.args.follow in
     let domain : ℕ = follow_domain f in
@@ -70,5 +71,5 @@ returns c =
     let first = first_is m domain c.domain_of.result c.first_slice-first.result c.domain_of.ensures c.first_slice-first.ensures in
     let last : c.loop-i.i ≡ domain * m.slices + m.slices = omega (arith, first, c.from.ensures, c.loop-i-test.false, c.loop-i.auto.i-end) in
     all_same (Continues c.args.epoch) (made_below m domain es c.loop-i.i) (λ i. entries_in m i c.args.n c.args.epoch f) c.args.slices.now.items c.loop-i.slices.items
-    (λ i within. subst (λ k. made_below m domain es k i ≡ entries_in m i c.args.n c.args.epoch f) (sym last) (all_made m domain es i c.args.m.now.in_range.some_slice))
+    (λ i within. subst (λ k. made_below m domain es k i ≡ entries_in m i c.args.n c.args.epoch f) (sym last) (all_made m domain es i c.args.m.now.in_range.some_slice ∙ sym (entries_in-domain m i c.args.n c.args.epoch f c.requires.plain)))
     c.loop-i.invariant

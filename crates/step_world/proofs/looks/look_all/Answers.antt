@@ -1,11 +1,11 @@
 use Rattle.std.proofs.Common.{ℕ, ◌+◌, List, [], take, sym, subst, arith}
 use Rattle.machine.specs.Maps.{parameters_of}
 use Rattle.machine.specs.declared.parameters.Parameters.{Parameters}
-use Rattle.run_law.specs.Runs.{JournalsValue}
+use Rattle.run_law.specs.Journals.{JournalsValue}
 use Rattle.step_world.specs.Playing.{AllLeft, AllLeftBy, HaveLooked, journals_of}
-use Rattle.step_world.proofs.Answering.{Answering, one_more_answered}
-use Rattle.step_world.proofs.Continuing.{left_by_own}
-use Rattle.tree_core.specs.Steps.{needs}
+use Rattle.step_world.proofs.Needs.{HaveAnswered, one_more_answered}
+use Rattle.step_world.proofs.Slices.{left_by_own}
+use Rattle.tree_law.specs.Steps.{needs}
 use Rattle.step_world.proofs.looks.look_all.Goals as goal
 
 pub loop-i-preserved : goal.loop-i-preserved
@@ -25,7 +25,7 @@ loop-i-preserved c =
     let left : AllLeft m new = subst (λ p. AllLeft p new) c.machine.ensures c.in_ok-look_one.ensures.left in
     record {
       spare = omega (arith, c.push.ensures.spare, c.loop-i.invariant.spare);
-      answering = subst (λ xs. Answering m j c.args.n tree.epoch (take (c.loop-i.i + 1) all) xs old new) (sym c.push.ensures.numbers)
+      answering = subst (λ xs. HaveAnswered m j c.args.n tree.epoch (take (c.loop-i.i + 1) all) xs old new) (sym c.push.ensures.numbers)
           (one_more_answered m j c.args.n tree.epoch all c.loop-i.i need c.loop-i.looks.numbers lines old now new
           (left_by_own m [] old c.requires.left) c.need-domain.ensures.need c.need-domain.ensures.domain here left c.loop-i.invariant.answering);
     }

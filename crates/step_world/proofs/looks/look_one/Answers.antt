@@ -1,8 +1,8 @@
 use Rattle.std.proofs.Common.{◌≡◌, ℕ, ◌+◌, ◌<◌, length, get_or, set, sym, subst, arith}
 use Rattle.machine.specs.Maps.{parameters_of}
 use Rattle.run_law.specs.Caches.{IsCacheOf}
-use Rattle.run_law.specs.Slices.{slice_number}
-use Rattle.step_world.proofs.Looking.{Looking, all_looked, here_few, one_more_looked, there_left, there_within}
+use Rattle.machine.specs.Slices.{slice_number}
+use Rattle.step_world.proofs.DomainLooks.{HaveCounted, all_looked, here_few, one_more_looked, there_left, there_within}
 use Rattle.step_world.proofs.looks.look_one.Goals as goal
 
 pub overflow_add-lines : goal.overflow_add-lines
@@ -13,7 +13,7 @@ overflow_add-lines c =
     let old = c.args.slices.now.items in
     let now = c.loop-slice.slices.items in
     let s = c.index_mut.result.now in
-    let at : c.first_slice-first.result + c.from.result ≡ i = omega (arith, c.first_slice-first.ensures, c.from.ensures) in
+    let at : c.slice_number.result ≡ i = c.slice_number.ensures.number in
     let found : s ≡ get_or now i s = subst (λ k. s ≡ get_or now k s) at c.index_mut.ensures.value in
     let within : i < length now = there_within m c.args.n c.args.epoch c.args.domain c.args.rmid number c.loop-slice.lines old now c.requires.count c.requires.domain c.loop-slice-test.true c.loop-slice.invariant in
     let left : IsCacheOf m i s.entries s.cache = there_left m c.args.n c.args.epoch c.args.domain c.args.rmid number c.loop-slice.lines old now s within found c.loop-slice.invariant in
@@ -29,9 +29,9 @@ loop-slice-preserved c =
     let now = c.loop-slice.slices.items in
     let s = c.index_mut.result.now in
     let new = c.look.new.self in
-    let at : c.first_slice-first.result + c.from.result ≡ i = omega (arith, c.first_slice-first.ensures, c.from.ensures) in
+    let at : c.slice_number.result ≡ i = c.slice_number.ensures.number in
     let found : s ≡ get_or now i s = subst (λ k. s ≡ get_or now k s) at c.index_mut.ensures.value in
-    subst (λ k. Looking m c.args.n c.args.epoch c.args.domain c.args.rmid (number + 1) (c.loop-slice.lines + c.in_ok-lines.field-0) old (set now k new)) (sym at)
+    subst (λ k. HaveCounted m c.args.n c.args.epoch c.args.domain c.args.rmid (number + 1) (c.loop-slice.lines + c.in_ok-lines.field-0) old (set now k new)) (sym at)
     (one_more_looked m c.args.n c.args.epoch c.args.domain c.args.rmid number c.loop-slice.lines c.in_ok-lines.field-0 old now s new
     c.args.m.now.in_range c.requires.count c.requires.domain c.loop-slice-test.true found c.in_ok-lines.ensures c.loop-slice.invariant)
 

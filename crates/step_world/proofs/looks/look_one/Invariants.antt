@@ -1,6 +1,6 @@
 use Rattle.machine.specs.Maps.{parameters_of}
-use Rattle.step_world.proofs.Looking.{Looking}
+use Rattle.step_world.proofs.DomainLooks.{HaveCounted}
 use Rattle.step_world.proofs.looks.look_one.Given as goal
 
 abbrev pub invariant-loop-slice : goal.invariant-loop-slice
-invariant-loop-slice l = Looking (parameters_of l.m) l.n l.epoch l.domain l.rmid l.slice l.lines l.initial.slices.items l.slices.items
+invariant-loop-slice l = HaveCounted (parameters_of l.m) l.n l.epoch l.domain l.rmid l.slice l.lines l.initial.slices.items l.slices.items

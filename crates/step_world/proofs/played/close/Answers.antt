@@ -1,7 +1,7 @@
 use Rattle.std.proofs.Common.{map, ◌∙◌}
 use Rattle.run_law.specs.Entries.{entry_value}
-use Rattle.step_world.proofs.Finishing.{leaves, runs}
-use Rattle.script_text.specs.Values.{ops_of}
+use Rattle.step_world.proofs.Runs.{leaves, runs}
+use Rattle.script_ops.specs.Values.{ops_of}
 use Rattle.std.proofs.Common.{length}
 use Rattle.step_world.proofs.played.close.Goals as goal
 

@@ -1,13 +1,13 @@
 use Rattle.std.proofs.Common.{◌≡◌, ◌/◌, ◌%◌, ◌^◌, ◌<◌, length, map, sym, ap, ◌∙◌, subst, arith}
 use Rattle.std.proofs.lemmas.Result.{on_ok_weaker}
 use Rattle.cache_core.specs.History.{Shape}
-use Rattle.machine.specs.Maps.{domain_of, parameters_of}
+use Rattle.machine.specs.Maps.{domain_of, parameters_of, line_of}
 use Rattle.machine.specs.declared.parameters.Parameters.{Parameters}
 use Rattle.run_law.specs.Entries.{entry_value}
-use Rattle.run_law.specs.Slices.{line_of, slice_count, slice_of_line}
+use Rattle.machine.specs.Slices.{slice_count, slice_of_line}
 use Rattle.step_world.specs.Playing.{IsInPlay}
-use Rattle.step_world.proofs.Numbering.{domain_within, some_way}
-use Rattle.step_world.proofs.Stepping.{accessed, own_line}
+use Rattle.step_world.proofs.SliceNumbers.{domain_within, some_way}
+use Rattle.step_world.proofs.Steps.{accessed, own_line}
 use Rattle.step_world.proofs.player.access.Goals as goal
 
 pub line_slice-slice-requires : goal.line_slice-slice-requires

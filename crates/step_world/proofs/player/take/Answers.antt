@@ -5,10 +5,17 @@ use Rattle.std.proofs.lemmas.Result.{on_ok_weaker}
 use Rattle.run_law.specs.Entries.{entry_value}
 use Rattle.run_law.specs.TreeHistory.{TreeEntryValue}
 use Rattle.step_world.specs.Playing.{AllContinue, IsAt}
-use Rattle.tree_core.specs.Steps.{follow_domain, next}
-use Rattle.step_world.proofs.Following.{all_entries_in}
-use Rattle.step_world.proofs.Stepping.{Takes, took}
+use Rattle.tree_core.specs.Follows.{IsRaiseOrFlush}
+use Rattle.tree_law.specs.Steps.{follow_domain, next}
+use Rattle.step_world.proofs.CommandEntries.{all_entries_in}
+use Rattle.step_world.proofs.Steps.{Takes, fits_tree, took}
 use Rattle.step_world.proofs.player.take.Goals as goal
+
+pub look_all-requires-clause-fits : goal.look_all-requires-clause-fits
+look_all-requires-clause-fits c = fits_tree c.args.script.now c.args.n c.args.player.now.tree (map entry_value c.args.player.now.commands.items) c.args.player.now.slices.items c.args.op.now c.requires.at c.requires.fits
+
+pub apply-reply-requires-clause-fits : goal.apply-reply-requires-clause-fits
+apply-reply-requires-clause-fits c = fits_tree c.args.script.now c.args.n c.args.player.now.tree (map entry_value c.args.player.now.commands.items) c.args.player.now.slices.items c.args.op.now c.requires.at c.requires.fits
 
 pub returns : goal.returns
 returns c =
@@ -29,6 +36,7 @@ returns c =
     let epoch : c.epoch-epoch.result ≡ tree.epoch + 1 = c.epoch-epoch.ensures ∙ told.epoch in
     let few : length follows ≤ 8 = omega (arith, c.as_slice.ensures.fits) in
     let exist : All (λ f. follow_domain f < tree.machine.domains) follows = subst (λ fs. All (λ f. follow_domain f < tree.machine.domains) fs) (sym c.as_slice.ensures.value) told.domains in
+    let plain : All IsRaiseOrFlush follows = subst (λ fs. All IsRaiseOrFlush fs) (sym c.as_slice.ensures.value) told.plain in
     on_ok_weaker c.follow_all.result
     (λ goes.
     let followed : AllContinue (tree.epoch + 1) (all_entries_in tree.machine n (tree.epoch + 1) follows) looked new =
@@ -42,6 +50,7 @@ returns c =
       state = subst (λ given. c.apply-reply.new.self.state ≡ (next tree.machine tree.state op given).state) c.items.ensures told.state;
       follows = c.as_slice.ensures.value ∙ told.after;
       follows_exist = exist;
+      follows_plain = plain;
       few_follow = few;
       followed = followed;
     } in

@@ -1,5 +1,5 @@
 use Rattle.task_binding.specs.Bindings.{has_monitor, counted}
-use Rattle.task_binding.proofs.Changing.{ChangedTo}
+use Rattle.task_binding.proofs.Changes.{ChangedTo}
 use Rattle.task_binding.proofs.search.change_monitor.Given as goal
 
 abbrev pub invariant-loop-b : goal.invariant-loop-b

@@ -1,8 +1,11 @@
-use Rattle.std.proofs.Common.{[], ◌∷◌, refl, sym, ap, ◌∙◌, ◌++◌, List, arith, length-append, zero-add}
+use Rattle.std.specs.List.{range_with_len}
+use Rattle.std.proofs.Common.{ℕ, [], ◌∷◌, refl, sym, ap, ◌∙◌, ◌++◌, List, arith, length-append, zero-add}
 use Rattle.std.proofs.lemmas.List.FromFn.{map-range_with_len_more}
-use Rattle.tree_core.specs.declared.follow.Follow.{Follow}
-use Rattle.tree_core.specs.declared.follow.Follow.TheVariants.{Flush}
-use Rattle.tree_core.proofs.Rising.{below_push}
+use Rattle.tree_law.specs.declared.follow.Follow.{Follow}
+use Rattle.tree_law.specs.declared.follow.Follow.TheVariants.{Flush}
+use Rattle.tree_core.proofs.Raises.{below_push}
+use Rattle.std.proofs.lemmas.List.Elements.{All-map}
+use Rattle.tree_core.specs.Follows.{IsRaiseOrFlush}
 use Rattle.tree_core.proofs.follow.flushes.Goals as goal
 
 pub loop-domain-preserved : goal.loop-domain-preserved
@@ -14,3 +17,6 @@ loop-domain-preserved c =
       few = omega (arith, c.loop-domain.invariant.few, length-append c.loop-domain.after.items (Flush domain ∷ []));
       domains = below_push domain c.loop-domain.after.items (Flush domain) c.loop-domain.invariant.domains refl;
     })
+
+pub returns-clause-plain : goal.returns-clause-plain
+returns-clause-plain c = rw c.loop-domain.invariant.flushes (All-map IsRaiseOrFlush (λ (d : ℕ). Flush d) (range_with_len 0 c.loop-domain.domain) (λ k d within. tt))

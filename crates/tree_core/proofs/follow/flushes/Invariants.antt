@@ -1,7 +1,7 @@
 use Rattle.std.proofs.Common.{◌≡◌, ◌<◌, ◌≤◌, map, length}
 use Rattle.std.specs.List.{All, range_with_len}
-use Rattle.tree_core.specs.Steps.{follow_domain}
-use Rattle.tree_core.specs.declared.follow.Follow.TheVariants.{Flush}
+use Rattle.tree_law.specs.Steps.{follow_domain}
+use Rattle.tree_law.specs.declared.follow.Follow.TheVariants.{Flush}
 use Rattle.tree_core.proofs.follow.flushes.Given as goal
 
 abbrev pub invariant-loop-domain : goal.invariant-loop-domain

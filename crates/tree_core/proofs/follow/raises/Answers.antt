@@ -1,10 +1,12 @@
-use Rattle.std.proofs.Common.{◌≡◌, true, false, List, [], ◌∷◌, ◌++◌, filter, map, refl, sym, ap, ◌∙◌, arith, length-append}
+use Rattle.std.proofs.Common.{ℕ, ◌≡◌, true, false, List, [], ◌∷◌, ◌++◌, filter, map, refl, sym, ap, ◌∙◌, arith, length-append}
 use Rattle.std.specs.List.{range_with_len}
 use Rattle.std.proofs.lemmas.List.{append-nil}
-use Rattle.tree_core.specs.Steps.{names_domain}
-use Rattle.tree_core.specs.declared.follow.Follow.{Follow}
-use Rattle.tree_core.specs.declared.follow.Follow.TheVariants.{Raise}
-use Rattle.tree_core.proofs.Rising.{below_more, below_push, filter_more}
+use Rattle.tree_law.specs.commands.Schemata.{names_domain}
+use Rattle.tree_law.specs.declared.follow.Follow.{Follow}
+use Rattle.tree_law.specs.declared.follow.Follow.TheVariants.{Raise}
+use Rattle.tree_core.proofs.Raises.{below_more, below_push, filter_more}
+use Rattle.std.proofs.lemmas.List.Elements.{All-map}
+use Rattle.tree_core.specs.Follows.{IsRaiseOrFlush}
 use Rattle.tree_core.proofs.follow.raises.Goals as goal
 use Rattle.tree_core.proofs.follow.raises.Goals.{then-is_named, else-is_named}
 
@@ -30,3 +32,6 @@ loop-domain-preserved c =
             domains = below_more domain c.loop-domain.after.items c.loop-domain.invariant.domains;
           })
     ]
+
+pub returns-clause-plain : goal.returns-clause-plain
+returns-clause-plain c = rw c.loop-domain.invariant.raises (All-map IsRaiseOrFlush (λ (d : ℕ). Raise d) (filter (names_domain c.args.all.now) (range_with_len 0 c.loop-domain.domain)) (λ k d within. tt))

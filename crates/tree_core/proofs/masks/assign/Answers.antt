@@ -3,7 +3,7 @@ use Rattle.std.proofs.Math.Seq.{drop-cons}
 use Rattle.std.proofs.lemmas.List.{get_or_default}
 use Rattle.std.proofs.lemmas.List.Elements.{AllWithin-more}
 use Rattle.schemata_text.specs.declared.assignment.Assignment.{Assignment}
-use Rattle.tree_core.specs.Steps.{assigned}
+use Rattle.tree_law.specs.commands.Schemata.{assigned}
 use Rattle.tree_core.proofs.masks.assign.Goals as goal
 
 pub loop-a-preserved : goal.loop-a-preserved

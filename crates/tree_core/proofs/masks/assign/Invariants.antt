@@ -1,7 +1,7 @@
 use Rattle.std.proofs.Common.{◌≡◌, ◌<◌, ◌^◌, drop}
 use Rattle.std.specs.List.{AllWithin}
 use Rattle.schemata_text.specs.declared.assignment.Assignment.{Assignment}
-use Rattle.tree_core.specs.Steps.{assigned}
+use Rattle.tree_law.specs.commands.Schemata.{assigned}
 use Rattle.tree_core.proofs.masks.assign.Given as goal
 
 abbrev pub invariant-loop-a : goal.invariant-loop-a

@@ -1,6 +1,6 @@
 use Rattle.std.proofs.Common.{inr}
 use Rattle.tree_core.specs.Taking.{ClassTaken}
-use Rattle.tree_core.proofs.GivenBack.{class_back}
+use Rattle.tree_core.proofs.Returns.{class_back}
 use Rattle.tree_core.proofs.taking.take_ids.Goals as goal
 
 pub returns-in-Err : goal.returns-in-Err

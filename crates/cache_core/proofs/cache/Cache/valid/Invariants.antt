@@ -1,5 +1,5 @@
 use Rattle.std.proofs.Common.{◌≡◌, ◌≤◌, ◌*◌, length}
-use Rattle.cache_core.specs.Sums.{sum_below}
+use Rattle.lists.specs.Sums.{sum_below}
 use Rattle.cache_core.specs.Places.{filled_in, set_in}
 use Rattle.cache_core.proofs.cache.Cache.valid.Given as goal
 

@@ -1,7 +1,7 @@
 use Rattle.std.proofs.Common.{◌+◌, ◌-◌, ◌*◌, ◌^◌, sym, ◌∙◌, arith}
 use Rattle.cpu_lists.specs.Sets.{has}
 use Rattle.cpu_lists.proofs.Bits.{grouped, moved_up, moved_out}
-use Rattle.cpu_lists.proofs.Collecting.{beyond_same}
+use Rattle.cpu_lists.proofs.Additions.{beyond_same}
 use Rattle.cpu_lists.proofs.numbers.Numbers.with_group.Goals as goal
 
 pub returns : goal.returns

@@ -1,7 +1,7 @@
 use Rattle.std.proofs.Common.{find, ap, ◌∙◌}
 use Rattle.group_tree.specs.Lists.{GroupList}
 use Rattle.group_tree.specs.Records.{is_control_named}
-use Rattle.group_tree.proofs.Found.{found_where_there}
+use Rattle.group_tree.proofs.Lookups.{found_where_there}
 use Rattle.group_tree.proofs.groups.Groups.find_ctrl.Goals as goal
 
 pub returns-clause-there : goal.returns-clause-there

@@ -1,7 +1,7 @@
 use Rattle.std.proofs.Common.{find, ap, ◌∙◌}
 use Rattle.group_tree.specs.Lists.{GroupList}
 use Rattle.group_tree.specs.Records.{has_gid}
-use Rattle.group_tree.proofs.Found.{found_where_there}
+use Rattle.group_tree.proofs.Lookups.{found_where_there}
 use Rattle.group_tree.proofs.groups.Groups.get.Goals as goal
 
 pub returns-clause-there : goal.returns-clause-there

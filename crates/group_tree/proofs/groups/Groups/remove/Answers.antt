@@ -1,6 +1,6 @@
 use Rattle.std.proofs.Common.{sym, subst}
 use Rattle.group_tree.specs.Lists.{IsTree}
-use Rattle.group_tree.proofs.Editing.{IsTree-without}
+use Rattle.group_tree.proofs.Edits.{IsTree-without}
 use Rattle.group_tree.proofs.groups.Groups.remove.Goals as goal
 
 pub invariant_of-self : goal.invariant_of-self

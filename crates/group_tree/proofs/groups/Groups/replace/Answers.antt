@@ -1,6 +1,6 @@
 use Rattle.std.proofs.Common.{sym, subst}
 use Rattle.group_tree.specs.Lists.{IsTree}
-use Rattle.group_tree.proofs.Editing.{IsTree-replaced}
+use Rattle.group_tree.proofs.Edits.{IsTree-replaced}
 use Rattle.group_tree.proofs.groups.Groups.replace.Goals as goal
 
 pub invariant_of-self : goal.invariant_of-self

@@ -1,4 +1,4 @@
-use Rattle.machine.proofs.Fitting.{ways_of-full}
+use Rattle.machine.proofs.Masks.{ways_of-full}
 use Rattle.machine.proofs.machine.Machine.full.Goals as goal
 
 pub returns : goal.returns

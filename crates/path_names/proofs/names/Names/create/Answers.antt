@@ -1,7 +1,7 @@
 use Rattle.std.proofs.Common.{ℕ, List, Global, Vec, map, vec_items, subst, sym}
 use Rattle.std.specs.List.{IsDistinct}
 use Rattle.std.specs.Str.{bytes_eq}
-use Rattle.path_names.proofs.Interning.{distinct_none}
+use Rattle.path_names.proofs.NameTable.{distinct_none}
 use Rattle.path_names.proofs.names.Names.create.Goals as goal
 
 pub invariant_of-result : goal.invariant_of-result

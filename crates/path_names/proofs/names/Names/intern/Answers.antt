@@ -3,7 +3,7 @@ use Rattle.std.specs.List.{list_any, slice_get, IsDistinct}
 use Rattle.std.specs.Str.{bytes_eq}
 use Rattle.path_names.specs.declared.names.NameId.{NameId}
 use Rattle.path_names.specs.Interned.{interned, number_of}
-use Rattle.path_names.proofs.Interning.{any_of_map, inserted, known_stays, named_there, place_found, place_of_map, still_distinct}
+use Rattle.path_names.proofs.NameTable.{any_of_map, inserted, known_stays, named_there, place_found, place_of_map, still_distinct}
 use Rattle.path_names.proofs.names.Names.intern.Goals as goal
 
 abbrev numbered : ℕ → NameId

@@ -3,7 +3,7 @@ use Rattle.std.specs.Option.{option_map}
 use Rattle.std.specs.List.{slice_get}
 use Rattle.std.proofs.lemmas.Option.{slice_get-map}
 use Rattle.path_names.specs.Interned.{number_of}
-use Rattle.path_names.proofs.Interning.{only_place}
+use Rattle.path_names.proofs.NameTable.{only_place}
 use Rattle.path_names.proofs.names.Names.text.Goals as goal
 
 pub returns-clause-only : goal.returns-clause-only

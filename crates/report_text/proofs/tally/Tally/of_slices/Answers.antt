@@ -1,6 +1,6 @@
 use Rattle.std.proofs.Common.{◌*◌, ◌^◌, arith}
 use Rattle.report_text.specs.Tallies.{at}
-use Rattle.report_text.proofs.Tallying.{at_most_more}
+use Rattle.report_text.proofs.TallyBounds.{at_most_more}
 use Rattle.report_text.proofs.tally.Tally.of_slices.Goals as goal
 
 pub add_all-requires : goal.add_all-requires

@@ -1,10 +1,11 @@
-use Rattle.std.proofs.Common.{◌≡◌, ℕ, ◌≤◌, ◌++◌, List, [], ◌∷◌, All, length, sym, subst, arith, length-append}
+use Rattle.std.proofs.Common.{◌≡◌, ℕ, ◌+◌, ◌≤◌, ◌++◌, List, [], ◌∷◌, All, length, sym, ap, subst, ◌∙◌, arith, length-append}
 use Rattle.std.proofs.lemmas.List.Elements.{All-push}
-use Rattle.script_text.specs.declared.op.Op.{Op}
-use Rattle.script_text.specs.Canonical.{AreNamed}
-use Rattle.script_text.specs.Values.{PhaseValue, threads_in}
-use Rattle.script_text.proofs.Keeping.{phase_named}
+use Rattle.script_ops.specs.declared.op.Op.{Op}
+use Rattle.script_ops.specs.Canonical.{AreNamed}
+use Rattle.script_ops.specs.Values.{PhaseValue, threads_in}
+use Rattle.script_text.proofs.Limits.{phase_named}
 use Rattle.script_text.proofs.reader.Reader.close_phase.Goals as goal
+use Rattle.script_ops.specs.declared.limits.TheConstants.{MOST_PHASES, MOST_PHASE_THREADS}
 
 none_named : (n : ℕ) (threads : List (List Op)) → threads ≡ [] → All (AreNamed n) threads
 none_named n [] e = λ k d h. absurd (omega arith)
@@ -21,16 +22,16 @@ returns-clause-limits c =
     let threads : c.replace-threads.result.items ≡ s.threads.items = cc in
     let none : c.replace-threads.new.dest.items ≡ [] = cc in
     let p : PhaseValue = record { order = c.replace-order.result.items; threads = c.replace-threads.result.items } in
-    let phases : c.push.new.self.items ≡ s.phases.items ++ p ∷ [] = c.in_ok-push.ensures.items in
-    let few : length p.threads ≤ 16 = subst (λ (ts : List (List Op)). length ts ≤ 16) (sym threads) limits.threads in
+    let phases : c.push.new.self.items ≡ s.phases.items ++ p ∷ [] = c.in_ok-push.ensures.items ∙ ap (λ (q : PhaseValue). s.phases.items ++ q ∷ []) c.new-3.ensures in
+    let few : length p.threads ≤ MOST_PHASE_THREADS = subst (λ (ts : List (List Op)). length ts ≤ MOST_PHASE_THREADS) (sym threads) (omega (arith, limits.threads)) in
     let named : All (AreNamed n) p.threads = subst (λ (ts : List (List Op)). All (AreNamed n) ts) (sym threads) limits.threads_named in
     record {
       names = limits.names;
       weight = limits.weight;
       tasks = limits.tasks;
-      phases = subst (λ (ps : List PhaseValue). length ps ≤ 64) (sym phases) (omega (arith, limits.phases, length-append s.phases.items (p ∷ [])));
-      threads = subst (λ (ts : List (List Op)). length ts ≤ 15) (sym none) (omega arith);
-      each = subst (λ (ps : List PhaseValue). All (λ (q : PhaseValue). length q.threads ≤ 16) ps) (sym phases) (All-push (λ (q : PhaseValue). length q.threads ≤ 16) s.phases.items p limits.each few);
+      phases = subst (λ (ps : List PhaseValue). length ps + 0 ≤ MOST_PHASES) (sym phases) (omega (arith, limits.phases, length-append s.phases.items (p ∷ [])));
+      threads = subst (λ (ts : List (List Op)). length ts + 1 ≤ MOST_PHASE_THREADS) (sym none) (omega arith);
+      each = subst (λ (ps : List PhaseValue). All (λ (q : PhaseValue). length q.threads ≤ MOST_PHASE_THREADS) ps) (sym phases) (All-push (λ (q : PhaseValue). length q.threads ≤ MOST_PHASE_THREADS) s.phases.items p limits.each few);
       ops_named = limits.ops_named;
       threads_named = none_named n c.replace-threads.new.dest.items none;
       phases_named = subst (λ (ps : List PhaseValue). All (AreNamed n) (threads_in ps)) (sym phases) (phase_named n s.phases.items p limits.phases_named named);

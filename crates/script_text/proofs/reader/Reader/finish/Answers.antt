@@ -1,5 +1,5 @@
 use Rattle.script_text.specs.States.{state_of}
-use Rattle.script_text.proofs.Fitting.{phase_closed}
+use Rattle.script_text.proofs.Readiness.{phase_closed}
 use Rattle.script_text.proofs.reader.Reader.finish.Goals as goal
 
 pub into_script-requires-clause-fit : goal.into_script-requires-clause-fit

@@ -1,23 +1,26 @@
 use Rattle.std.proofs.Common.{◌≡◌, ℕ, List, ◌++◌, All, sym, ap, subst, ◌∙◌, arith}
 use Rattle.std.specs.List.Sorted.{IsStrictlyIncreasing}
 use Rattle.script_text.specs.Tasks.{ids_of}
-use Rattle.script_text.specs.Values.{threads_in}
-use Rattle.script_text.specs.Fits.{AreFit}
+use Rattle.script_ops.specs.Values.{threads_in}
+use Rattle.script_ops.specs.Fits.{AreFit}
 use Rattle.machine.specs.Maps.{parameters_of}
-use Rattle.script_text.proofs.Rising.{ids_increase}
+use Rattle.script_text.proofs.TaskRanges.{ids_increase}
 use Rattle.script_text.proofs.reader.Reader.into_script.Goals as goal
 
-pub invariant_of-result : goal.invariant_of-result
-invariant_of-result c =
+pub new-requires : goal.new-requires
+new-requires c =
     let ranges = c.args.self.tasks.items in
     let ids : c.push_ids.new.ids.items ≡ ids_of ranges =
     c.in-Ok.ensures
     ∙ ap (λ (xs : List ℕ). xs ++ ids_of c.deref.result.now) c.new-tasks.ensures.items
     ∙ ap ids_of c.deref.ensures.value in
     record {
-      rising = subst IsStrictlyIncreasing (sym ids) (ids_increase ranges c.requires.limits.tasks);
-      few = record { few_phases = c.requires.limits.phases; few_threads = c.requires.limits.each };
-      named = c.requires.limits.phases_named;
-      fit = subst (λ (tasks : List ℕ). All (AreFit (parameters_of c.args.self.machine) tasks) (threads_in c.args.self.phases.items)) (sym ids) c.requires.fit.phases;
-      light = omega (arith, c.requires.fit.light, c.requires.fit.counted);
+      lawful = record {
+        in_range = c.args.self.machine.in_range;
+        rising = subst IsStrictlyIncreasing (sym ids) (ids_increase ranges c.requires.limits.tasks);
+        few = record { few_phases = omega (arith, c.requires.limits.phases); few_threads = c.requires.limits.each };
+        named = c.requires.limits.phases_named;
+        fit = subst (λ (tasks : List ℕ). All (AreFit (parameters_of c.args.self.machine) tasks) (threads_in c.args.self.phases.items)) (sym ids) c.requires.fit.phases;
+        light = omega (arith, c.requires.fit.light, c.requires.fit.counted);
+      };
     }

@@ -2,7 +2,7 @@ use Rattle.std.proofs.Common.{arith, sym, ap, subst, ◌∙◌}
 use Rattle.cache_core.specs.History.{shape_of}
 use Rattle.cache_core.specs.Stands.{StandsFor}
 use Rattle.machine.specs.Maps.{parameters_of}
-use Rattle.step_world.proofs.Numbering.{number_in}
+use Rattle.machine.proofs.laws.Slices.{slice_number-mod}
 use Rattle.step_world.proofs.slice.Slice.create.Goals as goal
 
 pub returns : goal.returns
@@ -11,7 +11,7 @@ returns c =
     let made = c.in_ok-cache.ensures in
     record {
       in_play = record {
-        shape = made.shape ∙ ap (shape_of m) (sym (number_in m c.args.domain c.args.slice c.requires.slice));
+        shape = made.shape ∙ ap (shape_of m) (sym (slice_number-mod m c.args.domain c.args.slice c.requires.slice));
         rmids = made.rmids;
         floor = omega (arith, made.floor);
         clock = omega (arith, made.clock);

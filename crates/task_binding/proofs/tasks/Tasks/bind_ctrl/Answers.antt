@@ -1,7 +1,7 @@
 use Rattle.std.proofs.Common.{refl, sym, ◌∙◌}
 use Rattle.std.proofs.lemmas.Option.{none-some}
 use Rattle.task_binding.specs.Bindings.{joined}
-use Rattle.task_binding.proofs.Bound.{IsBoundAt, bound, bound_at, rebound, unbound}
+use Rattle.task_binding.proofs.Places.{IsBoundAt, bound, bound_at, rebound, unbound}
 use Rattle.task_binding.proofs.tasks.Tasks.bind_ctrl.Goals as goal
 
 at : (c : goal.After-self-1) → IsBoundAt c.args.task c.self.inside.bindings.items c.in-Some.place c.index_mut-b.result.now

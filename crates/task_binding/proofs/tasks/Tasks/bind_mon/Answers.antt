@@ -2,7 +2,7 @@ use Rattle.std.proofs.Common.{◌≡◌, ◌≢◌, Option, Some, IsSomeAnd, ref
 use Rattle.std.proofs.lemmas.Option.{none-some}
 use Rattle.task_binding.specs.declared.binding.Binding.{Binding}
 use Rattle.task_binding.specs.Bindings.{binding_of, counted}
-use Rattle.task_binding.proofs.Bound.{IsBoundAt, agree, bound, bound_at, differ, rebound, unbound}
+use Rattle.task_binding.proofs.Places.{IsBoundAt, agree, bound, bound_at, differ, rebound, unbound}
 use Rattle.task_binding.proofs.tasks.Tasks.bind_mon.Goals as goal
 
 pub returns-in_default-clause-no_task : goal.returns-in_default-clause-no_task

@@ -1,6 +1,6 @@
 use Rattle.std.proofs.Common.{subst, sym}
 use Rattle.task_binding.specs.Bindings.{AreRising}
-use Rattle.task_binding.proofs.Rising.{opening_rises}
+use Rattle.task_binding.proofs.Order.{opening_rises}
 use Rattle.task_binding.proofs.tasks.Tasks.create.Goals as goal
 
 pub invariant_of-result : goal.invariant_of-result

@@ -1,7 +1,7 @@
 use Rattle.std.proofs.Common.{◌≡◌, ℕ, Option, Some, None, IsSome, ap, ◌∙◌, subst}
 use Rattle.task_binding.specs.declared.binding.Binding.{Binding}
 use Rattle.task_binding.specs.Bindings.{binding_of}
-use Rattle.task_binding.proofs.Bound.{IsBoundAt, bound, bound_at, unbound}
+use Rattle.task_binding.proofs.Places.{IsBoundAt, bound, bound_at, unbound}
 use Rattle.task_binding.proofs.tasks.Tasks.groups_of.Goals as goal
 
 pub unreachable-requires : goal.unreachable-requires

@@ -2,7 +2,7 @@ use Rattle.std.proofs.Common.{List, subst}
 use Rattle.std.specs.List.Sorted.{IsStrictlyIncreasing}
 use Rattle.task_binding.specs.declared.binding.Binding.{Binding}
 use Rattle.task_binding.specs.Bindings.{monitor_members, has_monitor}
-use Rattle.task_binding.proofs.Rising.{tasks_rise}
+use Rattle.task_binding.proofs.Order.{tasks_rise}
 use Rattle.task_binding.proofs.tasks.Tasks.mon_member.Goals as goal
 
 pub returns-clause-rising : goal.returns-clause-rising

@@ -1,14 +1,15 @@
 use Rattle.std.proofs.Common.{◌≡◌, length, sym, refl, ap, ◌∙◌, subst}
-use Rattle.task_binding.specs.Bindings.{AreRising, changed, default_group, has_control, joined}
-use Rattle.task_binding.proofs.Changing.{length_changed, written_whole}
-use Rattle.task_binding.proofs.Rising.{changed_rises}
+use Rattle.task_binding.specs.Bindings.{AreRising, changed, has_control, joined}
+use Rattle.rc_base.specs.Gids.{default_gid}
+use Rattle.task_binding.proofs.Changes.{length_changed, written_whole}
+use Rattle.task_binding.proofs.Order.{changed_rises}
 use Rattle.task_binding.proofs.tasks.Tasks.unbind_ctrl.Goals as goal
 
 pub invariant_of-self : goal.invariant_of-self
 invariant_of-self c =
     let table = c.self.inside.bindings.items in
     let after = c.change_control.new.bindings in
-    let is : after ≡ changed (has_control c.args.group) (joined default_group) table = c.change_control.ensures ∙ ap (changed (has_control c.args.group) (joined default_group)) c.deref_mut.ensures.value in
-    let long : length after ≡ length table = ap length is ∙ length_changed (has_control c.args.group) (joined default_group) table in
+    let is : after ≡ changed (has_control c.args.group) (joined default_gid) table = c.change_control.ensures ∙ ap (changed (has_control c.args.group) (joined default_gid)) c.deref_mut.ensures.value in
+    let long : length after ≡ length table = ap length is ∙ length_changed (has_control c.args.group) (joined default_gid) table in
     let count : c.self.inside.bindings.len ≡ length table = sym c.deref_mut.ensures.len ∙ ap length c.deref_mut.ensures.value in
-    subst AreRising (sym (written_whole c.self.inside.bindings.len table after count long ∙ is)) (changed_rises (has_control c.args.group) (joined default_group) (λ b. refl) table c.self.invariant)
+    subst AreRising (sym (written_whole c.self.inside.bindings.len table after count long ∙ is)) (changed_rises (has_control c.args.group) (joined default_gid) (λ b. refl) table c.self.invariant)

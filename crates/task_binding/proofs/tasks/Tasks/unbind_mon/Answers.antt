@@ -1,7 +1,7 @@
 use Rattle.std.proofs.Common.{◌≡◌, length, sym, refl, ap, ◌∙◌, subst}
 use Rattle.task_binding.specs.Bindings.{AreRising, changed, counted, has_monitor}
-use Rattle.task_binding.proofs.Changing.{length_changed, written_whole}
-use Rattle.task_binding.proofs.Rising.{changed_rises}
+use Rattle.task_binding.proofs.Changes.{length_changed, written_whole}
+use Rattle.task_binding.proofs.Order.{changed_rises}
 use Rattle.task_binding.proofs.tasks.Tasks.unbind_mon.Goals as goal
 
 pub invariant_of-self : goal.invariant_of-self

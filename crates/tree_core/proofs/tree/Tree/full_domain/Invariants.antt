@@ -1,5 +1,5 @@
 use Rattle.std.proofs.Common.{◌≡◌, ◌<◌, ℕ, false, is_none}
-use Rattle.tree_core.specs.Space.{initial_mask}
+use Rattle.tree_law.specs.Space.{initial_mask}
 use Rattle.tree_core.proofs.tree.Tree.full_domain.Given as goal
 
 abbrev pub invariant-loop-domain : goal.invariant-loop-domain

@@ -1,7 +1,7 @@
 use Rattle.std.proofs.Common.{ap, ◌∙◌}
-use Rattle.tree_core.specs.State.{TreeValue}
-use Rattle.tree_core.proofs.Sounding.{kept}
+use Rattle.tree_core.proofs.Kept.{kept}
+use Rattle.tree_core.specs.Values.{TreeValue}
 use Rattle.tree_core.proofs.tree.Tree.groups.Goals as goal
 
 pub returns-clause-shareable : goal.returns-clause-shareable
-returns-clause-shareable c = (kept c.self.invariant).shareable ∙ ap (λ (t : TreeValue). t.machine.shareable) c.self.view_is
+returns-clause-shareable c = (kept c.self.invariant).stands.shareable ∙ ap (λ (t : TreeValue). t.machine.shareable) c.self.view_is

@@ -1,6 +1,5 @@
-use Rattle.std.proofs.Common.{◌≡◌, ◌<◌, ◌≤◌, ℕ, length, get_or, unwrap_or, IfSome}
-use Rattle.tree_core.specs.Sound.{IsValid}
-use Rattle.tree_core.specs.Space.{initial_mask}
+use Rattle.std.proofs.Common.{◌≡◌, ◌<◌, ◌≤◌, ℕ, length, get_or, unwrap_or}
+use Rattle.tree_law.specs.Space.{initial_mask}
 use Rattle.tree_core.proofs.tree.Tree.initial_masks.Given as goal
 
 abbrev pub invariant-loop-domain : goal.invariant-loop-domain
@@ -8,5 +7,4 @@ invariant-loop-domain l = record {
   count : length l.masks ≡ 8;
   before : (domain : ℕ) → domain < l.domain → get_or l.masks domain 0 ≡ unwrap_or (initial_mask l.self.machine l.self.state domain) 0;
   behind : (domain : ℕ) → l.domain ≤ domain → get_or l.masks domain 0 ≡ 0;
-  valid : (domain : ℕ) → domain < l.domain → IfSome (initial_mask l.self.machine l.self.state domain) (IsValid l.self.machine);
 }

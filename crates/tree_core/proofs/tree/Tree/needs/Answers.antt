@@ -1,7 +1,7 @@
 use Rattle.std.proofs.Common.{sym, ap, ◌∙◌}
 use Rattle.std.proofs.Common.{length}
-use Rattle.tree_core.proofs.Counting.{counts_length}
-use Rattle.tree_core.specs.State.{TreeValue}
+use Rattle.tree_core.proofs.Counts.{counts_length}
+use Rattle.tree_core.specs.Values.{TreeValue}
 use Rattle.tree_core.proofs.tree.Tree.needs.Goals as goal
 
 pub returns-in-Some : goal.returns-in-Some

@@ -1,8 +1,8 @@
 use Rattle.std.proofs.Common.{sym, ap, ◌∙◌}
-use Rattle.script_text.specs.declared.op.Op.TheVariants.{Rmdir}
-use Rattle.tree_core.proofs.Deciding.{after_refused, next_refused, rmdir_accepted, rmdir_refused}
-use Rattle.tree_core.specs.Refusals.{plain}
-use Rattle.tree_core.specs.Steps.{Outcome}
+use Rattle.script_ops.specs.declared.op.Op.TheVariants.{Rmdir}
+use Rattle.tree_core.proofs.Outcomes.{after_refused, next_refused, rmdir_accepted, rmdir_refused}
+use Rattle.tree_law.specs.Refusals.{plain}
+use Rattle.tree_law.specs.State.{Outcome}
 use Rattle.tree_core.proofs.tree.Tree.rmdir.Goals as goal
 
 pub remove-requires-clause-accepted : goal.remove-requires-clause-accepted
@@ -21,4 +21,4 @@ returns-in-Some-clause-state c =
 pub returns-in-Some-clause-after : goal.returns-in-Some-clause-after
 returns-in-Some-clause-after c =
     let m = c.args.self.now.machine in let s = c.args.self.now.state in
-    c.new.ensures ∙ sym (after_refused m s (Rmdir c.args.path) (plain c.in-Some.why) (rmdir_refused m s c.args.path c.in-Some.why (sym c.in-Some.ensures)))
+    c.new.ensures ∙ sym (after_refused m s c.args.self.now.epoch (Rmdir c.args.path) (plain c.in-Some.why) (rmdir_refused m s c.args.path c.in-Some.why (sym c.in-Some.ensures)))

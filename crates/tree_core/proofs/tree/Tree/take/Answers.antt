@@ -1,18 +1,41 @@
-use Rattle.std.proofs.Common.{None, Some, Bool, cond, refl, sym, ap, ◌∙◌}
+use Rattle.std.proofs.Common.{None, Some, Bool, cond, inl, inr, refl, sym, ap, ap₂, ◌∙◌}
 use Rattle.rc_base.specs.declared.replies.Why.TheVariants.{NoSuchPath}
-use Rattle.script_text.specs.declared.op.Op.{Op}
-use Rattle.script_text.specs.declared.op.Op.TheVariants as ops
-use Rattle.tree_core.proofs.Deciding.{after_nothing, flush_refusal, list_refusal, next_reply, others_quiet, quiet_state, read_refusal}
-use Rattle.tree_core.specs.Existing.{is_directory, is_file}
-use Rattle.tree_core.specs.Refusals.{plain}
-use Rattle.tree_core.specs.State.{State}
-use Rattle.tree_core.specs.Steps.{after, next, reply_of}
+use Rattle.machine.specs.declared.parameters.Parameters.{Parameters}
+use Rattle.script_ops.specs.declared.op.Op.{Op}
+use Rattle.script_ops.specs.declared.op.Op.TheVariants as ops
+use Rattle.tree_core.proofs.BuiltPaths.{not_access, not_tick, not_touch}
+use Rattle.tree_core.proofs.Outcomes.{after_all, after_moved, after_nothing, flush_refusal, list_refusal, next_reply, quiet_state, read_refusal}
+use Rattle.tree_law.specs.Existing.{is_directory, is_file}
+use Rattle.tree_law.specs.Refusals.{plain, reply_of}
+use Rattle.tree_law.specs.State.{State}
+use Rattle.tree_law.specs.Steps.{after, next}
+use Rattle.tree_law.specs.commands.Flush as flush
 use Rattle.tree_core.proofs.tree.Tree.take.Goals as goal
+
+pub unreachable-requires : goal.unreachable-requires
+unreachable-requires c = elim c.in-Tick.is [
+  | inl e ↦ not_tick c.args.op.now c.requires.built e
+  | inr (inl w) ↦ not_access c.args.op.now w.0 w.1 w.2 c.requires.built w.3
+  | inr (inr w) ↦ not_touch c.args.op.now w.0 w.1 w.2 w.3 c.requires.built w.4
+]
 
 pub returns-in-Mkdir-clause-after : goal.returns-in-Mkdir-clause-after
 returns-in-Mkdir-clause-after c =
-    let m = c.args.self.now.machine in let s = c.args.self.now.state in
-    c.new.ensures ∙ sym (ap (after m s) c.in-Mkdir.is ∙ after_nothing m s (ops.Mkdir c.in-Mkdir.path) refl)
+    let m = c.args.self.now.machine in let s = c.args.self.now.state in let k = c.args.self.now.epoch in
+    c.new.ensures ∙ sym (ap (after m s k) c.in-Mkdir.is ∙ after_nothing m s k (ops.Mkdir c.in-Mkdir.path) refl)
+
+pub returns-in-Rmdir-clause-after : goal.returns-in-Rmdir-clause-after
+returns-in-Rmdir-clause-after c =
+    let m = c.args.self.now.machine in let s = c.args.self.now.state in let k = c.args.self.now.epoch in let j = c.count.new.self.epoch in let op = ops.Rmdir c.in-Rmdir.path in
+    c.rmdir.ensures.after ∙ ap₂ (λ (n : Parameters) (x : State). after n x j op) c.count.ensures.machine c.count.ensures.state
+    ∙ after_moved m s j k op refl ∙ ap (after m s k) (sym c.in-Rmdir.is)
+
+pub returns-in-Write-clause-after : goal.returns-in-Write-clause-after
+returns-in-Write-clause-after c =
+    let m = c.args.self.now.machine in let s = c.args.self.now.state in let k = c.args.self.now.epoch in let j = c.count.new.self.epoch in
+    c.write.ensures.after ∙ ap₂ (λ (n : Parameters) (x : State). after n x j (ops.Write c.in-Write.path c.as_slice.result.now)) c.count.ensures.machine c.count.ensures.state
+    ∙ after_moved m s j k (ops.Write c.in-Write.path c.as_slice.result.now) refl
+    ∙ ap (λ text. after m s k (ops.Write c.in-Write.path text)) c.as_slice.ensures ∙ ap (after m s k) (sym c.in-Write.is)
 
 pub returns-in-Read-clause-reply : goal.returns-in-Read-clause-reply
 returns-in-Read-clause-reply c =
@@ -25,12 +48,12 @@ returns-in-Read-clause-reply c =
 pub returns-in-Read-clause-state : goal.returns-in-Read-clause-state
 returns-in-Read-clause-state c =
     let m = c.args.self.now.machine in let s = c.args.self.now.state in
-    c.count.ensures.state ∙ sym (ap (λ (op : Op). (next m s op c.args.looks.now).state) c.in-Read.is ∙ quiet_state m s (ops.Read c.in-Read.path) c.args.looks.now refl refl)
+    c.count.ensures.state ∙ sym (ap (λ (op : Op). (next m s op c.args.looks.now).state) c.in-Read.is ∙ quiet_state m s (ops.Read c.in-Read.path) c.args.looks.now refl refl (λ x. refl))
 
 pub returns-in-Read-clause-after : goal.returns-in-Read-clause-after
 returns-in-Read-clause-after c =
-    let m = c.args.self.now.machine in let s = c.args.self.now.state in
-    c.new-in-Read.ensures ∙ sym (ap (after m s) c.in-Read.is ∙ after_nothing m s (ops.Read c.in-Read.path) refl)
+    let m = c.args.self.now.machine in let s = c.args.self.now.state in let k = c.args.self.now.epoch in
+    c.new-in-Read.ensures ∙ sym (ap (after m s k) c.in-Read.is ∙ after_nothing m s k (ops.Read c.in-Read.path) refl)
 
 pub returns-in-List-clause-reply : goal.returns-in-List-clause-reply
 returns-in-List-clause-reply c =
@@ -43,12 +66,12 @@ returns-in-List-clause-reply c =
 pub returns-in-List-clause-state : goal.returns-in-List-clause-state
 returns-in-List-clause-state c =
     let m = c.args.self.now.machine in let s = c.args.self.now.state in
-    c.count.ensures.state ∙ sym (ap (λ (op : Op). (next m s op c.args.looks.now).state) c.in-List.is ∙ quiet_state m s (ops.List c.in-List.path) c.args.looks.now refl refl)
+    c.count.ensures.state ∙ sym (ap (λ (op : Op). (next m s op c.args.looks.now).state) c.in-List.is ∙ quiet_state m s (ops.List c.in-List.path) c.args.looks.now refl refl (λ x. refl))
 
 pub returns-in-List-clause-after : goal.returns-in-List-clause-after
 returns-in-List-clause-after c =
-    let m = c.args.self.now.machine in let s = c.args.self.now.state in
-    c.new-in-List.ensures ∙ sym (ap (after m s) c.in-List.is ∙ after_nothing m s (ops.List c.in-List.path) refl)
+    let m = c.args.self.now.machine in let s = c.args.self.now.state in let k = c.args.self.now.epoch in
+    c.new-in-List.ensures ∙ sym (ap (after m s k) c.in-List.is ∙ after_nothing m s k (ops.List c.in-List.path) refl)
 
 pub returns-in-Flush-clause-reply : goal.returns-in-Flush-clause-reply
 returns-in-Flush-clause-reply c =
@@ -58,13 +81,10 @@ returns-in-Flush-clause-reply c =
 pub returns-in-Flush-clause-state : goal.returns-in-Flush-clause-state
 returns-in-Flush-clause-state c =
     let m = c.args.self.now.machine in let s = c.args.self.now.state in
-    c.count.ensures.state ∙ sym (ap (λ (op : Op). (next m s op c.args.looks.now).state) c.in-Flush.is ∙ quiet_state m s (ops.Flush c.in-Flush.domain) c.args.looks.now refl refl)
+    c.count.ensures.state ∙ sym (ap (λ (op : Op). (next m s op c.args.looks.now).state) c.in-Flush.is ∙ quiet_state m s (ops.Flush c.in-Flush.domain) c.args.looks.now refl refl (λ x. refl))
 
-pub returns-in_default-clause-reply : goal.returns-in_default-clause-reply
-returns-in_default-clause-reply c = let d = c.in_default in (others_quiet c.args.self.now.machine c.args.self.now.state c.args.op.now c.args.looks.now d.not-Mkdir d.not-Rmdir d.not-Write d.not-Read d.not-List d.not-Flush).said
-
-pub returns-in_default-clause-state : goal.returns-in_default-clause-state
-returns-in_default-clause-state c = let d = c.in_default in c.count.ensures.state ∙ (others_quiet c.args.self.now.machine c.args.self.now.state c.args.op.now c.args.looks.now d.not-Mkdir d.not-Rmdir d.not-Write d.not-Read d.not-List d.not-Flush).same
-
-pub returns-in_default-clause-after : goal.returns-in_default-clause-after
-returns-in_default-clause-after c = let d = c.in_default in c.new-in_default.ensures ∙ (others_quiet c.args.self.now.machine c.args.self.now.state c.args.op.now c.args.looks.now d.not-Mkdir d.not-Rmdir d.not-Write d.not-Read d.not-List d.not-Flush).alone
+pub returns-in-Flush-clause-after : goal.returns-in-Flush-clause-after
+returns-in-Flush-clause-after c =
+    let m = c.args.self.now.machine in let s = c.args.self.now.state in let k = c.args.self.now.epoch in let op = ops.Flush c.in-Flush.domain in
+    c.flush.ensures.after ∙ ap (λ (n : Parameters). flush.after n c.in-Flush.domain) c.count.ensures.machine
+    ∙ sym (ap (after m s k) c.in-Flush.is ∙ after_all m s k op (flush_refusal m s c.in-Flush.domain))

@@ -1,0 +1,4 @@
+pub mod LowestRuns
+pub mod Overlaps
+pub mod Validity
+pub mod Ways

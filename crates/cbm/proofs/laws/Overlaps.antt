@@ -1,0 +1,94 @@
+-- Overlaps of masks: way by way, in either order, and with a union.
+use Rattle.std.proofs.Common.{◌≡◌, ℕ, ◌<◌, Bool, true, false, ◌||◌, bit_or, List, [], ◌∷◌, refl, sym, ap, ap₂, ◌∙◌, arith}
+use Rattle.std.specs.List.{list_any}
+use Rattle.std.proofs.lemmas.Nat.Bits.{bit_at-zero}
+use Rattle.lists.proofs.Filters.{list_any-filter, list_any-filter_none, list_any-filter_true}
+use Rattle.cbm.specs.Masks.{IsUnion, has_way, overlaps, ways_of}
+use Rattle.cbm.proofs.laws.Ways.{has_way-bit_or, has_way-zero}
+
+-- ---- way by way
+
+-- masks that share a way overlap
+pub overlaps-way : (a b way : ℕ) → way < 64 → has_way a way ≡ true → has_way b way ≡ true → overlaps a b ≡ true
+unfolding overlaps ways_of
+overlaps-way a b way small in_a in_b = list_any-filter (has_way a) (has_way b) 0 64 way (omega arith) (omega arith) in_a in_b
+
+-- masks that share no way do not
+pub overlaps-apart : (a b : ℕ) → ((way : ℕ) → way < 64 → has_way a way ≡ true → has_way b way ≡ false) → overlaps a b ≡ false
+unfolding overlaps ways_of
+overlaps-apart a b apart = list_any-filter_none (has_way a) (has_way b) 0 64 (λ k low high in_a. apart k (omega arith) in_a)
+
+-- where masks do not overlap, a way of one is not in the other
+pub has_way-apart : (a b way : ℕ) → overlaps a b ≡ false → way < 64 → has_way a way ≡ true → has_way b way ≡ false
+has_way-apart a b way none small in_a = tell (has_way b way) refl
+  where
+    false_true : false ≡ true → ⊥
+    false_true e = cc
+
+    tell : (there : Bool) → there ≡ has_way b way → there ≡ false
+    tell false e = refl
+    tell true e = absurd (false_true (sym none ∙ overlaps-way a b way small in_a (sym e)))
+
+-- masks that overlap share a way
+pub overlaps-true : (a b : ℕ) → overlaps a b ≡ true → (way : ℕ) × (way < 64) × (has_way a way ≡ true) × (has_way b way ≡ true)
+unfolding overlaps ways_of
+overlaps-true a b h = let s = list_any-filter_true (has_way a) (has_way b) 0 64 h in (s.0, omega (arith, s.1), s.2, s.3)
+
+-- ---- in either order
+
+both_ways : (x y : Bool) → (x ≡ true → y ≡ true) → (y ≡ true → x ≡ true) → x ≡ y
+both_ways true y f g = sym (f refl)
+both_ways false true f g = g refl
+both_ways false false f g = refl
+
+pub overlaps-comm : (a b : ℕ) → overlaps a b ≡ overlaps b a
+overlaps-comm a b = both_ways (overlaps a b) (overlaps b a) (turned a b) (turned b a)
+  where
+    turned : (m n : ℕ) → overlaps m n ≡ true → overlaps n m ≡ true
+    turned m n h = let s = overlaps-true m n h in overlaps-way n m s.0 s.1 s.3 s.2
+
+-- ---- with a union
+
+any-same : (p q : ℕ → Bool) (xs : List ℕ) → ((k : ℕ) → p k ≡ q k) → list_any p xs ≡ list_any q xs
+any-same p q [] same = refl
+any-same p q (x ∷ xs) same = ap₂ (λ (a b : Bool). a || b) (same x) (any-same p q xs same)
+
+any-or : (p q : ℕ → Bool) (xs : List ℕ) → list_any (λ k. p k || q k) xs ≡ (list_any p xs || list_any q xs)
+any-or p q [] = refl
+any-or p q (x ∷ xs) = ap (λ (b : Bool). p x || q x || b) (any-or p q xs) ∙ regroup (p x) (q x) (list_any p xs) (list_any q xs)
+  where
+    regroup : (a b c d : Bool) → (a || b || (c || d)) ≡ (a || c || (b || d))
+    regroup true b c d = refl
+    regroup false true true d = refl
+    regroup false true false d = refl
+    regroup false false true d = refl
+    regroup false false false d = refl
+
+any-none : (xs : List ℕ) → list_any (λ k. false) xs ≡ false
+any-none [] = refl
+any-none (x ∷ xs) = any-none xs
+
+-- a mask overlaps the union of two where it overlaps one of them
+pub overlaps-bit_or : (mask a b : ℕ) → overlaps mask (bit_or a b) ≡ (overlaps mask a || overlaps mask b)
+unfolding overlaps
+overlaps-bit_or mask a b =
+    any-same (has_way (bit_or a b)) (λ k. has_way a k || has_way b k) (ways_of mask) (λ k. has_way-bit_or a b k)
+    ∙ any-or (has_way a) (has_way b) (ways_of mask)
+
+any-swap : (masks ways : List ℕ) → list_any (λ w. list_any (λ m. has_way m w) masks) ways ≡ list_any (λ m. list_any (has_way m) ways) masks
+any-swap [] ways = any-none ways
+any-swap (m ∷ masks) ways =
+    any-or (has_way m) (λ w. list_any (λ n. has_way n w) masks) ways ∙ ap (λ (b : Bool). list_any (has_way m) ways || b) (any-swap masks ways)
+
+-- a mask overlaps a union of masks where it overlaps one of them
+pub overlaps-union : (mask union : ℕ) (masks : List ℕ) → IsUnion union masks → overlaps mask union ≡ list_any (overlaps mask) masks
+unfolding overlaps
+overlaps-union mask union masks is_union =
+    any-same (has_way union) (λ w. list_any (λ m. has_way m w) masks) (ways_of mask) is_union ∙ any-swap masks (ways_of mask)
+
+-- no mask has the union 0, and one more mask is joined by `|`
+pub union-none : IsUnion 0 []
+union-none = λ way. has_way-zero 0 way (bit_at-zero way)
+
+pub union-more : (union : ℕ) (masks : List ℕ) (mask : ℕ) → IsUnion union masks → IsUnion (bit_or mask union) (mask ∷ masks)
+union-more union masks mask is_union = λ way. has_way-bit_or mask union way ∙ ap (λ (b : Bool). has_way mask way || b) (is_union way)

@@ -1,5 +1,0 @@
-use Rattle.cbm.proofs.Gaps.{gapped, missing}
-use Rattle.cbm.proofs.laws.gaps_are_missing_ways.Goals as goal
-
-pub returns : goal.returns
-returns c = λ mask small. (missing mask, gapped mask small)

@@ -1,0 +1,12 @@
+pub mod Bits
+pub mod Choices
+pub mod Cuts
+pub mod Filters
+pub mod Keyed
+pub mod Options
+pub mod Pairs
+pub mod Powers
+pub mod Ranges
+pub mod Sums
+pub mod Tests
+pub mod Updates

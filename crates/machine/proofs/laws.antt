@@ -1,0 +1,3 @@
+pub mod EveryWay
+pub mod Ranges
+pub mod Slices

@@ -1,0 +1,2 @@
+pub mod StartingMasks
+pub mod StartingWays

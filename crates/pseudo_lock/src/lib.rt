@@ -1,0 +1,14 @@
+//! Pseudo-locked regions: which a machine has, and which lines a Lock loads for them.
+#![tactic(auto)]
+
+pub mod laws;
+pub mod lines;
+pub mod region;
+pub mod regions;
+#[cfg(test)]
+mod tests;
+
+pub use laws::first_lines;
+pub use lines::{line_at, load_place};
+pub use region::Region;
+pub use regions::{DOMAINS, MAX_PLACED, Regions};

@@ -1,0 +1,115 @@
+//! The lines of control groups.
+ghost use Rattle.std.specs.Prelude.{◌≡◌, ℕ, ◌<◌, ◌++◌, OnOk, codes, decimal, length, map};
+ghost use Rattle.std.specs.List.{flat_map};
+ghost use Rattle.machine.specs.Slices.{slice_count};
+ghost use Rattle.path_names.specs.NamesIn.{AreKnown, path_ids};
+ghost use Rattle.path_names.specs.PathTexts.{path_text};
+ghost use Rattle.report_text.specs.Made.{control_of, controls, default_control, made_from};
+ghost use Rattle.report_text.specs.Replayed.{AreKnownGroups};
+ghost use Rattle.report_text.specs.Reporting.{group_line, group_told};
+ghost use Rattle.report_text.specs.Tallies.{at, counted_in};
+ghost use Rattle.tree_law.specs.State.{opening};
+
+use crate::buffer::ReportText;
+use crate::counts::{Counts, push_counts};
+use crate::domains::slices_of;
+use crate::made::Made;
+use crate::tally::Tally;
+use path_names::{DirRef, PathRef};
+use rc_base::NoMemory;
+use run_law::Journals;
+use script_ops::Script;
+use std::alloc::Global;
+
+// Adds the beginning of the line of a group.
+fn push_gid(report: &mut ReportText, gid: u32) -> Result<(), NoMemory>
+    ensures { OnOk result (report.new ≡ report.old ++ (codes "group " ++ decimal gid ++ codes " ")) }
+{
+    report.push(b"group ".as_slice())?;
+    report.push_decimal(u64::from(gid))?;
+    report.push(b" ".as_slice())
+}
+
+// Adds the line of the control group of this path.
+fn push_group(
+    report: &mut ReportText,
+    script: &Script,
+    gid: u32,
+    path: PathRef,
+    counts: Counts,
+) -> Result<(), NoMemory>
+    requires { AreKnown (length script.now.names) (path_ids path) }
+    ensures { OnOk result (report.new ≡ report.old ++ group_told gid (path_text script.now.names path) counts) }
+{
+    push_gid(report, gid)?;
+    report.push_path(script.names(), path)?;
+    report.push(b": ".as_slice())?;
+    push_counts(report, counts)?;
+    report.push(b"\n".as_slice())
+}
+
+// Adds the line of a control group that was made.
+fn push_made_group(
+    report: &mut ReportText,
+    script: &Script,
+    journals: &Journals,
+    made: Made,
+    tally: &Tally,
+) -> Result<(), NoMemory>
+    requires known { made.name.0 < length script.now.names }
+    requires counts { (gid : ℕ) → at tally.now gid ≡ counted_in journals.now (slice_count script.now.machine) gid }
+    ensures { OnOk result (report.new ≡ report.old ++ group_line script.now journals.now (control_of script.now.names made)) }
+{
+    let path = PathRef::Dir(DirRef::Ctrl(made.name));
+    push_group(report, script, made.gid, path, tally.of(made.gid))
+}
+
+// Adds the lines of the control groups that were made.
+fn push_made(
+    report: &mut ReportText,
+    script: &Script,
+    journals: &Journals,
+    made: &[Made],
+    tally: &Tally,
+) -> Result<(), NoMemory>
+    requires known { AreKnownGroups script.now.names made.now }
+    requires counts { (gid : ℕ) → at tally.now gid ≡ counted_in journals.now (slice_count script.now.machine) gid }
+    ensures { OnOk result (report.new ≡ report.old ++ flat_map (group_line script.now journals.now) (map (control_of script.now.names) made.now)) }
+{
+    for group in made {
+        push_made_group(report, script, journals, *group, tally)?;
+    }
+    Ok(())
+}
+
+// Adds the line of the default group.
+fn push_default_group(
+    report: &mut ReportText,
+    script: &Script,
+    journals: &Journals,
+    tally: &Tally,
+) -> Result<(), NoMemory>
+    requires counts { (gid : ℕ) → at tally.now gid ≡ counted_in journals.now (slice_count script.now.machine) gid }
+    ensures { OnOk result (report.new ≡ report.old ++ group_line script.now journals.now default_control) }
+{
+    let root = PathRef::Dir(DirRef::Root);
+    push_group(report, script, 0, root, tally.of(0))
+}
+
+/// Adds the lines of the groups: the default group, and those that were made.
+pub(crate) fn push_groups(
+    alloc: Global,
+    report: &mut ReportText,
+    script: &Script,
+    journals: &Journals,
+    made: &[Made],
+) -> Result<(), NoMemory>
+    requires slices { length journals.now.slices ≡ slice_count script.now.machine }
+    requires known { AreKnownGroups script.now.names made.now }
+    requires made { made.now ≡ made_from script.now (opening script.now.machine script.now.tasks) journals.now.tree }
+    ensures { OnOk result (report.new ≡ report.old ++ flat_map (group_line script.now journals.now) (controls script.now journals.now.tree)) }
+{
+    let tally = Tally::of_slices(alloc, journals, slices_of(script))?;
+    push_default_group(report, script, journals, &tally)?;
+    push_made(report, script, journals, made, &tally)
+}

@@ -1,0 +1,6 @@
+-- Lemmas that crates above cite.
+pub mod Lines
+pub mod Pairs
+pub mod Positions
+pub mod Tasks
+pub mod TreeHistory

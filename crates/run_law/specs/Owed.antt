@@ -1,0 +1,73 @@
+-- What an op owes to a slice: the entries that must stand there.
+use Rattle.std.specs.Prelude.{ℕ, ◌+◌, Bool, false, ◌==◌, if◌then◌else◌, List, [], ◌∷◌, ◌++◌, take}
+use Rattle.std.specs.List.{flat_map}
+use Rattle.cache_core.specs.declared.entry.SliceEntry.{SliceEntry}
+use Rattle.cache_core.specs.declared.entry.What.{What}
+use Rattle.cache_core.specs.declared.entry.What.TheVariants as whats
+use Rattle.machine.specs.declared.parameters.Parameters.{Parameters}
+use Rattle.machine.specs.Slices.{domain_in, slice_of_line}
+use Rattle.machine.specs.Maps.{line_of}
+use Rattle.run_law.specs.TreeHistory.{TreeEntryValue, tree_after}
+use Rattle.script_ops.specs.Values.{ScriptValue}
+use Rattle.script_ops.specs.declared.op.Op.{Op}
+use Rattle.tree_law.specs.Resolving.{resolve}
+use Rattle.tree_law.specs.Steps.{after, follow_domain, needs}
+use Rattle.tree_law.specs.declared.follow.Follow.{Follow}
+use Rattle.tree_law.specs.declared.follow.Follow.TheVariants as follows
+
+-- an entry but for what the slice itself decides: the hit and the way of an access, and the number of a look
+abbrev pub undecided : What → What
+undecided (whats.Access owner rmid mask line hit way) = whats.Access owner rmid mask line false 0
+undecided whats.Raise = whats.Raise
+undecided whats.Flush = whats.Flush
+undecided (whats.Lock mask first_line) = whats.Lock mask first_line
+undecided (whats.Look rmid lines) = whats.Look rmid 0
+
+-- an entry that an op owes to a slice
+pub record Owed : Type 0 where
+  pub epoch : ℕ
+  pub what : What
+
+-- what an entry pays
+abbrev pub paid_by : SliceEntry → Owed
+paid_by e = record { epoch = e.epoch; what = undecided e.what }
+
+-- the look that a count needs in a slice
+abbrev pub look_in : Parameters → ℕ → ℕ → ℕ × ℕ → List Owed
+look_in m i epoch need = if need.0 == domain_in m i then record { epoch = epoch; what = whats.Look need.1 0 } ∷ [] else []
+
+-- ---- follow-ups
+
+-- what a follow-up enters in a slice; a touch is an access of its tag's owner, RMID and mask
+abbrev pub what_of : Follow → What
+what_of (follows.Raise domain) = whats.Raise
+what_of (follows.Flush domain) = whats.Flush
+what_of (follows.Lock domain mask first_line) = whats.Lock mask first_line
+what_of (follows.Touch tag line) = whats.Access tag.owner tag.rmid tag.mask line false 0
+
+-- whether a follow-up is entered in slice i: a touch in the slice of its line in its tag's domain, and the others in each
+-- slice of their domain
+abbrev pub is_entered_in : Parameters → ℕ → Follow → Bool
+is_entered_in m i (follows.Touch tag line) = slice_of_line m tag.domain line == i
+is_entered_in m i f = follow_domain f == domain_in m i
+
+-- the entry of a follow-up in a slice, one or none
+abbrev pub follow_in : Parameters → ℕ → ℕ → Follow → List Owed
+follow_in m i epoch f = if is_entered_in m i f then record { epoch = epoch; what = what_of f } ∷ [] else []
+
+-- ---- ops
+
+-- What a command at position k of the tree's history owes to a slice: a look of epoch k for each count that it needs there,
+-- and then its follow-ups there, of epoch k + 1.
+unfoldable pub owed_by_command : ScriptValue → List TreeEntryValue → ℕ → ℕ → Op → List Owed
+owed_by_command script tree i k op =
+    let m = script.machine in
+    let s = tree_after script (take k tree) in
+    flat_map (look_in m i k) (needs m s op) ++ flat_map (follow_in m i (k + 1)) (after m s k op)
+
+-- What an access of this epoch owes: the owner, the RMID and the mask that the tree of that epoch gives to its task and CPU,
+-- and the line of its address.
+unfoldable pub owed_by_access : ScriptValue → List TreeEntryValue → ℕ → ℕ → ℕ → ℕ → Owed
+owed_by_access script tree epoch task cpu addr =
+    let owned = resolve script.machine (tree_after script (take epoch tree)) task cpu in
+    record { epoch = epoch; what = whats.Access owned.owner owned.rmid owned.mask (line_of addr) false 0 }

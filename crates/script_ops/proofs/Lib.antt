@@ -1,0 +1,3 @@
+pub mod FirstLine
+pub mod Threads
+pub mod laws

@@ -1,0 +1,49 @@
+-- The canonical texts of ops: the words with one space between, and numbers in decimal.
+use Rattle.std.specs.Prelude.{ℕ, ◌==◌, List, [], ◌∷◌, ◌++◌, All, codes, decimal, Some, None, if◌then◌else◌}
+use Rattle.std.specs.List.{flat_map}
+use Rattle.path_names.specs.NamesIn.{path_ids, AreKnown}
+use Rattle.path_names.specs.PathTexts.{path_text}
+use Rattle.script_ops.specs.declared.op.Op.{Op}
+use Rattle.script_ops.specs.declared.op.Op.TheVariants as ops
+
+-- a byte of a written text: a newline is `\n`, and a backslash is two
+abbrev pub escaped : ℕ → List ℕ
+escaped byte = if byte == 10 then 92 ∷ 110 ∷ [] else (if byte == 92 then 92 ∷ 92 ∷ [] else byte ∷ [])
+
+-- a written text after its path: nothing where it is empty
+abbrev pub text_after : List ℕ → List ℕ
+text_after [] = []
+text_after (b ∷ bs) = 32 ∷ flat_map escaped (b ∷ bs)
+
+-- an op, as a line of a script may say it
+abbrev pub op_text : List (List ℕ) → Op → List ℕ
+op_text names (ops.Mkdir path) = codes "mkdir " ++ path_text names path
+op_text names (ops.Rmdir path) = codes "rmdir " ++ path_text names path
+op_text names (ops.Write path text) = codes "write " ++ path_text names path ++ text_after text
+op_text names (ops.Read path) = codes "read " ++ path_text names path
+op_text names (ops.List path) = codes "list " ++ path_text names path
+op_text names (ops.Flush None) = codes "flush"
+op_text names (ops.Flush (Some domain)) = codes "flush " ++ decimal domain
+op_text names ops.Tick = codes "tick"
+op_text names (ops.Access task cpu addr) = codes "access " ++ decimal task ++ codes " " ++ decimal cpu ++ codes " " ++ decimal addr
+op_text names (ops.Touch path offset task cpu) = codes "touch " ++ path_text names path ++ codes " " ++ decimal offset ++ codes " " ++ decimal task ++ codes " " ++ decimal cpu
+
+-- the numbers of the names in an op
+abbrev pub op_ids : Op → List ℕ
+op_ids (ops.Mkdir path) = path_ids path
+op_ids (ops.Rmdir path) = path_ids path
+op_ids (ops.Write path text) = path_ids path
+op_ids (ops.Read path) = path_ids path
+op_ids (ops.List path) = path_ids path
+op_ids (ops.Flush domain) = []
+op_ids ops.Tick = []
+op_ids (ops.Access task cpu addr) = []
+op_ids (ops.Touch path offset task cpu) = path_ids path
+
+-- an op whose names are known
+abbrev pub IsNamed : ℕ → Op → Type 0
+IsNamed count op = AreKnown count (op_ids op)
+
+-- ops whose names are known
+abbrev pub AreNamed : ℕ → List Op → Type 0
+AreNamed count ops = All (IsNamed count) ops

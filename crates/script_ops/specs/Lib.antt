@@ -1,0 +1,4 @@
+pub mod Canonical
+pub mod Fits
+pub mod Values
+pub mod Weights

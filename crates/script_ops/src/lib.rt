@@ -1,0 +1,27 @@
+//! Ops, phases and scripts: their values, what they weigh and keep to, their canonical texts and their limits.
+#![tactic(auto)]
+
+pub mod bytes;
+pub mod growing_text;
+pub mod limits;
+mod numbering;
+pub mod op;
+pub mod phase;
+pub mod printing;
+pub mod script;
+pub mod text_lines;
+pub mod weights;
+mod written;
+
+pub use bytes::Bytes;
+pub use growing_text::GrowingText;
+pub use limits::{
+    MOST_ORDER, MOST_PATH_BYTES, MOST_PHASE_THREADS, MOST_PHASES, MOST_SCRIPT_BYTES, MOST_TASKS,
+    MOST_TEXT_BYTES, MOST_THREADS, MOST_WEIGHT,
+};
+pub use op::Op;
+pub use phase::{Ops, Phase};
+pub use printing::push_op;
+pub use script::Script;
+pub use text_lines::next_line;
+pub use weights::weight_of;

@@ -1,0 +1,104 @@
+-- What the lines so far keep to, while names, ops, threads and phases are added.
+use Rattle.std.proofs.Common.{◌≡◌, ℕ, zero, suc, ◌+◌, ◌≤◌, ◌++◌, List, [], ◌∷◌, length, map, All, sym, ap, subst, ◌∙◌, arith, length-take}
+use Rattle.std.specs.List.{range_with_len}
+use Rattle.std.proofs.lemmas.Grind.{flat_map-append}
+use Rattle.std.proofs.lemmas.List.{append-nil}
+use Rattle.std.proofs.lemmas.List.Elements.{All-append, All-push}
+use Rattle.path_names.specs.Interned.{Keeps}
+use Rattle.script_ops.specs.declared.op.Op.{Op}
+use Rattle.path_names.specs.NamesIn.{AreKnown}
+use Rattle.script_ops.specs.Canonical.{IsNamed, AreNamed, op_ids}
+use Rattle.script_ops.specs.Values.{PhaseValue, threads_in}
+use Rattle.script_text.specs.Meaning.{with_names, access_at, sweep_ops}
+use Rattle.script_text.specs.declared.arguments.Sweep.{Sweep}
+use Rattle.script_text.specs.States.{ReaderState, InLimits, IsSound}
+use Rattle.path_names.specs.declared.paths.TheConstants.{MOST_PATH_NAMES}
+
+-- names are only added
+pub kept_more : (old new : List (List ℕ)) → Keeps old new → length old ≤ length new
+kept_more old new kept = omega (arith, length-take (length old) new, ap length kept)
+
+-- what is known stays known
+pub named_more : (n m : ℕ) (ops : List Op) → n ≤ m → AreNamed n ops → AreNamed m ops
+named_more n m ops le all = λ k d h i e l. omega (arith, le, all k d h i e l)
+
+-- the same of threads
+pub all_more : (n m : ℕ) (threads : List (List Op)) → n ≤ m → All (AreNamed n) threads → All (AreNamed m) threads
+all_more n m threads le all = λ j t g k d h i e l. omega (arith, le, all j t g k d h i e l)
+
+-- more names
+pub grown : (s : ReaderState) (names : List (List ℕ)) → length s.names ≤ length names → length names ≤ length s.names + MOST_PATH_NAMES → IsSound s → InLimits 1 1 MOST_PATH_NAMES (with_names s names)
+grown s names more few sound = record {
+  names = omega (arith, sound.names, few);
+  weight = sound.weight;
+  tasks = sound.tasks;
+  phases = sound.phases;
+  threads = sound.threads;
+  each = sound.each;
+  ops_named = named_more (length s.names) (length names) s.ops more sound.ops_named;
+  threads_named = all_more (length s.names) (length names) s.threads more sound.threads_named;
+  phases_named = all_more (length s.names) (length names) (threads_in s.phases) more sound.phases_named;
+}
+
+-- no extra names
+pub loose : (s : ReaderState) → IsSound s → InLimits 1 1 MOST_PATH_NAMES s
+loose s sound = record {
+  names = omega (arith, sound.names);
+  weight = sound.weight;
+  tasks = sound.tasks;
+  phases = sound.phases;
+  threads = sound.threads;
+  each = sound.each;
+  ops_named = sound.ops_named;
+  threads_named = sound.threads_named;
+  phases_named = sound.phases_named;
+}
+
+-- no names are all known
+pub known_none : (n : ℕ) → AreKnown n []
+known_none n = λ k d h. absurd (omega arith)
+
+-- one op more
+pub op_named : (n : ℕ) (ops : List Op) (op : Op) → AreNamed n ops → AreKnown n (op_ids op) → AreNamed n (ops ++ op ∷ [])
+op_named n ops op all known = All-push (IsNamed n) ops op all known
+
+-- one named op in front
+more : (n : ℕ) (op : Op) (ops : List Op) → IsNamed n op → AreNamed n ops → AreNamed n (op ∷ ops)
+more n op ops first all zero d h = first
+more n op ops first all (suc k) d h = all k d (omega arith)
+
+-- accesses name nothing
+accesses_named : (n task : ℕ) (w : Sweep) (is : List ℕ) → AreNamed n (map (access_at task w) is)
+accesses_named n task w [] = λ k d h. absurd (omega arith)
+accesses_named n task w (i ∷ is) = more n (access_at task w i) (map (access_at task w) is) (known_none n) (accesses_named n task w is)
+
+-- the accesses of a sweep more
+pub sweep_named : (n : ℕ) (ops : List Op) (task : ℕ) (w : Sweep) → AreNamed n ops → AreNamed n (ops ++ sweep_ops task w)
+sweep_named n ops task w all = All-append (IsNamed n) ops (sweep_ops task w) all (accesses_named n task w (range_with_len 0 w.count))
+
+-- one thread more
+pub thread_named : (n : ℕ) (threads : List (List Op)) (ops : List Op) → All (AreNamed n) threads → AreNamed n ops → All (AreNamed n) (threads ++ ops ∷ [])
+thread_named n threads ops all named = All-push (AreNamed n) threads ops all named
+
+-- one phase more
+pub phase_named : (n : ℕ) (phases : List PhaseValue) (p : PhaseValue) → All (AreNamed n) (threads_in phases) → All (AreNamed n) p.threads → All (AreNamed n) (threads_in (phases ++ p ∷ []))
+phase_named n phases p all named =
+    let e : threads_in (phases ++ p ∷ []) ≡ threads_in phases ++ p.threads =
+    flat_map-append (λ (q : PhaseValue). q.threads) phases (p ∷ []) ∙ ap (λ (ts : List (List Op)). threads_in phases ++ ts) (append-nil p.threads) in
+    subst (λ (ts : List (List Op)). All (AreNamed n) ts) (sym e) (All-append (AreNamed n) (threads_in phases) p.threads all named)
+
+-- one thread more may be closed
+pub wide : (s : ReaderState) → IsSound s → InLimits 1 0 0 s
+wide s sound = record {
+  names = sound.names;
+  weight = sound.weight;
+  tasks = sound.tasks;
+  phases = sound.phases;
+  threads = omega (arith, sound.threads);
+  each = sound.each;
+  ops_named = sound.ops_named;
+  threads_named = sound.threads_named;
+  phases_named = sound.phases_named;
+}
+
+pub ruleset keeping = (grown, loose, wide, known_none, op_named, sweep_named, thread_named, phase_named)

@@ -1,7 +1,0 @@
-use Rattle.std.proofs.Common.{◌≡◌, ◌++◌, take}
-use Rattle.std.specs.List.{flat_map}
-use Rattle.script_text.specs.Canonical.{escaped}
-use Rattle.script_text.proofs.op_text.push_all_escaped.Given as goal
-
-abbrev pub invariant-loop-byte : goal.invariant-loop-byte
-invariant-loop-byte l = l.text ≡ l.initial.text ++ flat_map escaped (take l.byte-index l.written)

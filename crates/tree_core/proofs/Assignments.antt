@@ -1,0 +1,43 @@
+-- Masks after some assignments: as many as before, and valid.
+use Rattle.std.proofs.Common.{◌≡◌, ℕ, zero, suc, ◌^◌, ◌<◌, List, [], ◌∷◌, length, set, drop, inl, inr, refl, ◌∙◌, arith, length-set}
+use Rattle.std.specs.List.{All, AllByRecursion, refill}
+use Rattle.std.proofs.lemmas.Bool.{cases_lt}
+use Rattle.std.proofs.lemmas.List.{append-nil, take_all, drop_all}
+use Rattle.std.proofs.lemmas.List.Elements.{All-set}
+use Rattle.cbm.proofs.laws.Validity.{checked-zero}
+use Rattle.machine.specs.declared.parameters.Parameters.{Parameters}
+use Rattle.tree_law.specs.Masks.{IsValid}
+use Rattle.tree_law.specs.Space.{geometry_of}
+use Rattle.schemata_text.specs.declared.assignment.Assignment.{Assignment}
+use Rattle.schemata_text.specs.Reading.{domains_of}
+use Rattle.tree_law.specs.commands.Schemata.{assigned}
+
+-- a mask that is valid has a way, and only ways that exist
+pub valid_mask : (m : Parameters) (mask : ℕ) → IsValid m mask → (0 < mask) × (mask < 2 ^ m.ways)
+valid_mask m mask valid = (some, valid.bounded)
+  where
+    some : 0 < mask
+    some = elim (cases_lt 0 mask) [
+      | inl lt ↦ lt
+      | inr le ↦ (let none : mask ≡ 0 = omega arith in absurd (let e = checked-zero (geometry_of m) mask none ∙ valid.faultless in cc))
+    ]
+
+pub length-assigned : (masks : List ℕ) (all : List Assignment) → length (assigned masks all) ≡ length masks
+length-assigned masks [] = refl
+length-assigned masks (a ∷ all) = length-assigned (set masks a.domain a.mask) all ∙ length-set masks a.domain a.mask
+
+pub all-assigned : (P : ℕ → Type 0) (masks : List ℕ) (all : List Assignment) → All P masks → AllByRecursion (λ (a : Assignment). P a.mask) all → All P (assigned masks all)
+all-assigned P masks [] each new = each
+all-assigned P masks (a ∷ all) each new = all-assigned P (set masks a.domain a.mask) all (All-set P masks a.domain a.mask new.0 each) new.1
+
+-- what lawful assignments name and give
+pub each_exists : (n : ℕ) (all : List Assignment) → AllByRecursion (λ d. d < n) (domains_of all) → All (λ (a : Assignment). a.domain < n) all
+each_exists n [] exist k d lt = absurd (omega arith)
+each_exists n (a ∷ all) exist zero d lt = exist.0
+each_exists n (a ∷ all) exist (suc k) d lt = each_exists n all exist.1 k d (omega arith)
+
+-- a write of one place through the slice
+pub refilled : (masks : List ℕ) (i mask : ℕ) → refill (length masks) masks (set masks i mask) ≡ set masks i mask
+refilled masks i mask =
+    let none : drop (length (set masks i mask)) masks ≡ [] = drop_all (length (set masks i mask)) masks (omega (arith, length-set masks i mask)) in
+    rw (none, append-nil (set masks i mask)) (take_all (length masks) (set masks i mask) (omega (arith, length-set masks i mask)))

@@ -1,0 +1,126 @@
+-- What becomes of a command that is refused, and of one that is accepted.
+use Rattle.std.proofs.Common.{◌≡◌, ℕ, Bool, true, false, cond, List, [], find, is_some, Option, None, Some, IfSome, refl, ap, ◌∙◌}
+use Rattle.std.specs.Option.{option_map}
+use Rattle.machine.specs.declared.parameters.Parameters.{Parameters}
+use Rattle.path_names.specs.declared.path_ref.PathRef.{PathRef}
+use Rattle.rc_base.specs.Replies.{refused}
+use Rattle.rc_base.specs.declared.replies.Reply.TheVariants as replies
+use Rattle.rc_base.specs.declared.replies.Why.{Why}
+use Rattle.rc_base.specs.declared.replies.Why.TheVariants.{NoSuchPath}
+use Rattle.script_ops.specs.declared.op.Op.{Op}
+use Rattle.script_ops.specs.declared.op.Op.TheVariants.{Flush, Mkdir, Read, Rmdir, Write}
+use Rattle.script_ops.specs.declared.op.Op.TheVariants as ops
+use Rattle.tree_law.specs.Existing.{is_directory, is_file}
+use Rattle.tree_law.specs.Refusals.{Refusal, plain, reply_of}
+use Rattle.tree_law.specs.State.{Outcome, State}
+use Rattle.tree_law.specs.Steps.{accepted, after, after_accepted, left, needs, needs_accepted, next, next_if, refusal, with_status}
+use Rattle.tree_law.specs.commands.Reads as reads
+use Rattle.tree_law.specs.commands.Rmdir as rmdir
+use Rattle.tree_law.specs.declared.follow.Follow.{Follow}
+
+-- ---- refused
+
+pub next_refused : (m : Parameters) (s : State) (op : Op) (r : Refusal) (looks : List ℕ) → refusal m s op ≡ Some r → next m s op looks ≡ record { reply = refused r.why r.arg; state = with_status op (refused r.why r.arg) (left s op) }
+unfolding next
+next_refused m s op r looks is = ap (λ (against : Option Refusal). record { reply = reply_of against; state = with_status op (reply_of against) (next_if m s op looks against) }) is
+
+pub after_refused : (m : Parameters) (s : State) (k : ℕ) (op : Op) (r : Refusal) → refusal m s op ≡ Some r → after m s k op ≡ []
+unfolding after
+after_refused m s k op r is = rw is refl
+
+pub needs_refused : (m : Parameters) (s : State) (op : Op) (r : Refusal) → refusal m s op ≡ Some r → needs m s op ≡ []
+unfolding needs
+needs_refused m s op r is = rw is refl
+
+-- ---- accepted
+
+pub next_accepted : (m : Parameters) (s : State) (op : Op) (looks : List ℕ) → refusal m s op ≡ None → next m s op looks ≡ record { reply = replies.Ok; state = with_status op replies.Ok (accepted m s op looks) }
+unfolding next
+next_accepted m s op looks is = ap (λ (against : Option Refusal). record { reply = reply_of against; state = with_status op (reply_of against) (next_if m s op looks against) }) is
+
+pub after_all : (m : Parameters) (s : State) (k : ℕ) (op : Op) → refusal m s op ≡ None → after m s k op ≡ after_accepted m s k op
+unfolding after
+after_all m s k op is = rw is refl
+
+pub needs_all : (m : Parameters) (s : State) (op : Op) → refusal m s op ≡ None → needs m s op ≡ needs_accepted m s op
+unfolding needs
+needs_all m s op is = rw is refl
+
+-- what follows does not depend on the position, but for a touch
+pub after_moved : (m : Parameters) (s : State) (k j : ℕ) (op : Op) → after_accepted m s k op ≡ after_accepted m s j op → after m s k op ≡ after m s j op
+unfolding after
+after_moved m s k j op same = ap (λ (fs : List Follow). cond (is_some (refusal m s op)) [] fs) same
+
+-- a command that nothing follows where it is accepted
+pub after_nothing : (m : Parameters) (s : State) (k : ℕ) (op : Op) → after_accepted m s k op ≡ [] → after m s k op ≡ []
+unfolding after
+after_nothing m s k op none = at (is_some (refusal m s op))
+  where
+    at : (b : Bool) → cond b [] (after_accepted m s k op) ≡ []
+    at true = refl
+    at false = none
+
+-- a command that needs none where it is accepted needs none
+pub needs_nothing : (m : Parameters) (s : State) (op : Op) → needs_accepted m s op ≡ [] → needs m s op ≡ []
+unfolding needs
+needs_nothing m s op none = at (is_some (refusal m s op))
+  where
+    at : (b : Bool) → cond b [] (needs_accepted m s op) ≡ []
+    at true = refl
+    at false = none
+
+pub next_reply : (m : Parameters) (s : State) (op : Op) (looks : List ℕ) → (next m s op looks).reply ≡ reply_of (refusal m s op)
+unfolding next
+next_reply m s op looks = refl
+
+-- a command that changes nothing
+pub quiet_state : (m : Parameters) (s : State) (op : Op) (looks : List ℕ) → accepted m s op looks ≡ s → left s op ≡ s → ((x : State) → with_status op (reply_of (refusal m s op)) x ≡ x) → (next m s op looks).state ≡ s
+unfolding next
+quiet_state m s op looks same same' quiet = quiet (next_if m s op looks (refusal m s op)) ∙ at (refusal m s op)
+  where
+    at : (against : Option Refusal) → next_if m s op looks against ≡ s
+    at None = same
+    at (Some r) = same'
+
+-- what a refused command leaves
+pub refused_state : (m : Parameters) (s : State) (op : Op) (looks : List ℕ) (r : Refusal) → refusal m s op ≡ Some r → (next m s op looks).state ≡ with_status op (refused r.why r.arg) (left s op)
+refused_state m s op looks r is = ap (λ (o : Outcome). o.state) (next_refused m s op r looks is)
+
+pub refused_left : (m : Parameters) (s : State) (op : Op) (looks : List ℕ) (after : State) → after ≡ (next m s op looks).state → IfSome (refusal m s op) (λ r. after ≡ with_status op (refused r.why r.arg) (left s op))
+refused_left m s op looks after is = at (refusal m s op) refl
+  where
+    at : (against : Option Refusal) → refusal m s op ≡ against → IfSome against (λ r. after ≡ with_status op (refused r.why r.arg) (left s op))
+    at None e = tt
+    at (Some r) e = is ∙ refused_state m s op looks r e
+
+-- ---- rmdir
+
+pub rmdir_refused : (m : Parameters) (s : State) (path : PathRef) (why : Why) → find (rmdir.against s path) rmdir.reasons ≡ Some why → refusal m s (Rmdir path) ≡ Some (plain why)
+unfolding refusal rmdir.refusal
+rmdir_refused m s path why found = ap (option_map plain) found
+
+pub rmdir_accepted : (m : Parameters) (s : State) (path : PathRef) → find (rmdir.against s path) rmdir.reasons ≡ None → refusal m s (Rmdir path) ≡ None
+unfolding refusal rmdir.refusal
+rmdir_accepted m s path none = ap (option_map plain) none
+
+pub rmdir_none : (m : Parameters) (s : State) (path : PathRef) → refusal m s (Rmdir path) ≡ None → find (rmdir.against s path) rmdir.reasons ≡ None
+unfolding refusal rmdir.refusal
+rmdir_none m s path none = at (find (rmdir.against s path) rmdir.reasons) none
+  where
+    at : (o : Option Why) → option_map plain o ≡ None → o ≡ None
+    at None e = refl
+    at (Some why) e = absurd (let some : Some (plain why) ≡ None = e in cc)
+
+-- ---- read, list and flush
+
+pub read_refusal : (m : Parameters) (s : State) (path : PathRef) → refusal m s (Read path) ≡ cond (is_file s path) None (Some (plain NoSuchPath))
+unfolding refusal reads.refusal
+read_refusal m s path = refl
+
+pub list_refusal : (m : Parameters) (s : State) (path : PathRef) → refusal m s (ops.List path) ≡ cond (is_directory s path) None (Some (plain NoSuchPath))
+unfolding refusal reads.list_refusal
+list_refusal m s path = refl
+
+pub flush_refusal : (m : Parameters) (s : State) (domain : Option ℕ) → refusal m s (Flush domain) ≡ None
+unfolding refusal
+flush_refusal m s domain = refl

@@ -1,0 +1,192 @@
+-- What a write of `schemata` answers and leaves.
+use Rattle.std.proofs.Common.{◌≡◌, ℕ, zero, suc, ◌<◌, ◌≤◌, Bool, true, false, ◌&&◌, cond, List, [], ◌∷◌, length, find, get_or, replicate, Option, None, Some, Result, Ok, Err, refl, sym, subst, ap, ◌∙◌, arith}
+use Rattle.std.specs.Option.{option_map, option_map_or, option_or}
+use Rattle.std.proofs.lemmas.List.Folds.{list_any_none}
+use Rattle.std.proofs.lemmas.Nat.Bits.{bit_at-zero}
+use Rattle.cbm.proofs.laws.Ways.{has_way-zero}
+use Rattle.cbm.specs.Masks.{has_way, overlaps, ways_of}
+use Rattle.group_tree.specs.Lists.{GroupList, replaced}
+use Rattle.group_tree.specs.Others.{masks_of_others}
+use Rattle.group_tree.specs.Records.{has_gid, has_mode, is_control, is_mode, is_other, is_other_in}
+use Rattle.group_tree.specs.declared.group.Group.{Group}
+use Rattle.group_tree.specs.declared.group_kind.GroupKind.{GroupKind}
+use Rattle.lists.proofs.Keyed.{get_or-key}
+use Rattle.machine.specs.Ranges.{InRange}
+use Rattle.machine.specs.declared.parameters.Parameters.{Parameters}
+use Rattle.mode_rules.specs.Overlaps.{write_overlap}
+use Rattle.path_names.specs.declared.dirs.DirRef.{DirRef}
+use Rattle.path_names.specs.declared.files.FileKind.TheVariants as files
+use Rattle.path_names.specs.declared.path_ref.PathRef.{PathRef}
+use Rattle.path_names.specs.declared.path_ref.PathRef.TheVariants.{File}
+use Rattle.rc_base.specs.declared.names.Gid.{Gid}
+use Rattle.rc_base.specs.declared.names.Mode.{Mode}
+use Rattle.rc_base.specs.declared.names.Mode.TheVariants.{Exclusive, Shareable}
+use Rattle.rc_base.specs.declared.replies.Reply.{Reply}
+use Rattle.rc_base.specs.declared.replies.Reply.TheVariants as replies
+use Rattle.rc_base.specs.declared.replies.Why.{Why}
+use Rattle.rc_base.specs.declared.replies.Why.TheVariants as whys
+use Rattle.schemata_text.specs.declared.assignment.Assignment.{Assignment}
+use Rattle.schemata_text.specs.declared.fault.TextFault.{TextFault}
+use Rattle.script_ops.specs.declared.op.Op.TheVariants.{Write}
+use Rattle.tree_core.proofs.BuiltPaths.{write_nothing}
+use Rattle.tree_core.proofs.Found.{find-control_at}
+use Rattle.tree_core.proofs.Kept.{found_plain}
+use Rattle.tree_core.proofs.Outcomes.{needs_nothing, next_accepted}
+use Rattle.tree_core.proofs.Soundness.{next_sound}
+use Rattle.tree_core.proofs.Taken.{taken-replaced}
+use Rattle.tree_core.proofs.Unreached.{plain_replaced, unreached_with}
+use Rattle.tree_core.specs.Kept.{Keeps}
+use Rattle.tree_core.specs.NotReached.{IsShareableControl}
+use Rattle.tree_core.specs.Tables.{Tables}
+use Rattle.tree_law.specs.Freeing.{counts_of}
+use Rattle.tree_law.specs.Places.{control_at, with_record}
+use Rattle.tree_law.specs.Refusals.{plain}
+use Rattle.tree_law.specs.Sound.{IsSound}
+use Rattle.tree_law.specs.Space.{region_mask, used_in}
+use Rattle.tree_law.specs.State.{Outcome, State}
+use Rattle.pseudo_lock.specs.declared.region.Region.{Region}
+use Rattle.tree_law.specs.Steps.{accepted, after_accepted, left, refusal, with_status}
+use Rattle.tree_law.specs.commands.Schemata as schemata
+use Rattle.tree_law.specs.commands.Schemata.{against_entries, assigned, raises, schemata_read, text_refusal}
+use Rattle.tree_law.specs.commands.Write as write
+
+-- what is against the path is against the command
+pub write_refused : (m : Parameters) (s : State) (path : PathRef) (text : List ℕ) (why : Why) → find (write.against s path) write.reasons ≡ Some why → refusal m s (Write path text) ≡ Some (plain why)
+unfolding refusal write.refusal
+write_refused m s path text why found = ap (λ (w : Option Why). option_or (option_map plain w) (write.text_refusal m s path text)) found
+
+write_writable : (m : Parameters) (s : State) (path : PathRef) (text : List ℕ) → find (write.against s path) write.reasons ≡ None → refusal m s (Write path text) ≡ write.text_refusal m s path text
+unfolding refusal write.refusal
+write_writable m s path text none = ap (λ (w : Option Why). option_or (option_map plain w) (write.text_refusal m s path text)) none
+
+-- a refused write of `schemata` leaves the state
+pub schemata_left : (s : State) (dir : DirRef) (text : List ℕ) (reply : Reply) → with_status (Write (File dir files.Schemata) text) reply (left s (Write (File dir files.Schemata) text)) ≡ record s { status = reply }
+unfolding write.refused
+schemata_left s dir text reply = refl
+
+-- ---- nothing overlaps a mask of a shareable group
+
+-- no mask is that of an exclusive group
+none_exclusive : (gid : Option Gid) (domain : ℕ) (groups : List Group) → ((k : ℕ) (d : Group) → k < length groups → IsShareableControl (get_or groups k d)) → masks_of_others gid Exclusive domain groups ≡ []
+none_exclusive gid domain [] each = refl
+none_exclusive gid domain (g ∷ gs) each =
+    let mine : IsShareableControl g = each 0 g (omega arith) in
+    let other : has_mode Exclusive g ≡ false = ap (λ (kind : GroupKind). is_control kind && is_mode Exclusive g.mode) mine.control ∙ ap (is_mode Exclusive) mine.shareable in
+    rw (not_it other) (none_exclusive gid domain gs (λ k d within. each (suc k) d (omega arith)))
+  where
+    not_it : has_mode Exclusive g ≡ false → is_other_in gid Exclusive g ≡ false
+    not_it other = ap (λ (b : Bool). is_other gid g && b) other ∙ and_false (is_other gid g)
+      where
+        and_false : (b : Bool) → (b && false) ≡ false
+        and_false true = refl
+        and_false false = refl
+
+overlaps_none : (mask : ℕ) → overlaps mask 0 ≡ false
+unfolding overlaps
+overlaps_none mask = list_any_none (has_way 0) (ways_of mask) (λ k d within. has_way-zero 0 (get_or (ways_of mask) k d) (bit_at-zero (get_or (ways_of mask) k d)))
+
+module _ {m : Parameters} {t : Tables} {s : State} {epoch : ℕ} (keeps : Keeps m t s epoch) where
+  no_region : (domain : ℕ) → region_mask s.regions domain ≡ 0
+  no_region domain = ap (λ (rs : List (Option Region)). region_mask rs domain) keeps.not_reached.regions ∙ at m.domains domain
+    where
+      at : (n k : ℕ) → region_mask (replicate n None) k ≡ 0
+      at zero k = refl
+      at (suc n) zero = refl
+      at (suc n) (suc k) = at n k
+
+  none_against : (gid : Gid) (mask domain : ℕ) → write_overlap Shareable mask (used_in m s (Some gid) domain) ≡ Ok tt
+  unfolding write_overlap
+  none_against gid mask domain = rw (none_exclusive (Some gid) domain s.groups keeps.not_reached.groups, no_region domain, overlaps_none mask) refl
+
+  entries_fine : (g : Group) → g.mode ≡ Shareable → (all : List Assignment) → against_entries m s g all ≡ None
+  entries_fine g shareable [] = refl
+  entries_fine g shareable (a ∷ all) =
+      let one : write_overlap g.mode a.mask (used_in m s (Some g.gid) a.domain) ≡ Ok tt = ap (λ (mode : Mode). write_overlap mode a.mask (used_in m s (Some g.gid) a.domain)) shareable ∙ none_against g.gid a.mask a.domain in
+      rw one (entries_fine g shareable all)
+
+  -- ---- by the reading of a text
+
+  module _ (dir : DirRef) (text : List ℕ) (writable : find (write.against s (File dir files.Schemata)) write.reasons ≡ None) where
+    -- a directory that is no control group's takes any text
+    pub nowhere_accepted : control_at s dir ≡ None → refusal m s (Write (File dir files.Schemata) text) ≡ None
+    nowhere_accepted none = write_writable m s (File dir files.Schemata) text writable ∙ ap (λ (o : Option Group). option_map_or (λ g. schemata.refusal m s g (schemata_read m text)) o None) none
+
+    pub nowhere_same : (looks : List ℕ) → control_at s dir ≡ None → accepted m s (Write (File dir files.Schemata) text) looks ≡ s
+    unfolding write.accepted
+    nowhere_same looks none = ap (λ (o : Option Group). option_map_or (λ g. schemata.accepted s g (schemata_read m text)) o s) none
+
+    pub nowhere_alone : (k : ℕ) → control_at s dir ≡ None → after_accepted m s k (Write (File dir files.Schemata) text) ≡ []
+    unfolding write.after
+    nowhere_alone k none = ap (λ (o : Option Group). option_map_or (λ g. schemata.after m s g (schemata_read m text)) o []) none
+
+    module _ (g : Group) (is_group : control_at s dir ≡ Some g) where
+      pub shareable_there : g.mode ≡ Shareable
+      shareable_there = (found_plain keeps g.gid g (find-control_at s dir g is_group)).shareable
+
+      refusal_is : (read : Result (List Assignment) TextFault) → schemata_read m text ≡ read → refusal m s (Write (File dir files.Schemata) text) ≡ schemata.refusal m s g read
+      refusal_is read is = write_writable m s (File dir files.Schemata) text writable ∙ ap (λ (o : Option Group). option_map_or (λ x. schemata.refusal m s x (schemata_read m text)) o None) is_group ∙ ap (schemata.refusal m s g) is
+
+      pub text_refused : (fault : TextFault) → schemata_read m text ≡ Err fault → refusal m s (Write (File dir files.Schemata) text) ≡ Some (text_refusal fault)
+      unfolding schemata.refusal
+      text_refused fault is = refusal_is (Err fault) is ∙ ap (λ (mode : Mode). cond (schemata.is_locked mode) (Some (plain whys.GroupLocked)) (Some (text_refusal fault))) shareable_there
+
+      pub text_accepted : (all : List Assignment) → schemata_read m text ≡ Ok all → refusal m s (Write (File dir files.Schemata) text) ≡ None
+      unfolding schemata.refusal
+      text_accepted all is =
+          refusal_is (Ok all) is
+          ∙ ap (λ (mode : Mode). cond (schemata.is_locked mode) (Some (plain whys.GroupLocked)) (cond (schemata.names_many mode all) (Some (plain whys.OneDomain)) (against_entries m s g all))) shareable_there
+          ∙ entries_fine g shareable_there all
+
+      -- the state with its new masks
+      abbrev pub with_masks : List Assignment → State
+      with_masks all = with_record s (record g { masks = assigned g.masks all })
+
+      pub accepted_is : (all : List Assignment) (looks : List ℕ) → schemata_read m text ≡ Ok all → accepted m s (Write (File dir files.Schemata) text) looks ≡ with_masks all
+      unfolding write.accepted schemata.accepted
+      accepted_is all looks is =
+          ap (λ (o : Option Group). option_map_or (λ x. schemata.accepted s x (schemata_read m text)) o s) is_group
+          ∙ ap (schemata.accepted s g) is
+          ∙ ap (λ (mode : Mode). schemata.with_masks s g mode all) shareable_there
+
+      pub after_is : (all : List Assignment) (k : ℕ) → schemata_read m text ≡ Ok all → after_accepted m s k (Write (File dir files.Schemata) text) ≡ raises m all
+      unfolding write.after schemata.after
+      after_is all k is =
+          ap (λ (o : Option Group). option_map_or (λ x. schemata.after m s x (schemata_read m text)) o []) is_group
+          ∙ ap (schemata.after m s g) is
+          ∙ ap (λ (mode : Mode). schemata.follow m s mode all) shareable_there
+
+      pub masks_sound : (all : List Assignment) → InRange m → length text ≤ 4096 → schemata_read m text ≡ Ok all → IsSound m (record (with_masks all) { status = replies.Ok })
+      masks_sound all range short is =
+          let op = Write (File dir files.Schemata) text in
+          let next = next_sound m s op [] range keeps.sound short (ap length (sym (needs_nothing m s op no_needs))) in
+          let after = subst (λ (o : Outcome). IsSound m o.state) (next_accepted m s op [] (text_accepted all is)) next in
+          subst (λ (x : State). IsSound m (record x { status = replies.Ok })) (accepted_is all [] is) after
+        where
+          no_needs : counts_of m (write.freed s (File dir files.Schemata) text) ≡ []
+          no_needs = ap (counts_of m) (write_nothing s dir files.Schemata text refl)
+
+  -- ---- what the type keeps of it
+
+  pub masks_kept : (g : Group) (masks : List ℕ) (groups' : GroupList) (after : State) → find (has_gid g.gid) s.groups ≡ Some g → groups'.groups ≡ replaced (record g { masks = masks }) t.groups.groups → groups'.shareable ≡ t.groups.shareable
+      → after ≡ record (with_record s (record g { masks = masks })) { status = replies.Ok } → IsSound m (record (with_record s (record g { masks = masks })) { status = replies.Ok }) → Keeps m (record t { groups = groups' }) after epoch
+  masks_kept g masks groups' after found is_groups shareable is sound = subst (λ (x : State). Keeps m (record t { groups = groups' }) x epoch) (sym is) (record {
+    stands = record {
+      groups = is_groups ∙ ap (replaced (record g { masks = masks })) keeps.stands.groups;
+      tasks = keeps.stands.tasks;
+      cpus = keeps.stands.cpus;
+      limbo = keeps.stands.limbo;
+      threshold = keeps.stands.threshold;
+      regions = keeps.stands.regions;
+      locks = keeps.stands.locks;
+      shareable = shareable ∙ keeps.stands.shareable;
+      taken = taken-replaced m s.groups t.classes t.rmids (record g { masks = masks }) keeps.stands.taken (λ k d within is.
+          let same : get_or s.groups k d ≡ g = get_or-key (λ (x : Group). x.gid.0) s.groups (record g { masks = masks }) g keeps.sound.named.gids found k d within is in
+          (ap (λ (x : Group). x.class) same, ap (λ (x : Group). x.rmid) same));
+      gids_left = keeps.stands.gids_left;
+    };
+    sound = sound;
+    not_reached = unreached_with m s (replaced (record g { masks = masks }) s.groups) s.limbo replies.Ok s.next_gid keeps.not_reached (plain_replaced s.groups (record g { masks = masks }) keeps.not_reached.groups plain_new);
+  })
+    where
+      plain_new : IsShareableControl (record g { masks = masks })
+      plain_new = (let old = found_plain keeps g.gid g found in record { control = old.control; shareable = old.shareable })

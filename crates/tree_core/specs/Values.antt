@@ -1,0 +1,10 @@
+-- What contracts see of the tree.
+use Rattle.std.specs.Prelude.{ℕ}
+use Rattle.machine.specs.declared.parameters.Parameters.{Parameters}
+use Rattle.tree_law.specs.State.{State}
+
+-- its machine, its state, and how many commands it has taken
+pub record TreeValue : Type 0 where
+  pub machine : Parameters
+  pub state : State
+  pub epoch : ℕ

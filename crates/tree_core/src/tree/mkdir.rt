@@ -1,0 +1,122 @@
+//! mkdir: making a control group.
+ghost use Rattle.std.specs.Prelude.{◌≡◌, ◌≤◌, ◌<◌, ◌^◌, ◌-◌, ℕ, List, None, Some, find};
+ghost use Rattle.path_names.specs.declared.dirs.DirRef.TheVariants.{Ctrl};
+ghost use Rattle.path_names.specs.declared.path_ref.PathRef.TheVariants.{Dir};
+ghost use Rattle.script_ops.specs.declared.op.Op.TheVariants.{Mkdir};
+ghost use Rattle.tree_core.specs.Built.{IsBuilt};
+ghost use Rattle.tree_core.specs.Places.{place_reasons};
+ghost use Rattle.tree_law.specs.Refusals.{reply_of};
+ghost use Rattle.tree_law.specs.Steps.{next, next_if, refusal};
+ghost use Rattle.tree_law.specs.commands.Mkdir.{against};
+
+use super::Tree;
+use crate::places::{control_name, is_in_place};
+use crate::taking::{NewIds, take_ids};
+use group_tree::{Group, GroupKind};
+use path_names::{NameId, PathRef};
+use rc_base::{Gid, Mode, Reply, Why};
+
+impl Tree {
+    /// Makes a group at this path, and sets the last status.
+    #[tactic(auto, unfolding(tree_law::specs::Steps::next))]
+    pub(crate) fn mkdir(&mut self, path: PathRef) -> Reply
+        requires built { IsBuilt (Mkdir path) }
+        requires gids { self.old.state.next_gid ≤ self.old.epoch }
+        requires epoch { self.old.epoch < 2 ^ 32 - 1 }
+        ensures machine { self.new.machine ≡ self.old.machine }
+        ensures reply { (looks : List ℕ) → result
+            ≡ (next self.old.machine self.old.state (Mkdir path) looks).reply }
+        ensures state { (looks : List ℕ)
+            → self.new.state ≡ (next self.old.machine self.old.state (Mkdir path) looks).state }
+        ensures epoch { self.new.epoch ≡ self.old.epoch }
+    {
+        let reply = self.make(path);
+        self.status = reply;
+        reply
+    }
+
+    // Makes a group at this path, but for the last status.
+    fn make(&mut self, path: PathRef) -> Reply
+        requires built { IsBuilt (Mkdir path) }
+        requires gids { self.old.state.next_gid ≤ self.old.epoch }
+        requires epoch { self.old.epoch < 2 ^ 32 - 1 }
+        ensures machine { self.new.machine ≡ self.old.machine }
+        ensures reply { result ≡ reply_of (refusal self.old.machine self.old.state (Mkdir path)) }
+        ensures state { (looks : List ℕ) → self.new.state
+            ≡ next_if self.old.machine self.old.state (Mkdir path) looks
+            (refusal self.old.machine self.old.state (Mkdir path)) }
+        ensures epoch { self.new.epoch ≡ self.old.epoch }
+    {
+        match self.against_place(path) {
+            Some(why) => Reply::refused(why, 0),
+            None => match control_name(path) {
+                Some(name) => self.make_control(name),
+                None => unreachable!(),
+            },
+        }
+    }
+
+    // What is against making a group at this place.
+    fn against_place(&self, path: PathRef) -> Option<Why>
+        ensures { result ≡ find (against self.now.machine self.now.state path) place_reasons }
+    {
+        if !self.is_held(path) {
+            Some(Why::NoSuchPath)
+        } else if self.path_exists(path) {
+            Some(Why::Exists)
+        } else if !is_in_place(path) {
+            Some(Why::NotAPlace)
+        } else {
+            None
+        }
+    }
+
+    // Makes a control group, against whose place nothing is.
+    fn make_control(&mut self, name: NameId) -> Reply
+        requires place { find (against self.old.machine self.old.state (Dir (Ctrl name))) place_reasons ≡ None }
+        requires gids { self.old.state.next_gid ≤ self.old.epoch }
+        requires epoch { self.old.epoch < 2 ^ 32 - 1 }
+        ensures machine { self.new.machine ≡ self.old.machine }
+        ensures reply { result
+            ≡ reply_of (refusal self.old.machine self.old.state (Mkdir (Dir (Ctrl name)))) }
+        ensures state { (looks : List ℕ) → self.new.state
+            ≡ next_if self.old.machine self.old.state (Mkdir (Dir (Ctrl name))) looks
+            (refusal self.old.machine self.old.state (Mkdir (Dir (Ctrl name)))) }
+        ensures epoch { self.new.epoch ≡ self.old.epoch }
+    {
+        let masks = self.initial_masks();
+        let full = self.full_domain();
+        match take_ids(&mut self.classes, &mut self.rmids, full) {
+            Ok(ids) => {
+                let group = control_group(Gid(self.next_gid), name, ids, masks);
+                self.groups.insert(group);
+                self.next_gid += 1;
+                Reply::Ok
+            }
+            Err(reply) => reply,
+        }
+    }
+}
+
+// A shareable control group.
+fn control_group(gid: Gid, name: NameId, ids: NewIds, masks: [u32; 8]) -> Group
+    ensures { result ≡ record {
+      gid = gid;
+      name = Some name;
+      kind = GroupKind.Control;
+      mode = Mode.Shareable;
+      class = Some ids.class;
+      rmid = Some ids.rmid;
+      masks = masks;
+    } }
+{
+    Group {
+        gid,
+        name: Some(name),
+        kind: GroupKind::Control,
+        mode: Mode::Shareable,
+        class: Some(ids.class),
+        rmid: Some(ids.rmid),
+        masks,
+    }
+}

@@ -1,0 +1,247 @@
+-- A write of `mode` keeps a sound tree.
+use Rattle.std.proofs.Common.{◌≡◌, ◌≢◌, ℕ, ◌<◌, Bool, true, false, ◌||◌, cond, List, [], ◌∷◌, length, find, get_or, Option, None, Some, IfSome, IsSome, is_none, Ok, inl, inr, refl, sym, subst, ap, ◌∙◌, arith}
+use Rattle.std.specs.List.{All, list_any, range_with_len}
+use Rattle.std.specs.Option.{option_or, option_to_list}
+use Rattle.std.proofs.lemmas.Bool.{eqb-false, eq-eqb, ne_eqb}
+use Rattle.std.proofs.lemmas.List.Elements.{All-cons}
+use Rattle.group_tree.specs.Records.{has_gid, is_control, is_monitor_of, mask_in}
+use Rattle.group_tree.specs.declared.group.Group.{Group}
+use Rattle.group_tree.specs.declared.group_kind.GroupKind.{GroupKind}
+use Rattle.group_tree.specs.declared.group_kind.GroupKind.TheVariants.{Control, Monitor}
+use Rattle.hw_ids.specs.Ids.{contains}
+use Rattle.lists.proofs.Keyed.{All-replaced, AllPairs-beside}
+use Rattle.lists.proofs.Tests.{IsFound, find-found, All-from_none, IsFound-all, All-from_empty}
+use Rattle.lists.proofs.Options.{option_or-none}
+use Rattle.machine.specs.declared.parameters.Parameters.{Parameters}
+use Rattle.mode_rules.specs.Overlaps.{is_apart, leaving_overlap}
+use Rattle.num_text.specs.Blanks.{trim}
+use Rattle.rc_base.specs.declared.names.Gid.{Gid}
+use Rattle.rc_base.specs.declared.names.Mode.{Mode}
+use Rattle.rc_base.specs.declared.names.Mode.TheVariants.{Shareable, Exclusive, LockSetup, Locked}
+use Rattle.rc_base.specs.declared.replies.Why.TheVariants.{GroupLocked, OutOfRmids, RmidsBusy, SchemataOverlap, UnknownMode}
+use Rattle.tree_law.proofs.FreeIds.{free_rmid-some, All-range}
+use Rattle.tree_law.proofs.Groups.{gid_number}
+use Rattle.tree_law.proofs.Limbo.{HasNone, AreNumbered-limbo_after}
+use Rattle.tree_law.proofs.Masks.{FitsBeside, FitsBeside-exclusive, FitsBeside-leaving, FitsBeside-old, FitsBeside-shared, HaveMasks-fitting, HaveRegions-fitting}
+use Rattle.tree_law.proofs.NewRecords.{after, AreBound-replaced, IdsDiffer-turned, HaveMasks-replaced, AreNamed-replaced, new_record, AreNumbered-replaced, HaveRegions-replaced, AreServed-replaced}
+use Rattle.tree_law.proofs.Schemata.{against_overlap-none}
+use Rattle.tree_law.specs.Counted.{is_counted, is_counted_mode}
+use Rattle.tree_law.specs.Freeing.{limbo_after}
+use Rattle.tree_law.specs.Masks.{HasValid}
+use Rattle.tree_law.specs.Places.{with_record}
+use Rattle.tree_law.specs.Refusals.{Refusal, plain}
+use Rattle.tree_law.specs.Sound.{Differ, HasIds, HasIdsOf, IdsDiffer, IsDefault, IsSound, IsUsed}
+use Rattle.tree_law.specs.Space.{free_rmid, used_in}
+use Rattle.tree_law.specs.State.{State}
+use Rattle.tree_law.specs.commands.Mkdir.{none_in_limbo}
+use Rattle.tree_law.specs.commands.Mode.{accepted, against_change, against_entry, against_exclusive, against_leaving, against_masks, against_mode, against_rmid, freed, freed_by, holdings, is_named, is_present, is_setup, mode_in, overlaps_some, refusal, rmid_refusal, with_mode}
+use Rattle.tree_law.specs.commands.Schemata.{against_overlap, is_locked}
+use Rattle.cpu_binding.specs.Groups as cpu_groups
+use Rattle.task_binding.specs.Bindings as bindings
+use Rattle.tree_law.proofs.ModeTests.{unnot, MayEnter, may_enter, has_class, unlocked_mode, not_has_locked, control_ids, counted_ids, counted_kind, counted_unlocks}
+
+module _ (m : Parameters) (s : State) (g : Group) (sound : IsSound m s) (found : find (has_gid g.gid) s.groups ≡ Some g) (control : is_control g.kind ≡ true) (unlocked : is_locked g.mode ≡ false) where
+  place : IsFound (has_gid g.gid) s.groups g
+  place = find-found (has_gid g.gid) s.groups g found
+
+  class_there : IsSome g.class
+  class_there = has_class s.groups g.kind g control unlocked (IsFound-all (λ (x : Group). HasIds s.groups x.kind x) (has_gid g.gid) s.groups g place sound.numbered.ids)
+
+  -- to a counted mode
+  to_counted : (mode : Mode) (rmid : Option ℕ) → is_counted_mode mode ≡ true → (IsDefault g → rmid ≡ Some 0) → IsSome rmid → IfSome rmid (IsUsed m s.limbo)
+      → ((k : ℕ) (d : Group) → k < length s.groups → has_gid g.gid (get_or s.groups k d) ≡ false → Differ rmid (get_or s.groups k d).rmid)
+      → ((domain : ℕ) → domain < m.domains → FitsBeside m s g sound found mode domain (mask_in domain g)) → IsSound m (with_record s (record g { mode = mode; rmid = rmid }))
+  to_counted mode rmid counted default some used differ fits =
+      let gids = sound.named.gids in
+      let stays : is_counted g ≡ true → cond (is_control g.kind) (is_counted_mode mode) false ≡ true = λ _. counted_kind g.kind mode control counted in
+      let p = place in record {
+        named = AreNamed-replaced s.groups g mode g.class rmid g.masks gids found s.next_gid sound.named (λ d. record { gid = d.gid; name = d.name; counted = counted_kind g.kind mode control counted; class = d.class; rmid = default d });
+        numbered = AreNumbered-replaced s.groups g mode g.class rmid g.masks gids found m s.limbo sound.numbered
+            (λ k d parent within is. inl stays)
+            (control_ids (after s.groups g mode g.class rmid g.masks gids found) g.kind (new_record s.groups g mode g.class rmid g.masks gids found) mode refl control (counted_ids mode (new_record s.groups g mode g.class rmid g.masks gids found) counted class_there some))
+            (IsFound-all (λ (x : Group). IfSome x.class (λ id. id < m.classes)) (has_gid g.gid) s.groups g p sound.numbered.classes)
+            used
+            (λ k d within other old. (old.0, differ k d within other));
+        masks = HaveMasks-fitting m s g sound found mode g.class rmid g.masks (IsFound-all (λ (x : Group). length x.masks ≡ 8) (has_gid g.gid) s.groups g p sound.masks.places) fits;
+        regions = HaveRegions-fitting m s g sound found mode g.class rmid g.masks (IsFound-all (λ (x : Group). length x.masks ≡ 8) (has_gid g.gid) s.groups g p sound.masks.places) fits
+            (not_has_locked g.kind g.mode unlocked) (not_has_locked g.kind mode (counted_unlocks mode counted));
+        lines = sound.lines;
+        threshold = sound.threshold;
+        tasks = AreBound-replaced s.groups g mode g.class rmid g.masks gids found s.tasks (λ k d within. inl stays) sound.tasks;
+        cpus = AreServed-replaced s.groups g mode g.class rmid g.masks gids found m s.cpus (λ k d within. inl stays) sound.cpus;
+      }
+
+  -- to pseudo-locksetup
+  to_setup : (looks : List ℕ) → MayEnter (holdings s g) → IsSound m (record (with_record s (record g { mode = LockSetup; rmid = None })) { limbo = limbo_after m s.threshold s.limbo (option_to_list g.rmid) looks })
+  to_setup looks enter =
+      let gids = sound.named.gids in
+      let uncounted = off g.kind in
+      let p = place in record {
+        named = AreNamed-replaced s.groups g LockSetup g.class None g.masks gids found s.next_gid sound.named (λ d. absurd (let f : true ≡ false = sym (eq-eqb g.gid.0 0 d.gid) ∙ enter.other in cc));
+        numbered = AreNumbered-limbo_after m (after s.groups g LockSetup g.class None g.masks gids found) s.threshold (option_to_list g.rmid) s.limbo looks
+            (AreNumbered-replaced s.groups g LockSetup g.class None g.masks gids found m s.limbo sound.numbered
+            (λ k d parent within is. inr (λ e. no_child k d parent within is e))
+            (control_ids (after s.groups g LockSetup g.class None g.masks gids found) g.kind (new_record s.groups g LockSetup g.class None g.masks gids found) LockSetup refl control (class_there, refl))
+            (IsFound-all (λ (x : Group). IfSome x.class (λ id. id < m.classes)) (has_gid g.gid) s.groups g p sound.numbered.classes)
+            tt
+            (λ k d within other old. (old.0, tt)))
+            (listed g.rmid (IsFound-all (λ (x : Group). IfSome x.rmid (IsUsed m s.limbo)) (has_gid g.gid) s.groups g p sound.numbered.rmids))
+            (All-replaced gid_number s.groups (new_record s.groups g LockSetup g.class None g.masks gids found) g gids found (HasNone (option_to_list g.rmid)) tt
+            (λ k d within other. apart g.rmid (get_or s.groups k d).rmid (AllPairs-beside gid_number s.groups g g gids found IdsDiffer IdsDiffer-turned sound.numbered.apart k d within other).1));
+        masks = HaveMasks-replaced s.groups g LockSetup g.class None g.masks gids found m sound.masks
+            (IsFound-all (λ (x : Group). length x.masks ≡ 8) (has_gid g.gid) s.groups g p sound.masks.places)
+            (λ domain lt c u. IsFound-all (HasValid m domain) (has_gid g.gid) s.groups g p (sound.masks.valid domain lt) control (unlocked_mode g.mode unlocked))
+            (λ domain lt k d within other keep cn cx either. absurd (uncounted cn))
+            (λ domain lt cn e. absurd (uncounted cn));
+        regions = HaveRegions-replaced s.groups g LockSetup g.class None g.masks gids found m s.regions sound.regions (not_has_locked g.kind g.mode unlocked) (not_has_locked g.kind LockSetup refl)
+            (λ domain r there cn. absurd (uncounted cn));
+        lines = sound.lines;
+        threshold = sound.threshold;
+        tasks = AreBound-replaced s.groups g LockSetup g.class None g.masks gids found s.tasks (λ k d within. inr (eqb-false (get_or s.tasks k d).control.0 g.gid.0 (All-from_empty (bindings.has_control g.gid) s.tasks enter.tasks k d within))) sound.tasks;
+        cpus = AreServed-replaced s.groups g LockSetup g.class None g.masks gids found m s.cpus (λ k d within. inr (eqb-false (get_or s.cpus k d).control.0 g.gid.0 (All-from_empty (cpu_groups.has_control g.gid) s.cpus enter.cpus k d within))) sound.cpus;
+      }
+    where
+      off : (kind : GroupKind) → cond (is_control kind) false false ≡ true → ⊥
+      off Control e = let f : false ≡ true = e in cc
+      off (Monitor q) e = let f : false ≡ true = e in cc
+
+      no_child : (k : ℕ) (d : Group) (parent : Gid) → k < length s.groups → (get_or s.groups k d).kind ≡ Monitor parent → parent.0 ≡ g.gid.0 → ⊥
+      no_child k d parent within is same = (let none = All-from_empty (λ (x : Group). is_monitor_of g.gid x.kind) s.groups enter.monitors k d within in
+          let one : is_monitor_of g.gid (get_or s.groups k d).kind ≡ true = ap (is_monitor_of g.gid) is ∙ eq-eqb g.gid.0 parent.0 (sym same) in
+          let f : true ≡ false = sym one ∙ none in cc)
+
+      listed : (o : Option ℕ) → IfSome o (IsUsed m s.limbo) → All (λ id. id < m.rmids) (option_to_list o)
+      listed None used = λ k d within. absurd (omega arith)
+      listed (Some id) used = All-cons (λ id. id < m.rmids) id [] used.0 (λ k d within. absurd (omega arith))
+
+      apart : (a b : Option ℕ) → Differ a b → IfSome b (λ id. contains id (option_to_list a) ≡ false)
+      apart a None differ = tt
+      apart None (Some b) differ = refl
+      apart (Some a) (Some b) differ = ap (λ (x : Bool). x || false) (ne_eqb a b differ)
+
+  -- ---- the tests of a change
+
+  all_leave : (domains : List ℕ) → against_masks m s g domains ≡ None → All (λ domain. leaving_overlap (mask_in domain g) (used_in m s (Some g.gid) domain) ≡ Ok tt) domains
+  all_leave [] none = λ k d within. absurd (omega arith)
+  all_leave (domain ∷ domains) none =
+      let both = option_or-none (against_overlap domain (leaving_overlap (mask_in domain g) (used_in m s (Some g.gid) domain))) (against_masks m s g domains) none in
+      All-cons (λ domain. leaving_overlap (mask_in domain g) (used_in m s (Some g.gid) domain) ≡ Ok tt) domain domains
+      (against_overlap-none domain (leaving_overlap (mask_in domain g) (used_in m s (Some g.gid) domain)) both.0) (all_leave domains both.1)
+
+  all_apart : against_exclusive m s g Exclusive ≡ None → (domain : ℕ) → domain < m.domains → is_apart (mask_in domain g) (used_in m s (Some g.gid) domain) ≡ true
+  all_apart none = All-range (λ domain. is_apart (mask_in domain g) (used_in m s (Some g.gid) domain) ≡ true) m.domains
+      (λ k d within. unnot (is_apart (mask_in (get_or (range_with_len 0 m.domains) k d) g) (used_in m s (Some g.gid) (get_or (range_with_len 0 m.domains) k d)))
+      (All-from_none (overlaps_some m s g) (range_with_len 0 m.domains) (at (list_any (overlaps_some m s g) (range_with_len 0 m.domains)) none) k d within))
+    where
+      at : (b : Bool) → cond {A = Option Refusal} b (Some (plain SchemataOverlap)) None ≡ None → b ≡ false
+      at true e = absurd (let f : Some (plain SchemataOverlap) ≡ None = e in cc)
+      at false e = refl
+
+  valid_here : (domain : ℕ) → domain < m.domains → HasValid m domain g
+  valid_here domain lt = IsFound-all (HasValid m domain) (has_gid g.gid) s.groups g place (sound.masks.valid domain lt)
+
+  -- an RMID is free
+  some_free : rmid_refusal m s ≡ None → (id : ℕ) × (free_rmid m s ≡ Some id)
+  some_free none = at (free_rmid m s) refl none
+    where
+      at : (o : Option ℕ) → free_rmid m s ≡ o → cond {A = Option Refusal} (is_none o) (Some (plain (cond (none_in_limbo s) OutOfRmids RmidsBusy))) None ≡ None → (id : ℕ) × (free_rmid m s ≡ Some id)
+      at None is e = absurd (let f : Some (plain (cond (none_in_limbo s) OutOfRmids RmidsBusy)) ≡ None = e in cc)
+      at (Some id) is e = (id, is)
+
+  -- from a counted mode its own RMID stays
+  kept_rmid : is_counted_mode g.mode ≡ true → (mode : Mode) → is_counted_mode mode ≡ true → ((domain : ℕ) → domain < m.domains → FitsBeside m s g sound found mode domain (mask_in domain g)) → IsSound m (with_record s (record g { mode = mode; rmid = g.rmid }))
+  kept_rmid was mode counted fits = to_counted mode g.rmid counted (λ d. d.rmid) (rmid_there g.kind control (IsFound-all (λ (x : Group). HasIds s.groups x.kind x) (has_gid g.gid) s.groups g place sound.numbered.ids))
+      (IsFound-all (λ (x : Group). IfSome x.rmid (IsUsed m s.limbo)) (has_gid g.gid) s.groups g place sound.numbered.rmids)
+      (λ k d within other. (AllPairs-beside gid_number s.groups g g sound.named.gids found IdsDiffer IdsDiffer-turned sound.numbered.apart k d within other).1) fits
+    where
+      by_mode : (mode : Mode) → is_counted_mode mode ≡ true → HasIdsOf mode g → IsSome g.rmid
+      by_mode Shareable c h = h.1
+      by_mode Exclusive c h = h.1
+      by_mode LockSetup c h = absurd (let f : false ≡ true = c in cc)
+      by_mode Locked c h = absurd (let f : false ≡ true = c in cc)
+
+      rmid_there : (kind : GroupKind) → is_control kind ≡ true → HasIds s.groups kind g → IsSome g.rmid
+      rmid_there Control c h = by_mode g.mode was h
+      rmid_there (Monitor p) c h = absurd (let f : false ≡ true = c in cc)
+
+  -- from pseudo-locksetup it takes a free one
+  new_rmid : g.mode ≡ LockSetup → rmid_refusal m s ≡ None → (mode : Mode) → is_counted_mode mode ≡ true → ((domain : ℕ) → domain < m.domains → FitsBeside m s g sound found mode domain (mask_in domain g)) → IsSound m (with_record s (record g { mode = mode; rmid = free_rmid m s }))
+  new_rmid setup none mode counted fits =
+      let id = some_free none in
+      let is = free_rmid-some m s id.0 id.1 in
+      subst (λ (o : Option ℕ). IsSound m (with_record s (record g { mode = mode; rmid = o }))) (sym id.1)
+      (to_counted mode (Some id.0) counted (λ d. absurd (not_counted g.kind d.counted)) refl is.0 (λ k d within other. is.1 k d within) fits)
+    where
+      not_counted : (kind : GroupKind) → cond (is_control kind) (is_counted_mode g.mode) false ≡ true → ⊥
+      not_counted Control e = let f : false ≡ true = ap is_counted_mode (sym setup) ∙ e in cc
+      not_counted (Monitor p) e = let f : false ≡ true = e in cc
+
+  -- ---- each change
+
+  -- what is against a change to a mode from another, by the modes alone
+  tests : (mode : Mode) → against_change m s g mode ≡ None → (against_entry s g mode ≡ None) × (against_leaving m s g ≡ None) × (against_exclusive m s g mode ≡ None) × (against_rmid m s g ≡ None)
+  tests mode none =
+      let one = option_or-none (against_entry s g mode) (option_or (against_leaving m s g) (option_or (against_exclusive m s g mode) (against_rmid m s g))) none in
+      let two = option_or-none (against_leaving m s g) (option_or (against_exclusive m s g mode) (against_rmid m s g)) one.1 in
+      let three = option_or-none (against_exclusive m s g mode) (against_rmid m s g) two.1 in
+      (one.0, two.0, three.0, three.1)
+
+  exclusive_if : (mode : Mode) → against_exclusive m s g mode ≡ None → mode ≡ Exclusive → (domain : ℕ) → domain < m.domains → is_apart (mask_in domain g) (used_in m s (Some g.gid) domain) ≡ true
+  exclusive_if mode none is = all_apart (subst (λ (x : Mode). against_exclusive m s g x ≡ None) is none)
+
+  from_counted : is_counted_mode g.mode ≡ true → (mode : Mode) → is_counted_mode mode ≡ true → against_exclusive m s g mode ≡ None → IsSound m (with_record s (record g { mode = mode; rmid = g.rmid }))
+  from_counted was mode counted none = kept_rmid was mode counted (λ domain lt. fits mode counted none domain lt)
+    where
+      old : (domain : ℕ) → domain < m.domains → FitsBeside m s g sound found g.mode domain (mask_in domain g)
+      old = FitsBeside-old m s g sound found control (unlocked_mode g.mode unlocked) (counted_kind g.kind g.mode control was)
+
+      fits : (mode : Mode) → is_counted_mode mode ≡ true → against_exclusive m s g mode ≡ None → (domain : ℕ) → domain < m.domains → FitsBeside m s g sound found mode domain (mask_in domain g)
+      fits Shareable c none domain lt = FitsBeside-shared m s g sound found domain (mask_in domain g) (old domain lt)
+      fits Exclusive c none domain lt = FitsBeside-exclusive m s g sound found domain (mask_in domain g) (old domain lt) (all_apart none domain lt)
+      fits LockSetup c none domain lt = absurd (let f : false ≡ true = c in cc)
+      fits Locked c none domain lt = absurd (let f : false ≡ true = c in cc)
+
+  from_setup : g.mode ≡ LockSetup → (mode : Mode) → is_counted_mode mode ≡ true → against_leaving m s g ≡ None → against_exclusive m s g mode ≡ None → against_rmid m s g ≡ None → IsSound m (with_record s (record g { mode = mode; rmid = free_rmid m s }))
+  from_setup setup mode counted leaving exclusive rmid =
+      let masks : against_masks m s g (range_with_len 0 m.domains) ≡ None = ap (λ (x : Mode). cond (is_setup x) (against_masks m s g (range_with_len 0 m.domains)) None) (sym setup) ∙ leaving in
+      let ids : rmid_refusal m s ≡ None = ap (λ (x : Mode). cond (is_setup x) (rmid_refusal m s) None) (sym setup) ∙ rmid in
+      let leave = All-range (λ domain. leaving_overlap (mask_in domain g) (used_in m s (Some g.gid) domain) ≡ Ok tt) m.domains (all_leave (range_with_len 0 m.domains) masks) in
+      new_rmid setup ids mode counted (λ domain lt. FitsBeside-leaving m s g sound found mode domain (mask_in domain g) tt (valid_here domain lt control (unlocked_mode g.mode unlocked)) (leave domain lt) (λ e. exclusive_if mode exclusive e domain lt))
+
+  -- to a counted mode from any
+  change_counted : (mode : Mode) → is_counted_mode mode ≡ true → against_change m s g mode ≡ None → IsSound m (with_record s (record g { mode = mode; rmid = cond (is_setup g.mode) (free_rmid m s) g.rmid }))
+  change_counted mode counted none = (let t = tests mode none in at g.mode refl t.1 t.2 t.3)
+    where
+      at : (x : Mode) → g.mode ≡ x → against_leaving m s g ≡ None → against_exclusive m s g mode ≡ None → against_rmid m s g ≡ None → IsSound m (with_record s (record g { mode = mode; rmid = cond (is_setup x) (free_rmid m s) g.rmid }))
+      at Shareable is l e r = from_counted (ap is_counted_mode is) mode counted e
+      at Exclusive is l e r = from_counted (ap is_counted_mode is) mode counted e
+      at LockSetup is l e r = from_setup is mode counted l e r
+      at Locked is l e r = absurd (let f : true ≡ false = sym (ap is_locked is) ∙ unlocked in cc)
+
+  pub change-sound : (mode : Mode) (looks : List ℕ) → mode ≢ Locked → against_change m s g mode ≡ None → IsSound m (with_mode m s g (freed_by g (Some mode)) looks (Some mode))
+  change-sound Shareable looks writable none = change_counted Shareable refl none
+  change-sound Exclusive looks writable none = change_counted Exclusive refl none
+  change-sound LockSetup looks writable none = to_setup looks (may_enter (holdings s g) (tests LockSetup none).0)
+  change-sound Locked looks writable none = absurd (writable refl)
+
+-- no text asks for the mode of a pseudo-locked group
+writable : (text : List ℕ) (mode : Mode) → mode_in text ≡ Some mode → mode ≢ Locked
+unfolding mode_in
+writable text mode is e = at (is_named (trim text) Shareable) (is_named (trim text) Exclusive) (is_named (trim text) LockSetup) (is ∙ ap Some e)
+  where
+    at : (a b c : Bool) → cond {A = Option Mode} a (Some Shareable) (cond b (Some Exclusive) (cond c (Some LockSetup) None)) ≡ Some Locked → ⊥
+    at true b c e = let f : Some Shareable ≡ Some Locked = e in cc
+    at false true c e = let f : Some Exclusive ≡ Some Locked = e in cc
+    at false false true e = let f : Some LockSetup ≡ Some Locked = e in cc
+    at false false false e = let f : ◌≡◌ {A = Option Mode} None (Some Locked) = e in cc
+
+pub mode-sound : (m : Parameters) (s : State) (g : Group) (text looks : List ℕ) → IsSound m s → find (has_gid g.gid) s.groups ≡ Some g → is_control g.kind ≡ true → refusal m s g text ≡ None → IsSound m (accepted m s g text looks)
+unfolding refusal accepted freed
+mode-sound m s g text looks sound found control none = at (is_present g.mode text) (is_locked g.mode) (mode_in text) refl refl none
+  where
+    at : (a b : Bool) (o : Option Mode) → is_locked g.mode ≡ b → mode_in text ≡ o → cond a None (cond b (Some (plain GroupLocked)) (against_mode m s g o)) ≡ None
+        → IsSound m (cond a s (with_mode m s g (cond a [] (freed_by g o)) looks o))
+    at true b o isb iso e = sound
+    at false true o isb iso e = absurd (let f : Some (plain GroupLocked) ≡ None = e in cc)
+    at false false None isb iso e = absurd (let f : Some (plain UnknownMode) ≡ None = e in cc)
+    at false false (Some mode) isb iso e = change-sound m s g sound found control isb mode looks (writable text mode iso) e

@@ -1,0 +1,195 @@
+-- Each rmdir and each write keeps a sound tree.
+use Rattle.std.proofs.Common.{◌≡◌, ℕ, ◌<◌, Bool, true, false, ◌&&◌, cond, List, [], ◌∷◌, length, find, get_or, Option, None, Some, Result, Ok, Err, refl, sym, subst, ap, ◌∙◌, arith}
+use Rattle.std.specs.Option.{option_map, option_map_or}
+use Rattle.cpu_lists.specs.declared.fault.CpuFault.{CpuFault}
+use Rattle.group_tree.specs.Records.{has_gid, has_name, is_control, is_control_named, is_monitor_named, is_monitor_of}
+use Rattle.group_tree.specs.declared.group.Group.{Group}
+use Rattle.group_tree.specs.declared.group_kind.GroupKind.{GroupKind}
+use Rattle.group_tree.specs.declared.group_kind.GroupKind.TheVariants.{Control, Monitor}
+use Rattle.lists.proofs.Tests.{find-found}
+use Rattle.lists.proofs.Options.{option_and_then-some, option_map-some, option_or-none}
+use Rattle.machine.specs.Ranges.{InRange}
+use Rattle.machine.specs.declared.parameters.Parameters.{Parameters}
+use Rattle.mode_rules.specs.Overlaps.{write_overlap}
+use Rattle.num_text.specs.Blanks.{trim}
+use Rattle.path_names.specs.declared.dirs.DirRef.{DirRef}
+use Rattle.path_names.specs.declared.dirs.DirRef.TheVariants.{Ctrl, Mon}
+use Rattle.path_names.specs.declared.dirs.Owner.{Owner}
+use Rattle.path_names.specs.declared.dirs.Owner.TheVariants.{Ctrl as Named}
+use Rattle.path_names.specs.declared.names.NameId.{NameId}
+use Rattle.path_names.specs.declared.path_ref.PathRef.{PathRef}
+use Rattle.path_names.specs.declared.path_ref.PathRef.TheVariants.{Dir, File}
+use Rattle.rc_base.specs.declared.names.Gid.{Gid}
+use Rattle.rc_base.specs.declared.names.Mode.{Mode}
+use Rattle.rc_base.specs.declared.names.Mode.TheVariants.{Shareable, Exclusive, LockSetup, Locked}
+use Rattle.schemata_text.specs.declared.assignment.Assignment.{Assignment}
+use Rattle.schemata_text.specs.declared.fault.TextFault.{TextFault}
+use Rattle.tree_law.proofs.Cpus.{cpus-sound}
+use Rattle.tree_law.proofs.Groups.{group_at-found}
+use Rattle.tree_law.proofs.Locks.{locked-sound}
+use Rattle.tree_law.proofs.Mode.{mode-sound}
+use Rattle.tree_law.proofs.Readings.{reading-valid}
+use Rattle.tree_law.proofs.GroupKinds.{is_control-counted, gid-not_default}
+use Rattle.tree_law.proofs.RemovedControl.{without_control-sound}
+use Rattle.tree_law.proofs.RemovedMonitor.{without_monitor-sound}
+use Rattle.tree_law.proofs.Schemata.{against_entries-none, written-sound}
+use Rattle.tree_law.proofs.Tasks.{tasks-sound, threshold-sound}
+use Rattle.tree_law.specs.Counted.{is_counted, is_counted_mode}
+use Rattle.tree_law.specs.Existing.{directory_gid, group_of, owner_gid}
+use Rattle.tree_law.specs.Freeing.{rmids_of, rmids_with}
+use Rattle.tree_law.specs.Masks.{IsValid}
+use Rattle.tree_law.specs.Places.{control_at, group_at, only_control}
+use Rattle.tree_law.specs.Refusals.{Refusal, first_of, plain}
+use Rattle.tree_law.specs.Sound.{IsDefault, IsSound}
+use Rattle.tree_law.specs.Space.{used_in}
+use Rattle.tree_law.specs.State.{State}
+use Rattle.path_names.specs.declared.files.FileKind.TheVariants as kinds
+use Rattle.rc_base.specs.declared.replies.Why.TheVariants as whys
+use Rattle.tree_law.specs.commands.Rmdir as rmdir
+use Rattle.tree_law.specs.commands.Write as write
+use Rattle.tree_law.specs.commands.Cpus as cpus
+use Rattle.tree_law.specs.commands.Mode as mode
+use Rattle.tree_law.specs.commands.Schemata as schemata
+use Rattle.tree_law.specs.commands.Tasks as tasks
+
+-- ---- rmdir
+
+-- the default group has no name
+unnamed_default : (name : NameId) (c : Group) → is_control_named name c ≡ true → IsDefault c → ⊥
+unnamed_default name c named d = at (is_control c.kind) (ap (λ (o : Option NameId). is_control c.kind && has_name name o) (sym d.name) ∙ named)
+  where
+    at : (b : Bool) → (b && false) ≡ true → ⊥
+    at true e = let f : false ≡ true = e in cc
+    at false e = let f : false ≡ true = e in cc
+
+not_control : (parent : Gid) (kind : GroupKind) → is_monitor_of parent kind ≡ true → is_control kind ≡ false
+not_control parent Control e = absurd (let f : false ≡ true = e in cc)
+not_control parent (Monitor p) e = refl
+
+first_true : (a b : Bool) → (a && b) ≡ true → a ≡ true
+first_true true b e = refl
+first_true false b e = absurd (let f : false ≡ true = e in cc)
+
+control_gone : (m : Parameters) (s : State) (name : NameId) (gid : Gid) (looks : List ℕ) → IsSound m s → owner_gid s (Named name) ≡ Some gid → IsSound m (rmdir.without_control m s gid (rmids_with s gid) looks)
+control_gone m s name gid looks sound is =
+    let c = option_map-some (λ (g : Group). g.gid) (find (is_control_named name) s.groups) gid is in
+    let f = find-found (is_control_named name) s.groups c.0 c.1 in
+    without_control-sound m s gid c.0 (is_control_named name) sound f c.2 (first_true (is_control c.0.kind) (has_name name c.0.name) f.passes)
+    (gid-not_default s.groups s.next_gid (is_control_named name) c.0 gid sound.named f c.2 (unnamed_default name c.0 f.passes)) looks
+
+monitor_gone : (m : Parameters) (s : State) (owner : Owner) (name : NameId) (gid : Gid) (looks : List ℕ) → IsSound m s → directory_gid s (Mon owner name) ≡ Some gid
+    → IsSound m (rmdir.without_monitor m s gid (option_map_or rmids_of (group_of s gid) []) looks)
+monitor_gone m s owner name gid looks sound is =
+    let parent = option_and_then-some (λ (p : Gid). option_map (λ (g : Group). g.gid) (find (is_monitor_named p name) s.groups)) (owner_gid s owner) gid is in
+    let c = option_map-some (λ (g : Group). g.gid) (find (is_monitor_named parent.0 name) s.groups) gid parent.2 in
+    let f = find-found (is_monitor_named parent.0 name) s.groups c.0 c.1 in
+    let monitor : is_control c.0.kind ≡ false = not_control parent.0 c.0.kind (first_true (is_monitor_of parent.0 c.0.kind) (has_name name c.0.name) f.passes) in
+    without_monitor-sound m s gid c.0 (is_monitor_named parent.0 name) sound f c.2 monitor
+    (gid-not_default s.groups s.next_gid (is_monitor_named parent.0 name) c.0 gid sound.named f c.2 (λ d. let g : true ≡ false = sym (is_control-counted c.0 d.counted) ∙ monitor in cc)) looks
+
+pub rmdir-sound : (m : Parameters) (s : State) (path : PathRef) (looks : List ℕ) → IsSound m s → IsSound m (rmdir.accepted m s path looks)
+unfolding rmdir.accepted rmdir.freed
+rmdir-sound m s (Dir (Ctrl name)) looks sound = at (directory_gid s (Ctrl name)) refl
+  where
+    at : (o : Option Gid) → directory_gid s (Ctrl name) ≡ o → IsSound m (option_map_or (λ gid. rmdir.without_control m s gid (option_map_or (rmids_with s) o []) looks) o s)
+    at None is = sound
+    at (Some gid) is = control_gone m s name gid looks sound is
+rmdir-sound m s (Dir (Mon owner name)) looks sound = at (directory_gid s (Mon owner name)) refl
+  where
+    at : (o : Option Gid) → directory_gid s (Mon owner name) ≡ o → IsSound m (option_map_or (λ gid. rmdir.without_monitor m s gid (option_map_or (λ i. option_map_or rmids_of (group_of s i) []) o []) looks) o s)
+    at None is = sound
+    at (Some gid) is = monitor_gone m s owner name gid looks sound is
+rmdir-sound m s path looks sound = sound
+
+-- ---- schemata
+
+pub control_at-found : (s : State) (dir : DirRef) (g : Group) → control_at s dir ≡ Some g → (find (has_gid g.gid) s.groups ≡ Some g) × (is_control g.kind ≡ true)
+control_at-found s dir g is =
+    let x = option_and_then-some only_control (group_at s dir) g is in
+    let same = only x.0 (is_control x.0.kind) refl x.2 in
+    (group_at-found s dir g (x.1 ∙ ap Some same.0), ap (λ (y : Group). is_control y.kind) (sym same.0) ∙ same.1)
+  where
+    only : (x : Group) (b : Bool) → is_control x.kind ≡ b → cond b (Some x) None ≡ Some g → (x ≡ g) × (is_control x.kind ≡ true)
+    only x true is e = ((let f : Some x ≡ Some g = e in cc), is)
+    only x false is e = absurd (let f : ◌≡◌ {A = Option Group} None (Some g) = e in cc)
+
+is_counted-control : (g : Group) → is_control g.kind ≡ true → is_counted_mode g.mode ≡ true → is_counted g ≡ true
+is_counted-control g control counted = at (is_control g.kind) control
+  where
+    at : (b : Bool) → b ≡ true → cond b (is_counted_mode g.mode) false ≡ true
+    at true e = counted
+    at false e = absurd (let f : false ≡ true = e in cc)
+
+schemata-sound : (m : Parameters) (s : State) (g : Group) (text : List ℕ) → InRange m → IsSound m s → find (has_gid g.gid) s.groups ≡ Some g → is_control g.kind ≡ true
+    → schemata.refusal m s g (schemata.schemata_read m text) ≡ None → IsSound m (schemata.accepted s g (schemata.schemata_read m text))
+unfolding schemata.refusal schemata.accepted schemata.schemata_read
+schemata-sound m s g text range sound found control none = by_read (schemata.schemata_read m text) refl none
+  where
+    by_mode : (all : List Assignment) → ((k : ℕ) (d : Assignment) → k < length all → ((get_or all k d).domain < m.domains) × IsValid m (get_or all k d).mask) → schemata.against_entries m s g all ≡ None → (x : Mode) → g.mode ≡ x → IsSound m (schemata.with_masks s g x all)
+    by_mode all lawful none Shareable is = written-sound m s g sound found control (is_counted-control g control (ap is_counted_mode is)) all range lawful none
+    by_mode all lawful none Exclusive is = written-sound m s g sound found control (is_counted-control g control (ap is_counted_mode is)) all range lawful none
+    by_mode [] lawful none LockSetup is = sound
+    by_mode (a ∷ all) lawful none LockSetup is = (let one = lawful 0 a (omega arith) in
+        locked-sound m s g a sound found control is range one.0 one.1 (subst (λ (x : Mode). write_overlap x a.mask (used_in m s (Some g.gid) a.domain) ≡ Ok tt) is (against_entries-none m s g (a ∷ all) none 0 a (omega arith))))
+    by_mode all lawful none Locked is = sound
+
+    by_read : (r : Result (List Assignment) TextFault) → schemata.schemata_read m text ≡ r → cond (schemata.is_locked g.mode) (Some (plain whys.GroupLocked)) (schemata.against_read m s g r) ≡ None → IsSound m (schemata.accepted s g r)
+    by_read (Err fault) is e = sound
+    by_read (Ok all) is e = by_mode all (reading-valid m (trim text) all is)
+        (second (schemata.names_many g.mode all) (plain whys.OneDomain) (schemata.against_entries m s g all) (second (schemata.is_locked g.mode) (plain whys.GroupLocked) (schemata.against_read m s g (Ok all)) e)) g.mode refl
+      where
+        second : (b : Bool) (r : Refusal) (rest : Option Refusal) → cond b (Some r) rest ≡ None → rest ≡ None
+        second true r rest e = absurd (let f : Some r ≡ None = e in cc)
+        second false r rest e = e
+
+-- ---- write
+
+-- what is against the text is not there
+text_free : (m : Parameters) (s : State) (path : PathRef) (text : List ℕ) → write.refusal m s path text ≡ None → write.text_refusal m s path text ≡ None
+unfolding write.refusal
+text_free m s path text none = (option_or-none (first_of (write.against s path) write.reasons) (write.text_refusal m s path text) none).1
+
+cpus_written : (m : Parameters) (s : State) (dir : DirRef) (read : Result (List ℕ) CpuFault) → IsSound m s → option_map_or (λ g. cpus.refusal s g read) (group_at s dir) None ≡ None → IsSound m (option_map_or (λ g. cpus.accepted s g read) (group_at s dir) s)
+cpus_written m s dir read sound none = at (group_at s dir) refl none
+  where
+    at : (o : Option Group) → group_at s dir ≡ o → option_map_or (λ g. cpus.refusal s g read) o None ≡ None → IsSound m (option_map_or (λ g. cpus.accepted s g read) o s)
+    at None is e = sound
+    at (Some g) is e = cpus-sound m s g read sound (group_at-found s dir g is) e
+
+tasks_written : (m : Parameters) (s : State) (dir : DirRef) (text : List ℕ) → IsSound m s → IsSound m (option_map_or (λ g. tasks.kept s g text) (group_at s dir) s)
+tasks_written m s dir text sound = at (group_at s dir) refl
+  where
+    at : (o : Option Group) → group_at s dir ≡ o → IsSound m (option_map_or (λ g. tasks.kept s g text) o s)
+    at None is = sound
+    at (Some g) is = tasks-sound m s g text sound (group_at-found s dir g is)
+
+schemata_written : (m : Parameters) (s : State) (dir : DirRef) (text : List ℕ) → InRange m → IsSound m s → option_map_or (λ g. schemata.refusal m s g (schemata.schemata_read m text)) (control_at s dir) None ≡ None
+    → IsSound m (option_map_or (λ g. schemata.accepted s g (schemata.schemata_read m text)) (control_at s dir) s)
+schemata_written m s dir text range sound none = at (control_at s dir) refl none
+  where
+    at : (o : Option Group) → control_at s dir ≡ o → option_map_or (λ g. schemata.refusal m s g (schemata.schemata_read m text)) o None ≡ None → IsSound m (option_map_or (λ g. schemata.accepted s g (schemata.schemata_read m text)) o s)
+    at None is e = sound
+    at (Some g) is e = let two = control_at-found s dir g is in schemata-sound m s g text range sound two.0 two.1 e
+
+mode_written : (m : Parameters) (s : State) (dir : DirRef) (text looks : List ℕ) → IsSound m s → option_map_or (λ g. mode.refusal m s g text) (control_at s dir) None ≡ None
+    → IsSound m (option_map_or (λ g. mode.accepted m s g text looks) (control_at s dir) s)
+mode_written m s dir text looks sound none = at (control_at s dir) refl none
+  where
+    at : (o : Option Group) → control_at s dir ≡ o → option_map_or (λ g. mode.refusal m s g text) o None ≡ None → IsSound m (option_map_or (λ g. mode.accepted m s g text looks) o s)
+    at None is e = sound
+    at (Some g) is e = let two = control_at-found s dir g is in mode-sound m s g text looks sound two.0 two.1 e
+
+pub write-sound : (m : Parameters) (s : State) (path : PathRef) (text looks : List ℕ) → InRange m → IsSound m s → write.refusal m s path text ≡ None → IsSound m (write.accepted m s path text looks)
+unfolding write.accepted
+write-sound m s (File dir kinds.Cpus) text looks range sound none = cpus_written m s dir (cpus.mask_read m text) sound (text_free m s (File dir kinds.Cpus) text none)
+write-sound m s (File dir kinds.CpusList) text looks range sound none = cpus_written m s dir (cpus.list_read m text) sound (text_free m s (File dir kinds.CpusList) text none)
+write-sound m s (File dir kinds.Tasks) text looks range sound none = tasks_written m s dir text sound
+write-sound m s (File dir kinds.Schemata) text looks range sound none = schemata_written m s dir text range sound (text_free m s (File dir kinds.Schemata) text none)
+write-sound m s (File dir kinds.Mode) text looks range sound none = mode_written m s dir text looks sound (text_free m s (File dir kinds.Mode) text none)
+write-sound m s (File dir kinds.MaxThreshold) text looks range sound none = threshold-sound m s text sound
+write-sound m s path text looks range sound none = sound
+
+pub refused-sound : (m : Parameters) (s : State) (path : PathRef) (text : List ℕ) → IsSound m s → IsSound m (write.refused s path text)
+unfolding write.refused
+refused-sound m s (File dir kinds.Tasks) text sound = tasks_written m s dir text sound
+refused-sound m s path text sound = sound
