@@ -1,2 +1,4 @@
 -- Lemmas that crates above cite.
 pub mod Lines
+pub mod Places
+pub mod Suffixes

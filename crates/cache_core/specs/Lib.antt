@@ -1,3 +1,4 @@
+pub mod Filled
 pub mod Fills
 pub mod History
 pub mod Places

@@ -12,11 +12,13 @@ pub record ChangedTo (how : ℕ → CpuGroups → CpuGroups) (before after : Lis
   pub done : (k : ℕ) (d : CpuGroups) → k < n → get_or after k d ≡ how k (get_or before k d)
   pub rest : (k : ℕ) (d : CpuGroups) → n ≤ k → get_or after k d ≡ get_or before k d
 
-pub changed_start : (how : ℕ → CpuGroups → CpuGroups) (before : List CpuGroups) → ChangedTo how before before 0
-changed_start how before = record { long = refl; done = λ k d h. absurd (omega arith); rest = λ k d h. refl }
+-- at the start nothing has changed
+pub ChangedTo-start : (how : ℕ → CpuGroups → CpuGroups) (before : List CpuGroups) → ChangedTo how before before 0
+ChangedTo-start how before = record { long = refl; done = λ k d h. absurd (omega arith); rest = λ k d h. refl }
 
-pub changed_more : (how : ℕ → CpuGroups → CpuGroups) (before after : List CpuGroups) (n : ℕ) (e v : CpuGroups) → n < length after → v ≡ how n (get_or after n e) → ChangedTo how before after n → ChangedTo how before (set after n v) (n + 1)
-changed_more how before after n e v within is c = record {
+-- one place more has changed
+pub ChangedTo-set : (how : ℕ → CpuGroups → CpuGroups) (before after : List CpuGroups) (n : ℕ) (e v : CpuGroups) → n < length after → v ≡ how n (get_or after n e) → ChangedTo how before after n → ChangedTo how before (set after n v) (n + 1)
+ChangedTo-set how before after n e v within is c = record {
   long = length-set after n v ∙ c.long;
   done = λ k d h. elim (cases_lt k n) [
     | inl below ↦ (let other : k ≢ n = omega arith in get_or-set_other after n k v d other ∙ c.done k d below)
@@ -26,8 +28,9 @@ changed_more how before after n e v within is c = record {
   rest = λ k d h. let other : k ≢ n = omega arith in get_or-set_other after n k v d other ∙ c.rest k d (omega arith);
 }
 
-pub changed_end : (how : ℕ → CpuGroups → CpuGroups) (before after : List CpuGroups) (n : ℕ) → n ≤ length before → ChangedTo how before after n → Changes how (take n before) (take n after)
-changed_end how before after n fits c = record {
+-- at the end the whole front has changed
+pub Changes-take : (how : ℕ → CpuGroups → CpuGroups) (before after : List CpuGroups) (n : ℕ) → n ≤ length before → ChangedTo how before after n → Changes how (take n before) (take n after)
+Changes-take how before after n fits c = record {
   count = let e = c.long in grind (arith, common_steps);
   each = λ cpu d h. let below : cpu < n = grind (arith, common_steps) in
       front after n cpu d below ∙ c.done cpu d below ∙ ap (how cpu) (sym (front before n cpu d below));

@@ -12,12 +12,14 @@ pub record Collected (test : CpuGroups → Bool) (groups : List CpuGroups) (set 
   pub done : (k : ℕ) (d : CpuGroups) → k < n → has_cpu set k ≡ test (get_or groups k d)
   pub rest : (k : ℕ) → n ≤ k → has_cpu set k ≡ false
 
-pub collected_start : (test : CpuGroups → Bool) (groups : List CpuGroups) → Collected test groups 0 0
-collected_start test groups = record { done = λ k d h. absurd (omega arith); rest = λ k h. ap (λ n. n == 1) (bit_at-zero k) }
+-- before the first CPU the set is empty
+pub Collected-start : (test : CpuGroups → Bool) (groups : List CpuGroups) → Collected test groups 0 0
+Collected-start test groups = record { done = λ k d h. absurd (omega arith); rest = λ k h. ap (λ n. n == 1) (bit_at-zero k) }
 
-pub collected_yes : (test : CpuGroups → Bool) (groups : List CpuGroups) (set more n : ℕ) (e : CpuGroups) → n < length groups → test (get_or groups n e) ≡ true
+-- a CPU that passes the test is put in
+pub Collected-yes : (test : CpuGroups → Bool) (groups : List CpuGroups) (set more n : ℕ) (e : CpuGroups) → n < length groups → test (get_or groups n e) ≡ true
     → has_cpu more n ≡ true → ((k : ℕ) → k ≢ n → has_cpu more k ≡ has_cpu set k) → Collected test groups set n → Collected test groups more (n + 1)
-collected_yes test groups set more n e within is same others c = record {
+Collected-yes test groups set more n e within is same others c = record {
   done = λ k d h. elim (cases_lt k n) [
     | inl below ↦ (let other : k ≢ n = omega arith in others k other ∙ c.done k d below)
     | inr past ↦ (let here : k ≡ n = omega arith in rw here (same ∙ sym is ∙ ap test (get_or_default groups n e d within)))
@@ -25,8 +27,9 @@ collected_yes test groups set more n e within is same others c = record {
   rest = λ k h. let other : k ≢ n = omega arith in others k other ∙ c.rest k (omega arith);
 }
 
-pub collected_no : (test : CpuGroups → Bool) (groups : List CpuGroups) (set n : ℕ) (e : CpuGroups) → n < length groups → test (get_or groups n e) ≡ false → Collected test groups set n → Collected test groups set (n + 1)
-collected_no test groups set n e within is c = record {
+-- a CPU that does not is left out
+pub Collected-no : (test : CpuGroups → Bool) (groups : List CpuGroups) (set n : ℕ) (e : CpuGroups) → n < length groups → test (get_or groups n e) ≡ false → Collected test groups set n → Collected test groups set (n + 1)
+Collected-no test groups set n e within is c = record {
   done = λ k d h. elim (cases_lt k n) [
     | inl below ↦ c.done k d below
     | inr past ↦ (let here : k ≡ n = omega arith in rw here (c.rest n (omega arith) ∙ sym is ∙ ap test (get_or_default groups n e d within)))
@@ -34,5 +37,6 @@ collected_no test groups set n e within is c = record {
   rest = λ k h. c.rest k (omega arith);
 }
 
-pub collected_end : (test : CpuGroups → Bool) (groups : List CpuGroups) (set n : ℕ) → length groups ≡ n → Collected test groups set n → IsSetOf test groups set
-collected_end test groups set n all c = record { each = λ cpu d h. c.done cpu d (omega arith); no_more = λ cpu h. c.rest cpu (omega arith) }
+-- after the last CPU the set is that of all that pass
+pub IsSetOf-collected : (test : CpuGroups → Bool) (groups : List CpuGroups) (set n : ℕ) → length groups ≡ n → Collected test groups set n → IsSetOf test groups set
+IsSetOf-collected test groups set n all c = record { each = λ cpu d h. c.done cpu d (omega arith); no_more = λ cpu h. c.rest cpu (omega arith) }

@@ -1,10 +1,10 @@
 pub mod Additions
-pub mod Again
 pub mod Bits
 pub mod KeptNumbers
-pub mod Least
+pub mod LeastNumbers
 pub mod MaskTexts
 pub mod Members
 pub mod Pieces
+pub mod RoundTrips
 pub mod RunsOfSets
 pub mod Texts

@@ -10,16 +10,17 @@ use Rattle.cpu_lists.specs.Masks.{comma, each}
 pub record SoFar {A : Type 0} (says : List ℕ → Option A) (text rest : List ℕ) (done : List A) : Type 0 where
   pub parts : each says (slice_split comma text) ≡ option_map (λ (more : List A). done ++ more) (each says (slice_split comma rest))
 
-pub nothing_done : {A : Type 0} (says : List ℕ → Option A) (text : List ℕ) → SoFar says text text []
-nothing_done says text = record { parts = same (each says (slice_split comma text)) }
+-- before the first piece
+pub SoFar-nil : {A : Type 0} (says : List ℕ → Option A) (text : List ℕ) → SoFar says text text []
+SoFar-nil says text = record { parts = same (each says (slice_split comma text)) }
   where
     same : {A : Type 0} (o : Option (List A)) → o ≡ option_map (λ (more : List A). [] ++ more) o
     same None = refl
     same (Some x) = refl
 
 -- a piece that says nothing
-pub bad_piece : {A : Type 0} (says : List ℕ → Option A) (text rest : List ℕ) (done : List A) → SoFar says text rest done → says (before_first comma rest) ≡ None → each says (slice_split comma text) ≡ None
-bad_piece {A} says text rest done so none = so.parts ∙ ap (option_map (λ (more : List A). done ++ more)) nothing
+pub each-bad_piece : {A : Type 0} (says : List ℕ → Option A) (text rest : List ℕ) (done : List A) → SoFar says text rest done → says (before_first comma rest) ≡ None → each says (slice_split comma text) ≡ None
+each-bad_piece {A} says text rest done so none = so.parts ∙ ap (option_map (λ (more : List A). done ++ more)) nothing
   where
     first : (pieces : List (List ℕ)) → each says (before_first comma rest ∷ pieces) ≡ None
     first pieces = rw none refl
@@ -31,16 +32,16 @@ bad_piece {A} says text rest done so none = so.parts ∙ ap (option_map (λ (mor
     ]
 
 -- the last piece
-pub last_piece : {A : Type 0} (says : List ℕ → Option A) (text rest : List ℕ) (done : List A) (a : A) → SoFar says text rest done → list_any comma rest ≡ false → says (before_first comma rest) ≡ Some a → each says (slice_split comma text) ≡ Some (done ++ a ∷ [])
-last_piece {A} says text rest done a so no_comma one =
+pub each-last_piece : {A : Type 0} (says : List ℕ → Option A) (text rest : List ℕ) (done : List A) (a : A) → SoFar says text rest done → list_any comma rest ≡ false → says (before_first comma rest) ≡ Some a → each says (slice_split comma text) ≡ Some (done ++ a ∷ [])
+each-last_piece {A} says text rest done a so no_comma one =
     so.parts ∙ ap (option_map (λ (more : List A). done ++ more)) (ap (each says) (slice_split-none comma rest no_comma) ∙ whole (ap says (sym (before_first-none comma rest no_comma)) ∙ one))
   where
     whole : says rest ≡ Some a → each says (rest ∷ []) ≡ Some (a ∷ [])
     whole e = rw e refl
 
 -- a piece with others after it
-pub next_piece : {A : Type 0} (says : List ℕ → Option A) (text rest : List ℕ) (done : List A) (a : A) → SoFar says text rest done → list_any comma rest ≡ true → says (before_first comma rest) ≡ Some a → SoFar says text (after_first comma rest) (done ++ a ∷ [])
-next_piece {A} says text rest done a so some one = record {
+pub SoFar-next_piece : {A : Type 0} (says : List ℕ → Option A) (text rest : List ℕ) (done : List A) (a : A) → SoFar says text rest done → list_any comma rest ≡ true → says (before_first comma rest) ≡ Some a → SoFar says text (after_first comma rest) (done ++ a ∷ [])
+SoFar-next_piece {A} says text rest done a so some one = record {
   parts = so.parts ∙ ap (option_map (λ (more : List A). done ++ more)) (ap (each says) (slice_split-some comma rest some) ∙ first one) ∙ onto (each says (slice_split comma (after_first comma rest)));
 }
   where

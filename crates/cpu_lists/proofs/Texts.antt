@@ -12,37 +12,44 @@ use Rattle.cpu_lists.specs.Sets.{is_among, answer_of, Says, IsSetOf}
 use Rattle.cpu_lists.specs.Masks.{comma, each, group_of, cpus_in, mask_cpus}
 use Rattle.cpu_lists.specs.Lists.{run_of, numbers_in, list_cpus}
 use Rattle.cpu_lists.specs.Collected.{Collects, IsCollected}
-use Rattle.cpu_lists.proofs.Bits.{zero_has}
-use Rattle.cpu_lists.proofs.KeptNumbers.{all_cpus}
-use Rattle.cpu_lists.proofs.Members.{none_among}
+use Rattle.cpu_lists.proofs.Bits.{has-zero}
+use Rattle.cpu_lists.proofs.KeptNumbers.{answer_of-all_cpus}
+use Rattle.cpu_lists.proofs.Members.{Collects-nil}
 
-pub mask_is : (text : List ℕ) → 0 < length text → mask_cpus text ≡ option_map cpus_in (each group_of (slice_split comma (without_prefix text)))
+-- a mask is its groups
+pub mask_cpus-pieces : (text : List ℕ) → 0 < length text → mask_cpus text ≡ option_map cpus_in (each group_of (slice_split comma (without_prefix text)))
 unfolding mask_cpus
-mask_is [] some = absurd (omega arith)
-mask_is (b ∷ bs) some = refl
+mask_cpus-pieces [] some = absurd (omega arith)
+mask_cpus-pieces (b ∷ bs) some = refl
 
-pub list_is : (text : List ℕ) → 0 < length text → list_cpus text ≡ option_map (flat_map numbers_in) (each run_of (slice_split comma text))
+-- a list is its elements
+pub list_cpus-pieces : (text : List ℕ) → 0 < length text → list_cpus text ≡ option_map (flat_map numbers_in) (each run_of (slice_split comma text))
 unfolding list_cpus
-list_is [] some = absurd (omega arith)
-list_is (b ∷ bs) some = refl
+list_cpus-pieces [] some = absurd (omega arith)
+list_cpus-pieces (b ∷ bs) some = refl
 
-pub empty_mask : mask_cpus [] ≡ Some []
+-- an empty mask
+pub mask_cpus-nil : mask_cpus [] ≡ Some []
 unfolding mask_cpus
-empty_mask = refl
+mask_cpus-nil = refl
 
-pub empty_list : list_cpus [] ≡ Some []
+-- an empty list
+pub list_cpus-nil : list_cpus [] ≡ Some []
 unfolding list_cpus
-empty_list = refl
+list_cpus-nil = refl
 
-pub says_nothing : (cpus : ℕ) → IsOkAnd (answer_of cpus (Some [])) (λ (ns : List ℕ). IsSetOf ns 0)
-says_nothing cpus = all_cpus [] (record { low = 0; high = None }) cpus none_among (omega arith) refl (λ k from lt. zero_has 0 k (bit_at-zero k))
+-- no numbers are the empty set
+pub answer_of-nil : (cpus : ℕ) → IsOkAnd (answer_of cpus (Some [])) (λ (ns : List ℕ). IsSetOf ns 0)
+answer_of-nil cpus = answer_of-all_cpus [] (record { low = 0; high = None }) cpus Collects-nil (omega arith) refl (λ k from lt. has-zero 0 k (bit_at-zero k))
 
-pub says_collected : (cpus : ℕ) (reading : Option (List ℕ)) (kept : Numbers) (answer : Result ℕ CpuFault) → IsCollected reading (Some kept)
+-- the answer to numbers that were collected
+pub Says-collected : (cpus : ℕ) (reading : Option (List ℕ)) (kept : Numbers) (answer : Result ℕ CpuFault) → IsCollected reading (Some kept)
     → ((numbers : List ℕ) → Collects (is_among numbers) kept → Says answer (answer_of cpus (Some numbers))) → Says answer (answer_of cpus reading)
-says_collected cpus None kept answer none says = absurd cc
-says_collected cpus (Some numbers) kept answer collected says = says numbers collected
+Says-collected cpus None kept answer none says = absurd cc
+Says-collected cpus (Some numbers) kept answer collected says = says numbers collected
 
-pub says_bad : (cpus : ℕ) (reading : Option (List ℕ)) → IsCollected reading None → answer_of cpus reading ≡ Err Bad
+-- the answer to a bad text
+pub answer_of-bad : (cpus : ℕ) (reading : Option (List ℕ)) → IsCollected reading None → answer_of cpus reading ≡ Err Bad
 unfolding answer_of
-says_bad cpus None none = refl
-says_bad cpus (Some numbers) none = absurd none
+answer_of-bad cpus None none = refl
+answer_of-bad cpus (Some numbers) none = absurd none

@@ -1,4 +1,6 @@
 pub mod NameLines
 pub mod Masks
+pub mod Ranges
+pub mod Readings
 pub mod Shorts
 pub mod Sizes

@@ -5,13 +5,13 @@ use Rattle.num_text.specs.Printed.{filled, hexadecimal}
 use Rattle.num_text.proofs.laws.Prints.{length-filled}
 
 -- a number filled to width 0 has no zeros in front
-pub no_zeros : (n : ℕ) → hexadecimal 0 n ≡ digits 16 false n
+pub hexadecimal-zero_width : (n : ℕ) → hexadecimal 0 n ≡ digits 16 false n
 unfolding filled
-no_zeros n = let none : 0 - length (digits 16 false n) ≡ 0 = omega arith in rw none refl
+hexadecimal-zero_width n = let none : 0 - length (digits 16 false n) ≡ 0 = omega arith in rw none refl
 
 -- a number of 64 bits has at most 16 digits
-pub hexadecimal_short : (n : ℕ) → n < 2 ^ 64 → length (digits 16 false n) ≤ 20
-hexadecimal_short n small =
+pub length-digits : (n : ℕ) → n < 2 ^ 64 → length (digits 16 false n) ≤ 20
+length-digits n small =
     let few : length (hexadecimal 0 n) ≤ 16 = length-filled 16 15 0 n (omega arith) (omega arith) (omega arith) (omega arith) in
-    let same : length (digits 16 false n) ≤ 16 = subst (λ t. length t ≤ 16) (no_zeros n) few in
+    let same : length (digits 16 false n) ≤ 16 = subst (λ t. length t ≤ 16) (hexadecimal-zero_width n) few in
     omega (arith, same)

@@ -7,35 +7,31 @@ use Rattle.std.proofs.lemmas.List.{take_all}
 use Rattle.machine.specs.declared.parameters.Parameters.{Parameters}
 use Rattle.num_text.proofs.laws.Pieces.{join_with_byte-cons}
 use Rattle.schemata_text.specs.declared.assignment.Assignment.{Assignment}
-use Rattle.file_view.specs.Texts.{size_entry, size_line}
+use Rattle.file_view.specs.GroupFiles.{size_entry, size_line}
 
 -- the entries after the first, each with its separator
 abbrev pub others_text : Parameters → List Assignment → List ℕ
 others_text m all = flat_map (λ (a : Assignment). 59 ∷ size_entry m a) all
 
 -- no entry
-pub size_none : (m : Parameters) → size_line m [] ≡ codes "L3:"
+pub size_line-none : (m : Parameters) → size_line m [] ≡ codes "L3:"
 unfolding size_line
-size_none m = refl
+size_line-none m = refl
 
 -- an entry, and the others
-pub size_some : (m : Parameters) (a : Assignment) (all : List Assignment) → size_line m (a ∷ all) ≡ codes "L3:" ++ (size_entry m a ++ others_text m all)
+pub size_line-some : (m : Parameters) (a : Assignment) (all : List Assignment) → size_line m (a ∷ all) ≡ codes "L3:" ++ (size_entry m a ++ others_text m all)
 unfolding size_line
-size_some m a all = ap (λ (rest : List ℕ). codes "L3:" ++ rest) (join_with_byte-cons 59 (size_entry m a) (map (size_entry m) all) ∙ ap (λ (rest : List ℕ). size_entry m a ++ rest) (flat_map-map (λ (y : List ℕ). 59 ∷ y) (size_entry m) all))
+size_line-some m a all = ap (λ (rest : List ℕ). codes "L3:" ++ rest) (join_with_byte-cons 59 (size_entry m a) (map (size_entry m) all) ∙ ap (λ (rest : List ℕ). size_entry m a ++ rest) (flat_map-map (λ (y : List ℕ). 59 ∷ y) (size_entry m) all))
 
 -- the same at a list whose first is taken off
-pub size_parts : (m : Parameters) (k : ℕ) (d : Assignment) (all : List Assignment) → 1 ≤ length all → length (take (length all - 1) (drop 1 all)) ≤ k
+pub size_line-parts : (m : Parameters) (k : ℕ) (d : Assignment) (all : List Assignment) → 1 ≤ length all → length (take (length all - 1) (drop 1 all)) ≤ k
     → size_line m all ≡ codes "L3:" ++ (size_entry m (get_or all 0 d) ++ others_text m (take k (take (length all - 1) (drop 1 all))))
-size_parts m k d [] some done = absurd (omega arith)
-size_parts m k d (a ∷ all) some done =
+size_line-parts m k d [] some done = absurd (omega arith)
+size_line-parts m k d (a ∷ all) some done =
     let rest : take (length (a ∷ all) - 1) all ≡ all = take_all (length (a ∷ all) - 1) all (omega arith) in
     let whole : take k (take (length (a ∷ all) - 1) all) ≡ all = take_all k (take (length (a ∷ all) - 1) all) done ∙ rest in
-    rw whole (size_some m a all)
-
--- a number of 8 bits has at most 3 digits
-pub domain_short : (n : ℕ) → n < 2 ^ 8 → length (decimal n) ≤ 3
-domain_short n small = length-decimal-le 3 n (omega arith) (omega arith) (omega arith)
+    rw whole (size_line-some m a all)
 
 -- a number of 64 bits has at most 20 digits
-pub bytes_short : (n : ℕ) → n < 2 ^ 64 → length (decimal n) ≤ 20
-bytes_short n small = length-decimal-le 20 n (omega arith) (omega arith) (omega arith)
+pub length-decimal : (n : ℕ) → n < 2 ^ 64 → length (decimal n) ≤ 20
+length-decimal n small = length-decimal-le 20 n (omega arith) (omega arith) (omega arith)

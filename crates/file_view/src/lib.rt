@@ -2,6 +2,7 @@
 #![tactic(auto)]
 
 mod files;
+mod find;
 mod fixed;
 #[cfg(test)]
 mod fixtures;
@@ -9,10 +10,11 @@ mod lines;
 mod listing;
 pub mod reasons;
 mod schemata;
+mod shown;
 mod size;
 #[cfg(test)]
 mod tests;
 pub mod view;
 
 pub use reasons::reason;
-pub use view::text;
+pub use view::{is_reading, text};

@@ -1,14 +1,19 @@
 //! Names on their lines.
-ghost use Rattle.std.specs.Prelude.{◌≡◌, ◌++◌, OnOk};
-ghost use Rattle.file_view.specs.Texts.{name_line};
+ghost use Rattle.std.specs.Prelude.{◌≡◌, ◌+◌, ◌<◌, ◌++◌, length};
+ghost use Rattle.file_view.specs.Lines.{on_line};
 
-use rc_base::NoMemory;
-use script_ops::GrowingText;
+use path_names::MOST_NAME_BYTES;
+use rc_base::TextBuf;
+
+/// How many bytes a name of a path's component and its newline have at most.
+pub(crate) const LINE_MAX: usize = MOST_NAME_BYTES + 1;
 
 /// Adds a name on its line.
-pub(crate) fn push_name(out: &mut GrowingText, name: &[u8]) -> Result<(), NoMemory>
-    ensures { OnOk result (out.new ≡ out.old ++ name_line name.now) }
+pub(crate) fn push_name(out: &mut TextBuf, name: &[u8])
+    requires room { length name.now < out.old.spare }
+    ensures bytes { out.new.bytes ≡ out.old.bytes ++ on_line name.now }
+    ensures spare { out.new.spare + length (on_line name.now) ≡ out.old.spare }
 {
-    out.push(name)?;
-    out.push(b"\n")
+    out.push_all(name);
+    out.push(b'\n');
 }

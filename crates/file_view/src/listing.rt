@@ -1,15 +1,19 @@
 //! The listings of directories.
-ghost use Rattle.std.specs.Prelude.{◌≡◌, ◌<◌, ◌++◌, [], IfSome, OnErr, OnOk, length, filter, map, if◌then◌else◌};
-ghost use Rattle.file_view.specs.Texts.{group_name, groups_in, is_listed, list_text, name_line, name_lines};
-ghost use Rattle.tree_core.specs.Named.{AreNamed};
+ghost use Rattle.std.specs.Prelude.{◌≡◌, ◌+◌, ◌≤◌, ◌++◌, length};
+ghost use Rattle.file_view.specs.Lines.{on_line, on_lines};
+ghost use Rattle.file_view.specs.Listings.{group_line, group_name, groups_in, is_listed, list_text, names_in};
+ghost use Rattle.rc_base.specs.declared.text_buf.TheConstants.{TEXT_MAX};
+ghost use Rattle.tree_core.specs.Named.{AreNamed, IsNamed};
 
 use crate::fixed::push_fixed;
-use crate::lines::push_name;
+use crate::lines::{LINE_MAX, push_name};
+use group_tree::PLACES;
 use path_names::{DirRef, Names};
-use rc_base::{Gid, NoMemory};
-use script_ops::GrowingText;
-use std::alloc::Global;
+use rc_base::{Gid, TextBuf};
 use tree_core::{Group, GroupKind, Groups, Tree};
+
+// How many bytes the names of all groups have at most, each on its line.
+const GROUPS_MAX: usize = PLACES * LINE_MAX;
 
 /// Whether a group stands in the directory of groups of this parent, or in the root where none is named.
 pub(crate) fn is_listed(parent: Option<Gid>, group: &Group) -> bool
@@ -23,9 +27,12 @@ pub(crate) fn is_listed(parent: Option<Gid>, group: &Group) -> bool
 }
 
 // Adds the name of a group.
-fn push_group_name(names: &Names, group: &Group, out: &mut GrowingText) -> Result<(), NoMemory>
-    requires { IfSome group.now.name (λ id. id.0 < length names.now) }
-    ensures { OnOk result (out.new ≡ out.old ++ name_line (group_name names.now group.now)) }
+fn push_group_name(names: &Names, group: &Group, out: &mut TextBuf)
+    requires named { IsNamed names.now group.now }
+    requires room { LINE_MAX ≤ out.old.spare }
+    ensures bytes { out.new.bytes ≡ out.old.bytes ++ on_line (group_name names.now group.now) }
+    ensures spare { out.new.spare + length (on_line (group_name names.now group.now)) ≡ out.old.spare }
+    ensures short { length (on_line (group_name names.now group.now)) ≤ LINE_MAX }
 {
     match group.name {
         Some(id) => push_name(out, names.text(id)),
@@ -34,79 +41,58 @@ fn push_group_name(names: &Names, group: &Group, out: &mut GrowingText) -> Resul
 }
 
 // Adds the name of a group that stands in the directory of groups of this parent.
-fn push_group(
-    names: &Names,
-    parent: Option<Gid>,
-    group: &Group,
-    out: &mut GrowingText,
-) -> Result<(), NoMemory>
-    requires { IfSome group.now.name (λ id. id.0 < length names.now) }
-    ensures { OnOk result (out.new ≡ out.old ++ (if is_listed parent group.now then name_line (group_name names.now group.now) else [])) }
+fn push_group(names: &Names, parent: Option<Gid>, group: &Group, out: &mut TextBuf)
+    requires named { IsNamed names.now group.now }
+    requires room { LINE_MAX ≤ out.old.spare }
+    ensures bytes { out.new.bytes ≡ out.old.bytes ++ group_line names.now parent group.now }
+    ensures spare { out.new.spare + length (group_line names.now parent group.now) ≡ out.old.spare }
+    ensures short { length (group_line names.now parent group.now) ≤ LINE_MAX }
 {
     if is_listed(parent, group) {
-        push_group_name(names, group, out)
-    } else {
-        Ok(())
+        push_group_name(names, group, out);
     }
 }
 
 /// Adds the names of the groups that stand in the directory of groups of this parent, or in the root where none is named.
-pub(crate) fn push_groups(
-    groups: &Groups,
-    names: &Names,
-    parent: Option<Gid>,
-    out: &mut GrowingText,
-) -> Result<(), NoMemory>
-    requires { AreNamed names.now groups.now.groups }
-    ensures { OnOk result (out.new ≡ out.old ++ name_lines (map (group_name names.now) (filter (is_listed parent) groups.now.groups))) }
+pub(crate) fn push_groups(groups: &Groups, names: &Names, parent: Option<Gid>, out: &mut TextBuf)
+    requires named { AreNamed names.now groups.now.groups }
+    requires room { GROUPS_MAX ≤ out.old.spare }
+    ensures bytes { out.new.bytes ≡ out.old.bytes ++ on_lines (names_in names.now parent groups.now.groups) }
+    ensures spare { out.new.spare + length (on_lines (names_in names.now parent groups.now.groups)) ≡ out.old.spare }
 {
     for i in 0..groups.len() {
         if let Some(group) = groups.at(i) {
-            push_group(names, parent, group, out)?;
+            push_group(names, parent, group, out);
         }
     }
-    Ok(())
 }
 
 // Adds the names of the groups whose directories stand in a directory.
-fn push_groups_in(
-    tree: &Tree,
-    names: &Names,
-    dir: DirRef,
-    out: &mut GrowingText,
-) -> Result<(), NoMemory>
-    requires { AreNamed names.now tree.now.state.groups }
-    ensures { OnOk result (out.new ≡ out.old ++ name_lines (map (group_name names.now) (groups_in tree.now.state dir))) }
+fn push_groups_in(tree: &Tree, names: &Names, dir: DirRef, out: &mut TextBuf)
+    requires named { AreNamed names.now tree.now.state.groups }
+    requires room { GROUPS_MAX ≤ out.old.spare }
+    ensures bytes { out.new.bytes ≡ out.old.bytes ++ on_lines (groups_in tree.now.state names.now dir) }
+    ensures spare { out.new.spare + length (on_lines (groups_in tree.now.state names.now dir)) ≡ out.old.spare }
 {
     match dir {
         DirRef::Root => push_groups(tree.groups(), names, None, out),
-        DirRef::MonGroups(owner) => match tree.owner_gid(owner) {
-            Some(gid) => push_groups(tree.groups(), names, Some(gid), out),
-            None => Ok(()),
-        },
-        _ => Ok(()),
+        DirRef::MonGroups(owner) => {
+            if let Some(gid) = tree.owner_gid(owner) {
+                push_groups(tree.groups(), names, Some(gid), out);
+            }
+        }
+        _ => {}
     }
 }
 
-/// Adds the names of a directory's fixed entries and those of the groups in it, each on its line. Out of
-/// memory, nothing is added.
-#[tactic(auto, unfolding(crate::specs::Texts::list_text))]
-pub(crate) fn push_list(
-    alloc: Global,
-    tree: &Tree,
-    names: &Names,
-    dir: DirRef,
-    out: &mut Vec<u8>,
-) -> Result<(), NoMemory>
-    requires { AreNamed names.now tree.now.state.groups }
-    ensures ok { OnOk result (out.new.items ≡ out.old.items ++ list_text tree.now.machine tree.now.state names.now dir) }
-    ensures err { OnErr result (out.new.items ≡ out.old.items) }
+/// Adds the names of a directory's fixed entries and those of the groups in it, each on its line.
+#[tactic(auto, unfolding(crate::specs::Listings::list_text))]
+pub(crate) fn push_list(tree: &Tree, names: &Names, dir: DirRef, out: &mut TextBuf)
+    requires named { AreNamed names.now tree.now.state.groups }
+    requires room { TEXT_MAX ≤ out.old.spare }
+    ensures bytes { out.new.bytes ≡ out.old.bytes ++ list_text tree.now.machine tree.now.state names.now dir }
+    ensures spare { out.new.spare + length (list_text tree.now.machine tree.now.state names.now dir) ≡ out.old.spare }
 {
-    let mut lines = GrowingText::create(alloc)?;
-    push_fixed(tree.machine(), dir, &mut lines)?;
-    push_groups_in(tree, names, dir, &mut lines)?;
-    match out.extend_from_slice(lines.bytes()) {
-        Ok(()) => Ok(()),
-        Err(_) => Err(NoMemory),
-    }
+    push_fixed(tree.machine(), dir, out);
+    push_groups_in(tree, names, dir, out);
 }

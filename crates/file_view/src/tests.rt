@@ -1,10 +1,8 @@
 //! Texts worked out by hand.
 
-use crate::fixtures::{
-    gives, lists, machine, mkdir, opening_tree, reads, rmdir, three_names, write,
-};
+use crate::fixtures::{Scene, machine};
 use crate::listing::is_listed;
-use crate::reason;
+use crate::{is_reading, reason};
 use path_names::{DirRef, FileKind, Holder, NameId, Owner};
 use rc_base::{Gid, NoMemory, Reply, TextBuf, Why};
 use script_ops::Op;
@@ -16,9 +14,8 @@ const DEFAULT: Holder = Holder::Control(Owner::Default);
 
 #[test]
 fn directories_are_listed(rt: HostRuntime) -> Result<(), Fail> {
-    let alloc = rt.alloc();
-    let (names, _) = three_names(alloc)?;
-    let tree = opening_tree(alloc, &machine(&rt, 4), &names)?;
+    let texts = [b"a".as_slice(), b"b".as_slice(), b"c".as_slice()];
+    let mut scene = Scene::create(rt.alloc(), &machine(&rt, 4), texts)?;
     for (dir, want) in [
         (
             DirRef::Root,
@@ -37,46 +34,72 @@ fn directories_are_listed(rt: HostRuntime) -> Result<(), Fail> {
             "max_threshold_occupancy\nmon_features\nnum_rmids\n",
         ),
     ] {
-        assert!(rt; lists(alloc, &tree, &names, dir, want.as_bytes())?);
+        assert!(rt; scene.list(&rt, dir) == Some(want.as_bytes()));
     }
     Ok(())
 }
 
 #[test]
 fn groups_are_listed_in_order_of_creation(rt: HostRuntime) -> Result<(), Fail> {
-    let alloc = rt.alloc();
-    let (names, [a, b, c]) = three_names(alloc)?;
-    let mut tree = opening_tree(alloc, &machine(&rt, 4), &names)?;
-    assert_eq!(rt; mkdir(&rt, &mut tree, &names, a), Reply::Ok);
-    assert_eq!(rt; mkdir(&rt, &mut tree, &names, b), Reply::Ok);
-    assert_eq!(rt; rmdir(&rt, &mut tree, &names, a), Reply::Ok);
-    assert_eq!(rt; mkdir(&rt, &mut tree, &names, c), Reply::Ok);
-    let root = b"cpus\ncpus_list\ninfo\nmode\nmon_data\nmon_groups\nschemata\nsize\ntasks\nb\nc\n";
-    assert!(rt; lists(alloc, &tree, &names, DirRef::Root, root.as_slice())?);
-    let group = b"cpus\ncpus_list\nmode\nmon_data\nmon_groups\nschemata\nsize\ntasks\n";
-    assert!(rt; lists(alloc, &tree, &names, DirRef::Ctrl(b), group.as_slice())?);
-    let own = DirRef::MonGroups(Owner::Ctrl(b));
-    assert!(rt; lists(alloc, &tree, &names, own, b"".as_slice())?);
+    let texts = [b"a".as_slice(), b"b".as_slice(), b"c".as_slice()];
+    let mut scene = Scene::create(rt.alloc(), &machine(&rt, 4), texts)?;
+    assert!(rt; scene.mkdir(&rt, 0) == Reply::Ok);
+    assert!(rt; scene.mkdir(&rt, 1) == Reply::Ok);
+    assert!(rt; scene.rmdir(&rt, 0) == Reply::Ok);
+    assert!(rt; scene.mkdir(&rt, 2) == Reply::Ok);
+    let b = scene.name(1);
+    for (dir, want) in [
+        (
+            DirRef::Root,
+            "cpus\ncpus_list\ninfo\nmode\nmon_data\nmon_groups\nschemata\nsize\ntasks\nb\nc\n",
+        ),
+        (
+            DirRef::Ctrl(b),
+            "cpus\ncpus_list\nmode\nmon_data\nmon_groups\nschemata\nsize\ntasks\n",
+        ),
+        (DirRef::MonGroups(Owner::Ctrl(b)), ""),
+    ] {
+        assert!(rt; scene.list(&rt, dir) == Some(want.as_bytes()));
+    }
+    Ok(())
+}
+
+#[test]
+fn the_longest_names_are_listed_whole(rt: HostRuntime) -> Result<(), Fail> {
+    let texts = [[b'x'; 255], [b'y'; 255], [b'z'; 255]];
+    let names = [
+        texts[0].as_slice(),
+        texts[1].as_slice(),
+        texts[2].as_slice(),
+    ];
+    let mut scene = Scene::create(rt.alloc(), &machine(&rt, 4), names)?;
+    assert!(rt; scene.mkdir(&rt, 0) == Reply::Ok);
+    assert!(rt; scene.mkdir(&rt, 1) == Reply::Ok);
+    let fixed = b"cpus\ncpus_list\ninfo\nmode\nmon_data\nmon_groups\nschemata\nsize\ntasks\n";
+    let text = scene.list(&rt, DirRef::Root).unwrap_or(b"".as_slice());
+    assert!(rt; text.len() == fixed.len() + 512 && text.starts_with(fixed.as_slice()));
+    let groups = text.get(fixed.len()..).unwrap_or(b"".as_slice());
+    assert!(rt; groups.starts_with(texts[0].as_slice()) && groups.get(255) == Some(&b'\n'));
+    assert!(rt; groups.get(256) == Some(&b'y') && groups.last() == Some(&b'\n'));
     Ok(())
 }
 
 #[test]
 fn files_are_those_of_their_group(rt: HostRuntime) -> Result<(), Fail> {
-    let alloc = rt.alloc();
-    let (names, [_, b, _]) = three_names(alloc)?;
-    let mut tree = opening_tree(alloc, &machine(&rt, 20), &names)?;
-    assert_eq!(rt; mkdir(&rt, &mut tree, &names, b), Reply::Ok);
-    let reply = write(&rt, alloc, &mut tree, &names, b, b"L3:0=f0;1=6".as_slice())?;
-    assert_eq!(rt; reply, Reply::Ok);
+    let texts = [b"a".as_slice(), b"b".as_slice(), b"c".as_slice()];
+    let mut scene = Scene::create(rt.alloc(), &machine(&rt, 20), texts)?;
+    assert!(rt; scene.mkdir(&rt, 1) == Reply::Ok);
+    let masks = b"L3:0=f0;1=6".as_slice();
+    assert!(rt; scene.write(&rt, rt.alloc(), 1, masks)? == Reply::Ok);
+    let b = scene.name(1);
     for (dir, kind, want) in [
         (DirRef::Root, FileKind::Schemata, "L3:0=fffff;1=fffff\n"),
         (DirRef::Root, FileKind::Size, "L3:0=1280;1=1280\n"),
         (DirRef::Ctrl(b), FileKind::Schemata, "L3:0=000f0;1=00006\n"),
         (DirRef::Ctrl(b), FileKind::Size, "L3:0=256;1=128\n"),
     ] {
-        assert!(rt; reads(alloc, &tree, &names, dir, kind, want.as_bytes())?);
+        assert!(rt; scene.read(&rt, dir, kind) == Some(want.as_bytes()));
     }
-    assert!(rt; gives(alloc, &tree, &names, &Op::Tick, b"".as_slice())?);
     Ok(())
 }
 
@@ -94,6 +117,7 @@ fn groups_stand_with_their_parent(rt: HostRuntime) {
     assert!(rt; is_listed(None, &control) && !is_listed(None, &Group::default()));
     assert!(rt; !is_listed(None, &monitor) && !is_listed(Some(Gid(0)), &control));
     assert!(rt; is_listed(Some(Gid(2)), &monitor) && !is_listed(Some(Gid(0)), &monitor));
+    assert!(rt; !is_reading(&Op::Tick));
 }
 
 // Whether a reason with this argument has this text.
@@ -106,9 +130,12 @@ fn reads_as(alloc: Global, why: Why, arg: u64, want: &[u8]) -> Result<bool, NoMe
 #[test]
 fn reasons_have_texts(rt: HostRuntime) -> Result<(), Fail> {
     let alloc = rt.alloc();
-    let gaps = b"mask 50 has non-consecutive 1-bits";
-    assert!(rt; reads_as(alloc, Why::Gaps, 0x50, gaps.as_slice())?);
-    assert!(rt; reads_as(alloc, Why::NoSpace, 1, b"no space on L3:1".as_slice())?);
-    assert!(rt; reads_as(alloc, Why::Exists, 7, b"file exists".as_slice())?);
+    for (why, arg, want) in [
+        (Why::Gaps, 0x50, "mask 50 has non-consecutive 1-bits"),
+        (Why::NoSpace, 1, "no space on L3:1"),
+        (Why::Exists, 7, "file exists"),
+    ] {
+        assert!(rt; reads_as(alloc, why, arg, want.as_bytes())?);
+    }
     Ok(())
 }

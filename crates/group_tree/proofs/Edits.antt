@@ -13,93 +13,93 @@ abbrev pub HasNone : Gid → List Group → Type 0
 HasNone gid groups = (k : ℕ) (d : Group) → k < length groups → has_gid gid (get_or groups k d) ≡ false
 
 -- the groups after the first differ too
-rest_differs : (g : Group) (gs : List Group) → GidsDiffer (g ∷ gs) → GidsDiffer gs
-rest_differs g gs differ = λ i j d below within. differ (suc i) (suc j) d (omega arith) (omega arith)
+GidsDiffer-tail : (g : Group) (gs : List Group) → GidsDiffer (g ∷ gs) → GidsDiffer gs
+GidsDiffer-tail g gs differ = λ i j d below within. differ (suc i) (suc j) d (omega arith) (omega arith)
 
 -- the first has another gid than each of them
-first_differs : (g : Group) (gs : List Group) → GidsDiffer (g ∷ gs) → (k : ℕ) (d : Group) → k < length gs → g.gid.0 ≢ (get_or gs k d).gid.0
-first_differs g gs differ = λ k d within. differ 0 (suc k) d (omega arith) (omega arith)
+GidsDiffer-head : (g : Group) (gs : List Group) → GidsDiffer (g ∷ gs) → (k : ℕ) (d : Group) → k < length gs → g.gid.0 ≢ (get_or gs k d).gid.0
+GidsDiffer-head g gs differ = λ k d within. differ 0 (suc k) d (omega arith) (omega arith)
 
 -- what has the gid of the first is not among the rest
-others_lack : (gid : Gid) (g : Group) (gs : List Group) → has_gid gid g ≡ true → GidsDiffer (g ∷ gs) → HasNone gid gs
-others_lack gid g gs is differ = λ k d within. let same : gid.0 ≡ g.gid.0 = eqb-true gid.0 g.gid.0 is in
-    ne_eqb gid.0 (get_or gs k d).gid.0 (λ e. first_differs g gs differ k d within (sym same ∙ e))
+HasNone-others : (gid : Gid) (g : Group) (gs : List Group) → has_gid gid g ≡ true → GidsDiffer (g ∷ gs) → HasNone gid gs
+HasNone-others gid g gs is differ = λ k d within. let same : gid.0 ≡ g.gid.0 = eqb-true gid.0 g.gid.0 is in
+    ne_eqb gid.0 (get_or gs k d).gid.0 (λ e. GidsDiffer-head g gs differ k d within (sym same ∙ e))
 
 -- what has the gid of one of the rest is not the first
-first_lacks : (gid : Gid) (g : Group) (gs : List Group) (i : ℕ) (d : Group) → i < length gs → has_gid gid (get_or gs i d) ≡ true → GidsDiffer (g ∷ gs) → has_gid gid g ≡ false
-first_lacks gid g gs i d within is differ = let same : gid.0 ≡ (get_or gs i d).gid.0 = eqb-true gid.0 (get_or gs i d).gid.0 is in
-    ne_eqb gid.0 g.gid.0 (λ e. first_differs g gs differ i d within (sym e ∙ same))
+has_gid-first : (gid : Gid) (g : Group) (gs : List Group) (i : ℕ) (d : Group) → i < length gs → has_gid gid (get_or gs i d) ≡ true → GidsDiffer (g ∷ gs) → has_gid gid g ≡ false
+has_gid-first gid g gs i d within is differ = let same : gid.0 ≡ (get_or gs i d).gid.0 = eqb-true gid.0 (get_or gs i d).gid.0 is in
+    ne_eqb gid.0 g.gid.0 (λ e. GidsDiffer-head g gs differ i d within (sym e ∙ same))
 
 -- what no group has, none of the rest has
-tail_lacks : (gid : Gid) (g : Group) (gs : List Group) → HasNone gid (g ∷ gs) → HasNone gid gs
-tail_lacks gid g gs none = λ k d within. none (suc k) d (omega arith)
+HasNone-tail : (gid : Gid) (g : Group) (gs : List Group) → HasNone gid (g ∷ gs) → HasNone gid gs
+HasNone-tail gid g gs none = λ k d within. none (suc k) d (omega arith)
 
 -- ---- a gid that no group has
 
 -- replacing it leaves all as they are
 replaced-none : (new : Group) (gs : List Group) → HasNone new.gid gs → replaced new gs ≡ gs
 replaced-none new [] none = refl
-replaced-none new (g ∷ gs) none = rw (none 0 g (omega arith)) (ap (λ (xs : List Group). g ∷ xs) (replaced-none new gs (tail_lacks new.gid g gs none)))
+replaced-none new (g ∷ gs) none = rw (none 0 g (omega arith)) (ap (λ (xs : List Group). g ∷ xs) (replaced-none new gs (HasNone-tail new.gid g gs none)))
 
 -- removing it leaves all as they are
 without-none : (gid : Gid) (gs : List Group) → HasNone gid gs → without gid gs ≡ gs
 without-none gid [] none = refl
-without-none gid (g ∷ gs) none = rw (none 0 g (omega arith)) (ap (λ (xs : List Group). g ∷ xs) (without-none gid gs (tail_lacks gid g gs none)))
+without-none gid (g ∷ gs) none = rw (none 0 g (omega arith)) (ap (λ (xs : List Group). g ∷ xs) (without-none gid gs (HasNone-tail gid g gs none)))
 
 -- ---- the gid of the group at a place
 
 -- a record that is put there replaces that group
-pub replaced_at : (new : Group) (gs : List Group) (i : ℕ) (d : Group) → i < length gs → has_gid new.gid (get_or gs i d) ≡ true → GidsDiffer gs → set gs i new ≡ replaced new gs
-replaced_at new [] i d within is differ = absurd (omega arith)
-replaced_at new (g ∷ gs) zero d within is differ = rw is (ap (λ (xs : List Group). new ∷ xs) (sym (replaced-none new gs (others_lack new.gid g gs is differ))))
-replaced_at new (g ∷ gs) (suc i) d within is differ =
-    rw (first_lacks new.gid g gs i d (omega arith) is differ) (ap (λ (xs : List Group). g ∷ xs) (replaced_at new gs i d (omega arith) is (rest_differs g gs differ)))
+pub set-replaced : (new : Group) (gs : List Group) (i : ℕ) (d : Group) → i < length gs → has_gid new.gid (get_or gs i d) ≡ true → GidsDiffer gs → set gs i new ≡ replaced new gs
+set-replaced new [] i d within is differ = absurd (omega arith)
+set-replaced new (g ∷ gs) zero d within is differ = rw is (ap (λ (xs : List Group). new ∷ xs) (sym (replaced-none new gs (HasNone-others new.gid g gs is differ))))
+set-replaced new (g ∷ gs) (suc i) d within is differ =
+    rw (has_gid-first new.gid g gs i d (omega arith) is differ) (ap (λ (xs : List Group). g ∷ xs) (set-replaced new gs i d (omega arith) is (GidsDiffer-tail g gs differ)))
 
 -- removing there removes that group
-pub without_at : (gid : Gid) (gs : List Group) (i : ℕ) (d : Group) → i < length gs → has_gid gid (get_or gs i d) ≡ true → GidsDiffer gs → remove gs i ≡ without gid gs
-without_at gid [] i d within is differ = absurd (omega arith)
-without_at gid (g ∷ gs) zero d within is differ = rw is (sym (without-none gid gs (others_lack gid g gs is differ)))
-without_at gid (g ∷ gs) (suc i) d within is differ =
-    rw (first_lacks gid g gs i d (omega arith) is differ) (ap (λ (xs : List Group). g ∷ xs) (without_at gid gs i d (omega arith) is (rest_differs g gs differ)))
+pub remove-without : (gid : Gid) (gs : List Group) (i : ℕ) (d : Group) → i < length gs → has_gid gid (get_or gs i d) ≡ true → GidsDiffer gs → remove gs i ≡ without gid gs
+remove-without gid [] i d within is differ = absurd (omega arith)
+remove-without gid (g ∷ gs) zero d within is differ = rw is (sym (without-none gid gs (HasNone-others gid g gs is differ)))
+remove-without gid (g ∷ gs) (suc i) d within is differ =
+    rw (has_gid-first gid g gs i d (omega arith) is differ) (ap (λ (xs : List Group). g ∷ xs) (remove-without gid gs i d (omega arith) is (GidsDiffer-tail g gs differ)))
 
 -- ---- what stays of a tree
 
 -- a record that takes a place has the gid of the one that stood there
-same_gid : (new g : Group) → (exchanged new g).gid.0 ≡ g.gid.0
-same_gid new g = at (has_gid new.gid g) (λ is. eqb-true new.gid.0 g.gid.0 is) refl
+exchanged-gid : (new g : Group) → (exchanged new g).gid.0 ≡ g.gid.0
+exchanged-gid new g = at (has_gid new.gid g) (λ is. eqb-true new.gid.0 g.gid.0 is) refl
   where
     at : (b : Bool) → (b ≡ true → new.gid.0 ≡ g.gid.0) → b ≡ has_gid new.gid g → (cond b new g).gid.0 ≡ g.gid.0
     at true same e = same refl
     at false same e = refl
 
 -- each place keeps its gid
-same_gids : (new : Group) (gs : List Group) (k : ℕ) (d : Group) → (get_or (replaced new gs) k d).gid.0 ≡ (get_or gs k d).gid.0
-same_gids new [] k d = refl
-same_gids new (g ∷ gs) zero d = same_gid new g
-same_gids new (g ∷ gs) (suc k) d = same_gids new gs k d
+get_or-replaced_gid : (new : Group) (gs : List Group) (k : ℕ) (d : Group) → (get_or (replaced new gs) k d).gid.0 ≡ (get_or gs k d).gid.0
+get_or-replaced_gid new [] k d = refl
+get_or-replaced_gid new (g ∷ gs) zero d = exchanged-gid new g
+get_or-replaced_gid new (g ∷ gs) (suc k) d = get_or-replaced_gid new gs k d
 
 -- and there are as many
-same_length : (new : Group) (gs : List Group) → length (replaced new gs) ≡ length gs
-same_length new [] = refl
-same_length new (g ∷ gs) = ap suc (same_length new gs)
+length-replaced : (new : Group) (gs : List Group) → length (replaced new gs) ≡ length gs
+length-replaced new [] = refl
+length-replaced new (g ∷ gs) = ap suc (length-replaced new gs)
 
 -- the default group stays first
-still_first : (new : Group) (gs : List Group) → BeginsWithDefault gs → BeginsWithDefault (replaced new gs)
-still_first new [] begins = begins
-still_first new (g ∷ gs) begins = ap Some (same_gid new g) ∙ begins
+BeginsWithDefault-replaced : (new : Group) (gs : List Group) → BeginsWithDefault gs → BeginsWithDefault (replaced new gs)
+BeginsWithDefault-replaced new [] begins = begins
+BeginsWithDefault-replaced new (g ∷ gs) begins = ap Some (exchanged-gid new g) ∙ begins
 
 -- the groups of a tree with another record in place of one are those of a tree
 pub IsTree-replaced : (new : Group) (gs : List Group) → IsTree gs → IsTree (replaced new gs)
 IsTree-replaced new gs tree = record {
-  fits = omega (arith, same_length new gs, tree.fits);
-  default_first = still_first new gs tree.default_first;
-  gids_differ = λ i j d below within e. tree.gids_differ i j d below (omega (arith, same_length new gs)) (sym (same_gids new gs i d) ∙ e ∙ same_gids new gs j d);
+  fits = omega (arith, length-replaced new gs, tree.fits);
+  default_first = BeginsWithDefault-replaced new gs tree.default_first;
+  gids_differ = λ i j d below within e. tree.gids_differ i j d below (omega (arith, length-replaced new gs)) (sym (get_or-replaced_gid new gs i d) ∙ e ∙ get_or-replaced_gid new gs j d);
 }
 
 -- the default group stays first where another is removed
-first_stays : (gid : Gid) (gs : List Group) → gid.0 ≢ 0 → BeginsWithDefault gs → BeginsWithDefault (without gid gs)
-first_stays gid [] other begins = begins
-first_stays gid (g ∷ gs) other begins =
+BeginsWithDefault-without : (gid : Gid) (gs : List Group) → gid.0 ≢ 0 → BeginsWithDefault gs → BeginsWithDefault (without gid gs)
+BeginsWithDefault-without gid [] other begins = begins
+BeginsWithDefault-without gid (g ∷ gs) other begins =
     let zeroth : g.gid.0 ≡ 0 = some_same g.gid.0 0 begins in
     rw (ne_eqb gid.0 g.gid.0 (λ e. other (e ∙ zeroth))) begins
   where
@@ -107,9 +107,9 @@ first_stays gid (g ∷ gs) other begins =
     some_same a b e = cc
 
 -- a filter keeps at most as many
-fewer : (p : Group → Bool) (gs : List Group) → length (filter p gs) ≤ length gs
-fewer p [] = omega arith
-fewer p (g ∷ gs) = at (p g) (fewer p gs)
+length-filter : (p : Group → Bool) (gs : List Group) → length (filter p gs) ≤ length gs
+length-filter p [] = omega arith
+length-filter p (g ∷ gs) = at (p g) (length-filter p gs)
   where
     at : (b : Bool) → length (filter p gs) ≤ length gs → length (cond b (g ∷ filter p gs) (filter p gs)) ≤ suc (length gs)
     at true le = omega arith
@@ -118,16 +118,16 @@ fewer p (g ∷ gs) = at (p g) (fewer p gs)
 -- the groups of a tree but for one that is not the default group are those of a tree
 pub IsTree-without : (gid : Gid) (gs : List Group) → gid.0 ≢ 0 → IsTree gs → IsTree (without gid gs)
 IsTree-without gid gs other tree = record {
-  fits = omega (arith, fewer (λ (g : Group). not (has_gid gid g)) gs, tree.fits);
-  default_first = first_stays gid gs other tree.default_first;
+  fits = omega (arith, length-filter (λ (g : Group). not (has_gid gid g)) gs, tree.fits);
+  default_first = BeginsWithDefault-without gid gs other tree.default_first;
   gids_differ = AllPairs-filter (λ (one later : Group). one.gid.0 ≢ later.gid.0) (λ (g : Group). not (has_gid gid g)) gs tree.gids_differ;
 }
 
 -- ---- a write through a slice of the records
 
 -- all records are written back
-pub refill_set : (gs : List Group) (i : ℕ) (new : Group) → refill (length gs) gs (set gs i new) ≡ set gs i new
-refill_set gs i new =
+pub refill-set : (gs : List Group) (i : ℕ) (new : Group) → refill (length gs) gs (set gs i new) ≡ set gs i new
+refill-set gs i new =
     let whole : drop (length (set gs i new)) gs ≡ [] = ap (λ (n : ℕ). drop n gs) (length-set gs i new) ∙ drop_all gs in
     ap (λ (rest : List Group). take (length gs) (set gs i new ++ rest)) whole ∙ ap (λ (xs : List Group). take (length gs) xs) (append_none (set gs i new)) ∙ ap (λ (n : ℕ). take n (set gs i new)) (sym (length-set gs i new)) ∙ take_all (set gs i new)
   where

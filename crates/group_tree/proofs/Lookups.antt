@@ -19,5 +19,5 @@ module _ {X : Type 0} where
   is_some-copied (Some x) = refl
 
   -- something is found exactly where there is some
-  pub found_where_there : (r : Option (Bor X)) (p : X → Bool) (xs : List X) → option_copied r ≡ find p xs → is_some r ≡ list_any p xs
-  found_where_there r p xs found = is_some-copied r ∙ ap is_some found ∙ is_some-find p xs
+  pub is_some-list_any : (r : Option (Bor X)) (p : X → Bool) (xs : List X) → option_copied r ≡ find p xs → is_some r ≡ list_any p xs
+  is_some-list_any r p xs found = is_some-copied r ∙ ap is_some found ∙ is_some-find p xs

@@ -1,7 +1,7 @@
 -- What an RMID is used for.
 use Rattle.std.specs.Prelude.{ℕ, Bool, true, false, nat_lt, if◌then◌else◌}
-use Rattle.hw_ids.specs.declared.rmids.Use.{Use}
-use Rattle.hw_ids.specs.declared.rmids.Use.TheVariants.{Free, Taken, Limbo}
+use Rattle.hw_ids.specs.declared.uses.Use.{Use}
+use Rattle.hw_ids.specs.declared.uses.Use.TheVariants.{Free, Taken, Limbo}
 
 abbrev pub is_free : Use → Bool
 is_free Free = true

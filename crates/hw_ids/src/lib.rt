@@ -6,6 +6,7 @@ pub mod rmids;
 #[cfg(test)]
 mod tests;
 pub mod theorems;
+mod uses;
 
 pub use class_ids::{ClassIds, MAX_CLASSES};
 pub use rmids::{MAX_RMIDS, NoRmid, Rmids};

@@ -1,5 +1,5 @@
 -- What holds of a choice between two.
-use Rattle.std.proofs.Common.{◌≡◌, Bool, true, false, cond, refl}
+use Rattle.std.proofs.Common.{◌≡◌, Bool, true, false, not, cond, refl, sym}
 
 -- what holds of both branches holds of the choice
 pub cond-both : {X : Type 0} (P : X → Type 0) (b : Bool) (x y : X) → P x → P y → P (cond b x y)
@@ -15,3 +15,8 @@ cond-case P false x y px py = py refl
 pub cond-and : (a b : Bool) → cond a b false ≡ true → (a ≡ true) × (b ≡ true)
 cond-and true b e = (refl, e)
 cond-and false b e = absurd (let f : false ≡ true = e in cc)
+
+-- a test whose opposite passes does not
+pub not-true : (b : Bool) → not b ≡ true → b ≡ false
+not-true true e = sym e
+not-true false e = refl

@@ -131,3 +131,7 @@ find-map p f same (x ∷ xs) = rw (same x) (at (p x) (find-map p f same xs))
 pub All-enumerate_from : {X : Type 0} (P : X → Type 0) (n : ℕ) (xs : List X) → All P xs → All (λ (e : ℕ × X). P e.1) (enumerate_from n xs)
 All-enumerate_from P n [] all = λ k d within. absurd (omega arith)
 All-enumerate_from {X = X} P n (x ∷ xs) all = All-cons (λ (e : ℕ × X). P e.1) (n, x) (enumerate_from (n + 1) xs) (All-head P x xs all) (All-enumerate_from P (n + 1) xs (All-tail P x xs all))
+
+-- what holds of the only one holds of each
+pub All-one : {X : Type 0} (P : X → Type 0) (x : X) → P x → All P (x ∷ [])
+All-one P x p = All-cons P x [] p (λ k d within. absurd (omega arith))

@@ -1,3 +1,5 @@
+-- Lemmas that crates above cite.
+pub mod Domains
 pub mod EveryWay
 pub mod Ranges
 pub mod Slices

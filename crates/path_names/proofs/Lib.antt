@@ -1,9 +1,9 @@
 pub mod Domains
 pub mod FirstComponent
 pub mod FixedEntries
-pub mod KnownIds
 pub mod NameTable
+pub mod NamedPaths
 pub mod PathCounts
-pub mod PathOf
 pub mod Pieces
 pub mod Walks
+pub mod laws

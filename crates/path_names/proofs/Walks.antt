@@ -7,19 +7,19 @@ use Rattle.path_names.specs.PathTable.{entry_of}
 use Rattle.path_names.specs.Reading.{Reached, entry_or_named, reached_from}
 
 -- nowhere leads nowhere
-pub nowhere_on : (domains : ℕ) (names parts : List (List ℕ)) → reached_from domains (None, names) parts ≡ (None, names)
-nowhere_on domains names [] = refl
-nowhere_on domains names (name ∷ parts) = nowhere_on domains names parts
+pub reached_from-nowhere : (domains : ℕ) (names parts : List (List ℕ)) → reached_from domains (None, names) parts ≡ (None, names)
+reached_from-nowhere domains names [] = refl
+reached_from-nowhere domains names (name ∷ parts) = reached_from-nowhere domains names parts
 
 -- one component more
-pub leads_on : (domains : ℕ) (dir : DirRef) (names : List (List ℕ)) (name : List ℕ) (parts : List (List ℕ)) (path : PathRef) (known : List (List ℕ))
+pub reached_from-cons : (domains : ℕ) (dir : DirRef) (names : List (List ℕ)) (name : List ℕ) (parts : List (List ℕ)) (path : PathRef) (known : List (List ℕ))
     → entry_or_named (entry_of domains dir name) dir name names ≡ (Some path, known) → reached_from domains (Some (Dir dir), names) (name ∷ parts) ≡ reached_from domains (Some path, known) parts
-leads_on domains dir names name parts path known led = ap (λ (at : Reached). reached_from domains at parts) led
+reached_from-cons domains dir names name parts path known led = ap (λ (at : Reached). reached_from domains at parts) led
 
 -- a component below a file or a free name
-pub off_directory : (domains : ℕ) (path : PathRef) (names : List (List ℕ)) (name : List ℕ) (parts : List (List ℕ)) → ((dir : DirRef) → path ≡ Dir dir → ⊥)
+pub reached_from-no_directory : (domains : ℕ) (path : PathRef) (names : List (List ℕ)) (name : List ℕ) (parts : List (List ℕ)) → ((dir : DirRef) → path ≡ Dir dir → ⊥)
     → reached_from domains (Some path, names) (name ∷ parts) ≡ (None, names)
-off_directory domains (Dir dir) names name parts other = absurd (other dir refl)
-off_directory domains (File dir kind) names name parts other = nowhere_on domains names parts
-off_directory domains (Free dir free) names name parts other = nowhere_on domains names parts
-off_directory domains (Nowhere whole) names name parts other = nowhere_on domains names parts
+reached_from-no_directory domains (Dir dir) names name parts other = absurd (other dir refl)
+reached_from-no_directory domains (File dir kind) names name parts other = reached_from-nowhere domains names parts
+reached_from-no_directory domains (Free dir free) names name parts other = reached_from-nowhere domains names parts
+reached_from-no_directory domains (Nowhere whole) names name parts other = reached_from-nowhere domains names parts

@@ -1,6 +1,7 @@
 -- The components of a path.
 use Rattle.std.specs.Prelude.{ℕ, Bool, false, not, ◌==◌, ◌&&◌, ◌||◌, nat_le, List, [], ◌∷◌, length, Option, Some, None, codes, if◌then◌else◌}
 use Rattle.std.specs.List.{list_all, slice_split}
+use Rattle.path_names.specs.declared.components.TheConstants.{MOST_NAME_BYTES}
 use Rattle.rc_base.specs.Texts.{is_text}
 
 -- the byte `/`
@@ -17,7 +18,7 @@ is_dots name = is_text name (codes ".") || is_text name (codes "..")
 
 -- 1 to 255 visible bytes, but neither `.` nor `..`
 unfoldable pub is_component : List ℕ → Bool
-is_component name = nat_le 1 (length name) && nat_le (length name) 255 && list_all is_visible name && not (is_dots name)
+is_component name = nat_le 1 (length name) && nat_le (length name) MOST_NAME_BYTES && list_all is_visible name && not (is_dots name)
 
 -- the parts between the slashes, after a first byte
 abbrev pub components : List ℕ → List (List ℕ)

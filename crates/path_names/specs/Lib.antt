@@ -4,3 +4,4 @@ pub mod NamesIn
 pub mod PathTable
 pub mod Reading
 pub mod PathTexts
+pub mod ShortNames

@@ -5,6 +5,9 @@ ghost use Rattle.path_names.specs.Components.{components, is_component, is_dots,
 
 use rc_base::is_text;
 
+/// How many bytes the name of a component has at most (this project's profile).
+pub const MOST_NAME_BYTES: usize = 255;
+
 /// Whether the text is components that each follow a slash.
 #[tactic(auto, unfolding(crate::specs::Components::is_well_formed))]
 pub(crate) fn is_well_formed(text: &[u8]) -> bool
@@ -59,7 +62,7 @@ fn is_component(name: &[u8]) -> bool
     ensures { result ≡ is_component name.now }
 {
     let len = name.len();
-    1 <= len && len <= 255 && are_visible(name) && !is_dots(name)
+    1 <= len && len <= MOST_NAME_BYTES && are_visible(name) && !is_dots(name)
 }
 
 // Whether all bytes are from `!` to `~`.

@@ -13,6 +13,7 @@ pub mod paths;
 #[cfg(test)]
 mod tests;
 
+pub use components::MOST_NAME_BYTES;
 pub use dirs::{DirRef, Holder, Owner};
 pub use files::FileKind;
 pub use fixed::{FixedEntry, domain_name, fixed_in};

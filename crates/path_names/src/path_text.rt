@@ -29,7 +29,7 @@ fn push_name(out: &mut Vec<u8>, names: &Names, id: NameId) -> Result<(), NoMemor
 }
 
 // Adds the directory of a control group, as it stands in front of a slash.
-#[tactic(auto, using(crate::proofs::KnownIds::known_ids))]
+#[tactic(auto, using(crate::proofs::laws::KnownIds::known_ids))]
 fn push_owner(out: &mut Vec<u8>, names: &Names, owner: Owner) -> Result<(), NoMemory>
     requires { AreKnown (length names.now) (owner_ids owner) }
     ensures { OnOk result (out.new.items ≡ out.old.items ++ owner_path names.now owner) }
@@ -68,7 +68,7 @@ fn push_monitor(
 }
 
 // Adds the directory of a group, as it stands in front of a slash.
-#[tactic(auto, using(crate::proofs::KnownIds::known_ids))]
+#[tactic(auto, using(crate::proofs::laws::KnownIds::known_ids))]
 fn push_holder(out: &mut Vec<u8>, names: &Names, holder: Holder) -> Result<(), NoMemory>
     requires { AreKnown (length names.now) (holder_ids holder) }
     ensures { OnOk result (out.new.items ≡ out.old.items ++ holder_path names.now holder) }
@@ -87,7 +87,7 @@ fn push_domain(out: &mut Vec<u8>, domain: u8) -> Result<(), NoMemory>
 }
 
 // Adds a directory, as it stands in front of a slash.
-#[tactic(auto, using(crate::proofs::KnownIds::known_ids))]
+#[tactic(auto, using(crate::proofs::laws::KnownIds::known_ids))]
 fn push_dir(out: &mut Vec<u8>, names: &Names, dir: DirRef) -> Result<(), NoMemory>
     requires { AreKnown (length names.now) (dir_ids dir) }
     ensures { OnOk result (out.new.items ≡ out.old.items ++ dir_path names.now dir) }
@@ -117,7 +117,7 @@ fn push_dir(out: &mut Vec<u8>, names: &Names, dir: DirRef) -> Result<(), NoMemor
 
 /// Adds the canonical text of a path, as it may stand in a script (this project's profile). An error is out of memory, after
 /// which a part of the text may have been added.
-#[tactic(auto, using(crate::proofs::KnownIds::known_ids))]
+#[tactic(auto, using(crate::proofs::laws::KnownIds::known_ids))]
 pub fn push_path(out: &mut Vec<u8>, names: &Names, path: PathRef) -> Result<(), NoMemory>
     requires { AreKnown (length names.now) (path_ids path) }
     ensures { OnOk result (out.new.items ≡ out.old.items ++ path_text names.now path) }

@@ -6,6 +6,7 @@ ghost use Rattle.path_names.specs.Interned.{Keeps};
 ghost use Rattle.path_names.specs.PathTable.{entry_of};
 ghost use Rattle.path_names.specs.declared.paths.TheConstants.{MOST_PATH_NAMES};
 ghost use Rattle.path_names.specs.Reading.{entry_or_named, or_nowhere, path_of, reached};
+ghost use Rattle.path_names.specs.ShortNames.{AreShort, component_ids};
 
 use crate::components::{is_well_formed, next_component};
 use crate::dirs::DirRef;
@@ -49,8 +50,9 @@ pub fn read_path(text: &[u8], domains: u8, names: &mut Names) -> Result<PathRef,
     ensures unchanged { result ≡ Err PathFault.Bad → names.new ≡ names.old }
     ensures kept { Keeps names.old names.new }
 
-    // The names in the path are known, and they are few.
+    // The names in the path are known, those of its components are short, and they are few.
     ensures ids { IfOk result (λ path. All (λ id. id < length names.new) (path_ids path)) }
+    ensures short { IfOk result (λ path. AreShort names.new (component_ids path)) }
     ensures few { length names.new ≤ length names.old + MOST_PATH_NAMES }
     ensures bytes { length names.new ≤ length names.old + length text.now }
 {

@@ -1,5 +1,5 @@
 //! A sink in memory, which fails where it is told to and where it is full.
-ghost use Rattle.std.specs.Prelude.{◌≡◌, ◌≤◌, ◌<◌, ◌+◌, ◌-◌, ◌^◌, ◌↔◌, ◌⊎◌, min, [], length, Some, IfOk, OnErr, IsErr, Contains, ◌++◌, vec_len, vec_capacity};
+ghost use Rattle.std.specs.Prelude.{◌≡◌, ◌≤◌, ◌<◌, ◌+◌, ◌-◌, ◌^◌, ◌↔◌, ◌⊎◌, ◌||◌, nat_lt, false, min, [], length, Some, IfOk, OnOk, OnErr, IsErr, Contains, ◌++◌, vec_len, vec_capacity};
 ghost use Rattle.std.specs.Io.KnownBytes.{WriteAppends, Keeps};
 ghost use Rattle.rc_stream.specs.Causes.{HasCause, TakesSome};
 
@@ -10,13 +10,15 @@ use std::alloc::Global;
 use std::marker::Model;
 
 /// Takes bytes into memory, at most `piece` in a call and `room` in all. The calls of `write` and `flush` whose
-/// numbers, counted together from 1, are listed fail, and so does a write of some bytes to a full sink; no other.
+/// numbers, counted together from 1, are listed fail, and so does a write of some bytes to a full sink; no other. It holds
+/// back what was taken since the last flush that answered `Ok`.
 #[derive(Drop)]
 pub struct MemSink {
     taken: Vec<u8>,
     room: usize,
     piece: usize,
     failing: Vec<u32>,
+    held: bool,
     calls: u64,
     faults: u64,
 }
@@ -27,7 +29,7 @@ impl Model for MemSink {
 
     ghost Value = { Store };
 
-    ghost view = { λ s. record { taken = s.taken.items; room = s.room; piece = s.piece; failing = s.failing.items; calls = s.calls; faults = s.faults } };
+    ghost view = { λ s. record { taken = s.taken.items; room = s.room; piece = s.piece; failing = s.failing.items; held = s.held; calls = s.calls; faults = s.faults } };
 
     ghost invariant = { λ s. (0 < s.piece) × (s.room ≤ vec_capacity s.taken) };
 }
@@ -42,7 +44,7 @@ impl MemSink {
         failing: &[u32],
     ) -> Result<MemSink, NoMemory>
         requires { 0 < piece }
-        ensures { IfOk result (λ s. s ≡ record { taken = []; room = room; piece = piece; failing = failing.now; calls = 0; faults = 0 }) }
+        ensures { IfOk result (λ s. s ≡ record { taken = []; room = room; piece = piece; failing = failing.now; held = false; calls = 0; faults = 0 }) }
     {
         let taken = Vec::with_capacity(alloc, room)?;
         let failing = Vec::from_slice(alloc, failing)?;
@@ -51,6 +53,7 @@ impl MemSink {
             room,
             piece,
             failing,
+            held: false,
             calls: 0,
             faults: 0,
         })
@@ -62,10 +65,19 @@ impl MemSink {
     {
         self.taken.as_slice()
     }
+
+    /// Whether bytes were taken since the last flush that answered `Ok`.
+    pub fn is_held(&self) -> bool
+        ensures { result ≡ self.now.held }
+    {
+        self.held
+    }
 }
 
 impl Sink for MemSink {
     ghost taken = { λ s. Some s.taken };
+
+    ghost held = { λ s. s.held };
 
     ghost faults = { λ s. s.faults };
 
@@ -79,6 +91,8 @@ impl Sink for MemSink {
         ensures calls { self.new.calls ≡ min (self.old.calls + 1) (2 ^ 64 - 1) }
         ensures failing { IsErr result ↔ (Contains self.old.failing self.new.calls ⊎ (0 < length piece.now) × (self.old.room ≤ length self.old.taken)) }
         ensures count { IfOk result (λ n. n ≡ min (min (length piece.now) self.old.piece) (self.old.room - length self.old.taken)) }
+        ensures held { IfOk result (λ n. self.new.held ≡ (self.old.held || nat_lt 0 n)) }
+        ensures still_held { OnErr result (self.new.held ≡ self.old.held) }
         ensures kept { (self.new.room ≡ self.old.room) × (self.new.piece ≡ self.old.piece) × (self.new.failing ≡ self.old.failing) }
     {
         self.calls = next_call(self.calls);
@@ -89,14 +103,17 @@ impl Sink for MemSink {
         }
         let count = piece.len().min(self.piece).min(free);
         append(&mut self.taken, &piece[..count]);
+        self.held = self.held || count > 0;
         Ok(count)
     }
 
     fn flush(&mut self) -> Result<(), Failed>
         requires { self.old.faults < 2 ^ 64 - 1 }
         ensures bytes { Keeps (Some self.old.taken) (Some self.new.taken) }
+        ensures none_held { OnOk result (self.new.held ≡ false) }
         ensures cause { HasCause self.old.faults self.new.faults result }
 
+        ensures still_held { OnErr result (self.new.held ≡ self.old.held) }
         ensures one_fault { OnErr result (self.new.faults ≡ self.old.faults + 1) }
         ensures calls { self.new.calls ≡ min (self.old.calls + 1) (2 ^ 64 - 1) }
         ensures failing { IsErr result ↔ Contains self.old.failing self.new.calls }
@@ -107,6 +124,7 @@ impl Sink for MemSink {
             self.faults += 1;
             return Err(Failed);
         }
+        self.held = false;
         Ok(())
     }
 }

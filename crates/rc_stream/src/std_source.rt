@@ -1,10 +1,11 @@
-//! The source over a reader, as standard input. It tells no bytes.
-ghost use Rattle.std.specs.Prelude.{None, ◌≡◌};
+//! The source over a reader, as standard input.
+ghost use Rattle.std.specs.Prelude.{◌≡◌};
 
 use crate::streams::{Failed, Source};
 use std::io::Read;
 
-/// A source over standard input, or another reader. It counts each failure and tells no bytes.
+/// A source over standard input, or another reader. It counts each failure, and has left what its reader has left.
+/// Standard input itself tells no bytes.
 #[derive(Drop)]
 pub struct StdSource<R> {
     input: R,
@@ -14,14 +15,15 @@ pub struct StdSource<R> {
 impl<R: Read> StdSource<R> {
     /// A source over a reader, with no faults so far.
     pub fn new(input: R) -> StdSource<R>
-        ensures { result.faults ≡ 0 }
+        ensures left { ⟦<StdSource<R> as Source>⟧.left result ≡ R.remaining input }
+        ensures faults { ⟦<StdSource<R> as Source>⟧.faults result ≡ 0 }
     {
         StdSource { input, faults: 0 }
     }
 }
 
 impl<R: Read> Source for StdSource<R> {
-    ghost left = { λ _. None };
+    ghost left = { λ s. R.remaining s.input };
 
     ghost faults = { λ s. s.faults };
 

@@ -1,5 +1,5 @@
 //! The outside as the program sees it: which bytes are left, which were taken, and how often a call failed.
-ghost use Rattle.std.specs.Prelude.{◌-◌, ◌^◌, ◌<◌, List, ℕ};
+ghost use Rattle.std.specs.Prelude.{◌≡◌, ◌-◌, ◌^◌, ◌<◌, Bool, List, ℕ, OnOk, false};
 ghost use Rattle.std.specs.declared.option.Option.{Option};
 ghost use Rattle.std.specs.Io.{ReadsAtMost};
 ghost use Rattle.std.specs.Io.KnownBytes.{ReadConsumes, WriteAppends, Keeps};
@@ -30,10 +30,14 @@ pub trait Sink {
     /// The bytes that were taken, where the sink tells them.
     ghost taken: { Self → Option (List ℕ) };
 
+    /// Whether bytes that were taken may be held back, for want of a flush.
+    ghost held: { Self → Bool };
+
     /// How often a call has failed. It never falls.
     ghost faults: { Self → ℕ };
 
-    /// Takes bytes from the front of `piece`, and says how many: at least one of a piece that is not empty.
+    /// Takes bytes from the front of `piece`, and says how many: at least one of a piece that is not empty. They may be held
+    /// back until the next flush.
     fn write(&mut self, piece: &[u8]) -> Result<usize, Failed>
         requires { faults self.old < 2 ^ 64 - 1 }
         ensures bound { TakesSome result piece.now }
@@ -44,5 +48,6 @@ pub trait Sink {
     fn flush(&mut self) -> Result<(), Failed>
         requires { faults self.old < 2 ^ 64 - 1 }
         ensures bytes { Keeps (taken self.old) (taken self.new) }
+        ensures none_held { OnOk result (held self.new ≡ false) }
         ensures cause { HasCause (faults self.old) (faults self.new) result };
 }

@@ -35,11 +35,14 @@ fn memory_gives_and_takes_in_pieces(rt: HostRuntime) -> Result<(), Fail> {
     assert_eq!(rt; source.read(&mut into), Err(Failed));
     assert_eq!(rt; source.read(&mut into), Ok(3));
     assert_eq!(rt; source.read(&mut into), Ok(0));
+    assert_eq!(rt; sink.is_held(), false);
     assert_eq!(rt; sink.write(b"abcd"), Ok(3));
     assert_eq!(rt; sink.write(b"defg"), Ok(2));
     assert_eq!(rt; sink.write(b"fg"), Err(Failed));
     assert_eq!(rt; sink.flush(), Err(Failed));
+    assert_eq!(rt; sink.is_held(), true);
     assert_eq!(rt; sink.flush(), Ok(()));
+    assert_eq!(rt; sink.is_held(), false);
     assert_eq!(rt; sink.taken(), b"abcde".as_slice());
     Ok(())
 }
@@ -50,6 +53,8 @@ fn readers_and_writers_count_faults(rt: HostRuntime) -> Result<(), Fail> {
     let mut source = StdSource::new(b"tick\n".as_slice());
     assert_eq!(rt; source.read(&mut into), Ok(4));
     assert_eq!(rt; &into[..], b"tick".as_slice());
+    assert_eq!(rt; source.read(&mut into), Ok(1));
+    assert_eq!(rt; source.read(&mut into), Ok(0));
     let mut sink = StdSink::new(Vec::new(rt.alloc()));
     assert_eq!(rt; sink.write(b"tock"), Ok(4));
     assert_eq!(rt; sink.flush(), Ok(()));

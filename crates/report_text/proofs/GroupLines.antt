@@ -1,50 +1,49 @@
 -- Lines of groups, and counts.
-use Rattle.std.proofs.Common.{◌≡◌, ℕ, ◌++◌, ◌&&◌, not, List, ap, ◌∙◌}
+use Rattle.std.proofs.Common.{◌≡◌, ℕ, ◌++◌, List, ap, ◌∙◌}
 use Rattle.path_names.specs.PathTexts.{path_text}
 use Rattle.path_names.specs.declared.dirs.DirRef.TheVariants.{Ctrl}
 use Rattle.path_names.specs.declared.path_ref.PathRef.TheVariants.{Dir}
-use Rattle.report_text.specs.Counts.{count_entries, counts_text, is_access, is_hit}
+use Rattle.report_text.specs.Counts.{counts_text, is_access, is_access_of}
 use Rattle.report_text.specs.Made.{control_of, controls}
-use Rattle.report_text.specs.Commands.{command_lines}
-use Rattle.report_text.specs.Reporting.{domain_line, group_line, group_told, report_of, total_line}
+use Rattle.report_text.specs.Reporting.{commands_part, domain_line, group_line, group_told, journal_part, report_of, total_line, windows_part}
 use Rattle.report_text.specs.Tallies.{counted_in, counts_told}
 use Rattle.report_text.specs.declared.counts.Counts.{Counts}
 use Rattle.report_text.specs.declared.made.Made.{Made}
 use Rattle.run_law.specs.Journals.{JournalsValue}
+use Rattle.run_law.specs.declared.flags.Flags.{Flags}
+use Rattle.run_law.specs.declared.window.Window.{Window}
 use Rattle.machine.specs.Slices.{slice_count}
 use Rattle.script_ops.specs.Values.{ScriptValue}
 use Rattle.std.specs.List.{flat_map, range_with_len}
 use Rattle.std.proofs.lemmas.List.{append_assoc}
-use Rattle.tree_law.specs.State.{opening}
 
 -- the line of a group by its counts
-pub group_is : (script : ScriptValue) (j : JournalsValue) (gid : ℕ) (path : List ℕ) (counts : Counts) → counts ≡ counted_in j (slice_count script.machine) gid
+pub group_told-is : (script : ScriptValue) (j : JournalsValue) (gid : ℕ) (path : List ℕ) (counts : Counts) → counts ≡ counted_in (is_access_of gid) j (slice_count script.machine)
     → group_told gid path counts ≡ group_line script j (record { gid = gid; path = path })
-group_is script j gid path counts is = ap (group_told gid path) is
+group_told-is script j gid path counts is = ap (group_told gid path) is
 
 -- the line of a group that was made
-pub made_is : (script : ScriptValue) (j : JournalsValue) (made : Made) (counts : Counts) → counts ≡ counted_in j (slice_count script.machine) made.gid
+pub group_told-made : (script : ScriptValue) (j : JournalsValue) (made : Made) (counts : Counts) → counts ≡ counted_in (is_access_of made.gid) j (slice_count script.machine)
     → group_told made.gid (path_text script.names (Dir (Ctrl made.name))) counts ≡ group_line script j (control_of script.names made)
-made_is script j made counts is = group_is script j made.gid (path_text script.names (Dir (Ctrl made.name))) counts is
+group_told-made script j made counts is = group_told-is script j made.gid (path_text script.names (Dir (Ctrl made.name))) counts is
 
 -- all counts
-pub all_is : (script : ScriptValue) (j : JournalsValue) (counts : Counts) → counts.accesses ≡ count_entries script j is_access → counts.hits ≡ count_entries script j (λ what. is_access what && is_hit what)
-    → counts.misses ≡ count_entries script j (λ what. is_access what && not (is_hit what)) → counts_told counts ≡ counts_text script j is_access
-all_is script j counts a h m = same counts.accesses counts.hits counts.misses _ _ _ a h m
-  where
-    same : (a h m b i n : ℕ) → a ≡ b → h ≡ i → m ≡ n → counts_told (record { accesses = a; hits = h; misses = m }) ≡ counts_told (record { accesses = b; hits = i; misses = n })
-    same a h m b i n e f g = ap (λ k. counts_told (record { accesses = k; hits = h; misses = m })) e ∙ (ap (λ k. counts_told (record { accesses = b; hits = k; misses = m })) f ∙ ap (λ k. counts_told (record { accesses = b; hits = i; misses = k })) g)
+pub counts_told-all : (script : ScriptValue) (j : JournalsValue) (counts : Counts) → counts ≡ counted_in is_access j (slice_count script.machine) → counts_told counts ≡ counts_text script j is_access
+counts_told-all script j counts is = ap counts_told is
 
 -- the report by its parts
-pub whole : (script : ScriptValue) (j : JournalsValue) (old one two three four : List ℕ)
-    → one ≡ old ++ command_lines script (opening script.machine script.tasks) 0 j.tree
-    → two ≡ one ++ flat_map (group_line script j) (controls script j.tree)
-    → three ≡ two ++ flat_map (domain_line script j) (range_with_len 0 script.machine.domains)
-    → four ≡ three ++ total_line script j
-    → four ≡ old ++ report_of script j
+pub report_of-parts : (script : ScriptValue) (j : JournalsValue) (flags : Flags) (windows : List Window) (old one two three four five six : List ℕ)
+    → one ≡ old ++ commands_part script j flags.quiet
+    → two ≡ one ++ journal_part script j flags.journal
+    → three ≡ two ++ windows_part flags.windows windows
+    → four ≡ three ++ flat_map (group_line script j) (controls script j.tree)
+    → five ≡ four ++ flat_map (domain_line script j) (range_with_len 0 script.machine.domains)
+    → six ≡ five ++ total_line script j
+    → six ≡ old ++ report_of script j flags windows
 unfolding report_of
-whole script j old one two three four a b c d = parts old _ _ _ _ one two three four a b c d
+report_of-parts script j flags windows old one two three four five six a b c d e f =
+    parts old _ _ _ _ _ _ one two three four five six a b c d e f
   where
-    parts : (old w x y z one two three four : List ℕ) → one ≡ old ++ w → two ≡ one ++ x → three ≡ two ++ y → four ≡ three ++ z → four ≡ old ++ (w ++ x ++ y ++ z)
-    parts old w x y z one two three four a b c d =
-        d ∙ (ap (λ t. t ++ z) (c ∙ ap (λ t. t ++ y) (b ∙ ap (λ t. t ++ x) a)) ∙ simp append_assoc)
+    parts : (old u v w x y z one two three four five six : List ℕ) → one ≡ old ++ u → two ≡ one ++ v → three ≡ two ++ w → four ≡ three ++ x → five ≡ four ++ y → six ≡ five ++ z → six ≡ old ++ (u ++ v ++ w ++ x ++ y ++ z)
+    parts old u v w x y z one two three four five six a b c d e f =
+        f ∙ (ap (λ s. s ++ z) (e ∙ ap (λ s. s ++ y) (d ∙ ap (λ s. s ++ x) (c ∙ ap (λ s. s ++ w) (b ∙ ap (λ s. s ++ v) a)))) ∙ simp append_assoc)

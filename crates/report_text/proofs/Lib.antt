@@ -1,6 +1,11 @@
+pub mod CountedEntries
+pub mod DomainCounts
+pub mod Entries
 pub mod FewCommands
 pub mod GroupLines
+pub mod LoadedPlaces
+pub mod Occupancies
 pub mod Pieces
+pub mod ReadTexts
 pub mod Replays
-pub mod SliceCaches
-pub mod TallyBounds
+pub mod SliceTexts

@@ -1,7 +1,7 @@
 -- What the tree and the groups that were made keep of the script, while the commands are taken once more.
-use Rattle.std.proofs.Common.{◌≡◌, ℕ, zero, suc, ◌<◌, List, [], ◌∷◌, ◌++◌, length, Option, None, Some, sym, ap, ◌∙◌, subst, arith}
-use Rattle.std.specs.Prelude.{All, IsTrue}
-use Rattle.std.proofs.lemmas.List.Elements.{All-append}
+use Rattle.std.proofs.Common.{◌≡◌, ℕ, ◌<◌, List, [], ◌++◌, length, Option, None, Some, sym, ap, ◌∙◌, subst, arith}
+use Rattle.std.specs.Prelude.{IsTrue}
+use Rattle.std.proofs.lemmas.List.Elements.{All-append, All-cons}
 use Rattle.run_law.proofs.laws.Tasks.{tasks_of-opening}
 use Rattle.tree_core.proofs.laws.KnownNames.{named_next, named_opening}
 use Rattle.tree_core.specs.Named.{AreNamed}
@@ -12,7 +12,7 @@ use Rattle.rc_base.specs.declared.replies.Reply.TheVariants as replies
 use Rattle.report_text.specs.Made.{made_by}
 use Rattle.report_text.specs.Replayed.{AreKnownGroups, IsCounted, IsReplay, ReplayValue}
 use Rattle.report_text.specs.declared.made.Made.{Made}
-use Rattle.script_ops.specs.Canonical.{IsNamed}
+use Rattle.script_ops.specs.Canonical.{IsNamed, IsShort}
 use Rattle.run_law.specs.Ops.{EachCommand, is_command}
 use Rattle.run_law.specs.TreeHistory.{IsCommandThat, TreeEntryValue}
 use Rattle.script_ops.specs.Fits.{Fits}
@@ -24,73 +24,68 @@ use Rattle.tree_law.specs.State.{State, opening, tasks_of}
 use Rattle.tree_core.specs.Built.{IsBuilt}
 use Rattle.tree_law.specs.Steps.{needs, next}
 
--- one more
-more : {X : Type 0} (P : X → Type 0) (x : X) (xs : List X) → P x → All P xs → All P (x ∷ xs)
-more P x xs first all zero d h = first
-more P x xs first all (suc k) d h = all k d (omega arith)
-
 -- ---- groups that were made
 
 -- none was made
-none_made : (names : List (List ℕ)) → AreKnownGroups names []
-none_made names = λ k d h. absurd (omega arith)
+AreKnownGroups-nil : (names : List (List ℕ)) → AreKnownGroups names []
+AreKnownGroups-nil names = λ k d h. absurd (omega arith)
 
 -- an op makes groups with names of the script
-pub made_known : (names : List (List ℕ)) (s : State) (op : Op) (reply : Reply) → IsNamed (length names) op → AreKnownGroups names (made_by s (Some op) reply)
-made_known names s (ops.Mkdir (Dir (Ctrl name))) replies.Ok known = more (λ (m : Made). m.name.0 < length names) _ [] (known 0 0 (omega arith)) (none_made names)
-made_known names s (ops.Mkdir (Dir Root)) reply known = none_made names
-made_known names s (ops.Mkdir (Dir Info)) reply known = none_made names
-made_known names s (ops.Mkdir (Dir InfoL3)) reply known = none_made names
-made_known names s (ops.Mkdir (Dir InfoL3Mon)) reply known = none_made names
-made_known names s (ops.Mkdir (Dir (MonGroups owner))) reply known = none_made names
-made_known names s (ops.Mkdir (Dir (Mon owner name))) reply known = none_made names
-made_known names s (ops.Mkdir (Dir (MonData holder))) reply known = none_made names
-made_known names s (ops.Mkdir (Dir (MonDomain holder domain))) reply known = none_made names
-made_known names s (ops.Mkdir (Dir (Ctrl name))) (replies.Refused errno why arg) known = none_made names
-made_known names s (ops.Mkdir (File dir kind)) reply known = none_made names
-made_known names s (ops.Mkdir (Free dir name)) reply known = none_made names
-made_known names s (ops.Mkdir (Nowhere name)) reply known = none_made names
-made_known names s (ops.Rmdir path) reply known = none_made names
-made_known names s (ops.Write path text) reply known = none_made names
-made_known names s (ops.Read path) reply known = none_made names
-made_known names s (ops.List path) reply known = none_made names
-made_known names s (ops.Flush domain) reply known = none_made names
-made_known names s ops.Tick reply known = none_made names
-made_known names s (ops.Access task cpu addr) reply known = none_made names
-made_known names s (ops.Touch path offset task cpu) reply known = none_made names
+pub AreKnownGroups-made_by : (names : List (List ℕ)) (s : State) (op : Op) (reply : Reply) → IsNamed (length names) op → AreKnownGroups names (made_by s (Some op) reply)
+AreKnownGroups-made_by names s (ops.Mkdir (Dir (Ctrl name))) replies.Ok known = All-cons (λ (m : Made). m.name.0 < length names) _ [] (known 0 0 (omega arith)) (AreKnownGroups-nil names)
+AreKnownGroups-made_by names s (ops.Mkdir (Dir Root)) reply known = AreKnownGroups-nil names
+AreKnownGroups-made_by names s (ops.Mkdir (Dir Info)) reply known = AreKnownGroups-nil names
+AreKnownGroups-made_by names s (ops.Mkdir (Dir InfoL3)) reply known = AreKnownGroups-nil names
+AreKnownGroups-made_by names s (ops.Mkdir (Dir InfoL3Mon)) reply known = AreKnownGroups-nil names
+AreKnownGroups-made_by names s (ops.Mkdir (Dir (MonGroups owner))) reply known = AreKnownGroups-nil names
+AreKnownGroups-made_by names s (ops.Mkdir (Dir (Mon owner name))) reply known = AreKnownGroups-nil names
+AreKnownGroups-made_by names s (ops.Mkdir (Dir (MonData holder))) reply known = AreKnownGroups-nil names
+AreKnownGroups-made_by names s (ops.Mkdir (Dir (MonDomain holder domain))) reply known = AreKnownGroups-nil names
+AreKnownGroups-made_by names s (ops.Mkdir (Dir (Ctrl name))) (replies.Refused errno why arg) known = AreKnownGroups-nil names
+AreKnownGroups-made_by names s (ops.Mkdir (File dir kind)) reply known = AreKnownGroups-nil names
+AreKnownGroups-made_by names s (ops.Mkdir (Free dir name)) reply known = AreKnownGroups-nil names
+AreKnownGroups-made_by names s (ops.Mkdir (Nowhere name)) reply known = AreKnownGroups-nil names
+AreKnownGroups-made_by names s (ops.Rmdir path) reply known = AreKnownGroups-nil names
+AreKnownGroups-made_by names s (ops.Write path text) reply known = AreKnownGroups-nil names
+AreKnownGroups-made_by names s (ops.Read path) reply known = AreKnownGroups-nil names
+AreKnownGroups-made_by names s (ops.List path) reply known = AreKnownGroups-nil names
+AreKnownGroups-made_by names s (ops.Flush domain) reply known = AreKnownGroups-nil names
+AreKnownGroups-made_by names s ops.Tick reply known = AreKnownGroups-nil names
+AreKnownGroups-made_by names s (ops.Access task cpu addr) reply known = AreKnownGroups-nil names
+AreKnownGroups-made_by names s (ops.Touch path offset task cpu) reply known = AreKnownGroups-nil names
 
 -- and those of before
-pub known_more : (names : List (List ℕ)) (made more : List Made) → AreKnownGroups names made → AreKnownGroups names more → AreKnownGroups names (made ++ more)
-known_more names made more known also = All-append (λ (m : Made). m.name.0 < length names) made more known also
+pub AreKnownGroups-append : (names : List (List ℕ)) (made more : List Made) → AreKnownGroups names made → AreKnownGroups names more → AreKnownGroups names (made ++ more)
+AreKnownGroups-append names made more known also = All-append (λ (m : Made). m.name.0 < length names) made more known also
 
 -- the opening tree of a script is one of the script, and no group was made
-pub replayed-opening : (script : ScriptValue) (r : ReplayValue) → r.tree.machine ≡ script.machine → r.tree.state ≡ opening script.machine script.tasks → r.made ≡ [] → IsReplay script r
-replayed-opening script r machine state made = record {
+pub IsReplay-opening : (script : ScriptValue) (r : ReplayValue) → r.tree.machine ≡ script.machine → r.tree.state ≡ opening script.machine script.tasks → r.made ≡ [] → IsReplay script r
+IsReplay-opening script r machine state made = record {
   machine = machine;
   tasks = ap tasks_of state ∙ tasks_of-opening script.machine script.tasks;
   named = subst (λ (s : State). AreNamed script.names s.groups) (sym state) (named_opening script.names script.machine script.tasks);
-  known = subst (λ (all : List Made). AreKnownGroups script.names all) (sym made) (none_made script.names);
+  known = subst (λ (all : List Made). AreKnownGroups script.names all) (sym made) (AreKnownGroups-nil script.names);
 }
 
 -- a tree that was taken one command on is still one of the script
-pub replayed : (script : ScriptValue) (old new : ReplayValue) (op : Op) (looks : List ℕ) (reply : Reply) → IsReplay script old → IsNamed (length script.names) op
+pub IsReplay-next : (script : ScriptValue) (old new : ReplayValue) (op : Op) (looks : List ℕ) (reply : Reply) → IsReplay script old → IsNamed (length script.names) op → IsShort script.names op
     → new.tree.machine ≡ old.tree.machine → new.tree.state ≡ (next old.tree.machine old.tree.state op looks).state → new.made ≡ old.made ++ made_by old.tree.state (Some op) reply → IsReplay script new
-replayed script old new op looks reply before known machine state made = record {
+IsReplay-next script old new op looks reply before known short machine state made = record {
   machine = machine ∙ before.machine;
   tasks = ap tasks_of state ∙ (tasks_of-next old.tree.machine old.tree.state op looks ∙ before.tasks);
-  named = subst (λ (s : State). AreNamed script.names s.groups) (sym state) (named_next script.names old.tree.machine old.tree.state op looks known before.named);
-  known = subst (λ (all : List Made). AreKnownGroups script.names all) (sym made) (known_more script.names old.made (made_by old.tree.state (Some op) reply) before.known (made_known script.names old.tree.state op reply known));
+  named = subst (λ (s : State). AreNamed script.names s.groups) (sym state) (named_next script.names old.tree.machine old.tree.state op looks known short before.named);
+  known = subst (λ (all : List Made). AreKnownGroups script.names all) (sym made) (AreKnownGroups-append script.names old.made (made_by old.tree.state (Some op) reply) before.known (AreKnownGroups-made_by script.names old.tree.state op reply known));
 }
 
 -- ---- the op of an entry
 
 -- it fits the tree
-pub fits_replay : (script : ScriptValue) (r : ReplayValue) (op : Op) → IsReplay script r → Fits script.machine script.tasks op → Fits r.tree.machine (tasks_of r.tree.state) op
-fits_replay script r op replay fits = subst (λ m. Fits m (tasks_of r.tree.state) op) (sym replay.machine) (subst (λ ts. Fits script.machine ts op) (sym replay.tasks) fits)
+pub Fits-replay : (script : ScriptValue) (r : ReplayValue) (op : Op) → IsReplay script r → Fits script.machine script.tasks op → Fits r.tree.machine (tasks_of r.tree.state) op
+Fits-replay script r op replay fits = subst (λ m. Fits m (tasks_of r.tree.state) op) (sym replay.machine) (subst (λ ts. Fits script.machine ts op) (sym replay.tasks) fits)
 
 -- it is a command that the tree takes
-pub built_replay : (script : ScriptValue) (s : State) (h : TreeEntryValue) (op : Op) → EachCommand IsBuilt script → IsCounted script s h → op_at script h.thread h.op ≡ Some op → IsBuilt op
-built_replay script s h op built counted is =
+pub IsBuilt-command : (script : ScriptValue) (s : State) (h : TreeEntryValue) (op : Op) → EachCommand IsBuilt script → IsCounted script s h → op_at script h.thread h.op ≡ Some op → IsBuilt op
+IsBuilt-command script s h op built counted is =
     built h.thread h.op op is (command (op_at script h.thread h.op) counted is)
   where
     command : (o : Option Op) → IsCommandThat (λ c. length h.looks ≡ length (needs script.machine s c)) o → o ≡ Some op → IsTrue (is_command op)

@@ -1,6 +1,9 @@
 pub mod Commands
 pub mod Counts
 pub mod Made
+pub mod Occupancies
 pub mod Replayed
 pub mod Reporting
+pub mod SliceLines
 pub mod Tallies
+pub mod WindowLines

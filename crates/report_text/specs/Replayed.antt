@@ -1,12 +1,14 @@
 -- What is seen of a tree that is taken through its history once more.
 use Rattle.std.specs.Prelude.{ℕ, ◌<◌, ◌≡◌, List, All, length}
 use Rattle.tree_core.specs.Named.{AreNamed}
+use Rattle.machine.specs.declared.parameters.Parameters.{Parameters}
 use Rattle.report_text.specs.declared.made.Made.{Made}
 use Rattle.run_law.specs.TreeHistory.{IsCommandThat, TreeEntryValue}
 use Rattle.script_ops.specs.Values.{ScriptValue, op_at}
+use Rattle.script_ops.specs.declared.op.Op.{Op}
 use Rattle.tree_law.specs.State.{State, tasks_of}
 use Rattle.tree_core.specs.Values.{TreeValue}
-use Rattle.tree_law.specs.Steps.{needs}
+use Rattle.tree_law.specs.Steps.{needs, next}
 
 -- the tree, and the control groups that were made so far
 pub record ReplayValue : Type 0 where
@@ -24,6 +26,15 @@ pub record IsReplay (script : ScriptValue) (r : ReplayValue) : Type 0 where
   pub named : AreNamed script.names r.tree.state.groups
   pub known : AreKnownGroups script.names r.made
 
+-- an entry has as many counts as an op needs in this state, and its reply is the state's
+pub record IsAnsweredAs (m : Parameters) (s : State) (e : TreeEntryValue) (op : Op) : Type 0 where
+  pub looks : length e.looks ≡ length (needs m s op)
+  pub reply : e.reply ≡ (next m s op e.looks).reply
+
 -- an entry's op is there, and was given as many counts as it needs in this state
 abbrev pub IsCounted : ScriptValue → State → TreeEntryValue → Type 0
 IsCounted script s e = IsCommandThat (λ op. length e.looks ≡ length (needs script.machine s op)) (op_at script e.thread e.op)
+
+-- the same, and it was answered as this state answers it
+abbrev pub IsAnswered : ScriptValue → State → TreeEntryValue → Type 0
+IsAnswered script s e = IsCommandThat (IsAnsweredAs script.machine s e) (op_at script e.thread e.op)

@@ -1,5 +1,6 @@
 //! The text of a report under construction.
-ghost use Rattle.std.specs.Prelude.{◌≡◌, [], ◌∷◌, ◌++◌, IfOk, OnOk, decimal, length};
+ghost use Rattle.std.specs.Prelude.{◌≡◌, ◌≤◌, [], ◌∷◌, ◌++◌, IfOk, OnOk, decimal, length};
+ghost use Rattle.num_text.specs.Printed.{hexadecimal};
 ghost use Rattle.rc_base.specs.Reasons.{reason_text};
 ghost use Rattle.report_text.specs.Commands.{barred, reply_text};
 ghost use Rattle.script_ops.specs.Canonical.{op_ids, op_text};
@@ -7,6 +8,7 @@ ghost use Rattle.path_names.specs.NamesIn.{AreKnown, path_ids};
 ghost use Rattle.path_names.specs.PathTexts.{path_text};
 
 use file_view::reason;
+use num_text::push_hex;
 use path_names::{Names, PathRef};
 use rc_base::{NoMemory, Reply, TextBuf, Why};
 use script_ops::{GrowingText, Op, next_line};
@@ -52,6 +54,25 @@ impl ReportText {
         ensures { OnOk result (self.new ≡ self.old ++ decimal n) }
     {
         self.text.push_decimal(n)
+    }
+
+    /// Adds a number in decimal after a word.
+    pub fn push_number(&mut self, word: &[u8], n: u64) -> Result<(), NoMemory>
+        ensures { OnOk result (self.new ≡ self.old ++ (word.now ++ decimal n)) }
+    {
+        self.push(word)?;
+        self.push_decimal(n)
+    }
+
+    /// Adds a number in hexadecimal, of so many digits at least.
+    pub fn push_hexadecimal(&mut self, n: u64, width: u8) -> Result<(), NoMemory>
+        requires { width ≤ 16 }
+        ensures { OnOk result (self.new ≡ self.old ++ hexadecimal width n) }
+    {
+        push_hex(n, width, &mut self.reason);
+        let added = self.text.push(self.reason.bytes());
+        self.reason.clear();
+        added
     }
 
     // Adds the text of a reason.

@@ -1,24 +1,25 @@
 //! The lines of commands.
-ghost use Rattle.std.specs.Prelude.{◌≡◌, ◌+◌, ◌<◌, ◌≤◌, ◌∷◌, [], ◌++◌, IfOk, OnOk, codes, decimal, length, map, Some};
-ghost use Rattle.tree_core.specs.Named.{AreNamed};
-ghost use Rattle.report_text.specs.Commands.{command_line, command_lines, op_said, read_lines, reply_text};
+ghost use Rattle.std.specs.Prelude.{◌≡◌, ◌+◌, ◌<◌, ◌≤◌, ◌∷◌, [], ◌++◌, IfOk, OnOk, codes, decimal, length, None, Some};
+ghost use Rattle.file_view.specs.Texts.{text_of};
+ghost use Rattle.report_text.specs.Commands.{barred, command_line, command_lines, op_said, read_lines, reply_text, result_text};
 ghost use Rattle.report_text.specs.Made.{made_by, made_from};
-ghost use Rattle.report_text.specs.Replayed.{AreKnownGroups, IsCounted, IsReplay};
+ghost use Rattle.report_text.specs.Replayed.{AreKnownGroups, IsAnswered, IsAnsweredAs, IsCounted, IsReplay};
 ghost use Rattle.run_law.specs.Entries.{entry_value};
+ghost use Rattle.run_law.specs.Ops.{EachCommand};
 ghost use Rattle.run_law.specs.TreeHistory.{IsLegalTree, state_after};
 ghost use Rattle.script_ops.specs.Canonical.{IsNamed};
 ghost use Rattle.script_ops.specs.Values.{op_at};
-ghost use Rattle.tree_law.specs.State.{opening};
-ghost use Rattle.tree_law.specs.Steps.{needs};
-ghost use Rattle.run_law.specs.Ops.{EachCommand};
-ghost use Rattle.tree_core.specs.Built.{IsBuilt};
 ghost use Rattle.script_ops.specs.declared.limits.TheConstants.{MOST_WEIGHT};
+ghost use Rattle.tree_core.specs.Built.{IsBuilt};
+ghost use Rattle.tree_law.specs.State.{opening};
+ghost use Rattle.tree_law.specs.Steps.{needs, refusal};
 
 use crate::buffer::ReportText;
 use crate::made::Made;
 use crate::replay::Replay;
+use file_view::is_reading;
 use rc_base::{NoMemory, Reply};
-use run_law::TreeEntry;
+use run_law::{Journals, TreeEntry};
 use script_ops::{Op, Script};
 use std::alloc::Global;
 
@@ -31,19 +32,57 @@ fn push_result(report: &mut ReportText, reply: Reply) -> Result<(), NoMemory>
     report.push(b"\n".as_slice())
 }
 
+// Adds the result of an op. A touch, whose result says what its access was, is not built yet.
+fn push_op_result(
+    report: &mut ReportText,
+    journals: &Journals,
+    entry: &TreeEntry,
+    op: &Op,
+) -> Result<(), NoMemory>
+    requires built { IsBuilt op.now }
+    ensures { OnOk result (report.new ≡ report.old ++ (codes ": " ++ result_text journals.now entry.now.thread entry.now.op op.now entry.now.reply ++ 10 ∷ [])) }
+{
+    push_result(report, entry.reply)
+}
+
+// Adds what an accepted op gave, where it is a read or a list.
+fn push_accepted(
+    report: &mut ReportText,
+    replay: &mut Replay,
+    script: &Script,
+    op: &Op,
+    looks: &[u64],
+) -> Result<(), NoMemory>
+    requires replay { IsReplay script.now replay.old }
+    requires built { IsBuilt op.now }
+    requires accepted { refusal script.now.machine replay.old.tree.state op.now ≡ None }
+    requires looks { length looks.now ≡ length (needs script.now.machine replay.old.tree.state op.now) }
+    ensures text { OnOk result (report.new ≡ report.old ++ barred (text_of script.now.machine replay.old.tree.state script.now.names op.now looks.now)) }
+    ensures kept { replay.new ≡ replay.old }
+{
+    if is_reading(op) {
+        replay.push_read(script.names(), op, looks, report)
+    } else {
+        Ok(())
+    }
+}
+
 // Adds what an accepted read or list gave.
 fn push_read_lines(
     report: &mut ReportText,
-    replay: &Replay,
+    replay: &mut Replay,
     script: &Script,
     op: &Op,
-    reply: Reply,
+    entry: &TreeEntry,
 ) -> Result<(), NoMemory>
-    requires { IsReplay script.now replay.now }
-    ensures { OnOk result (report.new ≡ report.old ++ read_lines script.now replay.now.tree.state op.now reply) }
+    requires replay { IsReplay script.now replay.old }
+    requires built { IsBuilt op.now }
+    requires answered { IsAnsweredAs script.now.machine replay.old.tree.state (entry_value entry.now) op.now }
+    ensures text { OnOk result (report.new ≡ report.old ++ read_lines script.now replay.old.tree.state op.now entry.now.looks.numbers entry.now.reply) }
+    ensures kept { replay.new ≡ replay.old }
 {
-    match reply {
-        Reply::Ok => replay.push_read(script.names(), op, report),
+    match entry.reply {
+        Reply::Ok => push_accepted(report, replay, script, op, entry.looks.items()),
         Reply::Refused { .. } => Ok(()),
     }
 }
@@ -63,40 +102,48 @@ fn push_place(report: &mut ReportText, k: u64, entry: &TreeEntry) -> Result<(), 
 // Adds what is said of an op.
 fn push_op_said(
     report: &mut ReportText,
-    replay: &Replay,
+    replay: &mut Replay,
     script: &Script,
+    journals: &Journals,
     op: &Op,
-    reply: Reply,
+    entry: &TreeEntry,
 ) -> Result<(), NoMemory>
-    requires replay { IsReplay script.now replay.now }
+    requires replay { IsReplay script.now replay.old }
+    requires built { IsBuilt op.now }
     requires named { IsNamed (length script.now.names) op.now }
-    ensures { OnOk result (report.new ≡ report.old ++ op_said script.now replay.now.tree.state (Some op.now) reply) }
+    requires answered { IsAnsweredAs script.now.machine replay.old.tree.state (entry_value entry.now) op.now }
+    ensures text { OnOk result (report.new ≡ report.old ++ op_said script.now journals.now replay.old.tree.state (entry_value entry.now) (Some op.now)) }
+    ensures kept { replay.new ≡ replay.old }
 {
     report.push_op(op, script.names())?;
-    push_result(report, reply)?;
-    push_read_lines(report, replay, script, op, reply)
+    push_op_result(report, journals, entry, op)?;
+    push_read_lines(report, replay, script, op, entry)
 }
 
 // Adds the line of an entry, with what it read.
 fn push_command(
     report: &mut ReportText,
-    replay: &Replay,
+    replay: &mut Replay,
     script: &Script,
+    journals: &Journals,
     k: u64,
     entry: &TreeEntry,
 ) -> Result<(), NoMemory>
-    requires { IsReplay script.now replay.now }
-    ensures { OnOk result (report.new ≡ report.old ++ command_line script.now replay.now.tree.state k (entry_value entry.now)) }
+    requires replay { IsReplay script.now replay.old }
+    requires built { EachCommand IsBuilt script.now }
+    requires answered { IsAnswered script.now replay.old.tree.state (entry_value entry.now) }
+    ensures text { OnOk result (report.new ≡ report.old ++ command_line script.now journals.now replay.old.tree.state k (entry_value entry.now)) }
+    ensures kept { replay.new ≡ replay.old }
 {
     push_place(report, k, entry)?;
     match script.op(entry.thread, entry.op) {
-        Some(op) => push_op_said(report, replay, script, op, entry.reply),
-        None => push_result(report, entry.reply),
+        Some(op) => push_op_said(report, replay, script, journals, op, entry),
+        None => unreachable!(),
     }
 }
 
-// Takes the op of an entry once more.
-fn take(replay: &mut Replay, script: &Script, entry: &TreeEntry) -> Result<(), NoMemory>
+/// Takes the op of an entry once more.
+pub(crate) fn take(replay: &mut Replay, script: &Script, entry: &TreeEntry) -> Result<(), NoMemory>
     requires replay { IsReplay script.now replay.old }
     requires built { EachCommand IsBuilt script.now }
     requires counted { IsCounted script.now replay.old.tree.state (entry_value entry.now) }
@@ -117,18 +164,19 @@ pub(crate) fn push_commands(
     alloc: Global,
     report: &mut ReportText,
     script: &Script,
-    tree: &[TreeEntry],
+    journals: &Journals,
 ) -> Result<Vec<Made>, NoMemory>
     requires built { EachCommand IsBuilt script.now }
-    requires legal { IsLegalTree script.now (map entry_value tree.now) }
-    requires few { length tree.now ≤ MOST_WEIGHT }
-    ensures text { OnOk result (report.new ≡ report.old ++ command_lines script.now (opening script.now.machine script.now.tasks) 0 (map entry_value tree.now)) }
-    ensures made { IfOk result (λ made. made.items ≡ made_from script.now (opening script.now.machine script.now.tasks) (map entry_value tree.now)) }
+    requires legal { IsLegalTree script.now journals.now.tree }
+    requires few { length journals.now.tree ≤ MOST_WEIGHT }
+    ensures text { OnOk result (report.new ≡ report.old ++ command_lines script.now journals.now (opening script.now.machine script.now.tasks) 0 journals.now.tree) }
+    ensures made { IfOk result (λ made. made.items ≡ made_from script.now (opening script.now.machine script.now.tasks) journals.now.tree) }
     ensures known { IfOk result (λ made. AreKnownGroups script.now.names made.items) }
 {
+    let tree = journals.tree();
     let mut replay = Replay::create(alloc, script)?;
     for (k, entry) in tree.iter().enumerate() {
-        push_command(report, &replay, script, k as u64, entry)?;
+        push_command(report, &mut replay, script, journals, k as u64, entry)?;
         take(&mut replay, script, entry)?;
     }
     Ok(replay.into_made())

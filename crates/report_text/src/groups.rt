@@ -1,5 +1,5 @@
 //! The lines of control groups.
-ghost use Rattle.std.specs.Prelude.{◌≡◌, ℕ, ◌<◌, ◌++◌, OnOk, codes, decimal, length, map};
+ghost use Rattle.std.specs.Prelude.{◌≡◌, ◌<◌, ◌++◌, OnOk, codes, decimal, length, map};
 ghost use Rattle.std.specs.List.{flat_map};
 ghost use Rattle.machine.specs.Slices.{slice_count};
 ghost use Rattle.path_names.specs.NamesIn.{AreKnown, path_ids};
@@ -7,19 +7,17 @@ ghost use Rattle.path_names.specs.PathTexts.{path_text};
 ghost use Rattle.report_text.specs.Made.{control_of, controls, default_control, made_from};
 ghost use Rattle.report_text.specs.Replayed.{AreKnownGroups};
 ghost use Rattle.report_text.specs.Reporting.{group_line, group_told};
-ghost use Rattle.report_text.specs.Tallies.{at, counted_in};
+ghost use Rattle.report_text.specs.Tallies.{IsTallyOf};
 ghost use Rattle.tree_law.specs.State.{opening};
 
 use crate::buffer::ReportText;
 use crate::counts::{Counts, push_counts};
-use crate::domains::slices_of;
 use crate::made::Made;
 use crate::tally::Tally;
 use path_names::{DirRef, PathRef};
 use rc_base::NoMemory;
 use run_law::Journals;
 use script_ops::Script;
-use std::alloc::Global;
 
 // Adds the beginning of the line of a group.
 fn push_gid(report: &mut ReportText, gid: u32) -> Result<(), NoMemory>
@@ -57,7 +55,7 @@ fn push_made_group(
     tally: &Tally,
 ) -> Result<(), NoMemory>
     requires known { made.name.0 < length script.now.names }
-    requires counts { (gid : ℕ) → at tally.now gid ≡ counted_in journals.now (slice_count script.now.machine) gid }
+    requires counts { IsTallyOf journals.now (slice_count script.now.machine) tally.now }
     ensures { OnOk result (report.new ≡ report.old ++ group_line script.now journals.now (control_of script.now.names made)) }
 {
     let path = PathRef::Dir(DirRef::Ctrl(made.name));
@@ -73,7 +71,7 @@ fn push_made(
     tally: &Tally,
 ) -> Result<(), NoMemory>
     requires known { AreKnownGroups script.now.names made.now }
-    requires counts { (gid : ℕ) → at tally.now gid ≡ counted_in journals.now (slice_count script.now.machine) gid }
+    requires counts { IsTallyOf journals.now (slice_count script.now.machine) tally.now }
     ensures { OnOk result (report.new ≡ report.old ++ flat_map (group_line script.now journals.now) (map (control_of script.now.names) made.now)) }
 {
     for group in made {
@@ -89,7 +87,7 @@ fn push_default_group(
     journals: &Journals,
     tally: &Tally,
 ) -> Result<(), NoMemory>
-    requires counts { (gid : ℕ) → at tally.now gid ≡ counted_in journals.now (slice_count script.now.machine) gid }
+    requires counts { IsTallyOf journals.now (slice_count script.now.machine) tally.now }
     ensures { OnOk result (report.new ≡ report.old ++ group_line script.now journals.now default_control) }
 {
     let root = PathRef::Dir(DirRef::Root);
@@ -98,18 +96,17 @@ fn push_default_group(
 
 /// Adds the lines of the groups: the default group, and those that were made.
 pub(crate) fn push_groups(
-    alloc: Global,
     report: &mut ReportText,
     script: &Script,
     journals: &Journals,
     made: &[Made],
+    tally: &Tally,
 ) -> Result<(), NoMemory>
-    requires slices { length journals.now.slices ≡ slice_count script.now.machine }
+    requires counts { IsTallyOf journals.now (slice_count script.now.machine) tally.now }
     requires known { AreKnownGroups script.now.names made.now }
     requires made { made.now ≡ made_from script.now (opening script.now.machine script.now.tasks) journals.now.tree }
     ensures { OnOk result (report.new ≡ report.old ++ flat_map (group_line script.now journals.now) (controls script.now journals.now.tree)) }
 {
-    let tally = Tally::of_slices(alloc, journals, slices_of(script))?;
-    push_default_group(report, script, journals, &tally)?;
-    push_made(report, script, journals, made, &tally)
+    push_default_group(report, script, journals, tally)?;
+    push_made(report, script, journals, made, tally)
 }

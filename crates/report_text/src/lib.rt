@@ -3,12 +3,21 @@
 
 mod buffer;
 mod commands;
+mod counting;
 mod counts;
 mod domains;
+mod entry_line;
 mod groups;
 pub mod made;
+mod occupancy;
+mod quiet;
 mod replay;
 pub mod report;
+mod slice_lines;
 mod tally;
+mod windows;
 
 pub use report::text;
+
+#[cfg(test)]
+mod tests;

@@ -1,12 +1,12 @@
 //! The tree, taken through its history once more.
-ghost use Rattle.std.specs.Prelude.{◌≡◌, ◌+◌, ◌<◌, [], ◌++◌, All, IfOk, OnOk, Some, length};
+ghost use Rattle.std.specs.Prelude.{◌≡◌, ◌+◌, ◌<◌, ◌≤◌, ◌^◌, [], ◌++◌, All, IfOk, IsTrue, OnOk, None, Some, length};
 ghost use Rattle.std.specs.Option.{option_to_list};
-ghost use Rattle.file_view.specs.Texts.{text_of};
+ghost use Rattle.file_view.specs.Texts.{is_reading, text_of};
 ghost use Rattle.tree_core.specs.Named.{AreNamed};
 ghost use Rattle.report_text.specs.Commands.{barred};
 ghost use Rattle.report_text.specs.Made.{made_by as made_in};
 ghost use Rattle.tree_law.specs.State.{opening, tasks_of};
-ghost use Rattle.tree_law.specs.Steps.{needs, next};
+ghost use Rattle.tree_law.specs.Steps.{needs, next, refusal};
 ghost use Rattle.script_ops.specs.Fits.{Fits};
 ghost use Rattle.tree_core.specs.Built.{IsBuilt};
 ghost use Rattle.script_ops.specs.declared.limits.TheConstants.{MOST_WEIGHT};
@@ -15,7 +15,7 @@ use crate::buffer::ReportText;
 use crate::made::Made;
 use file_view::text;
 use path_names::{DirRef, Names, PathRef};
-use rc_base::{NoMemory, Reply};
+use rc_base::{NoMemory, Reply, TEXT_MAX, TextBuf};
 use script_ops::{Op, Script};
 use std::alloc::Global;
 use std::marker::Model;
@@ -24,17 +24,21 @@ use tree_core::Tree;
 /// The tree as it was before a command, and the control groups that were made so far. Contracts see both.
 #[derive(Drop)]
 pub struct Replay {
-    alloc: Global,
     tree: Tree,
     made: Vec<Made>,
+    file: TextBuf,
 }
 
 impl Model for Replay {
+    ghost use Rattle.std.specs.Prelude.{◌≡◌, ◌≤◌, []};
+    ghost use Rattle.rc_base.specs.declared.text_buf.TheConstants.{TEXT_MAX};
     ghost use Rattle.report_text.specs.Replayed.{ReplayValue};
 
     ghost Value = { ReplayValue };
 
     ghost view = { λ r. record { tree = r.tree; made = r.made.items } };
+
+    ghost invariant = { λ r. (r.file.bytes ≡ []) × (TEXT_MAX ≤ r.file.spare) };
 }
 
 // The control group that an op makes, by its reply.
@@ -54,29 +58,43 @@ fn made_by(tree: &Tree, op: &Op, reply: Reply) -> Option<Made>
 }
 
 impl Replay {
-    /// The opening tree of a script.
+    /// The opening tree of a script, and room for the text of any file or listing.
     pub fn create(alloc: Global, script: &Script) -> Result<Replay, NoMemory>
         ensures machine { IfOk result (λ r. r.tree.machine ≡ script.now.machine) }
         ensures state { IfOk result (λ r. r.tree.state ≡ opening script.now.machine script.now.tasks) }
         ensures epoch { IfOk result (λ r. r.tree.epoch ≡ 0) }
         ensures made { IfOk result (λ r. r.made ≡ []) }
     {
+        let file = TextBuf::with_room(alloc, TEXT_MAX)?;
         let tree = Tree::create(alloc, script.machine(), script.tasks())?;
         Ok(Replay {
-            alloc,
             tree,
             made: Vec::new(alloc),
+            file,
         })
     }
 
-    /// Adds the text that an op gives in this state, line by line after bars.
-    pub fn push_read(&self, names: &Names, op: &Op, report: &mut ReportText) -> Result<(), NoMemory>
-        requires { AreNamed names.now self.now.tree.state.groups }
-        ensures { OnOk result (report.new ≡ report.old ++ barred (text_of self.now.tree.machine self.now.tree.state names.now op.now)) }
+    /// Adds the text that an accepted read or list gives in this state, from its counts, line by line after bars.
+    pub fn push_read(
+        &mut self,
+        names: &Names,
+        op: &Op,
+        looks: &[u64],
+        report: &mut ReportText,
+    ) -> Result<(), NoMemory>
+        requires reading { IsTrue (is_reading op.now) }
+        requires accepted { refusal self.old.tree.machine self.old.tree.state op.now ≡ None }
+        requires built { IsBuilt op.now }
+        requires looks { length looks.now ≡ length (needs self.old.tree.machine self.old.tree.state op.now) }
+        requires counts { All (λ n. n ≤ 2 ^ 32) looks.now }
+        requires named { AreNamed names.now self.old.tree.state.groups }
+        ensures text { OnOk result (report.new ≡ report.old ++ barred (text_of self.old.tree.machine self.old.tree.state names.now op.now looks.now)) }
+        ensures kept { self.new ≡ self.old }
     {
-        let mut file = Vec::new(self.alloc);
-        text(self.alloc, &self.tree, names, op, &mut file)?;
-        report.push_barred(&file)
+        text(&self.tree, names, op, looks, &mut self.file);
+        let added = report.push_barred(self.file.bytes());
+        self.file.clear();
+        added
     }
 
     /// Takes a command once more, with its counts and its reply.

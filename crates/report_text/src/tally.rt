@@ -1,59 +1,40 @@
-//! The accesses, hits and misses of each group.
+//! The accesses, hits and misses of each group and of all groups.
 ghost use Rattle.std.specs.Prelude.{◌≡◌, ℕ, ◌+◌, ◌*◌, ◌<◌, ◌≤◌, ◌^◌, length, IfOk, OnOk};
-ghost use Rattle.report_text.specs.Tallies.{AreAtMost, at, counted, counted_all, counted_in, nothing, with_access};
+ghost use Rattle.report_text.specs.Counts.{is_access, is_access_of};
+ghost use Rattle.report_text.specs.Tallies.{AreAtMost, IsFew, IsTallyOf, at, counted, counted_all, nothing, with_access};
 
 use crate::counts::Counts;
 use cache_core::{SliceEntry, What};
+use indexmap::IndexMap;
 use rc_base::NoMemory;
 use run_law::Journals;
 use std::alloc::Global;
 use std::marker::Model;
 
-/// The accesses, hits and misses of each group, by its gid.
+/// The accesses, hits and misses of each group that has some, by its gid, and those of all groups.
 #[derive(Drop)]
 pub(crate) struct Tally {
-    counts: Vec<Counts>,
+    groups: IndexMap<u32, Counts>,
+    all: Counts,
 }
 
 impl Model for Tally {
-    ghost use Rattle.std.specs.Prelude.{List};
-    ghost use Rattle.report_text.specs.declared.counts.Counts.{Counts};
+    ghost use Rattle.report_text.specs.Tallies.{TallyValue};
 
-    ghost Value = { List Counts };
+    ghost Value = { TallyValue };
 
-    ghost view = { λ t. t.counts.items };
-}
-
-// No access.
-fn nothing() -> Counts
-    ensures { result ≡ nothing }
-{
-    Counts {
-        accesses: 0,
-        hits: 0,
-        misses: 0,
-    }
-}
-
-// One access more.
-fn with_access(counts: Counts, hit: bool) -> Counts
-    requires { AreAtMost (2 ^ 63) counts }
-    ensures { result ≡ with_access hit counts }
-{
-    Counts {
-        accesses: counts.accesses + 1,
-        hits: counts.hits + u64::from(hit),
-        misses: counts.misses + u64::from(!hit),
-    }
+    ghost view = { λ t. record { groups = t.groups.entries; all = t.all } };
 }
 
 impl Tally {
     /// No group has an access.
     pub fn create(alloc: Global) -> Tally
-        ensures { (gid : ℕ) → at result gid ≡ nothing }
+        ensures groups { (gid : ℕ) → at result gid ≡ nothing }
+        ensures all { result.all ≡ nothing }
     {
         Tally {
-            counts: Vec::new(alloc),
+            groups: IndexMap::new(alloc),
+            all: Counts::NOTHING,
         }
     }
 
@@ -61,39 +42,34 @@ impl Tally {
     pub fn of(&self, gid: u32) -> Counts
         ensures { result ≡ at self.now gid }
     {
-        match self.counts.get(gid as usize) {
-            Some(counts) => *counts,
-            None => nothing(),
-        }
+        self.groups.get(&gid).copied().unwrap_or(Counts::NOTHING)
     }
 
-    // Lists this many groups at least.
-    fn grow(&mut self, groups: usize) -> Result<(), NoMemory>
-        ensures long { OnOk result (groups ≤ length self.new) }
-        ensures same { OnOk result ((gid : ℕ) → at self.new gid ≡ at self.old gid) }
+    /// The counts of all groups.
+    pub fn all(&self) -> Counts
+        ensures { result ≡ self.now.all }
     {
-        while self.counts.len() < groups {
-            self.counts.push(nothing())?;
-        }
-        Ok(())
+        self.all
     }
 
     // Counts an access of a group.
     fn count(&mut self, gid: u32, hit: bool) -> Result<(), NoMemory>
-        requires { AreAtMost (2 ^ 63) (at self.old gid) }
+        requires { IsFew (2 ^ 63) self.old }
         ensures own { OnOk result (at self.new gid ≡ with_access hit (at self.old gid)) }
         ensures others { OnOk result ((other : ℕ) → (other ≡ gid → ⊥) → at self.new other ≡ at self.old other) }
+        ensures all { OnOk result (self.new.all ≡ with_access hit self.old.all) }
     {
-        let counts = with_access(self.of(gid), hit);
-        self.grow(gid as usize + 1)?;
-        self.counts[gid as usize] = counts;
+        let counts = self.of(gid).with_access(hit);
+        self.groups.insert(gid, counts)?;
+        self.all = self.all.with_access(hit);
         Ok(())
     }
 
     // Counts an entry, where it is an access.
     fn add(&mut self, what: &What) -> Result<(), NoMemory>
-        requires { (gid : ℕ) → AreAtMost (2 ^ 63) (at self.old gid) }
-        ensures { OnOk result ((gid : ℕ) → at self.new gid ≡ counted (at self.old gid) gid what.now) }
+        requires { IsFew (2 ^ 63) self.old }
+        ensures groups { OnOk result ((gid : ℕ) → at self.new gid ≡ counted (is_access_of gid) (at self.old gid) what.now) }
+        ensures all { OnOk result (self.new.all ≡ counted is_access self.old.all what.now) }
     {
         match what {
             What::Access { owner, hit, .. } => self.count(owner.0, *hit),
@@ -103,8 +79,9 @@ impl Tally {
 
     // Counts the entries of a slice.
     fn add_all(&mut self, entries: &[SliceEntry]) -> Result<(), NoMemory>
-        requires { (gid : ℕ) → AreAtMost (31 * 2 ^ 58) (at self.old gid) }
-        ensures counts { OnOk result ((gid : ℕ) → at self.new gid ≡ counted_all (at self.old gid) gid entries.now) }
+        requires { IsFew (31 * 2 ^ 58) self.old }
+        ensures groups { OnOk result ((gid : ℕ) → at self.new gid ≡ counted_all (is_access_of gid) (at self.old gid) entries.now) }
+        ensures all { OnOk result (self.new.all ≡ counted_all is_access self.old.all entries.now) }
         ensures few { length entries.now < 2 ^ 58 }
     {
         for entry in entries {
@@ -117,7 +94,7 @@ impl Tally {
     pub fn of_slices(alloc: Global, journals: &Journals, slices: u32) -> Result<Tally, NoMemory>
         requires slices { slices ≡ length journals.now.slices }
         requires few { slices ≤ 32 }
-        ensures { IfOk result (λ t. (gid : ℕ) → at t gid ≡ counted_in journals.now slices gid) }
+        ensures { IfOk result (λ t. IsTallyOf journals.now slices t) }
     {
         let mut tally = Tally::create(alloc);
         for i in 0..slices {

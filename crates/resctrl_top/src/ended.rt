@@ -7,11 +7,11 @@ use run_law::Journals;
 /// How a call ended. The number of each is the program's exit status.
 #[derive(Clone, Copy, Debug, PartialEq, Eq)]
 pub enum Status {
-    /// The script was read to its end and played, and the sink took its report.
+    /// The script was read to its end and played, and the sink took its report and holds none of it back.
     Done,
-    /// The bytes are no script; the sink took the line that says so.
+    /// The bytes are no script; the sink took the line that says so, and holds none of it back.
     Refused,
-    /// The words are no form; the sink took the usage line.
+    /// The words are no form; the sink took the usage line, and holds none of it back.
     Usage,
     /// The source failed; nothing was written.
     ReadFault,

@@ -1,11 +1,14 @@
 //! Reads a source to its end.
-ghost use Rattle.std.specs.Prelude.{◌≡◌, ◌+◌, ◌-◌, ◌<◌, ◌≤◌, ◌^◌, List, ℕ, length, true, IfOk, Option, Err, Ok, vec_len};
+ghost use Rattle.std.specs.Prelude.{◌≡◌, ◌≢◌, ◌+◌, ◌-◌, ◌<◌, ◌≤◌, ◌^◌, List, ℕ, length, true, false, Some, IfOk, Option, Err, Ok, vec_len};
 ghost use Rattle.std.specs.Io.KnownBytes.{Consumes, IsAtEnd};
+ghost use Rattle.resctrl_top.specs.Forms.{input_of as input_in, reads_source};
 ghost use Rattle.resctrl_top.specs.Outside.{HasRead, IsInput};
 ghost use Rattle.resctrl_top.specs.Built.{is_built as built_script};
 ghost use Rattle.resctrl_top.specs.Meaning.{MeansAs, meaning, played};
 
 use crate::built::is_built;
+use crate::command::Command;
+use crate::form::Form;
 use crate::refusal::Refusal;
 use rc_base::NoMemory;
 use rc_stream::{Failed, Source};
@@ -128,5 +131,22 @@ pub fn read_input<S: Source>(alloc: Global, source: &mut S) -> Result<Script, In
         Ok(bytes) => script_in(alloc, &bytes),
         Err(ReadError::Failed) => Err(InputError::Failed),
         Err(ReadError::NoMemory) => Err(InputError::NoMemory),
+    }
+}
+
+/// The script that a form plays.
+pub(crate) fn input_of<S: Source>(
+    alloc: Global,
+    form: Form,
+    source: &mut S,
+) -> Result<Script, InputError>
+    requires { S.faults source.old < 2 ^ 64 - 1 }
+    ensures read { HasRead (input_in form (S.left source.old)) (S.faults source.old) (S.faults source.new) result }
+    ensures built { IfOk result (λ script. built_script script ≡ true) }
+    ensures failed { result ≡ Err InputError.Failed → reads_source (Some form) ≡ true }
+    ensures unread { reads_source (Some form) ≡ false → source.new ≡ source.old }
+{
+    match form.command {
+        Command::Step => read_input(alloc, source),
     }
 }

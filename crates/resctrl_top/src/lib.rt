@@ -2,7 +2,9 @@
 #![tactic(auto)]
 
 pub mod built;
+pub mod command;
 pub mod ended;
+pub mod form;
 pub mod input;
 mod output;
 pub mod refusal;
@@ -10,11 +12,15 @@ pub mod top;
 pub mod words;
 
 pub use built::is_built;
+pub use command::Command;
 pub use ended::{Ended, Status};
+pub use form::Form;
 pub use input::read_input;
 pub use refusal::Refusal;
 pub use top::top_step;
-pub use words::{USAGE, is_form};
+pub use words::{USAGE, form_of};
 
+#[cfg(test)]
+mod journal_tests;
 #[cfg(test)]
 mod tests;

@@ -1,7 +1,6 @@
 //! Writes bytes to a sink.
 ghost use Rattle.std.specs.Prelude.{◌≡◌, ◌-◌, ◌<◌, ◌^◌, OnOk, OnErr};
-ghost use Rattle.std.specs.Io.KnownBytes.{Appends};
-ghost use Rattle.resctrl_top.specs.Outside.{AppendsSome};
+ghost use Rattle.resctrl_top.specs.Outside.{TakesAll, TakesSome, writing_of};
 
 use rc_stream::{Failed, Sink};
 
@@ -11,8 +10,8 @@ const PIECE: usize = 65_536;
 /// Writes all bytes, and hands them on.
 pub(crate) fn write_all<K: Sink>(sink: &mut K, bytes: &[u8]) -> Result<(), Failed>
     requires { K.faults sink.old < 2 ^ 64 - 1 }
-    ensures ok { OnOk result (Appends (K.taken sink.old) (K.taken sink.new) bytes.now × (K.faults sink.new ≡ K.faults sink.old)) }
-    ensures err { OnErr result (AppendsSome (K.taken sink.old) (K.taken sink.new) bytes.now × (K.faults sink.old < K.faults sink.new)) }
+    ensures ok { OnOk result (TakesAll (writing_of K.taken K.held K.faults sink.old sink.new) bytes.now) }
+    ensures err { OnErr result (TakesSome (writing_of K.taken K.held K.faults sink.old sink.new) bytes.now) }
 {
     let mut at = 0;
     while at < bytes.len() {

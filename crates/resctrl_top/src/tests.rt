@@ -1,8 +1,9 @@
 //! Scripts with their reports, bad input, and streams that fail. The reports were worked out by hand.
 ghost use Rattle.std.specs.Prelude.{◌<◌};
 
-use crate::{Status, USAGE, top_step};
+use crate::{Command, Form, Status, USAGE, form_of, top_step};
 use rc_stream::{MemSink, MemSource};
+use run_law::Flags;
 use std::alloc::{AllocError, Global};
 use std::test::Fail;
 
@@ -264,6 +265,24 @@ fn failing_streams_end_the_call(rt: HostRuntime) -> Result<(), Fail> {
     Ok(())
 }
 
+#[test]
+fn a_report_is_handed_on(rt: HostRuntime) -> Result<(), Fail> {
+    let alloc = rt.alloc();
+    let words = step(alloc)?;
+    let mut source = MemSource::create(alloc, FOUR_ACCESSES, 8, &[])?;
+    let mut sink = MemSink::create(alloc, 4096, 4096, &[])?;
+    let ended = top_step(alloc, &words, &mut source, &mut sink);
+    assert_eq!(rt; ended.status, Status::Done);
+    assert_eq!(rt; sink.is_held(), false);
+    let mut source = MemSource::create(alloc, FOUR_ACCESSES, 8, &[])?;
+    let mut sink = MemSink::create(alloc, 4096, 4096, &[2])?;
+    let ended = top_step(alloc, &words, &mut source, &mut sink);
+    assert_eq!(rt; ended.status, Status::WriteFault);
+    assert_eq!(rt; sink.taken(), THEIR_REPORT);
+    assert_eq!(rt; sink.is_held(), true);
+    Ok(())
+}
+
 // The status of other words, and what they write.
 fn told_words(alloc: Global, words: &[String]) -> Result<(Status, Vec<u8>), Fail> {
     let mut source = MemSource::create(alloc, FOUR_ACCESSES, 8, &[1])?;
@@ -276,6 +295,11 @@ fn told_words(alloc: Global, words: &[String]) -> Result<(Status, Vec<u8>), Fail
 #[test]
 fn other_words_get_the_usage_line(rt: HostRuntime) -> Result<(), Fail> {
     let alloc = rt.alloc();
+    let plain = Form {
+        command: Command::Step,
+        flags: Flags::NONE,
+    };
+    assert_eq!(rt; form_of(&step(alloc)?), Some(plain));
     let none = Vec::new(alloc);
     let other = vec![in alloc; String::from_str(alloc, "stop")?]?;
     let more = vec![in alloc;
@@ -284,6 +308,7 @@ fn other_words_get_the_usage_line(rt: HostRuntime) -> Result<(), Fail> {
     ]?;
     let rows: [&[String]; 3] = [&none, &other, &more];
     for words in rows {
+        assert_eq!(rt; form_of(words), None);
         let (status, taken) = told_words(alloc, words)?;
         assert_eq!(rt; status, Status::Usage);
         assert_eq!(rt; taken.as_slice(), USAGE.as_bytes());

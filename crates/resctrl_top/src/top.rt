@@ -1,32 +1,32 @@
 //! The top call.
 ghost use Rattle.std.specs.Prelude.{◌≡◌, ◌-◌, ◌<◌, ◌^◌, ◌⊎◌, false, true, IfOk};
 ghost use Rattle.resctrl_top.specs.Endings.{Ends, IsComplete, Reports, Says, SaysNothing, call_of};
-ghost use Rattle.resctrl_top.specs.Forms.{is_form as is_a_form};
+ghost use Rattle.resctrl_top.specs.Forms.{form_of as form_in, reads_source};
 ghost use Rattle.resctrl_top.specs.Built.{is_built as built_script};
 ghost use Rattle.resctrl_top.specs.Meaning.{refusal_line};
-ghost use Rattle.report_text.specs.Reporting.{report_of};
-ghost use Rattle.run_law.specs.Caches.{AreLeft};
+ghost use Rattle.resctrl_top.specs.Outside.{reading_of, writing_of};
 ghost use Rattle.run_law.specs.Ops.{EachCommand};
 ghost use Rattle.run_law.specs.Runs.{IsRun};
 ghost use Rattle.tree_core.specs.Built.{IsBuilt};
 
 use crate::ended::{Ended, Status, with_journals, without_journals};
-use crate::input::{InputError, read_input};
+use crate::form::Form;
+use crate::input::{InputError, input_of};
 use crate::output::write_all;
 use crate::refusal::Refusal;
-use crate::words::{is_form, usage};
+use crate::words::{form_of, usage};
 use num_text::push_dec;
 use rc_base::{NoMemory, TextBuf};
 use rc_stream::{Failed, Sink, Source};
-use run_law::Journals;
+use run_law::{Flags, Journals};
 use script_ops::Script;
 use std::alloc::Global;
-use step_world::{Played, play};
+use step_world::play;
 
 // Writes a line, and ends without journals.
 fn say<K: Sink>(sink: &mut K, line: &[u8], status: Status) -> Ended
     requires { K.faults sink.old < 2 ^ 64 - 1 }
-    ensures { Says status line.now (K.taken sink.old) (K.taken sink.new) (K.faults sink.old) (K.faults sink.new) result.status result.journals }
+    ensures { Says status None line.now (writing_of K.taken K.held K.faults sink.old sink.new) result.status result.journals }
 {
     match write_all(sink, line) {
         Ok(()) => without_journals(status),
@@ -50,7 +50,7 @@ fn refusal_of(alloc: Global, refusal: Refusal) -> Result<TextBuf, NoMemory>
 // Writes the line of a refusal.
 fn refuse<K: Sink>(alloc: Global, refusal: Refusal, sink: &mut K) -> Ended
     requires { K.faults sink.old < 2 ^ 64 - 1 }
-    ensures { Says Status.Refused (refusal_line refusal) (K.taken sink.old) (K.taken sink.new) (K.faults sink.old) (K.faults sink.new) result.status result.journals ⊎ SaysNothing (K.taken sink.old) (K.taken sink.new) (K.faults sink.old) (K.faults sink.new) result.status result.journals }
+    ensures { Says Status.Refused None (refusal_line refusal) (writing_of K.taken K.held K.faults sink.old sink.new) result.status result.journals ⊎ SaysNothing (writing_of K.taken K.held K.faults sink.old sink.new) result.status result.journals }
 {
     match refusal_of(alloc, refusal) {
         Ok(line) => say(sink, line.bytes(), Status::Refused),
@@ -59,11 +59,9 @@ fn refuse<K: Sink>(alloc: Global, refusal: Refusal, sink: &mut K) -> Ended
 }
 
 // Writes a report, and ends with the journals.
-fn hand_over<K: Sink>(sink: &mut K, text: &[u8], script: &Script, journals: Journals) -> Ended
-    requires faults { K.faults sink.old < 2 ^ 64 - 1 }
-    requires run { IsRun script.now journals }
-    requires report { text.now ≡ report_of script.now journals }
-    ensures { Reports script.now (K.taken sink.old) (K.taken sink.new) (K.faults sink.old) (K.faults sink.new) result.status result.journals }
+fn hand_over<K: Sink>(sink: &mut K, text: &[u8], journals: Journals) -> Ended
+    requires { K.faults sink.old < 2 ^ 64 - 1 }
+    ensures { Says Status.Done (Some journals) text.now (writing_of K.taken K.held K.faults sink.old sink.new) result.status result.journals }
 {
     match write_all(sink, text) {
         Ok(()) => with_journals(Status::Done, journals),
@@ -72,34 +70,53 @@ fn hand_over<K: Sink>(sink: &mut K, text: &[u8], script: &Script, journals: Jour
 }
 
 // Writes the report of what was played.
-fn tell<K: Sink>(alloc: Global, script: &Script, played: Played, sink: &mut K) -> Ended
+fn tell<K: Sink>(
+    alloc: Global,
+    script: &Script,
+    flags: Flags,
+    journals: Journals,
+    sink: &mut K,
+) -> Ended
     requires faults { K.faults sink.old < 2 ^ 64 - 1 }
     requires built { EachCommand IsBuilt script.now }
-    requires run { IsRun script.now played.journals }
-    requires caches { AreLeft script.now played.journals played.caches.items }
-    ensures { Reports script.now (K.taken sink.old) (K.taken sink.new) (K.faults sink.old) (K.faults sink.new) result.status result.journals ⊎ SaysNothing (K.taken sink.old) (K.taken sink.new) (K.faults sink.old) (K.faults sink.new) result.status result.journals }
+    requires run { IsRun script.now journals }
+    ensures { Reports script.now flags (writing_of K.taken K.held K.faults sink.old sink.new) result.status result.journals ⊎ SaysNothing (writing_of K.taken K.held K.faults sink.old sink.new) result.status result.journals }
 {
-    let Played { journals, caches } = played;
-    match report_text::text(alloc, script, &journals, &caches) {
-        Ok(text) => hand_over(sink, &text, script, journals),
+    match report_text::text(alloc, script, &journals, flags, &[]) {
+        Ok(text) => hand_over(sink, &text, journals),
         Err(NoMemory) => without_journals(Status::NoMemory),
     }
 }
 
 // Plays a script and writes its report.
-fn perform<K: Sink>(alloc: Global, script: &Script, sink: &mut K) -> Ended
-    requires built { built_script script.now ≡ true }
+fn perform<K: Sink>(alloc: Global, script: &Script, flags: Flags, sink: &mut K) -> Ended
     requires faults { K.faults sink.old < 2 ^ 64 - 1 }
-    ensures { Reports script.now (K.taken sink.old) (K.taken sink.new) (K.faults sink.old) (K.faults sink.new) result.status result.journals ⊎ SaysNothing (K.taken sink.old) (K.taken sink.new) (K.faults sink.old) (K.faults sink.new) result.status result.journals }
+    requires built { built_script script.now ≡ true }
+    ensures { Reports script.now flags (writing_of K.taken K.held K.faults sink.old sink.new) result.status result.journals ⊎ SaysNothing (writing_of K.taken K.held K.faults sink.old sink.new) result.status result.journals }
 {
     match play(alloc, script) {
-        Ok(played) => tell(alloc, script, played, sink),
+        Ok(journals) => tell(alloc, script, flags, journals, sink),
         Err(NoMemory) => without_journals(Status::NoMemory),
     }
 }
 
-/// Reads a script from the source, plays it and writes its report to the sink. The words are those after the program's
-/// name; where they are no form, the sink gets the usage line and the source is not called.
+// Plays what a form asks for.
+fn obey<S: Source, K: Sink>(alloc: Global, form: Form, source: &mut S, sink: &mut K) -> Ended
+    requires source { S.faults source.old < 2 ^ 64 - 1 }
+    requires sink { K.faults sink.old < 2 ^ 64 - 1 }
+    ensures ends { Ends (call_of (Some form) (reading_of S.left S.faults source.old source.new) (writing_of K.taken K.held K.faults sink.old sink.new)) result.status result.journals }
+    ensures unread { reads_source (Some form) ≡ false → source.new ≡ source.old }
+{
+    match input_of(alloc, form, source) {
+        Ok(script) => perform(alloc, &script, form.flags, sink),
+        Err(InputError::Bad(refusal)) => refuse(alloc, refusal, sink),
+        Err(InputError::Failed) => without_journals(Status::ReadFault),
+        Err(InputError::NoMemory) => without_journals(Status::NoMemory),
+    }
+}
+
+/// Reads a script from the source, plays it, writes its report to the sink and flushes it. The words are those after the
+/// program's name; where they are no form, the sink gets the usage line and the source is not called.
 ///
 /// What the answer says of the call is told by its status, which comes as `Ends` and `IsComplete` say: `Done` with the
 /// journals of the run, `Refused` with the first bad line, `ReadFault` and `WriteFault` only where the source or the sink
@@ -112,17 +129,12 @@ pub fn top_step<S: Source, K: Sink>(
 ) -> Ended
     requires source { S.faults source.old < 2 ^ 64 - 1 }
     requires sink { K.faults sink.old < 2 ^ 64 - 1 }
-    ensures ends { Ends (call_of (is_a_form words.now) (S.left source.old) (S.faults source.old) (S.faults source.new) (K.taken sink.old) (K.taken sink.new) (K.faults sink.old) (K.faults sink.new)) result.status result.journals }
-    ensures complete { IsComplete (call_of (is_a_form words.now) (S.left source.old) (S.faults source.old) (S.faults source.new) (K.taken sink.old) (K.taken sink.new) (K.faults sink.old) (K.faults sink.new)) result.status }
-    ensures unread { is_a_form words.now ≡ false → source.new ≡ source.old }
+    ensures ends { Ends (call_of (form_in words.now) (reading_of S.left S.faults source.old source.new) (writing_of K.taken K.held K.faults sink.old sink.new)) result.status result.journals }
+    ensures complete { IsComplete (call_of (form_in words.now) (reading_of S.left S.faults source.old source.new) (writing_of K.taken K.held K.faults sink.old sink.new)) result.status }
+    ensures unread { reads_source (form_in words.now) ≡ false → source.new ≡ source.old }
 {
-    if !is_form(words) {
-        return say(sink, usage(), Status::Usage);
-    }
-    match read_input(alloc, source) {
-        Ok(script) => perform(alloc, &script, sink),
-        Err(InputError::Bad(refusal)) => refuse(alloc, refusal, sink),
-        Err(InputError::Failed) => without_journals(Status::ReadFault),
-        Err(InputError::NoMemory) => without_journals(Status::NoMemory),
+    match form_of(words) {
+        Some(form) => obey(alloc, form, source, sink),
+        None => say(sink, usage(), Status::Usage),
     }
 }

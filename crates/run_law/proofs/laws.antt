@@ -4,3 +4,4 @@ pub mod Pairs
 pub mod Positions
 pub mod Tasks
 pub mod TreeHistory
+pub mod Truth

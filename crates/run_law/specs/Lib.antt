@@ -1,4 +1,3 @@
-pub mod Caches
 pub mod Entries
 pub mod Journals
 pub mod Looks

@@ -1,12 +1,15 @@
 -- Which entries of slices are true to their ops.
-use Rattle.std.specs.Prelude.{◌≡◌, ℕ, ◌<◌, ◌≤◌, Bool, ◌==◌, ◌&&◌, IsTrue, List, length, Contains, Option, Some, None}
+use Rattle.std.specs.Prelude.{◌≡◌, ℕ, ◌<◌, ◌≤◌, Bool, true, false, ◌==◌, ◌&&◌, IsTrue, List, length, Contains, Some}
 use Rattle.cache_core.specs.declared.entry.SliceEntry.{SliceEntry}
+use Rattle.cache_core.specs.declared.entry.What.{What}
+use Rattle.cache_core.specs.declared.entry.What.TheVariants as whats
 use Rattle.run_law.specs.Journals.{At, JournalsValue, slice_at}
 use Rattle.run_law.specs.Ops.{ByKind}
 use Rattle.run_law.specs.Owed.{owed_by_access, owed_by_command, paid_by}
 use Rattle.run_law.specs.TreeHistory.{TreeEntryValue}
 use Rattle.script_ops.specs.Values.{ScriptValue, op_at}
 use Rattle.script_ops.specs.declared.op.Op.{Op}
+use Rattle.script_ops.specs.declared.op.Op.TheVariants.{Access}
 
 -- an entry of a slice is of this op
 abbrev pub is_made_by : ℕ → ℕ → SliceEntry → Bool
@@ -25,18 +28,29 @@ pub record IsOwed (script : ScriptValue) (tree : List TreeEntryValue) (i : ℕ) 
   pub same_op : command.op ≡ e.op
   pub owed : Contains (owed_by_command script tree i position op) (paid_by e)
 
--- An entry of slice i is true to its op.
-abbrev pub IsTrueTo : ScriptValue → List TreeEntryValue → ℕ → SliceEntry → Option Op → Type 0
-IsTrueTo script tree i e None = ⊥
-IsTrueTo script tree i e (Some op) =
-    ByKind
-    (λ task cpu addr. (e.epoch ≤ length tree) × (paid_by e ≡ owed_by_access script tree e.epoch task cpu addr))
-    (IsOwed script tree i e op)
-    op
+-- whether an entry with this content, of this op, is the Access of an access
+abbrev pub is_of_access : Op → What → Bool
+is_of_access (Access task cpu addr) (whats.Access owner rmid mask line hit way) = true
+is_of_access op what = false
 
--- Every entry is true to its op, and an entry of an epoch stands after all entries of other commands before that epoch.
+-- The Access of an access has an epoch that the tree had, and the line of its address with the owner, the RMID and the mask
+-- that the tree of that epoch gives to its task and CPU.
+abbrev pub IsTrueAccess : ScriptValue → List TreeEntryValue → SliceEntry → Op → Type 0
+IsTrueAccess script tree e op = ByKind (λ task cpu addr. (e.epoch ≤ length tree) × (paid_by e ≡ owed_by_access script tree e.epoch task cpu addr)) ⊥ op
+
+-- Any other entry is of a command, and one of those that it owes.
+abbrev pub IsTrueCommand : ScriptValue → List TreeEntryValue → ℕ → SliceEntry → Op → Type 0
+IsTrueCommand script tree i e op = ByKind (λ task cpu addr. ⊥) (IsOwed script tree i e op) op
+
+-- The entries are true to their ops, and an entry of an epoch stands after all entries of other commands before that epoch.
+-- An entry that is of no op of the script is none of these.
 pub record AreTrue (script : ScriptValue) (j : JournalsValue) : Type 0 where
-  pub true_to_op : (i p : ℕ) (e : SliceEntry) → At (slice_at j i) p e → IsTrueTo script j.tree i e (op_at script e.thread e.op)
+  pub accesses :
+      (i p : ℕ) (e : SliceEntry) (op : Op) → At (slice_at j i) p e → op_at script e.thread e.op ≡ Some op → is_of_access op e.what ≡ true
+      → IsTrueAccess script j.tree e op
+  pub others :
+      (i p : ℕ) (e : SliceEntry) (op : Op) → At (slice_at j i) p e → op_at script e.thread e.op ≡ Some op → is_of_access op e.what ≡ false
+      → IsTrueCommand script j.tree i e op
   pub after_commands :
       (i p q k : ℕ) (e earlier : SliceEntry) (command : TreeEntryValue)
       → At (slice_at j i) p e → At (slice_at j i) q earlier → At j.tree k command

@@ -1,6 +1,6 @@
 //! What happened in a run: the commands that the tree took, and the entries of each slice.
 ghost use Rattle.std.specs.Prelude.{◌≡◌, ◌<◌, length, map};
-ghost use Rattle.run_law.specs.Entries.{entry_value};
+ghost use Rattle.run_law.specs.Entries.{entries_of, entry_value};
 ghost use Rattle.run_law.specs.Journals.{slice_at};
 
 use cache_core::SliceEntry;
@@ -20,61 +20,38 @@ pub struct TreeEntry {
     pub looks: LookList,
 }
 
-/// The entries of a slice, in order. Contracts see the list.
-#[derive(Drop)]
-pub struct SliceJournal {
-    entries: Vec<SliceEntry>,
-}
-
-impl Model for SliceJournal {
-    ghost use Rattle.std.specs.Prelude.{List};
-    ghost use Rattle.cache_core.specs.declared.entry.SliceEntry.{SliceEntry};
-
-    ghost Value = { List SliceEntry };
-
-    ghost view = { λ j. j.entries.items };
-}
-
-impl SliceJournal {
-    /// The journal of these entries. It takes no memory.
-    pub fn of(entries: Vec<SliceEntry>) -> SliceJournal
-        ensures { result ≡ entries.items }
-    {
-        SliceJournal { entries }
-    }
-
-    /// The entries.
-    pub fn entries(&self) -> &[SliceEntry]
-        ensures { result.now ≡ self.now }
-    {
-        self.entries.as_slice()
-    }
-}
-
 /// The journals of a run. Contracts see the tree's history, and by `domain * slices + slice` that of each slice.
 #[derive(Drop)]
 pub struct Journals {
     tree: Vec<TreeEntry>,
-    slices: Vec<SliceJournal>,
+    slices: Vec<Vec<SliceEntry>>,
 }
 
 impl Model for Journals {
     ghost use Rattle.std.specs.Prelude.{map};
-    ghost use Rattle.run_law.specs.Entries.{entry_value};
+    ghost use Rattle.run_law.specs.Entries.{entries_of, entry_value};
     ghost use Rattle.run_law.specs.Journals.{JournalsValue};
 
     ghost Value = { JournalsValue };
 
-    ghost view = { λ j. record { tree = map entry_value j.tree.items; slices = j.slices.items } };
+    ghost view = { λ j. record { tree = map entry_value j.tree.items; slices = map entries_of j.slices.items } };
 }
 
 impl Journals {
     /// The journals of these lists. It takes no memory.
-    pub fn of(tree: Vec<TreeEntry>, slices: Vec<SliceJournal>) -> Journals
+    pub fn of(tree: Vec<TreeEntry>, slices: Vec<Vec<SliceEntry>>) -> Journals
         ensures tree { result.tree ≡ map entry_value tree.items }
-        ensures slices { result.slices ≡ slices.items }
+        ensures slices { result.slices ≡ map entries_of slices.items }
     {
         Journals { tree, slices }
+    }
+
+    /// The lists that the journals were made of. It takes no memory.
+    pub fn into_parts(self) -> (Vec<TreeEntry>, Vec<Vec<SliceEntry>>)
+        ensures tree { map entry_value result.0.items ≡ self.tree }
+        ensures slices { map entries_of result.1.items ≡ self.slices }
+    {
+        (self.tree, self.slices)
     }
 
     /// The commands that the tree took, in order.
@@ -89,6 +66,6 @@ impl Journals {
         requires { i < length self.now.slices }
         ensures { result.now ≡ slice_at self.now i }
     {
-        self.slices[i as usize].entries()
+        self.slices[i as usize].as_slice()
     }
 }

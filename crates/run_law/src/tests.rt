@@ -2,7 +2,7 @@
 
 ghost use Rattle.std.specs.Prelude.{◌≡◌, length, IfOk};
 
-use crate::{Journals, SliceJournal, TreeEntry};
+use crate::{Journals, TreeEntry};
 use cache_core::{SliceEntry, What};
 use rc_base::{Gid, LookList, Reply};
 use std::alloc::Global;
@@ -43,8 +43,8 @@ fn journals(alloc: Global) -> Result<Journals, Fail>
         reply: Reply::Ok,
         looks: LookList::with_room(alloc, 0)?,
     };
-    let first = SliceJournal::of(vec![in alloc; miss(8), FLUSH]?);
-    let second = SliceJournal::of(vec![in alloc; FLUSH]?);
+    let first = vec![in alloc; miss(8), FLUSH]?;
+    let second = vec![in alloc; FLUSH]?;
     Ok(Journals::of(vec![in alloc; flush]?, vec![in alloc; first, second]?))
 }
 

@@ -10,14 +10,14 @@ abbrev pub newline : ℕ → Bool
 newline b = b == 10
 
 -- one part in front
-step : (x : List ℕ) (parts : List (List ℕ)) → 0 < length parts → lines_of_parts (x ∷ parts) ≡ strip_carriage_return x ∷ lines_of_parts parts
-step x [] h = absurd (omega arith)
-step x (y ∷ more) h = refl
+lines_of_parts-cons : (x : List ℕ) (parts : List (List ℕ)) → 0 < length parts → lines_of_parts (x ∷ parts) ≡ strip_carriage_return x ∷ lines_of_parts parts
+lines_of_parts-cons x [] h = absurd (omega arith)
+lines_of_parts-cons x (y ∷ more) h = refl
 
 -- a text with a newline
 pub lines-some : (text : List ℕ) → list_any newline text ≡ true → (lines text ≡ strip_carriage_return (before_first newline text) ∷ lines (after_first newline text)) × (length (after_first newline text) < length text)
 lines-some text has =
-    (ap lines_of_parts (slice_split-some newline text has) ∙ step (before_first newline text) (slice_split newline (after_first newline text)) (omega (arith, length-slice_split newline (after_first newline text))), length-after_first newline text has)
+    (ap lines_of_parts (slice_split-some newline text has) ∙ lines_of_parts-cons (before_first newline text) (slice_split newline (after_first newline text)) (omega (arith, length-slice_split newline (after_first newline text))), length-after_first newline text has)
 
 -- a text without one
 lines-one : (text : List ℕ) → list_any newline text ≡ false → 0 < length text → lines text ≡ text ∷ []

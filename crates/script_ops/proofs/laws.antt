@@ -1,1 +1,2 @@
+pub mod ShortOps
 pub mod Weights

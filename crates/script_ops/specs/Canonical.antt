@@ -3,6 +3,7 @@ use Rattle.std.specs.Prelude.{ℕ, ◌==◌, List, [], ◌∷◌, ◌++◌, All,
 use Rattle.std.specs.List.{flat_map}
 use Rattle.path_names.specs.NamesIn.{path_ids, AreKnown}
 use Rattle.path_names.specs.PathTexts.{path_text}
+use Rattle.path_names.specs.ShortNames.{AreShort, component_ids}
 use Rattle.script_ops.specs.declared.op.Op.{Op}
 use Rattle.script_ops.specs.declared.op.Op.TheVariants as ops
 
@@ -39,6 +40,26 @@ op_ids (ops.Flush domain) = []
 op_ids ops.Tick = []
 op_ids (ops.Access task cpu addr) = []
 op_ids (ops.Touch path offset task cpu) = path_ids path
+
+-- the numbers of the names of components in an op
+abbrev pub op_component_ids : Op → List ℕ
+op_component_ids (ops.Mkdir path) = component_ids path
+op_component_ids (ops.Rmdir path) = component_ids path
+op_component_ids (ops.Write path text) = component_ids path
+op_component_ids (ops.Read path) = component_ids path
+op_component_ids (ops.List path) = component_ids path
+op_component_ids (ops.Flush domain) = []
+op_component_ids ops.Tick = []
+op_component_ids (ops.Access task cpu addr) = []
+op_component_ids (ops.Touch path offset task cpu) = component_ids path
+
+-- an op whose components have short names
+abbrev pub IsShort : List (List ℕ) → Op → Type 0
+IsShort names op = AreShort names (op_component_ids op)
+
+-- ops whose components have short names
+abbrev pub AreAllShort : List (List ℕ) → List Op → Type 0
+AreAllShort names ops = All (IsShort names) ops
 
 -- an op whose names are known
 abbrev pub IsNamed : ℕ → Op → Type 0

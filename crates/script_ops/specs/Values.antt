@@ -6,7 +6,7 @@ use Rattle.machine.specs.Ranges.{InRange}
 use Rattle.machine.specs.declared.parameters.Parameters.{Parameters}
 use Rattle.script_ops.specs.declared.limits.TheConstants.{MOST_PHASES, MOST_PHASE_THREADS, MOST_WEIGHT}
 use Rattle.script_ops.specs.declared.op.Op.{Op}
-use Rattle.script_ops.specs.Canonical.{AreNamed}
+use Rattle.script_ops.specs.Canonical.{AreAllShort, AreNamed}
 use Rattle.script_ops.specs.Fits.{AreFit}
 use Rattle.script_ops.specs.Weights.{weights_of}
 
@@ -56,11 +56,12 @@ pub record AreFew (phases : List PhaseValue) : Type 0 where
   pub few_threads : All (λ p. length p.threads ≤ MOST_PHASE_THREADS) phases
 
 -- What each script keeps to: a machine whose parameters are in range, tasks that rise, few phases of few threads, ops whose
--- names are known and that fit the machine and the tasks, and little weight.
+-- names are known, whose components are short, and that fit the machine and the tasks, and little weight.
 pub record IsLawful (script : ScriptValue) : Type 0 where
   pub in_range : InRange script.machine
   pub rising : IsStrictlyIncreasing script.tasks
   pub few : AreFew script.phases
   pub named : All (AreNamed (length script.names)) (threads_of script)
+  pub short : All (AreAllShort script.names) (threads_of script)
   pub fit : All (AreFit script.machine script.tasks) (threads_of script)
   pub light : total_weight script ≤ MOST_WEIGHT

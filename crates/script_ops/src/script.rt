@@ -2,7 +2,7 @@
 ghost use Rattle.std.specs.Prelude.{◌≡◌, ◌<◌, ◌≤◌, ◌+◌, length, All, IfSome, option_copied};
 ghost use Rattle.machine.specs.Maps.{parameters_of};
 ghost use Rattle.std.specs.List.Sorted.{IsStrictlyIncreasing};
-ghost use Rattle.script_ops.specs.Canonical.{IsNamed, AreNamed};
+ghost use Rattle.script_ops.specs.Canonical.{IsNamed, AreNamed, IsShort, AreAllShort};
 ghost use Rattle.script_ops.specs.Fits.{Fits, AreFit};
 ghost use Rattle.script_ops.specs.declared.limits.TheConstants.{MOST_PHASES, MOST_PHASE_THREADS, MOST_THREADS, MOST_WEIGHT};
 ghost use Rattle.script_ops.specs.Values.{threads_of, ops_of, op_at, phase_at, first_thread, IsLawful};
@@ -88,7 +88,7 @@ impl Script {
     }
 
     /// The number of the first thread of a phase, which is how many threads stand before it.
-    #[tactic(auto, using(crate::proofs::Threads::within))]
+    #[tactic(auto, using(crate::proofs::Threads::counting))]
     pub fn first_thread(&self, phase: u32) -> u32
         requires { phase < length self.now.phases }
         ensures first { result ≡ first_thread self.now phase }
@@ -122,6 +122,7 @@ impl Script {
     fn ops_of(&self, thread: u32) -> &[Op]
         ensures ops { result.now ≡ ops_of self.now thread }
         ensures named { AreNamed (length self.now.names) result.now }
+        ensures short { AreAllShort self.now.names result.now }
         ensures fit { AreFit self.now.machine self.now.tasks result.now }
         ensures few { length result.now ≤ MOST_WEIGHT }
     {
@@ -133,6 +134,7 @@ impl Script {
         requires { thread < length (threads_of self.now) }
         ensures ops { result.now ≡ ops_of self.now thread }
         ensures named { AreNamed (length self.now.names) result.now }
+        ensures short { AreAllShort self.now.names result.now }
         ensures fit { All (Fits self.now.machine self.now.tasks) result.now }
         ensures few { length result.now ≤ MOST_WEIGHT }
     {
@@ -143,6 +145,7 @@ impl Script {
     pub fn op(&self, thread: u32, op: u32) -> Option<&Op>
         ensures op { option_copied result ≡ op_at self.now thread op }
         ensures named { IfSome result (λ o. IsNamed (length self.now.names) o.now) }
+        ensures short { IfSome result (λ o. IsShort self.now.names o.now) }
         ensures fit { IfSome result (λ o. Fits self.now.machine self.now.tasks o.now) }
     {
         self.ops_of(thread).get(op as usize)

@@ -1,8 +1,12 @@
 pub mod EscapedBytes
 pub mod FaultOrder
 pub mod FirstWord
+pub mod FitOps
+pub mod Guards
 pub mod Limits
 pub mod NextLine
+pub mod PathNames
+pub mod Places
 pub mod Readiness
 pub mod TaskRanges
 pub mod TaskSearch

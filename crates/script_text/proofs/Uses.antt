@@ -1,10 +1,11 @@
 -- What the arguments of a line keep to.
-use Rattle.std.proofs.Common.{◌≡◌, ℕ, ◌+◌, ◌-◌, ◌*◌, ◌^◌, ◌<◌, ◌≤◌, Bool, true, false, cond, ◌&&◌, ◌||◌, eqb, ltb, leb, List, [], ◌∷◌, get_or, All, Contains, Option, Some, None, IfSome, option_and_then, refl, subst, ◌∙◌, arith, ltb-true, leb-true, leb-false, mul-le-mul_right, le_refl}
+use Rattle.std.proofs.Common.{◌≡◌, ℕ, ◌+◌, ◌-◌, ◌*◌, ◌^◌, ◌<◌, ◌≤◌, Bool, true, false, cond, ◌&&◌, ◌||◌, eqb, ltb, leb, List, [], ◌∷◌, get_or, All, Contains, Option, Some, None, IfSome, option_and_then, refl, subst, ◌∙◌, arith, leb-true, leb-false, mul-le-mul_right, le_refl}
 use Rattle.std.specs.List.{range_with_len, list_any}
 use Rattle.std.proofs.lemmas.Bool.{and_parts, or_parts}
-use Rattle.std.proofs.lemmas.List.Elements.{All-map, Contains-append_left, Contains-append_right}
+use Rattle.std.proofs.lemmas.List.Elements.{All-nil, All-map, Contains-append_left, Contains-append_right}
 use Rattle.std.proofs.lemmas.List.FromFn.{get_or-range_with_len, length-range_with_len, length-map-range_with_len}
 use Rattle.std.proofs.lemmas.List.Sums.{sum_by-le}
+use Rattle.num_text.proofs.laws.Limits.{below-lt}
 use Rattle.num_text.specs.Numbers.{dec_of, num_of, below, capped}
 use Rattle.machine.specs.declared.parameters.Parameters.{Parameters}
 use Rattle.script_text.specs.declared.arguments.Use.{Use}
@@ -12,6 +13,8 @@ use Rattle.script_text.specs.declared.arguments.Sweep.{Sweep}
 use Rattle.script_ops.specs.declared.op.Op.TheVariants as ops
 use Rattle.script_text.specs.declared.tasks.TaskRange.{TaskRange}
 use Rattle.script_text.specs.Arguments.{cpu_of, addr_of, use_of, access_of, flush_of, sweep_of, touch_of}
+use Rattle.path_names.specs.ShortNames.{IsShortName}
+use Rattle.script_ops.specs.Canonical.{AreAllShort, IsShort}
 use Rattle.script_ops.specs.Fits.{Fits, AreFit}
 use Rattle.script_text.specs.Meaning.{access_at, sweep_ops}
 use Rattle.script_text.specs.Tasks.{has_task, task_of, size_of, ids_in, ids_of}
@@ -20,25 +23,14 @@ use Rattle.script_ops.specs.Weights.{weight_of, weights_of}
 -- ---- values that may be missing
 
 module _ {B : Type 0} (P : B → Type 0) where
-  then_some : {A : Type 0} (f : A → Option B) (o : Option A) → ((x : A) → o ≡ Some x → IfSome (f x) P) → IfSome (option_and_then f o) P
-  then_some f None h = tt
-  then_some f (Some x) h = h x refl
+  -- what follows a value keeps to it
+  IfSome-and_then : {A : Type 0} (f : A → Option B) (o : Option A) → ((x : A) → o ≡ Some x → IfSome (f x) P) → IfSome (option_and_then f o) P
+  IfSome-and_then f None h = tt
+  IfSome-and_then f (Some x) h = h x refl
 
-  the_some : (o : Option B) (x : B) → o ≡ Some x → IfSome o P → P x
-  the_some o x e h = subst (λ (o : Option B). IfSome o P) e h
-
--- what is below a limit
-below_some : (limit : ℕ) (o : Option ℕ) → IfSome (below limit o) (λ n. n < limit)
-below_some limit None = tt
-below_some limit (Some n) = at (ltb n limit) refl
-  where
-    at : (b : Bool) → ltb n limit ≡ b → IfSome (cond b (Some n) None) (λ k. k < limit)
-    at true e = ltb-true _ _ e
-    at false e = tt
-
--- the same of a value
-below_is : (limit : ℕ) (o : Option ℕ) (n : ℕ) → below limit o ≡ Some n → n < limit
-below_is limit o n e = the_some (λ k. k < limit) (below limit o) n e (below_some limit o)
+  -- a value that is there keeps to it
+  IfSome-some : (o : Option B) (x : B) → o ≡ Some x → IfSome o P → P x
+  IfSome-some o x e h = subst (λ (o : Option B). IfSome o P) e h
 
 -- ---- a task on a CPU
 
@@ -46,51 +38,52 @@ abbrev Used : Parameters → ℕ → Use → Type 0
 Used m limit u = (u.cpu < m.cpus) × (u.at < limit)
 
 -- a use is of a CPU of the machine, and below the limit of its place
-use_used : (m : Parameters) (task cpu : List ℕ) (limit : ℕ) (place : Option ℕ) → IfSome (use_of m task cpu (below limit place)) (Used m limit)
+IfSome-use_of : (m : Parameters) (task cpu : List ℕ) (limit : ℕ) (place : Option ℕ) → IfSome (use_of m task cpu (below limit place)) (Used m limit)
 unfolding use_of
-use_used m task cpu limit place =
-    then_some (Used m limit) _ (capped (dec_of task)) (λ t e.
-    then_some (Used m limit) _ (cpu_of m cpu) (λ c h.
-    then_some (Used m limit) _ (below limit place) (λ at g. (below_is m.cpus (dec_of cpu) c h, below_is limit place at g))))
+IfSome-use_of m task cpu limit place =
+    IfSome-and_then (Used m limit) _ (capped (dec_of task)) (λ t e.
+    IfSome-and_then (Used m limit) _ (cpu_of m cpu) (λ c h.
+    IfSome-and_then (Used m limit) _ (below limit place) (λ at g. (below-lt m.cpus (dec_of cpu) c h, below-lt limit place at g))))
 
 -- an access
-access_used : (m : Parameters) (words : List (List ℕ)) → IfSome (access_of m words) (Used m (2 ^ 48))
-access_used m [] = tt
-access_used m (task ∷ []) = tt
-access_used m (task ∷ cpu ∷ []) = tt
-access_used m (task ∷ cpu ∷ addr ∷ []) = use_used m task cpu (2 ^ 48) (num_of addr)
-access_used m (task ∷ cpu ∷ addr ∷ more ∷ rest) = tt
+IfSome-access_of : (m : Parameters) (words : List (List ℕ)) → IfSome (access_of m words) (Used m (2 ^ 48))
+IfSome-access_of m [] = tt
+IfSome-access_of m (task ∷ []) = tt
+IfSome-access_of m (task ∷ cpu ∷ []) = tt
+IfSome-access_of m (task ∷ cpu ∷ addr ∷ []) = IfSome-use_of m task cpu (2 ^ 48) (num_of addr)
+IfSome-access_of m (task ∷ cpu ∷ addr ∷ more ∷ rest) = tt
 
 -- an access
-pub access_fits : (m : Parameters) (words : List (List ℕ)) (u : Use) → access_of m words ≡ Some u → (u.cpu < m.cpus) × (u.at < 2 ^ 48)
-access_fits m words u e = the_some (Used m (2 ^ 48)) (access_of m words) u e (access_used m words)
+pub access_of-fits : (m : Parameters) (words : List (List ℕ)) (u : Use) → access_of m words ≡ Some u → (u.cpu < m.cpus) × (u.at < 2 ^ 48)
+access_of-fits m words u e = IfSome-some (Used m (2 ^ 48)) (access_of m words) u e (IfSome-access_of m words)
 
 -- a touch
-touch_used : (m : Parameters) (words : List (List ℕ)) → IfSome (touch_of m words) (λ t. t.1.cpu < m.cpus)
+IfSome-touch_of : (m : Parameters) (words : List (List ℕ)) → IfSome (touch_of m words) (λ t. t.1.cpu < m.cpus)
 unfolding touch_of
-touch_used m [] = tt
-touch_used m (path ∷ []) = tt
-touch_used m (path ∷ offset ∷ []) = tt
-touch_used m (path ∷ offset ∷ task ∷ []) = tt
-touch_used m (path ∷ offset ∷ task ∷ cpu ∷ []) =
-    then_some (λ t. t.1.cpu < m.cpus) _ (use_of m task cpu (below (2 ^ 64) (num_of offset))) (λ u e.
-    (the_some (Used m (2 ^ 64)) _ u e (use_used m task cpu (2 ^ 64) (num_of offset))).0)
-touch_used m (path ∷ offset ∷ task ∷ cpu ∷ more ∷ rest) = tt
+IfSome-touch_of m [] = tt
+IfSome-touch_of m (path ∷ []) = tt
+IfSome-touch_of m (path ∷ offset ∷ []) = tt
+IfSome-touch_of m (path ∷ offset ∷ task ∷ []) = tt
+IfSome-touch_of m (path ∷ offset ∷ task ∷ cpu ∷ []) =
+    IfSome-and_then (λ t. t.1.cpu < m.cpus) _ (use_of m task cpu (below (2 ^ 64) (num_of offset))) (λ u e.
+    (IfSome-some (Used m (2 ^ 64)) _ u e (IfSome-use_of m task cpu (2 ^ 64) (num_of offset))).0)
+IfSome-touch_of m (path ∷ offset ∷ task ∷ cpu ∷ more ∷ rest) = tt
 
 -- a touch
-pub touch_fits : (m : Parameters) (words : List (List ℕ)) (t : List ℕ × Use) → touch_of m words ≡ Some t → t.1.cpu < m.cpus
-touch_fits m words t e = the_some (λ t. t.1.cpu < m.cpus) (touch_of m words) t e (touch_used m words)
+pub touch_of-fits : (m : Parameters) (words : List (List ℕ)) (t : List ℕ × Use) → touch_of m words ≡ Some t → t.1.cpu < m.cpus
+touch_of-fits m words t e = IfSome-some (λ t. t.1.cpu < m.cpus) (touch_of m words) t e (IfSome-touch_of m words)
 
 -- ---- a domain
 
-flush_some : (m : Parameters) (tasks : List ℕ) (words : List (List ℕ)) → IfSome (flush_of m words) (λ domain. Fits m tasks (ops.Flush domain))
-flush_some m tasks [] = tt
-flush_some m tasks (word ∷ []) = then_some (λ domain. Fits m tasks (ops.Flush domain)) _ (below m.domains (dec_of word)) (λ d e. below_is m.domains (dec_of word) d e)
-flush_some m tasks (word ∷ more ∷ rest) = tt
+-- a flush
+IfSome-flush_of : (m : Parameters) (tasks : List ℕ) (words : List (List ℕ)) → IfSome (flush_of m words) (λ domain. Fits m tasks (ops.Flush domain))
+IfSome-flush_of m tasks [] = tt
+IfSome-flush_of m tasks (word ∷ []) = IfSome-and_then (λ domain. Fits m tasks (ops.Flush domain)) _ (below m.domains (dec_of word)) (λ d e. below-lt m.domains (dec_of word) d e)
+IfSome-flush_of m tasks (word ∷ more ∷ rest) = tt
 
 -- a flush
-pub flush_fits : (m : Parameters) (tasks : List ℕ) (words : List (List ℕ)) (domain : Option ℕ) → flush_of m words ≡ Some domain → Fits m tasks (ops.Flush domain)
-flush_fits m tasks words domain e = the_some (λ domain. Fits m tasks (ops.Flush domain)) (flush_of m words) domain e (flush_some m tasks words)
+pub flush_of-fits : (m : Parameters) (tasks : List ℕ) (words : List (List ℕ)) (domain : Option ℕ) → flush_of m words ≡ Some domain → Fits m tasks (ops.Flush domain)
+flush_of-fits m tasks words domain e = IfSome-some (λ domain. Fits m tasks (ops.Flush domain)) (flush_of m words) domain e (IfSome-flush_of m tasks words)
 
 -- ---- a sweep
 
@@ -98,65 +91,69 @@ abbrev Swept : Parameters → Sweep → Type 0
 Swept m w = (w.first.cpu < m.cpus) × (w.first.at + (w.count - 1) * w.stride < 2 ^ 48)
 
 -- a sweep
-sweep_used : (m : Parameters) (words : List (List ℕ)) → IfSome (sweep_of m words) (Swept m)
+IfSome-sweep_of : (m : Parameters) (words : List (List ℕ)) → IfSome (sweep_of m words) (Swept m)
 unfolding sweep_of
-sweep_used m [] = tt
-sweep_used m (task ∷ []) = tt
-sweep_used m (task ∷ cpu ∷ []) = tt
-sweep_used m (task ∷ cpu ∷ addr ∷ []) = tt
-sweep_used m (task ∷ cpu ∷ addr ∷ count ∷ []) = tt
-sweep_used m (task ∷ cpu ∷ addr ∷ count ∷ stride ∷ []) =
-    then_some (Swept m) _ (use_of m task cpu (addr_of addr)) (λ u e.
-    then_some (Swept m) _ (capped (dec_of count)) (λ n h.
-    then_some (Swept m) _ (below (2 ^ 64) (num_of stride)) (λ d g.
-    at u n d (the_some (Used m (2 ^ 48)) _ u e (use_used m task cpu (2 ^ 48) (num_of addr))).0 (eqb n 0 || leb (2 ^ 48) (u.at + (n - 1) * d)) refl)))
+IfSome-sweep_of m [] = tt
+IfSome-sweep_of m (task ∷ []) = tt
+IfSome-sweep_of m (task ∷ cpu ∷ []) = tt
+IfSome-sweep_of m (task ∷ cpu ∷ addr ∷ []) = tt
+IfSome-sweep_of m (task ∷ cpu ∷ addr ∷ count ∷ []) = tt
+IfSome-sweep_of m (task ∷ cpu ∷ addr ∷ count ∷ stride ∷ []) =
+    IfSome-and_then (Swept m) _ (use_of m task cpu (addr_of addr)) (λ u e.
+    IfSome-and_then (Swept m) _ (capped (dec_of count)) (λ n h.
+    IfSome-and_then (Swept m) _ (below (2 ^ 64) (num_of stride)) (λ d g.
+    at u n d (IfSome-some (Used m (2 ^ 48)) _ u e (IfSome-use_of m task cpu (2 ^ 48) (num_of addr))).0 (eqb n 0 || leb (2 ^ 48) (u.at + (n - 1) * d)) refl)))
   where
     at : (u : Use) (n d : ℕ) → u.cpu < m.cpus → (b : Bool) → (eqb n 0 || leb (2 ^ 48) (u.at + (n - 1) * d)) ≡ b → IfSome (cond b None (Some (record { first = u; count = n; stride = d }))) (Swept m)
     at u n d cpu true e = tt
     at u n d cpu false e = (cpu, leb-false _ _ (or_parts (eqb n 0) _ e).1)
-sweep_used m (task ∷ cpu ∷ addr ∷ count ∷ stride ∷ more ∷ rest) = tt
+IfSome-sweep_of m (task ∷ cpu ∷ addr ∷ count ∷ stride ∷ more ∷ rest) = tt
 
 -- the accesses of a sweep
-pub sweep_fits : (m : Parameters) (tasks : List ℕ) (words : List (List ℕ)) (w : Sweep) (task : ℕ) → sweep_of m words ≡ Some w → Contains tasks task → AreFit m tasks (sweep_ops task w)
-sweep_fits m tasks words w task e declared =
-    let swept = the_some (Swept m) (sweep_of m words) w e (sweep_used m words) in
+pub AreFit-sweep_ops : (m : Parameters) (tasks : List ℕ) (words : List (List ℕ)) (w : Sweep) (task : ℕ) → sweep_of m words ≡ Some w → Contains tasks task → AreFit m tasks (sweep_ops task w)
+AreFit-sweep_ops m tasks words w task e declared =
+    let swept = IfSome-some (Swept m) (sweep_of m words) w e (IfSome-sweep_of m words) in
     All-map (Fits m tasks) (access_at task w) (range_with_len 0 w.count) (λ k d h.
     let i : get_or (range_with_len 0 w.count) k d ≡ 0 + k = get_or-range_with_len 0 w.count k d (omega (arith, h, length-range_with_len 0 w.count)) in
     let last : k ≤ w.count - 1 = omega (arith, h, length-range_with_len 0 w.count) in
     rw i (declared, swept.0, omega (arith, swept.1, mul-le-mul_right w.stride last)))
 
 -- each weighs 1
-pub sweep_light : (m : Parameters) (task : ℕ) (w : Sweep) → weights_of m (sweep_ops task w) ≤ w.count
-sweep_light m task w =
+pub weights_of-sweep_ops : (m : Parameters) (task : ℕ) (w : Sweep) → weights_of m (sweep_ops task w) ≤ w.count
+weights_of-sweep_ops m task w =
     let one : All (λ op. weight_of m op ≤ 1) (sweep_ops task w) = All-map (λ op. weight_of m op ≤ 1) (access_at task w) (range_with_len 0 w.count) (λ k d h. le_refl 1) in
     omega (arith, sum_by-le (weight_of m) 1 (sweep_ops task w) one, length-map-range_with_len (access_at task w) 0 w.count)
+
+-- each names nothing
+pub AreAllShort-sweep_ops : (names : List (List ℕ)) (task : ℕ) (w : Sweep) → AreAllShort names (sweep_ops task w)
+AreAllShort-sweep_ops names task w = All-map (IsShort names) (access_at task w) (range_with_len 0 w.count) (λ k d h. All-nil (IsShortName names))
 
 -- ---- a task
 
 -- a task of a range is one of its ids
-in_range : (t : TaskRange) (id : ℕ) → has_task id t ≡ true → Contains (ids_in t) id
-in_range t id h =
+Contains-ids_in : (t : TaskRange) (id : ℕ) → has_task id t ≡ true → Contains (ids_in t) id
+Contains-ids_in t id h =
     let low : t.first ≤ id = leb-true _ _ (and_parts (leb t.first id) (leb id t.last) h).0 in
     let high : id ≤ t.last = leb-true _ _ (and_parts (leb t.first id) (leb id t.last) h).1 in
     (id - t.first, omega (arith, low, high, length-range_with_len t.first (size_of t)), get_or-range_with_len t.first (size_of t) (id - t.first) id (omega (arith, low, high)) ∙ omega (arith, low))
 
 -- a task of ranges is one of their ids
-in_ranges : (all : List TaskRange) (id : ℕ) → list_any (has_task id) all ≡ true → Contains (ids_of all) id
-in_ranges [] id h = absurd cc
-in_ranges (t ∷ ts) id h = at (has_task id t) refl h (in_ranges ts id)
+Contains-ids_of : (all : List TaskRange) (id : ℕ) → list_any (has_task id) all ≡ true → Contains (ids_of all) id
+Contains-ids_of [] id h = absurd cc
+Contains-ids_of (t ∷ ts) id h = at (has_task id t) refl h (Contains-ids_of ts id)
   where
     at : (b : Bool) → has_task id t ≡ b → (b || list_any (has_task id) ts) ≡ true → (list_any (has_task id) ts ≡ true → Contains (ids_of ts) id) → Contains (ids_of (t ∷ ts)) id
-    at true e h rest = Contains-append_left (ids_in t) (ids_of ts) id (in_range t id e)
+    at true e h rest = Contains-append_left (ids_in t) (ids_of ts) id (Contains-ids_in t id e)
     at false e h rest = Contains-append_right (ids_in t) (ids_of ts) id (rest h)
 
 -- a declared task is one of the ids
-task_some : (all : List TaskRange) (id : ℕ) → IfSome (task_of all id) (Contains (ids_of all))
-task_some all id = at (ltb id (2 ^ 32) && list_any (has_task id) all) refl
+IfSome-task_of : (all : List TaskRange) (id : ℕ) → IfSome (task_of all id) (Contains (ids_of all))
+IfSome-task_of all id = at (ltb id (2 ^ 32) && list_any (has_task id) all) refl
   where
     at : (b : Bool) → (ltb id (2 ^ 32) && list_any (has_task id) all) ≡ b → IfSome (cond b (Some id) None) (Contains (ids_of all))
-    at true e = in_ranges all id (and_parts (ltb id (2 ^ 32)) _ e).1
+    at true e = Contains-ids_of all id (and_parts (ltb id (2 ^ 32)) _ e).1
     at false e = tt
 
 -- a task of a line is declared
-pub task_declared : (all : List TaskRange) (id task : ℕ) → task_of all id ≡ Some task → Contains (ids_of all) task
-task_declared all id task e = the_some (Contains (ids_of all)) (task_of all id) task e (task_some all id)
+pub task_of-declared : (all : List TaskRange) (id task : ℕ) → task_of all id ≡ Some task → Contains (ids_of all) task
+task_of-declared all id task e = IfSome-some (Contains (ids_of all)) (task_of all id) task e (IfSome-task_of all id)

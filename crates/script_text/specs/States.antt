@@ -9,7 +9,7 @@ use Rattle.script_text.specs.declared.kind.Place.{Place}
 use Rattle.script_text.specs.declared.kind.Place.TheVariants.{Start, Head, Thread}
 use Rattle.script_text.specs.Tasks.{RiseFrom, ids_of}
 use Rattle.script_ops.specs.Values.{PhaseValue, threads_in}
-use Rattle.script_ops.specs.Canonical.{AreNamed}
+use Rattle.script_ops.specs.Canonical.{AreAllShort, AreNamed}
 use Rattle.script_ops.specs.Fits.{AreFit}
 use Rattle.script_ops.specs.Weights.{weights_of}
 use Rattle.path_names.specs.declared.paths.TheConstants.{MOST_PATH_NAMES}
@@ -81,11 +81,14 @@ is_early place = false
 abbrev pub BeginsBare : ReaderState → Type 0
 BeginsBare s = is_early s.place ≡ true → (s.ops ≡ []) × (s.threads ≡ []) × (s.phases ≡ [])
 
--- The ops so far are of the machine and its tasks, and weigh no more than is counted.
+-- The ops so far are of the machine and its tasks, their components have short names, and they weigh no more than is counted.
 pub record IsFit (s : ReaderState) : Type 0 where
   pub ops : AreFit s.machine (ids_of s.tasks) s.ops
   pub threads : All (AreFit s.machine (ids_of s.tasks)) s.threads
   pub phases : All (AreFit s.machine (ids_of s.tasks)) (threads_in s.phases)
+  pub short_ops : AreAllShort s.names s.ops
+  pub short_threads : All (AreAllShort s.names) s.threads
+  pub short_phases : All (AreAllShort s.names) (threads_in s.phases)
   pub light : sum_by (weights_of s.machine) (threads_in s.phases) + sum_by (weights_of s.machine) s.threads + weights_of s.machine s.ops ≤ s.weight
   pub counted : s.weight ≤ MOST_WEIGHT
 

@@ -21,7 +21,7 @@ fn escaped_byte(text: &[u8]) -> Option<(u8, &[u8])>
 }
 
 // The byte that a text begins with, its escape read, and what stands after it.
-#[tactic(auto, using(crate::proofs::EscapedBytes::plain))]
+#[tactic(auto, using(crate::proofs::EscapedBytes::plain_bytes))]
 fn first_byte(text: &[u8]) -> Option<(u8, &[u8])>
     requires { 0 < length text.now }
     ensures { MatchOption result (unescaped text.now ≡ None) (λ p. (unescaped text.now ≡ option_map (λ bytes. p.0 ∷ bytes) (unescaped p.1.now)) × (length p.1.now < length text.now)) }

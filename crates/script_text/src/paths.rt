@@ -9,7 +9,7 @@ use path_names::{Names, PathFault, PathRef, read_path};
 use script_ops::MOST_PATH_BYTES;
 
 /// What a word names, or None where the word is too long.
-#[tactic(auto, using(crate::proofs::Limits::kept_more))]
+#[tactic(auto, using(crate::proofs::Limits::lengths))]
 pub fn find_path(word: &[u8], domains: u8, names: &mut Names) -> Result<Option<PathRef>, LineError>
     requires domains { domains ≤ 8 }
     requires room { length names.old < 2 ^ 31 }

@@ -37,7 +37,7 @@ pub struct Reader {
 
 impl Reader {
     /// Nothing was read.
-    #[tactic(auto, using(crate::proofs::Readiness::ready_nothing_read))]
+    #[tactic(auto, using(crate::proofs::Readiness::beginning))]
     pub fn create(alloc: Global) -> Result<Reader, NoMemory>
         ensures opening { IfOk result (λ r. state_of r ≡ nothing_read) }
         ensures sound { IfOk result (λ r. IsSound (state_of r)) }

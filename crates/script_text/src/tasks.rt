@@ -89,7 +89,7 @@ fn place(all: &[TaskRange], t: TaskRange) -> usize
 }
 
 /// Adds the tasks of the words of a line.
-#[tactic(auto, unfolding(crate::specs::Tasks::declared_from), using(crate::proofs::TaskRanges::inserted))]
+#[tactic(auto, unfolding(crate::specs::Tasks::declared_from), using(crate::proofs::TaskRanges::insertions))]
 pub fn declare(all: &mut Vec<TaskRange>, text: &[u8]) -> Result<(), LineError>
     requires { RiseFrom 0 all.old.items }
     ensures said { Declares result all.new.items (declared all.old.items (words text.now)) }

@@ -19,7 +19,7 @@ use Rattle.tree_core.specs.Follows.{IsRaiseOrFlush}
 use Rattle.tree_law.specs.Steps.{follow_domain}
 use Rattle.tree_law.specs.declared.follow.Follow.{Follow}
 use Rattle.tree_law.specs.declared.follow.Follow.TheVariants as follows
-use Rattle.step_world.proofs.SliceNumbers.{before_domain, after_domain, no_domain}
+use Rattle.step_world.proofs.SliceNumbers.{domain_in-lt, domain_in-gt, domain_in-past}
 use Rattle.run_law.proofs.laws.Positions.{At-one, At-append}
 
 -- the entries of these follow-ups in slice i
@@ -32,32 +32,32 @@ all_looks_in m j n epoch needs i = flat_map (looks_in m j i n epoch) needs
 
 -- ---- an entry for a domain
 
--- the entry of a slice of the domain
-pub here : (m : Parameters) (i domain : ℕ) (e : SliceEntry) → domain ≡ domain_in m i → in_domain m i domain e ≡ e ∷ []
-here m i domain e same = rw (eq-eqb domain (domain_in m i) same) refl
+-- a slice of the domain has the entry
+pub in_domain-same : (m : Parameters) (i domain : ℕ) (e : SliceEntry) → domain ≡ domain_in m i → in_domain m i domain e ≡ e ∷ []
+in_domain-same m i domain e same = rw (eq-eqb domain (domain_in m i) same) refl
 
--- and none in another slice
-pub away : (m : Parameters) (i domain : ℕ) (e : SliceEntry) → (domain ≡ domain_in m i → ⊥) → in_domain m i domain e ≡ []
-away m i domain e apart = rw (ne_eqb domain (domain_in m i) apart) refl
+-- a slice of another domain has none
+pub in_domain-other : (m : Parameters) (i domain : ℕ) (e : SliceEntry) → (domain ≡ domain_in m i → ⊥) → in_domain m i domain e ≡ []
+in_domain-other m i domain e apart = rw (ne_eqb domain (domain_in m i) apart) refl
 
 -- an entry that a test lets pass is one or none
-one_at_most : (b : Bool) (e : SliceEntry) → length (if b then e ∷ [] else []) ≤ 1
-one_at_most true e = omega arith
-one_at_most false e = omega arith
+length-if : (b : Bool) (e : SliceEntry) → length (if b then e ∷ [] else []) ≤ 1
+length-if true e = omega arith
+length-if false e = omega arith
 
--- what stands there is the entry
-only_one : (b : Bool) (e : SliceEntry) (p : ℕ) (x : SliceEntry) → At (if b then e ∷ [] else []) p x → x ≡ e
-only_one true e p x at = (At-one e p x at).1
-only_one false e p x at = absurd cc
+-- where a test lets an entry pass or not, what stands there is the entry
+At-if : (b : Bool) (e : SliceEntry) (p : ℕ) (x : SliceEntry) → At (if b then e ∷ [] else []) p x → x ≡ e
+At-if true e p x at = (At-one e p x at).1
+At-if false e p x at = absurd cc
 
--- what it pays
-paid_if : (b : Bool) (e : SliceEntry) (o : Owed) → paid_by e ≡ o → map paid_by (if b then e ∷ [] else []) ≡ (if b then o ∷ [] else [])
-paid_if true e o is = ap (λ x. x ∷ []) is
-paid_if false e o is = refl
+-- an entry that a test lets pass pays what it owes, and else nothing is paid
+map-paid_by_if : (b : Bool) (e : SliceEntry) (o : Owed) → paid_by e ≡ o → map paid_by (if b then e ∷ [] else []) ≡ (if b then o ∷ [] else [])
+map-paid_by_if true e o is = ap (λ x. x ∷ []) is
+map-paid_by_if false e o is = refl
 
 -- ---- one follow-up
 
--- its entry leaves nothing undecided
+-- the entry of a follow-up leaves nothing undecided
 undecided-what_of : (f : Follow) → undecided (what_of f) ≡ what_of f
 undecided-what_of (follows.Raise domain) = refl
 undecided-what_of (follows.Flush domain) = refl
@@ -71,88 +71,88 @@ is_entered_in-domain m i (follows.Flush domain) plain = refl
 is_entered_in-domain m i (follows.Lock domain mask first_line) plain = absurd plain
 is_entered_in-domain m i (follows.Touch tag line) plain = absurd plain
 
--- so it has one entry in each slice of its domain
+-- a raise or a flush has one entry in each slice of its domain
 pub entries_in-domain : (m : Parameters) (i n epoch : ℕ) (f : Follow) → IsRaiseOrFlush f → entries_in m i n epoch f ≡ in_domain m i (follow_domain f) (entry 0 n epoch (what_of f))
 entries_in-domain m i n epoch f plain = ap (λ b. if b then entry 0 n epoch (what_of f) ∷ [] else []) (is_entered_in-domain m i f plain)
 
--- its entry pays what is owed for it
-pays_one : (m : Parameters) (i n epoch : ℕ) (f : Follow) → map paid_by (entries_in m i n epoch f) ≡ follow_in m i epoch f
-pays_one m i n epoch f =
+-- the entry of a follow-up pays what is owed for it
+map-entries_in : (m : Parameters) (i n epoch : ℕ) (f : Follow) → map paid_by (entries_in m i n epoch f) ≡ follow_in m i epoch f
+map-entries_in m i n epoch f =
     let owed : What → Owed = λ what. record { epoch = epoch; what = what } in
-    paid_if (is_entered_in m i f) (entry 0 n epoch (what_of f)) (owed (what_of f)) (ap owed (undecided-what_of f))
+    map-paid_by_if (is_entered_in m i f) (entry 0 n epoch (what_of f)) (owed (what_of f)) (ap owed (undecided-what_of f))
 
 -- a look pays what is owed for it
-pays_look : (m : Parameters) (j : JournalsValue) (i n epoch : ℕ) (need : ℕ × ℕ) → map paid_by (looks_in m j i n epoch need) ≡ look_in m i epoch need
-pays_look m j i n epoch need = elim (cases_Bool (need.0 == domain_in m i)) [ inl is ↦ rw is refl | inr apart ↦ rw apart refl ]
+map-looks_in : (m : Parameters) (j : JournalsValue) (i n epoch : ℕ) (need : ℕ × ℕ) → map paid_by (looks_in m j i n epoch need) ≡ look_in m i epoch need
+map-looks_in m j i n epoch need = elim (cases_Bool (need.0 == domain_in m i)) [ inl is ↦ rw is refl | inr apart ↦ rw apart refl ]
 
 -- an entry is of op n and of the epoch
 abbrev pub IsOf : ℕ → ℕ → SliceEntry → Type 0
 IsOf n epoch e = (e.thread ≡ 0) × (e.op ≡ n) × (e.epoch ≡ epoch)
 
--- of the same op and epoch
-is_of : (n epoch : ℕ) (e x : SliceEntry) → IsOf n epoch e → x ≡ e → IsOf n epoch x
-is_of n epoch e x of same = subst (λ y. IsOf n epoch y) (sym same) of
+-- an entry that is the same as one of the op and the epoch is of them too
+IsOf-same : (n epoch : ℕ) (e x : SliceEntry) → IsOf n epoch e → x ≡ e → IsOf n epoch x
+IsOf-same n epoch e x of same = subst (λ y. IsOf n epoch y) (sym same) of
 
 -- ---- all for one command
 
 -- the entries of all of a list pay what is owed for all
-pays_all : {A : Type 0} (g : A → List SliceEntry) (owed : A → List Owed) → ((x : A) → map paid_by (g x) ≡ owed x) → (xs : List A) → map paid_by (flat_map g xs) ≡ flat_map owed xs
-pays_all g owed each [] = refl
-pays_all g owed each (x ∷ xs) =
+map-flat_map : {A : Type 0} (g : A → List SliceEntry) (owed : A → List Owed) → ((x : A) → map paid_by (g x) ≡ owed x) → (xs : List A) → map paid_by (flat_map g xs) ≡ flat_map owed xs
+map-flat_map g owed each [] = refl
+map-flat_map g owed each (x ∷ xs) =
     map-append paid_by (g x) (flat_map g xs)
     ∙ (ap (λ rest. rest ++ map paid_by (flat_map g xs)) (each x)
-    ∙ ap (λ rest. owed x ++ rest) (pays_all g owed each xs))
+    ∙ ap (λ rest. owed x ++ rest) (map-flat_map g owed each xs))
 
--- those of follow-ups
-pub pays_follows : (m : Parameters) (i n epoch : ℕ) (follows : List Follow) → map paid_by (all_entries_in m n epoch follows i) ≡ flat_map (follow_in m i epoch) follows
-pays_follows m i n epoch follows = pays_all (entries_in m i n epoch) (follow_in m i epoch) (pays_one m i n epoch) follows
+-- the entries of follow-ups pay what is owed for them
+pub map-all_entries_in : (m : Parameters) (i n epoch : ℕ) (follows : List Follow) → map paid_by (all_entries_in m n epoch follows i) ≡ flat_map (follow_in m i epoch) follows
+map-all_entries_in m i n epoch follows = map-flat_map (entries_in m i n epoch) (follow_in m i epoch) (map-entries_in m i n epoch) follows
 
--- those of looks
-pub pays_looks : (m : Parameters) (j : JournalsValue) (i n epoch : ℕ) (needs : List (ℕ × ℕ)) → map paid_by (all_looks_in m j n epoch needs i) ≡ flat_map (look_in m i epoch) needs
-pays_looks m j i n epoch needs = pays_all (looks_in m j i n epoch) (look_in m i epoch) (pays_look m j i n epoch) needs
+-- the looks pay what is owed for them
+pub map-all_looks_in : (m : Parameters) (j : JournalsValue) (i n epoch : ℕ) (needs : List (ℕ × ℕ)) → map paid_by (all_looks_in m j n epoch needs i) ≡ flat_map (look_in m i epoch) needs
+map-all_looks_in m j i n epoch needs = map-flat_map (looks_in m j i n epoch) (look_in m i epoch) (map-looks_in m j i n epoch) needs
 
--- all entries are of the op and the epoch
-all_are_of : {A : Type 0} (n epoch : ℕ) (g : A → List SliceEntry) → ((x : A) (p : ℕ) (e : SliceEntry) → At (g x) p e → IsOf n epoch e)
+-- where each entry of each part is of the op and the epoch, all are
+IsOf-flat_map : {A : Type 0} (n epoch : ℕ) (g : A → List SliceEntry) → ((x : A) (p : ℕ) (e : SliceEntry) → At (g x) p e → IsOf n epoch e)
     → (xs : List A) (p : ℕ) (e : SliceEntry) → At (flat_map g xs) p e → IsOf n epoch e
-all_are_of n epoch g each [] p e at = absurd cc
-all_are_of n epoch g each (x ∷ xs) p e at =
+IsOf-flat_map n epoch g each [] p e at = absurd cc
+IsOf-flat_map n epoch g each (x ∷ xs) p e at =
     elim (At-append (g x) (flat_map g xs) p e at) [
       | inl front ↦ each x p e front
-      | inr back ↦ all_are_of n epoch g each xs (p - length (g x)) e back.1
+      | inr back ↦ IsOf-flat_map n epoch g each xs (p - length (g x)) e back.1
     ]
 
--- those of follow-ups
-pub follows_are_of : (m : Parameters) (i n epoch : ℕ) (follows : List Follow) (p : ℕ) (e : SliceEntry) → At (all_entries_in m n epoch follows i) p e → IsOf n epoch e
-follows_are_of m i n epoch follows p e at =
-    all_are_of n epoch (entries_in m i n epoch)
-    (λ f p x at. is_of n epoch (entry 0 n epoch (what_of f)) x (refl, refl, refl) (only_one (is_entered_in m i f) (entry 0 n epoch (what_of f)) p x at)) follows p e at
+-- the entries of follow-ups are of the op and the epoch
+pub IsOf-all_entries_in : (m : Parameters) (i n epoch : ℕ) (follows : List Follow) (p : ℕ) (e : SliceEntry) → At (all_entries_in m n epoch follows i) p e → IsOf n epoch e
+IsOf-all_entries_in m i n epoch follows p e at =
+    IsOf-flat_map n epoch (entries_in m i n epoch)
+    (λ f p x at. IsOf-same n epoch (entry 0 n epoch (what_of f)) x (refl, refl, refl) (At-if (is_entered_in m i f) (entry 0 n epoch (what_of f)) p x at)) follows p e at
 
--- those of looks
-pub looks_are_of : (m : Parameters) (j : JournalsValue) (i n epoch : ℕ) (needs : List (ℕ × ℕ)) (p : ℕ) (e : SliceEntry) → At (all_looks_in m j n epoch needs i) p e → IsOf n epoch e
-looks_are_of m j i n epoch needs p e at =
+-- the looks are of the op and the epoch
+pub IsOf-all_looks_in : (m : Parameters) (j : JournalsValue) (i n epoch : ℕ) (needs : List (ℕ × ℕ)) (p : ℕ) (e : SliceEntry) → At (all_looks_in m j n epoch needs i) p e → IsOf n epoch e
+IsOf-all_looks_in m j i n epoch needs p e at =
     let look : ℕ × ℕ → SliceEntry = λ need. entry 0 n epoch (whats.Look need.1 (lines_in m j i need.1)) in
-    all_are_of n epoch (looks_in m j i n epoch)
-    (λ need p x at. is_of n epoch (look need) x (refl, refl, refl) (only_one (need.0 == domain_in m i) (look need) p x at)) needs p e at
+    IsOf-flat_map n epoch (looks_in m j i n epoch)
+    (λ need p x at. IsOf-same n epoch (look need) x (refl, refl, refl) (At-if (need.0 == domain_in m i) (look need) p x at)) needs p e at
 
--- one for each at most
-pub all_few : (m : Parameters) (i n epoch : ℕ) (follows : List Follow) → length (all_entries_in m n epoch follows i) ≤ length follows
-all_few m i n epoch [] = omega arith
-all_few m i n epoch (f ∷ follows) =
-    omega (arith, length-append (entries_in m i n epoch f) (all_entries_in m n epoch follows i), one_at_most (is_entered_in m i f) (entry 0 n epoch (what_of f)), all_few m i n epoch follows)
+-- a slice has one entry at most for each follow-up
+pub length-all_entries_in : (m : Parameters) (i n epoch : ℕ) (follows : List Follow) → length (all_entries_in m n epoch follows i) ≤ length follows
+length-all_entries_in m i n epoch [] = omega arith
+length-all_entries_in m i n epoch (f ∷ follows) =
+    omega (arith, length-append (entries_in m i n epoch f) (all_entries_in m n epoch follows i), length-if (is_entered_in m i f) (entry 0 n epoch (what_of f)), length-all_entries_in m i n epoch follows)
 
--- none where there is no slice
-none_past : {A : Type 0} (m : Parameters) (domain : A → ℕ) (e : A → SliceEntry) (i : ℕ) → 0 < m.slices → slice_count m ≤ i
+-- domains that are there have no entries where there is no slice
+flat_map-past : {A : Type 0} (m : Parameters) (domain : A → ℕ) (e : A → SliceEntry) (i : ℕ) → 0 < m.slices → slice_count m ≤ i
     → (xs : List A) → All (λ x. domain x < m.domains) xs → flat_map (λ x. in_domain m i (domain x) (e x)) xs ≡ []
-none_past m domain e i some past [] all = refl
-none_past m domain e i some past (x ∷ xs) all =
+flat_map-past m domain e i some past [] all = refl
+flat_map-past m domain e i some past (x ∷ xs) all =
     let first = All-head (λ y. domain y < m.domains) x xs all in
-    let none = no_domain m i some past in
-    let away : in_domain m i (domain x) (e x) ≡ [] = away m i (domain x) (e x) (λ same. omega (arith, same, first, none)) in
-    ap (λ rest. rest ++ flat_map (λ y. in_domain m i (domain y) (e y)) xs) away ∙ none_past m domain e i some past xs (All-tail (λ y. domain y < m.domains) x xs all)
+    let none = domain_in-past m i some past in
+    let away : in_domain m i (domain x) (e x) ≡ [] = in_domain-other m i (domain x) (e x) (λ same. omega (arith, same, first, none)) in
+    ap (λ rest. rest ++ flat_map (λ y. in_domain m i (domain y) (e y)) xs) away ∙ flat_map-past m domain e i some past xs (All-tail (λ y. domain y < m.domains) x xs all)
 
--- no follow-up is past the last slice
-pub no_follows_past : (m : Parameters) (n epoch : ℕ) (follows : List Follow) (i : ℕ) → 0 < m.slices → All (λ f. follow_domain f < m.domains) follows → All IsRaiseOrFlush follows → slice_count m ≤ i → all_entries_in m n epoch follows i ≡ []
-no_follows_past m n epoch follows i some all plain past = flat_map-same follows plain ∙ none_past m follow_domain (λ f. entry 0 n epoch (what_of f)) i some past follows all
+-- no entry of a follow-up is past the last slice
+pub all_entries_in-past : (m : Parameters) (n epoch : ℕ) (follows : List Follow) (i : ℕ) → 0 < m.slices → All (λ f. follow_domain f < m.domains) follows → All IsRaiseOrFlush follows → slice_count m ≤ i → all_entries_in m n epoch follows i ≡ []
+all_entries_in-past m n epoch follows i some all plain past = flat_map-same follows plain ∙ flat_map-past m follow_domain (λ f. entry 0 n epoch (what_of f)) i some past follows all
   where
     flat_map-same : (fs : List Follow) → All IsRaiseOrFlush fs → all_entries_in m n epoch fs i ≡ flat_map (λ f. in_domain m i (follow_domain f) (entry 0 n epoch (what_of f))) fs
     flat_map-same [] plain = refl
@@ -160,13 +160,13 @@ no_follows_past m n epoch follows i some all plain past = flat_map-same follows 
         rw (entries_in-domain m i n epoch f (All-head IsRaiseOrFlush f fs plain))
         (ap (λ rest. in_domain m i (follow_domain f) (entry 0 n epoch (what_of f)) ++ rest) (flat_map-same fs (All-tail IsRaiseOrFlush f fs plain)))
 
--- and no look
-pub no_looks_past : (m : Parameters) (j : JournalsValue) (n epoch : ℕ) (needs : List (ℕ × ℕ)) (i : ℕ) → 0 < m.slices → All (λ need. need.0 < m.domains) needs → slice_count m ≤ i → all_looks_in m j n epoch needs i ≡ []
-no_looks_past m j n epoch needs i some all past = none_past m (λ need. need.0) (λ need. entry 0 n epoch (whats.Look need.1 (lines_in m j i need.1))) i some past needs all
+-- no look is past the last slice
+pub all_looks_in-past : (m : Parameters) (j : JournalsValue) (n epoch : ℕ) (needs : List (ℕ × ℕ)) (i : ℕ) → 0 < m.slices → All (λ need. need.0 < m.domains) needs → slice_count m ≤ i → all_looks_in m j n epoch needs i ≡ []
+all_looks_in-past m j n epoch needs i some all past = flat_map-past m (λ need. need.0) (λ need. entry 0 n epoch (whats.Look need.1 (lines_in m j i need.1))) i some past needs all
 
--- one more
-pub one_more_of : {A : Type 0} (g : A → List SliceEntry) (xs : List A) (k : ℕ) (d : A) → k < length xs → flat_map g (take k xs) ++ g (get_or xs k d) ≡ flat_map g (take (k + 1) xs)
-one_more_of g xs k d within =
+-- the parts of the first k and the next one are those of the first k + 1
+pub append-flat_map_take : {A : Type 0} (g : A → List SliceEntry) (xs : List A) (k : ℕ) (d : A) → k < length xs → flat_map g (take k xs) ++ g (get_or xs k d) ≡ flat_map g (take (k + 1) xs)
+append-flat_map_take g xs k d within =
     sym (ap (flat_map g) (take_more xs k d within) ∙ (flat_map-append g (take k xs) (get_or xs k d ∷ []) ∙ ap (λ rest. flat_map g (take k xs) ++ rest) (append-nil (g (get_or xs k d)))))
 
 -- ---- a loop over the slices of a domain
@@ -175,35 +175,35 @@ one_more_of g xs k d within =
 abbrev pub made_below : Parameters → ℕ → (ℕ → SliceEntry) → ℕ → ℕ → List SliceEntry
 made_below m domain e limit i = if nat_lt i limit then in_domain m i domain (e i) else []
 
--- before the first slice of the domain
-pub none_made : (m : Parameters) (domain : ℕ) (e : ℕ → SliceEntry) (i : ℕ) → 0 < m.slices → [] ≡ made_below m domain e (domain * m.slices) i
-none_made m domain e i some = elim (cases_Bool (nat_lt i (domain * m.slices))) [
-  | inl low ↦ rw low (sym (away m i domain (e i) (λ same. omega (arith, same, before_domain m domain i some (ltb-true i (domain * m.slices) low)))))
+-- before the first slice of the domain, no slice has made an entry
+pub made_below-first : (m : Parameters) (domain : ℕ) (e : ℕ → SliceEntry) (i : ℕ) → 0 < m.slices → [] ≡ made_below m domain e (domain * m.slices) i
+made_below-first m domain e i some = elim (cases_Bool (nat_lt i (domain * m.slices))) [
+  | inl low ↦ rw low (sym (in_domain-other m i domain (e i) (λ same. omega (arith, same, domain_in-lt m domain i some (ltb-true i (domain * m.slices) low)))))
   | inr high ↦ rw high refl
 ]
 
--- one slice of the domain more
-pub one_more_made : (m : Parameters) (domain : ℕ) (e : ℕ → SliceEntry) (limit i : ℕ) → domain ≡ domain_in m limit
+-- with the entry of the next slice of the domain, it is one slice more
+pub append-made_below : (m : Parameters) (domain : ℕ) (e : ℕ → SliceEntry) (limit i : ℕ) → domain ≡ domain_in m limit
     → made_below m domain e limit i ++ (if i == limit then e limit ∷ [] else []) ≡ made_below m domain e (limit + 1) i
-one_more_made m domain e limit i same = elim (cases_lt i limit) [
+append-made_below m domain e limit i same = elim (cases_lt i limit) [
   | inl low ↦ rw (lt-ltb i limit low, lt-ltb i (limit + 1) (omega arith), ne_eqb i limit (λ is. omega arith)) (append-nil (in_domain m i domain (e i)))
   | inr high ↦ elim (cases_Bool (i == limit)) [
     | inl is ↦
         let at : i ≡ limit = eqb-true i limit is in
-        rw (le-ltb i limit high, is, lt-ltb i (limit + 1) (omega arith)) (sym (here m i domain (e i) (same ∙ ap (domain_in m) (sym at)) ∙ ap (λ k. e k ∷ []) at))
+        rw (le-ltb i limit high, is, lt-ltb i (limit + 1) (omega arith)) (sym (in_domain-same m i domain (e i) (same ∙ ap (domain_in m) (sym at)) ∙ ap (λ k. e k ∷ []) at))
     | inr apart ↦
         let other : limit + 1 ≤ i = omega (arith, eqb-false i limit apart) in
         rw (le-ltb i limit high, apart, le-ltb i (limit + 1) other) refl
   ]
 ]
 
--- after the last slice of the domain
-pub all_made : (m : Parameters) (domain : ℕ) (e : ℕ → SliceEntry) (i : ℕ) → 0 < m.slices → made_below m domain e (domain * m.slices + m.slices) i ≡ in_domain m i domain (e i)
-all_made m domain e i some = elim (cases_lt i (domain * m.slices + m.slices)) [
+-- after the last slice of the domain, each slice of the domain has made its entry
+pub made_below-last : (m : Parameters) (domain : ℕ) (e : ℕ → SliceEntry) (i : ℕ) → 0 < m.slices → made_below m domain e (domain * m.slices + m.slices) i ≡ in_domain m i domain (e i)
+made_below-last m domain e i some = elim (cases_lt i (domain * m.slices + m.slices)) [
   | inl low ↦ rw (lt-ltb i (domain * m.slices + m.slices) low) refl
-  | inr high ↦ rw (le-ltb i (domain * m.slices + m.slices) high) (sym (away m i domain (e i) (λ same. omega (arith, same, after_domain m domain i some high))))
+  | inr high ↦ rw (le-ltb i (domain * m.slices + m.slices) high) (sym (in_domain-other m i domain (e i) (λ same. omega (arith, same, domain_in-gt m domain i some high))))
 ]
 
 -- the next slice has made nothing yet
-pub none_here : (m : Parameters) (domain : ℕ) (e : ℕ → SliceEntry) (i : ℕ) → made_below m domain e i i ≡ []
-none_here m domain e i = rw (le-ltb i i (omega arith)) refl
+pub made_below-same : (m : Parameters) (domain : ℕ) (e : ℕ → SliceEntry) (i : ℕ) → made_below m domain e i i ≡ []
+made_below-same m domain e i = rw (le-ltb i i (omega arith)) refl

@@ -1,4 +1,3 @@
-pub mod ByOp
 pub mod CommandEntries
 pub mod Counts
 pub mod DomainLooks
@@ -6,6 +5,7 @@ pub mod GrownJournals
 pub mod Needs
 pub mod OneMoreOp
 pub mod OpEntries
+pub mod OpKinds
 pub mod Opening
 pub mod Runs
 pub mod SliceNumbers

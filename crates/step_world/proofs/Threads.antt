@@ -11,38 +11,38 @@ use Rattle.step_world.specs.Playable.{is_playable, is_playable_op}
 abbrev are_playable : List Op → Bool
 are_playable all = list_all is_playable_op all
 
--- no thread
-none : (threads : List (List Op)) → length threads ≡ 0 → (nat_le (length threads) 1 && list_all are_playable threads) ≡ true
-none [] h = refl
-none (t ∷ ts) h = absurd (omega arith)
+-- threads of which there is none pass
+and-no_thread : (threads : List (List Op)) → length threads ≡ 0 → (nat_le (length threads) 1 && list_all are_playable threads) ≡ true
+and-no_thread [] h = refl
+and-no_thread (t ∷ ts) h = absurd (omega arith)
 
--- one thread
-one : (threads : List (List Op)) → length threads ≡ 1 → (nat_le (length threads) 1 && list_all are_playable threads) ≡ are_playable (slice_index_or threads 0 [])
-one [] h = absurd (omega arith)
-one (t ∷ []) h = and_true (are_playable t)
+-- one thread passes where its ops can be played
+and-one_thread : (threads : List (List Op)) → length threads ≡ 1 → (nat_le (length threads) 1 && list_all are_playable threads) ≡ are_playable (slice_index_or threads 0 [])
+and-one_thread [] h = absurd (omega arith)
+and-one_thread (t ∷ []) h = and_true (are_playable t)
   where
     and_true : (b : Bool) → (b && true) ≡ b
     and_true true = refl
     and_true false = refl
-one (t ∷ u ∷ ts) h = absurd (omega arith)
+and-one_thread (t ∷ u ∷ ts) h = absurd (omega arith)
 
--- more threads
-more : (threads : List (List Op)) → 1 < length threads → (nat_le (length threads) 1 && list_all are_playable threads) ≡ false
-more threads h = rw (lt-leb (length threads) 1 h) refl
+-- more threads do not pass
+and-more_threads : (threads : List (List Op)) → 1 < length threads → (nat_le (length threads) 1 && list_all are_playable threads) ≡ false
+and-more_threads threads h = rw (lt-leb (length threads) 1 h) refl
 
 -- a script of no thread can be played
-pub no_thread : (script : ScriptValue) → length (threads_of script) ≡ 0 → is_playable script ≡ true
+pub is_playable-no_thread : (script : ScriptValue) → length (threads_of script) ≡ 0 → is_playable script ≡ true
 unfolding is_playable
-no_thread script h = none (threads_of script) h
+is_playable-no_thread script h = and-no_thread (threads_of script) h
 
 -- a script of one thread can be played where its ops can
-pub one_thread : (script : ScriptValue) → length (threads_of script) ≡ 1 → is_playable script ≡ are_playable (ops_of script 0)
+pub is_playable-one_thread : (script : ScriptValue) → length (threads_of script) ≡ 1 → is_playable script ≡ are_playable (ops_of script 0)
 unfolding is_playable
-one_thread script h = one (threads_of script) h
+is_playable-one_thread script h = and-one_thread (threads_of script) h
 
--- no script of more can
-pub more_threads : (script : ScriptValue) → 1 < length (threads_of script) → is_playable script ≡ false
+-- a script of more threads cannot be played
+pub is_playable-more_threads : (script : ScriptValue) → 1 < length (threads_of script) → is_playable script ≡ false
 unfolding is_playable
-more_threads script h = more (threads_of script) h
+is_playable-more_threads script h = and-more_threads (threads_of script) h
 
-pub ruleset threads = (no_thread, one_thread, more_threads)
+pub ruleset threads = (is_playable-no_thread, is_playable-one_thread, is_playable-more_threads)

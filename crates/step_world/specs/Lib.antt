@@ -1,3 +1,4 @@
+pub mod Caches
 pub mod Done
 pub mod Playable
 pub mod Playing

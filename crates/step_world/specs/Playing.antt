@@ -9,7 +9,7 @@ use Rattle.cache_core.specs.declared.entry.What.TheVariants as whats
 use Rattle.machine.specs.Ranges.{InRange}
 use Rattle.machine.specs.declared.parameters.Parameters.{Parameters}
 use Rattle.rc_base.specs.declared.names.Tag.{Tag}
-use Rattle.run_law.specs.Caches.{IsCacheOf}
+use Rattle.step_world.specs.Caches.{IsCacheOf}
 use Rattle.run_law.specs.Journals.{JournalsValue, slice_at}
 use Rattle.run_law.specs.Owed.{is_entered_in, what_of}
 use Rattle.run_law.specs.Slices.{shape_in}

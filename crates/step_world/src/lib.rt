@@ -5,12 +5,9 @@ mod empty_slices;
 mod follow_ups;
 mod looks;
 pub mod playable;
-pub mod played;
+pub mod playback;
 mod player;
 mod slice;
 
 pub use playable::is_playable;
-pub use played::{Played, play};
-
-#[cfg(test)]
-mod tests;
+pub use playback::play;

@@ -12,7 +12,6 @@ ghost use Rattle.run_law.specs.Owed.{what_of};
 use cache_core::{Cache, SliceEntry, Touched, What};
 use machine::Machine;
 use rc_base::{NoMemory, Tag};
-use run_law::SliceJournal;
 use std::alloc::Global;
 use std::marker::Model;
 use tree_core::Follow;
@@ -131,11 +130,10 @@ impl Slice {
         Ok(())
     }
 
-    /// Its cache and its journal.
-    pub(crate) fn into_parts(self) -> (Cache, SliceJournal)
-        ensures cache { result.0 ≡ self.cache }
-        ensures journal { result.1 ≡ self.entries }
+    /// Its entries.
+    pub(crate) fn into_entries(self) -> Vec<SliceEntry>
+        ensures { result.items ≡ self.entries }
     {
-        (self.cache, SliceJournal::of(self.entries))
+        self.entries
     }
 }

@@ -5,13 +5,15 @@ use Rattle.std.proofs.lemmas.List.{take_more, take_more_set, drop-set-lt}
 use Rattle.task_binding.specs.declared.binding.Binding.{Binding}
 use Rattle.task_binding.specs.Bindings.{changed}
 
-changed_append : (which : Binding → Bool) (how : Binding → Binding) (xs ys : List Binding) → changed which how (xs ++ ys) ≡ changed which how xs ++ changed which how ys
-changed_append which how [] ys = refl
-changed_append which how (x ∷ xs) ys = rw (changed_append which how xs ys) refl
+-- the changes of two parts
+changed-append : (which : Binding → Bool) (how : Binding → Binding) (xs ys : List Binding) → changed which how (xs ++ ys) ≡ changed which how xs ++ changed which how ys
+changed-append which how [] ys = refl
+changed-append which how (x ∷ xs) ys = rw (changed-append which how xs ys) refl
 
-pub length_changed : (which : Binding → Bool) (how : Binding → Binding) (xs : List Binding) → length (changed which how xs) ≡ length xs
-length_changed which how [] = refl
-length_changed which how (x ∷ xs) = ap suc (length_changed which how xs)
+-- a change keeps how many there are
+pub length-changed : (which : Binding → Bool) (how : Binding → Binding) (xs : List Binding) → length (changed which how xs) ≡ length xs
+length-changed which how [] = refl
+length-changed which how (x ∷ xs) = ap suc (length-changed which how xs)
 
 -- the first n bindings are changed
 pub record ChangedTo (which : Binding → Bool) (how : Binding → Binding) (before after : List Binding) (n : ℕ) : Type 0 where
@@ -19,50 +21,55 @@ pub record ChangedTo (which : Binding → Bool) (how : Binding → Binding) (bef
   pub back : drop n after ≡ drop n before
   pub long : length after ≡ length before
 
-pub changed_start : (which : Binding → Bool) (how : Binding → Binding) (before : List Binding) → ChangedTo which how before before 0
-changed_start which how before = record { front = refl; back = refl; long = refl }
+-- at the start nothing has changed
+pub ChangedTo-start : (which : Binding → Bool) (how : Binding → Binding) (before : List Binding) → ChangedTo which how before before 0
+ChangedTo-start which how before = record { front = refl; back = refl; long = refl }
 
-here_before : (before after : List Binding) (n : ℕ) (d : Binding) → n < length after → n < length before → drop n after ≡ drop n before → get_or before n d ≡ get_or after n d
-here_before before after n d h i same =
+-- what is not reached yet is as before
+get_or-drop_same : (before after : List Binding) (n : ℕ) (d : Binding) → n < length after → n < length before → drop n after ≡ drop n before → get_or before n d ≡ get_or after n d
+get_or-drop_same before after n d h i same =
     sym (ap (λ l. get_or l 0 d) (drop-cons before n d i)) ∙ ap (λ l. get_or l 0 d) (sym same) ∙ ap (λ l. get_or l 0 d) (drop-cons after n d h)
 
-further : (before after : List Binding) (n : ℕ) (d : Binding) → n < length after → n < length before → drop n after ≡ drop n before → drop (n + 1) after ≡ drop (n + 1) before
-further before after n d h i same =
+-- so is what comes after it
+drop-suc_same : (before after : List Binding) (n : ℕ) (d : Binding) → n < length after → n < length before → drop n after ≡ drop n before → drop (n + 1) after ≡ drop (n + 1) before
+drop-suc_same before after n d h i same =
     let e : n + 1 ≡ suc n = omega arith in
     rw e (sym (ap (λ l. drop 1 l) (drop-cons after n d h)) ∙ ap (λ l. drop 1 l) same ∙ ap (λ l. drop 1 l) (drop-cons before n d i))
 
 -- the next binding passes the test, or does not
-pub changed_yes : (which : Binding → Bool) (how : Binding → Binding) (before after : List Binding) (n : ℕ) (d : Binding) → n < length after → which (get_or after n d) ≡ true
+pub ChangedTo-set : (which : Binding → Bool) (how : Binding → Binding) (before after : List Binding) (n : ℕ) (d : Binding) → n < length after → which (get_or after n d) ≡ true
     → ChangedTo which how before after n → ChangedTo which how before (set after n (how (get_or after n d))) (n + 1)
-changed_yes which how before after n d h is c =
+ChangedTo-set which how before after n d h is c =
     let i : n < length before = let e = c.long in omega arith in
-    let here = here_before before after n d h i c.back in
+    let here = get_or-drop_same before after n d h i c.back in
     record {
-      front = take_more_set after n (how (get_or after n d)) h ∙ rw (take_more before n d i, changed_append which how (take n before) (get_or before n d ∷ []), here, is, c.front) refl;
-      back = drop-set-lt (n + 1) after n (how (get_or after n d)) (omega arith) ∙ further before after n d h i c.back;
+      front = take_more_set after n (how (get_or after n d)) h ∙ rw (take_more before n d i, changed-append which how (take n before) (get_or before n d ∷ []), here, is, c.front) refl;
+      back = drop-set-lt (n + 1) after n (how (get_or after n d)) (omega arith) ∙ drop-suc_same before after n d h i c.back;
       long = length-set after n (how (get_or after n d)) ∙ c.long;
     }
 
-pub changed_no : (which : Binding → Bool) (how : Binding → Binding) (before after : List Binding) (n : ℕ) (d : Binding) → n < length after → which (get_or after n d) ≡ false
+-- one that does not is left
+pub ChangedTo-skip : (which : Binding → Bool) (how : Binding → Binding) (before after : List Binding) (n : ℕ) (d : Binding) → n < length after → which (get_or after n d) ≡ false
     → ChangedTo which how before after n → ChangedTo which how before after (n + 1)
-changed_no which how before after n d h is c =
+ChangedTo-skip which how before after n d h is c =
     let i : n < length before = let e = c.long in omega arith in
-    let here = here_before before after n d h i c.back in
+    let here = get_or-drop_same before after n d h i c.back in
     record {
-      front = take_more after n d h ∙ rw (take_more before n d i, changed_append which how (take n before) (get_or before n d ∷ []), here, is, c.front) refl;
-      back = further before after n d h i c.back;
+      front = take_more after n d h ∙ rw (take_more before n d i, changed-append which how (take n before) (get_or before n d ∷ []), here, is, c.front) refl;
+      back = drop-suc_same before after n d h i c.back;
       long = c.long;
     }
 
-pub changed_end : (which : Binding → Bool) (how : Binding → Binding) (before after : List Binding) (n : ℕ) → length after ≤ n → ChangedTo which how before after n → after ≡ changed which how before
-changed_end which how before after n past c =
+-- at the end all are changed
+pub ChangedTo-end : (which : Binding → Bool) (how : Binding → Binding) (before after : List Binding) (n : ℕ) → length after ≤ n → ChangedTo which how before after n → after ≡ changed which how before
+ChangedTo-end which how before after n past c =
     let all : take n after ≡ after = grind (arith, common_steps) in
     let every : take n before ≡ before = let e = c.long in grind (arith, common_steps) in
     sym all ∙ c.front ∙ ap (changed which how) every
 
 -- a whole table that was written through a slice
-pub written_whole : (n : ℕ) (before after : List Binding) → n ≡ length before → length after ≡ length before → take n (after ++ drop (length after) before) ≡ after
-written_whole n before after count long =
+pub take-append_drop : (n : ℕ) (before after : List Binding) → n ≡ length before → length after ≡ length before → take n (after ++ drop (length after) before) ≡ after
+take-append_drop n before after count long =
     let gone : drop (length after) before ≡ [] = grind (arith, common_steps) in
     let all : take n after ≡ after = grind (arith, common_steps) in
     rw (gone, append-nil) all

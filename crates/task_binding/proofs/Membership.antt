@@ -6,11 +6,14 @@ use Rattle.task_binding.specs.declared.binding.Binding.{Binding}
 abbrev pub members_from : (Binding → Bool) → List Binding → ℕ → List ℕ
 members_from p xs n = map (λ b. b.task) (filter p (drop n xs))
 
-pub members_yes : (p : Binding → Bool) (xs : List Binding) (n : ℕ) (d : Binding) → n < length xs → p (get_or xs n d) ≡ true → members_from p xs n ≡ (get_or xs n d).task ∷ members_from p xs (n + 1)
-members_yes p xs n d h is = let e : n + 1 ≡ suc n = omega arith in rw (drop-cons xs n d, is, e) refl
+-- a task that is a member comes first
+pub members_from-yes : (p : Binding → Bool) (xs : List Binding) (n : ℕ) (d : Binding) → n < length xs → p (get_or xs n d) ≡ true → members_from p xs n ≡ (get_or xs n d).task ∷ members_from p xs (n + 1)
+members_from-yes p xs n d h is = let e : n + 1 ≡ suc n = omega arith in rw (drop-cons xs n d, is, e) refl
 
-pub members_no : (p : Binding → Bool) (xs : List Binding) (n : ℕ) (d : Binding) → n < length xs → p (get_or xs n d) ≡ false → members_from p xs n ≡ members_from p xs (n + 1)
-members_no p xs n d h is = let e : n + 1 ≡ suc n = omega arith in rw (drop-cons xs n d, is, e) refl
+-- one that is not is passed over
+pub members_from-no : (p : Binding → Bool) (xs : List Binding) (n : ℕ) (d : Binding) → n < length xs → p (get_or xs n d) ≡ false → members_from p xs n ≡ members_from p xs (n + 1)
+members_from-no p xs n d h is = let e : n + 1 ≡ suc n = omega arith in rw (drop-cons xs n d, is, e) refl
 
-pub members_none : (p : Binding → Bool) (xs : List Binding) (n : ℕ) → length xs ≤ n → members_from p xs n ≡ []
-members_none p xs n past = let gone : drop n xs ≡ [] = grind (arith, common_steps) in rw gone refl
+-- after the last there are none
+pub members_from-none : (p : Binding → Bool) (xs : List Binding) (n : ℕ) → length xs ≤ n → members_from p xs n ≡ []
+members_from-none p xs n past = let gone : drop n xs ≡ [] = grind (arith, common_steps) in rw gone refl

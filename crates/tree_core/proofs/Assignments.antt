@@ -13,8 +13,8 @@ use Rattle.schemata_text.specs.Reading.{domains_of}
 use Rattle.tree_law.specs.commands.Schemata.{assigned}
 
 -- a mask that is valid has a way, and only ways that exist
-pub valid_mask : (m : Parameters) (mask : ℕ) → IsValid m mask → (0 < mask) × (mask < 2 ^ m.ways)
-valid_mask m mask valid = (some, valid.bounded)
+pub mask-valid : (m : Parameters) (mask : ℕ) → IsValid m mask → (0 < mask) × (mask < 2 ^ m.ways)
+mask-valid m mask valid = (some, valid.bounded)
   where
     some : 0 < mask
     some = elim (cases_lt 0 mask) [
@@ -22,22 +22,24 @@ valid_mask m mask valid = (some, valid.bounded)
       | inr le ↦ (let none : mask ≡ 0 = omega arith in absurd (let e = checked-zero (geometry_of m) mask none ∙ valid.faultless in cc))
     ]
 
+-- there are as many masks after assignments
 pub length-assigned : (masks : List ℕ) (all : List Assignment) → length (assigned masks all) ≡ length masks
 length-assigned masks [] = refl
 length-assigned masks (a ∷ all) = length-assigned (set masks a.domain a.mask) all ∙ length-set masks a.domain a.mask
 
-pub all-assigned : (P : ℕ → Type 0) (masks : List ℕ) (all : List Assignment) → All P masks → AllByRecursion (λ (a : Assignment). P a.mask) all → All P (assigned masks all)
-all-assigned P masks [] each new = each
-all-assigned P masks (a ∷ all) each new = all-assigned P (set masks a.domain a.mask) all (All-set P masks a.domain a.mask new.0 each) new.1
+-- what holds of the masks and of those that are assigned holds of all after it
+pub All-assigned : (P : ℕ → Type 0) (masks : List ℕ) (all : List Assignment) → All P masks → AllByRecursion (λ (a : Assignment). P a.mask) all → All P (assigned masks all)
+All-assigned P masks [] each new = each
+All-assigned P masks (a ∷ all) each new = All-assigned P (set masks a.domain a.mask) all (All-set P masks a.domain a.mask new.0 each) new.1
 
 -- what lawful assignments name and give
-pub each_exists : (n : ℕ) (all : List Assignment) → AllByRecursion (λ d. d < n) (domains_of all) → All (λ (a : Assignment). a.domain < n) all
-each_exists n [] exist k d lt = absurd (omega arith)
-each_exists n (a ∷ all) exist zero d lt = exist.0
-each_exists n (a ∷ all) exist (suc k) d lt = each_exists n all exist.1 k d (omega arith)
+pub All-domains_of : (n : ℕ) (all : List Assignment) → AllByRecursion (λ d. d < n) (domains_of all) → All (λ (a : Assignment). a.domain < n) all
+All-domains_of n [] exist k d lt = absurd (omega arith)
+All-domains_of n (a ∷ all) exist zero d lt = exist.0
+All-domains_of n (a ∷ all) exist (suc k) d lt = All-domains_of n all exist.1 k d (omega arith)
 
 -- a write of one place through the slice
-pub refilled : (masks : List ℕ) (i mask : ℕ) → refill (length masks) masks (set masks i mask) ≡ set masks i mask
-refilled masks i mask =
+pub refill-set : (masks : List ℕ) (i mask : ℕ) → refill (length masks) masks (set masks i mask) ≡ set masks i mask
+refill-set masks i mask =
     let none : drop (length (set masks i mask)) masks ≡ [] = drop_all (length (set masks i mask)) masks (omega (arith, length-set masks i mask)) in
     rw (none, append-nil (set masks i mask)) (take_all (length masks) (set masks i mask) (omega (arith, length-set masks i mask)))

@@ -1,12 +1,11 @@
 -- The initial mask of a new group, by the uses that the groups tell.
-use Rattle.std.proofs.Common.{◌≡◌, ℕ, zero, suc, ◌+◌, ◌-◌, ◌*◌, ◌/◌, ◌%◌, ◌^◌, ◌<◌, ◌≤◌, Bool, true, false, ◌||◌, cond, eqb, List, [], ◌∷◌, ◌++◌, length, map, filter, find, get_or, replicate, Option, Some, None, IfSome, inl, inr, refl, sym, ap, ◌∙◌, arith, zero-add}
+use Rattle.std.proofs.Common.{◌≡◌, ℕ, ◌-◌, ◌^◌, ◌<◌, ◌≤◌, Bool, true, false, ◌||◌, List, [], ◌∷◌, ◌++◌, length, map, find, get_or, replicate, Option, Some, None, IfSome, inl, inr, refl, sym, ap, ◌∙◌, arith, zero-add}
 use Rattle.std.specs.List.{list_any, range_with_len}
 use Rattle.std.specs.Option.{option_map}
 use Rattle.std.proofs.lemmas.Bool.{cases_lt}
 use Rattle.std.proofs.lemmas.List.{ext_get_or, get_or-append_right, get_or-replicate, get_or_append_left, length-append, length-replicate}
 use Rattle.std.proofs.lemmas.List.FromFn.{get_or-map-range_with_len, get_or-range_with_len, length-map-range_with_len, length-range_with_len}
 use Rattle.std.proofs.lemmas.List.Recursion.{found_at, found_nowhere}
-use Rattle.std.proofs.lemmas.Nat.{mod-pow-add}
 use Rattle.std.proofs.lemmas.Nat.Bits.{bit_at-zero}
 use Rattle.lists.proofs.Filters.{filter-same}
 use Rattle.cbm.proofs.laws.Ways.{has_way-bit_or, has_way-zero}
@@ -17,7 +16,8 @@ use Rattle.mode_rules.specs.declared.domain_use.DomainUse.{DomainUse}
 use Rattle.group_tree.specs.Others.{IsUseByOthers, masks_of_others}
 use Rattle.machine.specs.declared.parameters.Parameters.{Parameters}
 use Rattle.rc_base.specs.declared.names.Mode.TheVariants.{Exclusive, Shareable}
-use Rattle.tree_core.proofs.Soundness.{regions_agree}
+use Rattle.tree_law.proofs.laws.Regions.{region_mask-union}
+use Rattle.tree_law.proofs.laws.WayMasks.{mask_of-ways_of}
 use Rattle.tree_law.specs.Sound.{IsSound}
 use Rattle.tree_law.specs.Space.{geometry_of, initial_mask, mask_of, union_of, used_in}
 use Rattle.tree_law.specs.State.{State}
@@ -28,8 +28,8 @@ has_way-union_of [] way = has_way-zero 0 way (bit_at-zero way)
 has_way-union_of (mask ∷ masks) way = has_way-bit_or mask (union_of masks) way ∙ ap (λ (b : Bool). has_way mask way || b) (has_way-union_of masks way)
 
 -- a mask with just the ways of these has each way as their union has it
-pub same_ways : (union : ℕ) (masks : List ℕ) (way : ℕ) → IsUnion union masks → has_way union way ≡ has_way (union_of masks) way
-same_ways union masks way is = is way ∙ sym (has_way-union_of masks way)
+pub has_way-union : (union : ℕ) (masks : List ℕ) (way : ℕ) → IsUnion union masks → has_way union way ≡ has_way (union_of masks) way
+has_way-union union masks way is = is way ∙ sym (has_way-union_of masks way)
 
 -- two uses with the same ways
 pub record SameUse (a b : DomainUse) : Type 0 where
@@ -38,100 +38,60 @@ pub record SameUse (a b : DomainUse) : Type 0 where
   pub exclusive : (way : ℕ) → has_way a.exclusive way ≡ has_way b.exclusive way
   pub region : (way : ℕ) → has_way a.region way ≡ has_way b.region way
 
-may_start_same : (a b : DomainUse) (way : ℕ) → SameUse a b → may_start_with a way ≡ may_start_with b way
-may_start_same a b way same = rw (same.hardware way, same.shared way, same.exclusive way, same.region way) refl
+-- they let a new group start with the same ways
+may_start_with-same : (a b : DomainUse) (way : ℕ) → SameUse a b → may_start_with a way ≡ may_start_with b way
+may_start_with-same a b way same = rw (same.hardware way, same.shared way, same.exclusive way, same.region way) refl
 
 -- give a new group the same ways
-pub initial_ways_same : (g : Geometry) (a b : DomainUse) → SameUse a b → initial_ways g a ≡ initial_ways g b
+pub initial_ways-same : (g : Geometry) (a b : DomainUse) → SameUse a b → initial_ways g a ≡ initial_ways g b
 unfolding initial_ways starting_ways
-initial_ways_same g a b same = ap (space_in g) (filter-same (may_start_with a) (may_start_with b) 0 g.len (λ way low high. may_start_same a b way same))
-
--- ---- the mask of the ways of a mask
-
-mask_of-append : (xs ys : List ℕ) → mask_of (xs ++ ys) ≡ mask_of xs + mask_of ys
-mask_of-append [] ys = sym (zero-add (mask_of ys))
-mask_of-append (x ∷ xs) ys = omega (arith, mask_of-append xs ys)
-
--- one number more in a range
-range_more : (p : ℕ → Bool) (a n : ℕ) → filter p (range_with_len a (suc n)) ≡ filter p (range_with_len a n) ++ cond (p (a + n)) ((a + n) ∷ []) []
-range_more p a zero = let e : a + 0 ≡ a = omega arith in rw e refl
-range_more p a (suc n) =
-    let next : (a + 1) + n ≡ a + suc n = omega arith in
-    ap (λ (xs : List ℕ). cond (p a) (a ∷ xs) xs) (rw next at (range_more p (a + 1) n)) ∙ at (p a)
-  where
-    tail : List ℕ
-    tail = cond (p (a + suc n)) ((a + suc n) ∷ []) []
-
-    at : (b : Bool) → cond b (a ∷ (filter p (range_with_len (a + 1) n) ++ tail)) (filter p (range_with_len (a + 1) n) ++ tail) ≡ cond b (a ∷ filter p (range_with_len (a + 1) n)) (filter p (range_with_len (a + 1) n)) ++ tail
-    at true = refl
-    at false = refl
-
--- the ways below a number make the part of the mask below it
-mask_below : (mask n : ℕ) → mask_of (filter (has_way mask) (range_with_len 0 n)) ≡ mask % 2 ^ n
-mask_below mask zero = omega arith
-mask_below mask (suc n) =
-    let more = range_more (has_way mask) 0 n in
-    let zeroth : 0 + n ≡ n = zero-add n in
-    let grown : mask_of (filter (has_way mask) (range_with_len 0 (suc n))) ≡ mask % 2 ^ n + mask_of (cond (has_way mask n) (n ∷ []) [])
-    = ap mask_of (rw zeroth at more) ∙ mask_of-append (filter (has_way mask) (range_with_len 0 n)) (cond (has_way mask n) (n ∷ []) []) ∙ ap (λ (k : ℕ). k + mask_of (cond (has_way mask n) (n ∷ []) [])) (mask_below mask n) in
-    let parts = mod-pow-add mask 1 n in
-    let turned : 1 + n ≡ suc n = omega arith in
-    grown ∙ bit (mask / 2 ^ n % 2) (mask % 2 ^ n) (omega arith) ∙ sym (rw turned at parts)
-  where
-    bit : (b low : ℕ) → b < 2 → low + mask_of (cond (eqb b 1) (n ∷ []) []) ≡ b * 2 ^ n + low
-    bit zero low lt = omega arith
-    bit (suc zero) low lt = omega arith
-    bit (suc (suc b)) low lt = absurd (omega arith)
-
-pub mask_of-ways_of : (mask : ℕ) → mask < 2 ^ 64 → mask_of (ways_of mask) ≡ mask
-unfolding ways_of
-mask_of-ways_of mask small = mask_below mask 64 ∙ omega arith
+initial_ways-same g a b same = ap (space_in g) (filter-same (may_start_with a) (may_start_with b) 0 g.len (λ way low high. may_start_with-same a b way same))
 
 -- a mask that was found is the mask of the ways that were found
-pub found_mask : (found : Option ℕ) (ways : Option (List ℕ)) → IfSome found (λ mask. mask < 2 ^ 32) → option_map ways_of found ≡ ways → found ≡ option_map mask_of ways
-found_mask None ways small is = ap (option_map mask_of) is
-found_mask (Some mask) ways small is = ap Some (sym (mask_of-ways_of mask (omega arith))) ∙ ap (option_map mask_of) is
+pub option_map-mask_of : (found : Option ℕ) (ways : Option (List ℕ)) → IfSome found (λ mask. mask < 2 ^ 32) → option_map ways_of found ≡ ways → found ≡ option_map mask_of ways
+option_map-mask_of None ways small is = ap (option_map mask_of) is
+option_map-mask_of (Some mask) ways small is = ap Some (sym (mask_of-ways_of mask (omega arith))) ∙ ap (option_map mask_of) is
 
 -- the shape of masks, by its parts
-same_geometry : (m : Parameters) (g : Geometry) → g.len ≡ m.ways → g.min ≡ m.min → g.sparse ≡ m.sparse → g ≡ geometry_of m
-same_geometry m g len least sparse =
+geometry_of-parts : (m : Parameters) (g : Geometry) → g.len ≡ m.ways → g.min ≡ m.min → g.sparse ≡ m.sparse → g ≡ geometry_of m
+geometry_of-parts m g len least sparse =
     ap (λ (n : ℕ). record g { len = n }) len ∙ ap (λ (n : ℕ). record g { len = m.ways; min = n }) least ∙ ap (λ (b : Bool). record (geometry_of m) { sparse = b }) sparse
 
 -- what the groups tell of a domain is what the state has there
-told_same : (m : Parameters) (s : State) (domain : ℕ) (used : DomainUse) → IsSound m s → domain < m.domains → IsUseByOthers (record { groups = s.groups; shareable = m.shareable }) None domain used → SameUse used (used_in m s None domain)
-told_same m s domain used sound below told = record {
+SameUse-told : (m : Parameters) (s : State) (domain : ℕ) (used : DomainUse) → IsSound m s → domain < m.domains → IsUseByOthers (record { groups = s.groups; shareable = m.shareable }) None domain used → SameUse used (used_in m s None domain)
+SameUse-told m s domain used sound below told = record {
   hardware = λ way. ap (λ (mask : ℕ). has_way mask way) told.hardware;
-  shared = λ way. same_ways used.shared (masks_of_others None Shareable domain s.groups) way told.shared;
-  exclusive = λ way. same_ways used.exclusive (masks_of_others None Exclusive domain s.groups) way told.exclusive;
-  region = λ way. told.region way ∙ sym (regions_agree m s None domain sound tt below way);
+  shared = λ way. has_way-union used.shared (masks_of_others None Shareable domain s.groups) way told.shared;
+  exclusive = λ way. has_way-union used.exclusive (masks_of_others None Exclusive domain s.groups) way told.exclusive;
+  region = λ way. told.region way ∙ sym (region_mask-union m s None domain sound tt below way);
 }
 
 -- what was found, where the groups tell such a use
-pub initial_found : (m : Parameters) (s : State) (domain : ℕ) (g : Geometry) (used : DomainUse) (found : Option ℕ) → IsSound m s → domain < m.domains → g.len ≡ m.ways → g.min ≡ m.min → g.sparse ≡ m.sparse
+pub initial_mask-found : (m : Parameters) (s : State) (domain : ℕ) (g : Geometry) (used : DomainUse) (found : Option ℕ) → IsSound m s → domain < m.domains → g.len ≡ m.ways → g.min ≡ m.min → g.sparse ≡ m.sparse
     → IsUseByOthers (record { groups = s.groups; shareable = m.shareable }) None domain used → IfSome found (λ mask. mask < 2 ^ 32) → option_map ways_of found ≡ initial_ways g used → found ≡ initial_mask m s domain
-initial_found m s domain g used found sound below len least sparse told small is =
-    found_mask found (initial_ways (geometry_of m) (used_in m s None domain)) small
-    (is ∙ ap (λ (shape : Geometry). initial_ways shape used) (same_geometry m g len least sparse) ∙ initial_ways_same (geometry_of m) used (used_in m s None domain) (told_same m s domain used sound below told))
+initial_mask-found m s domain g used found sound below len least sparse told small is =
+    option_map-mask_of found (initial_ways (geometry_of m) (used_in m s None domain)) small
+    (is ∙ ap (λ (shape : Geometry). initial_ways shape used) (geometry_of-parts m g len least sparse) ∙ initial_ways-same (geometry_of m) used (used_in m s None domain) (SameUse-told m s domain used sound below told))
 
 -- ---- the first that passes, in a range
 
 -- it is this number where none below passes
-pub find_least : (p : ℕ → Bool) (n id : ℕ) → id < n → ((k : ℕ) → k < id → p k ≡ false) → p id ≡ true → find p (range_with_len 0 n) ≡ Some id
-find_least p n id below lower here =
+pub find-least : (p : ℕ → Bool) (n id : ℕ) → id < n → ((k : ℕ) → k < id → p k ≡ false) → p id ≡ true → find p (range_with_len 0 n) ≡ Some id
+find-least p n id below lower here =
     found_at (find p) p Some None refl (λ x xs. refl) (range_with_len 0 n) id 0 (omega (arith, length-range_with_len 0 n))
     (λ k lt. ap p (get_or-range_with_len 0 n k 0 (omega arith) ∙ zero-add k) ∙ lower k lt)
     (ap p (get_or-range_with_len 0 n id 0 below ∙ zero-add id) ∙ here)
     ∙ ap Some (get_or-range_with_len 0 n id 0 below ∙ zero-add id)
 
 -- and there is none where none passes
-pub find_none : (p : ℕ → Bool) (n : ℕ) → ((k : ℕ) → k < n → p k ≡ false) → find p (range_with_len 0 n) ≡ None
-find_none p n none =
+pub find-none : (p : ℕ → Bool) (n : ℕ) → ((k : ℕ) → k < n → p k ≡ false) → find p (range_with_len 0 n) ≡ None
+find-none p n none =
     found_nowhere (find p) p Some None refl (λ x xs. refl) (range_with_len 0 n) 0
     (λ k lt. ap p (get_or-range_with_len 0 n k 0 (omega (arith, length-range_with_len 0 n)) ∙ zero-add k) ∙ none k (omega (arith, length-range_with_len 0 n)))
 
 -- a list of eight that was filled in front
-pub filled : (f : ℕ → ℕ) (xs : List ℕ) (n : ℕ) → n ≤ 8 → length xs ≡ 8 → ((k : ℕ) → k < n → get_or xs k 0 ≡ f k) → ((k : ℕ) → n ≤ k → get_or xs k 0 ≡ 0) → xs ≡ map f (range_with_len 0 n) ++ replicate (8 - n) 0
-filled f xs n most count front back = ext_get_or 0 xs (map f (range_with_len 0 n) ++ replicate (8 - n) 0) (omega (arith, count, whole)) each
+pub append-filled : (f : ℕ → ℕ) (xs : List ℕ) (n : ℕ) → n ≤ 8 → length xs ≡ 8 → ((k : ℕ) → k < n → get_or xs k 0 ≡ f k) → ((k : ℕ) → n ≤ k → get_or xs k 0 ≡ 0) → xs ≡ map f (range_with_len 0 n) ++ replicate (8 - n) 0
+append-filled f xs n most count front back = ext_get_or 0 xs (map f (range_with_len 0 n) ++ replicate (8 - n) 0) (omega (arith, count, whole)) each
   where
     whole : length (map f (range_with_len 0 n) ++ replicate (8 - n) 0) ≡ 8
     whole = omega (arith, length-append (map f (range_with_len 0 n)) (replicate (8 - n) 0), length-map-range_with_len f 0 n, length-replicate {A = ℕ} (8 - n) 0)

@@ -3,10 +3,10 @@ pub mod BuiltPaths
 pub mod ControlGroups
 pub mod Counts
 pub mod Creation
-pub mod Found
+pub mod FoundGroups
 pub mod FreeIds
 pub mod InitialMasks
-pub mod Kept
+pub mod KeptTables
 pub mod Opening
 pub mod Outcomes
 pub mod Owners
@@ -15,7 +15,7 @@ pub mod Refusals
 pub mod Removal
 pub mod Returns
 pub mod Soundness
-pub mod Taken
-pub mod Unreached
+pub mod TakenIds
+pub mod UnreachedParts
 pub mod WrittenMasks
 pub mod laws

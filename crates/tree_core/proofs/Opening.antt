@@ -15,8 +15,8 @@ use Rattle.pseudo_lock.specs.Regions.{RegionTable, unused}
 use Rattle.rc_base.specs.declared.replies.Reply.TheVariants as replies
 use Rattle.task_binding.specs.Bindings as bindings
 use Rattle.task_binding.specs.declared.binding.Binding.{Binding}
-use Rattle.tree_core.proofs.Kept.{is_kept}
-use Rattle.tree_core.proofs.Soundness.{opening_sound}
+use Rattle.tree_core.proofs.KeptTables.{IsKept-from_Keeps}
+use Rattle.tree_law.proofs.laws.Opening.{opening-sound}
 use Rattle.tree_core.specs.Kept.{IsKept}
 use Rattle.tree_core.specs.NotReached.{IsOfDefault, IsShareableControl}
 use Rattle.tree_core.specs.Tables.{state_of, tables}
@@ -31,10 +31,10 @@ take-unused : (m : Parameters) → m.domains ≤ 8 → take m.domains unused.pla
 take-unused m most = take-replicate m.domains 8 None most
 
 -- what the new tables stand for is kept
-pub opening_kept : (m : Machine) (ids : List ℕ) (groups : GroupList) (tasks : List Binding) (cpus : List CpuGroups) (classes : Classes) (rmids : MonitoringIds) (regions : RegionTable) → IsStrictlyIncreasing ids → groups ≡ groups_at_first.opening_groups (parameters_of m) → tasks ≡ map bindings.opening_binding ids
+pub IsKept-opening : (m : Machine) (ids : List ℕ) (groups : GroupList) (tasks : List Binding) (cpus : List CpuGroups) (classes : Classes) (rmids : MonitoringIds) (regions : RegionTable) → IsStrictlyIncreasing ids → groups ≡ groups_at_first.opening_groups (parameters_of m) → tasks ≡ map bindings.opening_binding ids
     → cpus ≡ replicate m.cpus cpu_groups.opening_cpu → classes ≡ record { count = m.classes; taken = 0 ∷ [] } → rmids ≡ record { count = m.rmids; taken = 0 ∷ []; limbo = []; threshold = m.threshold }
     → regions ≡ unused → IsKept (parameters_of m) (tables groups tasks cpus classes rmids regions) (state_of (parameters_of m) (tables groups tasks cpus classes rmids regions) replies.Ok 1) 0
-opening_kept m ids groups tasks cpus classes rmids regions rising is_groups is_tasks is_cpus is_classes is_rmids is_regions = rw (is_groups, is_tasks, is_cpus, is_classes, is_rmids, is_regions) (is_kept (record {
+IsKept-opening m ids groups tasks cpus classes rmids regions rising is_groups is_tasks is_cpus is_classes is_rmids is_regions = rw (is_groups, is_tasks, is_cpus, is_classes, is_rmids, is_regions) (IsKept-from_Keeps (record {
   stands = record {
     groups = refl;
     tasks = refl;
@@ -47,7 +47,7 @@ opening_kept m ids groups tasks cpus classes rmids regions rising is_groups is_t
     taken = record { class_count = refl; class_taken = λ id. refl; rmid_count = refl; rmid_taken = λ id. refl };
     gids_left = omega arith;
   };
-  sound = subst (λ (places : List (Option Region)). IsSound (parameters_of m) (record (opening (parameters_of m) ids) { regions = places })) (sym (take-unused (parameters_of m) m.in_range.domain_limit)) (opening_sound (parameters_of m) ids m.in_range rising);
+  sound = subst (λ (places : List (Option Region)). IsSound (parameters_of m) (record (opening (parameters_of m) ids) { regions = places })) (sym (take-unused (parameters_of m) m.in_range.domain_limit)) (opening-sound (parameters_of m) ids m.in_range rising);
   not_reached = record {
     groups = All-cons IsShareableControl (default_group (parameters_of m)) [] (record { control = refl; shareable = refl }) (λ k d within. absurd (omega arith));
     tasks = All-map IsOfDefault bindings.opening_binding ids (λ k d within. record { control = refl; monitor = refl });
@@ -59,8 +59,8 @@ opening_kept m ids groups tasks cpus classes rmids regions rising is_groups is_t
 }))
 
 -- the new tables stand for the opening state
-pub opening_state : (m : Machine) (ids : List ℕ) (groups : GroupList) (tasks : List Binding) (cpus : List CpuGroups) (classes : Classes) (rmids : MonitoringIds) (regions : RegionTable) → groups ≡ groups_at_first.opening_groups (parameters_of m) → tasks ≡ map bindings.opening_binding ids
+pub state_of-opening : (m : Machine) (ids : List ℕ) (groups : GroupList) (tasks : List Binding) (cpus : List CpuGroups) (classes : Classes) (rmids : MonitoringIds) (regions : RegionTable) → groups ≡ groups_at_first.opening_groups (parameters_of m) → tasks ≡ map bindings.opening_binding ids
     → cpus ≡ replicate m.cpus cpu_groups.opening_cpu → rmids ≡ record { count = m.rmids; taken = 0 ∷ []; limbo = []; threshold = m.threshold } → regions ≡ unused
     → state_of (parameters_of m) (tables groups tasks cpus classes rmids regions) replies.Ok 1 ≡ opening (parameters_of m) ids
-opening_state m ids groups tasks cpus classes rmids regions is_groups is_tasks is_cpus is_rmids is_regions =
+state_of-opening m ids groups tasks cpus classes rmids regions is_groups is_tasks is_cpus is_rmids is_regions =
     rw (is_groups, is_tasks, is_cpus, is_rmids, is_regions) (ap (λ (places : List (Option Region)). record (opening (parameters_of m) ids) { regions = places }) (take-unused (parameters_of m) m.in_range.domain_limit))

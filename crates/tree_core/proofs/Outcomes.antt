@@ -20,92 +20,103 @@ use Rattle.tree_law.specs.declared.follow.Follow.{Follow}
 
 -- ---- refused
 
-pub next_refused : (m : Parameters) (s : State) (op : Op) (r : Refusal) (looks : List ℕ) → refusal m s op ≡ Some r → next m s op looks ≡ record { reply = refused r.why r.arg; state = with_status op (refused r.why r.arg) (left s op) }
+-- a refused command answers why, and leaves what it leaves
+pub next-refused : (m : Parameters) (s : State) (op : Op) (r : Refusal) (looks : List ℕ) → refusal m s op ≡ Some r → next m s op looks ≡ record { reply = refused r.why r.arg; state = with_status op (refused r.why r.arg) (left s op) }
 unfolding next
-next_refused m s op r looks is = ap (λ (against : Option Refusal). record { reply = reply_of against; state = with_status op (reply_of against) (next_if m s op looks against) }) is
+next-refused m s op r looks is = ap (λ (against : Option Refusal). record { reply = reply_of against; state = with_status op (reply_of against) (next_if m s op looks against) }) is
 
-pub after_refused : (m : Parameters) (s : State) (k : ℕ) (op : Op) (r : Refusal) → refusal m s op ≡ Some r → after m s k op ≡ []
+-- nothing follows it
+pub after-refused : (m : Parameters) (s : State) (k : ℕ) (op : Op) (r : Refusal) → refusal m s op ≡ Some r → after m s k op ≡ []
 unfolding after
-after_refused m s k op r is = rw is refl
+after-refused m s k op r is = rw is refl
 
-pub needs_refused : (m : Parameters) (s : State) (op : Op) (r : Refusal) → refusal m s op ≡ Some r → needs m s op ≡ []
+-- and it needs no counts
+pub needs-refused : (m : Parameters) (s : State) (op : Op) (r : Refusal) → refusal m s op ≡ Some r → needs m s op ≡ []
 unfolding needs
-needs_refused m s op r is = rw is refl
+needs-refused m s op r is = rw is refl
 
 -- ---- accepted
 
-pub next_accepted : (m : Parameters) (s : State) (op : Op) (looks : List ℕ) → refusal m s op ≡ None → next m s op looks ≡ record { reply = replies.Ok; state = with_status op replies.Ok (accepted m s op looks) }
+-- an accepted command answers that it is done, and leaves its own state
+pub next-accepted : (m : Parameters) (s : State) (op : Op) (looks : List ℕ) → refusal m s op ≡ None → next m s op looks ≡ record { reply = replies.Ok; state = with_status op replies.Ok (accepted m s op looks) }
 unfolding next
-next_accepted m s op looks is = ap (λ (against : Option Refusal). record { reply = reply_of against; state = with_status op (reply_of against) (next_if m s op looks against) }) is
+next-accepted m s op looks is = ap (λ (against : Option Refusal). record { reply = reply_of against; state = with_status op (reply_of against) (next_if m s op looks against) }) is
 
-pub after_all : (m : Parameters) (s : State) (k : ℕ) (op : Op) → refusal m s op ≡ None → after m s k op ≡ after_accepted m s k op
+-- what follows it is its own
+pub after-accepted : (m : Parameters) (s : State) (k : ℕ) (op : Op) → refusal m s op ≡ None → after m s k op ≡ after_accepted m s k op
 unfolding after
-after_all m s k op is = rw is refl
+after-accepted m s k op is = rw is refl
 
-pub needs_all : (m : Parameters) (s : State) (op : Op) → refusal m s op ≡ None → needs m s op ≡ needs_accepted m s op
+-- and so are the counts that it needs
+pub needs-accepted : (m : Parameters) (s : State) (op : Op) → refusal m s op ≡ None → needs m s op ≡ needs_accepted m s op
 unfolding needs
-needs_all m s op is = rw is refl
+needs-accepted m s op is = rw is refl
 
 -- what follows does not depend on the position, but for a touch
-pub after_moved : (m : Parameters) (s : State) (k j : ℕ) (op : Op) → after_accepted m s k op ≡ after_accepted m s j op → after m s k op ≡ after m s j op
+pub after-moved : (m : Parameters) (s : State) (k j : ℕ) (op : Op) → after_accepted m s k op ≡ after_accepted m s j op → after m s k op ≡ after m s j op
 unfolding after
-after_moved m s k j op same = ap (λ (fs : List Follow). cond (is_some (refusal m s op)) [] fs) same
+after-moved m s k j op same = ap (λ (fs : List Follow). cond (is_some (refusal m s op)) [] fs) same
 
 -- a command that nothing follows where it is accepted
-pub after_nothing : (m : Parameters) (s : State) (k : ℕ) (op : Op) → after_accepted m s k op ≡ [] → after m s k op ≡ []
+pub after-nothing : (m : Parameters) (s : State) (k : ℕ) (op : Op) → after_accepted m s k op ≡ [] → after m s k op ≡ []
 unfolding after
-after_nothing m s k op none = at (is_some (refusal m s op))
+after-nothing m s k op none = at (is_some (refusal m s op))
   where
     at : (b : Bool) → cond b [] (after_accepted m s k op) ≡ []
     at true = refl
     at false = none
 
 -- a command that needs none where it is accepted needs none
-pub needs_nothing : (m : Parameters) (s : State) (op : Op) → needs_accepted m s op ≡ [] → needs m s op ≡ []
+pub needs-nothing : (m : Parameters) (s : State) (op : Op) → needs_accepted m s op ≡ [] → needs m s op ≡ []
 unfolding needs
-needs_nothing m s op none = at (is_some (refusal m s op))
+needs-nothing m s op none = at (is_some (refusal m s op))
   where
     at : (b : Bool) → cond b [] (needs_accepted m s op) ≡ []
     at true = refl
     at false = none
 
-pub next_reply : (m : Parameters) (s : State) (op : Op) (looks : List ℕ) → (next m s op looks).reply ≡ reply_of (refusal m s op)
+-- what is against a command makes the reply
+pub reply-next : (m : Parameters) (s : State) (op : Op) (looks : List ℕ) → (next m s op looks).reply ≡ reply_of (refusal m s op)
 unfolding next
-next_reply m s op looks = refl
+reply-next m s op looks = refl
 
 -- a command that changes nothing
-pub quiet_state : (m : Parameters) (s : State) (op : Op) (looks : List ℕ) → accepted m s op looks ≡ s → left s op ≡ s → ((x : State) → with_status op (reply_of (refusal m s op)) x ≡ x) → (next m s op looks).state ≡ s
+pub state-quiet : (m : Parameters) (s : State) (op : Op) (looks : List ℕ) → accepted m s op looks ≡ s → left s op ≡ s → ((x : State) → with_status op (reply_of (refusal m s op)) x ≡ x) → (next m s op looks).state ≡ s
 unfolding next
-quiet_state m s op looks same same' quiet = quiet (next_if m s op looks (refusal m s op)) ∙ at (refusal m s op)
+state-quiet m s op looks same same' quiet = quiet (next_if m s op looks (refusal m s op)) ∙ at (refusal m s op)
   where
     at : (against : Option Refusal) → next_if m s op looks against ≡ s
     at None = same
     at (Some r) = same'
 
 -- what a refused command leaves
-pub refused_state : (m : Parameters) (s : State) (op : Op) (looks : List ℕ) (r : Refusal) → refusal m s op ≡ Some r → (next m s op looks).state ≡ with_status op (refused r.why r.arg) (left s op)
-refused_state m s op looks r is = ap (λ (o : Outcome). o.state) (next_refused m s op r looks is)
+pub state-refused : (m : Parameters) (s : State) (op : Op) (looks : List ℕ) (r : Refusal) → refusal m s op ≡ Some r → (next m s op looks).state ≡ with_status op (refused r.why r.arg) (left s op)
+state-refused m s op looks r is = ap (λ (o : Outcome). o.state) (next-refused m s op r looks is)
 
-pub refused_left : (m : Parameters) (s : State) (op : Op) (looks : List ℕ) (after : State) → after ≡ (next m s op looks).state → IfSome (refusal m s op) (λ r. after ≡ with_status op (refused r.why r.arg) (left s op))
-refused_left m s op looks after is = at (refusal m s op) refl
+-- what is left where something is against a command
+pub IfSome-refusal : (m : Parameters) (s : State) (op : Op) (looks : List ℕ) (after : State) → after ≡ (next m s op looks).state → IfSome (refusal m s op) (λ r. after ≡ with_status op (refused r.why r.arg) (left s op))
+IfSome-refusal m s op looks after is = at (refusal m s op) refl
   where
     at : (against : Option Refusal) → refusal m s op ≡ against → IfSome against (λ r. after ≡ with_status op (refused r.why r.arg) (left s op))
     at None e = tt
-    at (Some r) e = is ∙ refused_state m s op looks r e
+    at (Some r) e = is ∙ state-refused m s op looks r e
 
 -- ---- rmdir
 
-pub rmdir_refused : (m : Parameters) (s : State) (path : PathRef) (why : Why) → find (rmdir.against s path) rmdir.reasons ≡ Some why → refusal m s (Rmdir path) ≡ Some (plain why)
+-- the first reason against an rmdir is against the command
+pub refusal-rmdir_some : (m : Parameters) (s : State) (path : PathRef) (why : Why) → find (rmdir.against s path) rmdir.reasons ≡ Some why → refusal m s (Rmdir path) ≡ Some (plain why)
 unfolding refusal rmdir.refusal
-rmdir_refused m s path why found = ap (option_map plain) found
+refusal-rmdir_some m s path why found = ap (option_map plain) found
 
-pub rmdir_accepted : (m : Parameters) (s : State) (path : PathRef) → find (rmdir.against s path) rmdir.reasons ≡ None → refusal m s (Rmdir path) ≡ None
+-- without a reason, nothing is against it
+pub refusal-rmdir_none : (m : Parameters) (s : State) (path : PathRef) → find (rmdir.against s path) rmdir.reasons ≡ None → refusal m s (Rmdir path) ≡ None
 unfolding refusal rmdir.refusal
-rmdir_accepted m s path none = ap (option_map plain) none
+refusal-rmdir_none m s path none = ap (option_map plain) none
 
-pub rmdir_none : (m : Parameters) (s : State) (path : PathRef) → refusal m s (Rmdir path) ≡ None → find (rmdir.against s path) rmdir.reasons ≡ None
+-- and where nothing is against it, there is no reason
+pub find-rmdir_none : (m : Parameters) (s : State) (path : PathRef) → refusal m s (Rmdir path) ≡ None → find (rmdir.against s path) rmdir.reasons ≡ None
 unfolding refusal rmdir.refusal
-rmdir_none m s path none = at (find (rmdir.against s path) rmdir.reasons) none
+find-rmdir_none m s path none = at (find (rmdir.against s path) rmdir.reasons) none
   where
     at : (o : Option Why) → option_map plain o ≡ None → o ≡ None
     at None e = refl
@@ -113,14 +124,17 @@ rmdir_none m s path none = at (find (rmdir.against s path) rmdir.reasons) none
 
 -- ---- read, list and flush
 
-pub read_refusal : (m : Parameters) (s : State) (path : PathRef) → refusal m s (Read path) ≡ cond (is_file s path) None (Some (plain NoSuchPath))
+-- a read of what is no file is refused
+pub refusal-read : (m : Parameters) (s : State) (path : PathRef) → refusal m s (Read path) ≡ cond (is_file s path) None (Some (plain NoSuchPath))
 unfolding refusal reads.refusal
-read_refusal m s path = refl
+refusal-read m s path = refl
 
-pub list_refusal : (m : Parameters) (s : State) (path : PathRef) → refusal m s (ops.List path) ≡ cond (is_directory s path) None (Some (plain NoSuchPath))
+-- a list of what is no directory is refused
+pub refusal-list : (m : Parameters) (s : State) (path : PathRef) → refusal m s (ops.List path) ≡ cond (is_directory s path) None (Some (plain NoSuchPath))
 unfolding refusal reads.list_refusal
-list_refusal m s path = refl
+refusal-list m s path = refl
 
-pub flush_refusal : (m : Parameters) (s : State) (domain : Option ℕ) → refusal m s (Flush domain) ≡ None
+-- a flush is never refused
+pub refusal-flush : (m : Parameters) (s : State) (domain : Option ℕ) → refusal m s (Flush domain) ≡ None
 unfolding refusal
-flush_refusal m s domain = refl
+refusal-flush m s domain = refl

@@ -29,13 +29,13 @@ pub record IsRefused (m : Parameters) (s : State) (path : PathRef) (said : Reply
   pub kept : (looks : List ℕ) → next_if m s (Mkdir path) looks (refusal m s (Mkdir path)) ≡ s
 
 -- what is against it makes the reply
-pub refused_by : (m : Parameters) (s : State) (path : PathRef) (r : Refusal) → refusal m s (Mkdir path) ≡ Some r → IsRefused m s path (refused r.why r.arg)
-refused_by m s path r is = record { reply = sym (ap reply_of is); kept = λ looks. ap (next_if m s (Mkdir path) looks) is }
+pub IsRefused-by : (m : Parameters) (s : State) (path : PathRef) (r : Refusal) → refusal m s (Mkdir path) ≡ Some r → IsRefused m s path (refused r.why r.arg)
+IsRefused-by m s path r is = record { reply = sym (ap reply_of is); kept = λ looks. ap (next_if m s (Mkdir path) looks) is }
 
 -- what is against the place is against the command
-pub place_refused : (m : Parameters) (s : State) (path : PathRef) (why : Why) → find (against m s path) place_reasons ≡ Some why → refusal m s (Mkdir path) ≡ Some (plain why)
+pub refusal-place : (m : Parameters) (s : State) (path : PathRef) (why : Why) → find (against m s path) place_reasons ≡ Some why → refusal m s (Mkdir path) ≡ Some (plain why)
 unfolding refusal mkdir.refusal
-place_refused m s path why found = at (against m s path NoSuchPath) (against m s path Exists) (against m s path NotAPlace) (find (against m s path) lack_reasons) found
+refusal-place m s path why found = at (against m s path NoSuchPath) (against m s path Exists) (against m s path NotAPlace) (find (against m s path) lack_reasons) found
   where
     at : (a b c : Bool) (rest : Option Why) → cond a (Some NoSuchPath) (cond b (Some Exists) (cond c (Some NotAPlace) None)) ≡ Some why
         → option_map (with_argument m s) (cond a (Some NoSuchPath) (cond b (Some Exists) (cond c (Some NotAPlace) rest))) ≡ Some (plain why)
@@ -45,9 +45,9 @@ place_refused m s path why found = at (against m s path NoSuchPath) (against m s
     at false false false rest e = absurd (let none : None ≡ Some why = e in cc)
 
 -- where nothing is against the place, some lack may be
-in_place : (m : Parameters) (s : State) (path : PathRef) → find (against m s path) place_reasons ≡ None → refusal m s (Mkdir path) ≡ option_map (with_argument m s) (find (against m s path) lack_reasons)
+refusal-in_place : (m : Parameters) (s : State) (path : PathRef) → find (against m s path) place_reasons ≡ None → refusal m s (Mkdir path) ≡ option_map (with_argument m s) (find (against m s path) lack_reasons)
 unfolding refusal mkdir.refusal
-in_place m s path none = at (against m s path NoSuchPath) (against m s path Exists) (against m s path NotAPlace) (find (against m s path) lack_reasons) none
+refusal-in_place m s path none = at (against m s path NoSuchPath) (against m s path Exists) (against m s path NotAPlace) (find (against m s path) lack_reasons) none
   where
     at : (a b c : Bool) (rest : Option Why) → cond a (Some NoSuchPath) (cond b (Some Exists) (cond c (Some NotAPlace) None)) ≡ None
         → option_map (with_argument m s) (cond a (Some NoSuchPath) (cond b (Some Exists) (cond c (Some NotAPlace) rest))) ≡ option_map (with_argument m s) rest
@@ -62,8 +62,9 @@ pub record IsPlace (m : Parameters) (s : State) (path : PathRef) : Type 0 where
   pub new : against m s path Exists ≡ false
   pub place : against m s path NotAPlace ≡ false
 
-pub place_parts : (m : Parameters) (s : State) (path : PathRef) → find (against m s path) place_reasons ≡ None → IsPlace m s path
-place_parts m s path none = at (against m s path NoSuchPath) (against m s path Exists) (against m s path NotAPlace) refl refl refl none
+-- without a reason against the place, it is one for a new group
+pub IsPlace-find_none : (m : Parameters) (s : State) (path : PathRef) → find (against m s path) place_reasons ≡ None → IsPlace m s path
+IsPlace-find_none m s path none = at (against m s path NoSuchPath) (against m s path Exists) (against m s path NotAPlace) refl refl refl none
   where
     at : (a b c : Bool) → against m s path NoSuchPath ≡ a → against m s path Exists ≡ b → against m s path NotAPlace ≡ c → cond a (Some NoSuchPath) (cond b (Some Exists) (cond c (Some NotAPlace) None)) ≡ None → IsPlace m s path
     at true b c p q r e = absurd (let some : Some NoSuchPath ≡ None = e in cc)
@@ -79,28 +80,34 @@ rmids_lack s = cond (eqb (length s.limbo) 0) (refused OutOfRmids 0) (refused Rmi
 abbrev lacks_of : Parameters → State → Bool → Bool → Bool → Bool → Option Refusal
 lacks_of m s class space rmid limbo = option_map (with_argument m s) (cond class (Some OutOfClosids) (cond space (Some NoSpace) (cond (rmid && limbo) (Some OutOfRmids) (cond (rmid && not limbo) (Some RmidsBusy) None))))
 
-control_lacks : (m : Parameters) (s : State) (name : NameId) → find (against m s (Dir (Ctrl name))) place_reasons ≡ None
+-- what is against making a control group at a place is a lack
+refusal-lacks_of : (m : Parameters) (s : State) (name : NameId) → find (against m s (Dir (Ctrl name))) place_reasons ≡ None
     → refusal m s (Mkdir (Dir (Ctrl name))) ≡ lacks_of m s (is_none (free_class m s)) (is_some (full_domain m s)) (is_none (free_rmid m s)) (eqb (length s.limbo) 0)
-control_lacks m s name none = in_place m s (Dir (Ctrl name)) none
+refusal-lacks_of m s name none = refusal-in_place m s (Dir (Ctrl name)) none
 
-pub no_class : (m : Parameters) (s : State) (name : NameId) → find (against m s (Dir (Ctrl name))) place_reasons ≡ None → free_class m s ≡ None → IsRefused m s (Dir (Ctrl name)) (refused OutOfClosids 0)
-no_class m s name none class = refused_by m s (Dir (Ctrl name)) (plain OutOfClosids) (control_lacks m s name none ∙ rw class refl)
+-- without a free class it is refused
+pub IsRefused-no_class : (m : Parameters) (s : State) (name : NameId) → find (against m s (Dir (Ctrl name))) place_reasons ≡ None → free_class m s ≡ None → IsRefused m s (Dir (Ctrl name)) (refused OutOfClosids 0)
+IsRefused-no_class m s name none class = IsRefused-by m s (Dir (Ctrl name)) (plain OutOfClosids) (refusal-lacks_of m s name none ∙ rw class refl)
 
-pub no_space : (m : Parameters) (s : State) (name : NameId) (class domain : ℕ) → find (against m s (Dir (Ctrl name))) place_reasons ≡ None → free_class m s ≡ Some class → full_domain m s ≡ Some domain
+-- and so it is where a domain is full
+pub IsRefused-no_space : (m : Parameters) (s : State) (name : NameId) (class domain : ℕ) → find (against m s (Dir (Ctrl name))) place_reasons ≡ None → free_class m s ≡ Some class → full_domain m s ≡ Some domain
     → IsRefused m s (Dir (Ctrl name)) (refused NoSpace domain)
-no_space m s name class domain none is_class is_full = refused_by m s (Dir (Ctrl name)) (record { why = NoSpace; arg = domain })
-    (control_lacks m s name none
+IsRefused-no_space m s name class domain none is_class is_full = IsRefused-by m s (Dir (Ctrl name)) (record { why = NoSpace; arg = domain })
+    (refusal-lacks_of m s name none
     ∙ ap₂ (λ (a b : Option ℕ). lacks_of m s (is_none a) (is_some b) (is_none (free_rmid m s)) (eqb (length s.limbo) 0)) is_class is_full
     ∙ ap (λ (full : Option ℕ). Some (record { why = NoSpace; arg = unwrap_or full 0 })) is_full)
 
-lack_of_rmids : (m : Parameters) (s : State) (name : NameId) (limbo : Bool) → refusal m s (Mkdir (Dir (Ctrl name))) ≡ lacks_of m s false false true limbo → IsRefused m s (Dir (Ctrl name)) (cond limbo (refused OutOfRmids 0) (refused RmidsBusy 0))
-lack_of_rmids m s name true is = refused_by m s (Dir (Ctrl name)) (plain OutOfRmids) is
-lack_of_rmids m s name false is = refused_by m s (Dir (Ctrl name)) (plain RmidsBusy) is
+-- where RMIDs are lacking, the limbo tells the reply
+IsRefused-lack_of_rmids : (m : Parameters) (s : State) (name : NameId) (limbo : Bool) → refusal m s (Mkdir (Dir (Ctrl name))) ≡ lacks_of m s false false true limbo → IsRefused m s (Dir (Ctrl name)) (cond limbo (refused OutOfRmids 0) (refused RmidsBusy 0))
+IsRefused-lack_of_rmids m s name true is = IsRefused-by m s (Dir (Ctrl name)) (plain OutOfRmids) is
+IsRefused-lack_of_rmids m s name false is = IsRefused-by m s (Dir (Ctrl name)) (plain RmidsBusy) is
 
-pub no_rmid : (m : Parameters) (s : State) (name : NameId) (class : ℕ) → find (against m s (Dir (Ctrl name))) place_reasons ≡ None → free_class m s ≡ Some class → full_domain m s ≡ None → free_rmid m s ≡ None
+-- without a free RMID it is refused
+pub IsRefused-no_rmid : (m : Parameters) (s : State) (name : NameId) (class : ℕ) → find (against m s (Dir (Ctrl name))) place_reasons ≡ None → free_class m s ≡ Some class → full_domain m s ≡ None → free_rmid m s ≡ None
     → IsRefused m s (Dir (Ctrl name)) (rmids_lack s)
-no_rmid m s name class none is_class is_full is_rmid = lack_of_rmids m s name (eqb (length s.limbo) 0) (control_lacks m s name none ∙ rw (is_class, is_full, is_rmid) refl)
+IsRefused-no_rmid m s name class none is_class is_full is_rmid = IsRefused-lack_of_rmids m s name (eqb (length s.limbo) 0) (refusal-lacks_of m s name none ∙ rw (is_class, is_full, is_rmid) refl)
 
-pub no_lack : (m : Parameters) (s : State) (name : NameId) (class rmid : ℕ) → find (against m s (Dir (Ctrl name))) place_reasons ≡ None → free_class m s ≡ Some class → full_domain m s ≡ None → free_rmid m s ≡ Some rmid
+-- where nothing is lacking, nothing is against it
+pub refusal-no_lack : (m : Parameters) (s : State) (name : NameId) (class rmid : ℕ) → find (against m s (Dir (Ctrl name))) place_reasons ≡ None → free_class m s ≡ Some class → full_domain m s ≡ None → free_rmid m s ≡ Some rmid
     → refusal m s (Mkdir (Dir (Ctrl name))) ≡ None
-no_lack m s name class rmid none is_class is_full is_rmid = control_lacks m s name none ∙ rw (is_class, is_full, is_rmid) refl
+refusal-no_lack m s name class rmid none is_class is_full is_rmid = refusal-lacks_of m s name none ∙ rw (is_class, is_full, is_rmid) refl

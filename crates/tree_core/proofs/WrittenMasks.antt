@@ -28,13 +28,13 @@ use Rattle.rc_base.specs.declared.replies.Why.TheVariants as whys
 use Rattle.schemata_text.specs.declared.assignment.Assignment.{Assignment}
 use Rattle.schemata_text.specs.declared.fault.TextFault.{TextFault}
 use Rattle.script_ops.specs.declared.op.Op.TheVariants.{Write}
-use Rattle.tree_core.proofs.BuiltPaths.{write_nothing}
-use Rattle.tree_core.proofs.Found.{find-control_at}
-use Rattle.tree_core.proofs.Kept.{found_plain}
-use Rattle.tree_core.proofs.Outcomes.{needs_nothing, next_accepted}
-use Rattle.tree_core.proofs.Soundness.{next_sound}
-use Rattle.tree_core.proofs.Taken.{taken-replaced}
-use Rattle.tree_core.proofs.Unreached.{plain_replaced, unreached_with}
+use Rattle.tree_core.proofs.BuiltPaths.{freed-write}
+use Rattle.tree_core.proofs.FoundGroups.{find-control_at}
+use Rattle.tree_core.proofs.KeptTables.{IsShareableControl-found}
+use Rattle.tree_core.proofs.Outcomes.{needs-nothing, next-accepted}
+use Rattle.tree_law.proofs.laws.Steps.{next-sound}
+use Rattle.tree_core.proofs.TakenIds.{AreTaken-replaced}
+use Rattle.tree_core.proofs.UnreachedParts.{All-shareable_replaced, NotReached-with}
 use Rattle.tree_core.specs.Kept.{Keeps}
 use Rattle.tree_core.specs.NotReached.{IsShareableControl}
 use Rattle.tree_core.specs.Tables.{Tables}
@@ -51,28 +51,29 @@ use Rattle.tree_law.specs.commands.Schemata.{against_entries, assigned, raises, 
 use Rattle.tree_law.specs.commands.Write as write
 
 -- what is against the path is against the command
-pub write_refused : (m : Parameters) (s : State) (path : PathRef) (text : List ℕ) (why : Why) → find (write.against s path) write.reasons ≡ Some why → refusal m s (Write path text) ≡ Some (plain why)
+pub refusal-write_path : (m : Parameters) (s : State) (path : PathRef) (text : List ℕ) (why : Why) → find (write.against s path) write.reasons ≡ Some why → refusal m s (Write path text) ≡ Some (plain why)
 unfolding refusal write.refusal
-write_refused m s path text why found = ap (λ (w : Option Why). option_or (option_map plain w) (write.text_refusal m s path text)) found
+refusal-write_path m s path text why found = ap (λ (w : Option Why). option_or (option_map plain w) (write.text_refusal m s path text)) found
 
-write_writable : (m : Parameters) (s : State) (path : PathRef) (text : List ℕ) → find (write.against s path) write.reasons ≡ None → refusal m s (Write path text) ≡ write.text_refusal m s path text
+-- where nothing is against the path, the text decides
+refusal-write_text : (m : Parameters) (s : State) (path : PathRef) (text : List ℕ) → find (write.against s path) write.reasons ≡ None → refusal m s (Write path text) ≡ write.text_refusal m s path text
 unfolding refusal write.refusal
-write_writable m s path text none = ap (λ (w : Option Why). option_or (option_map plain w) (write.text_refusal m s path text)) none
+refusal-write_text m s path text none = ap (λ (w : Option Why). option_or (option_map plain w) (write.text_refusal m s path text)) none
 
 -- a refused write of `schemata` leaves the state
-pub schemata_left : (s : State) (dir : DirRef) (text : List ℕ) (reply : Reply) → with_status (Write (File dir files.Schemata) text) reply (left s (Write (File dir files.Schemata) text)) ≡ record s { status = reply }
+pub with_status-schemata : (s : State) (dir : DirRef) (text : List ℕ) (reply : Reply) → with_status (Write (File dir files.Schemata) text) reply (left s (Write (File dir files.Schemata) text)) ≡ record s { status = reply }
 unfolding write.refused
-schemata_left s dir text reply = refl
+with_status-schemata s dir text reply = refl
 
 -- ---- nothing overlaps a mask of a shareable group
 
 -- no mask is that of an exclusive group
-none_exclusive : (gid : Option Gid) (domain : ℕ) (groups : List Group) → ((k : ℕ) (d : Group) → k < length groups → IsShareableControl (get_or groups k d)) → masks_of_others gid Exclusive domain groups ≡ []
-none_exclusive gid domain [] each = refl
-none_exclusive gid domain (g ∷ gs) each =
+masks_of_others-exclusive : (gid : Option Gid) (domain : ℕ) (groups : List Group) → ((k : ℕ) (d : Group) → k < length groups → IsShareableControl (get_or groups k d)) → masks_of_others gid Exclusive domain groups ≡ []
+masks_of_others-exclusive gid domain [] each = refl
+masks_of_others-exclusive gid domain (g ∷ gs) each =
     let mine : IsShareableControl g = each 0 g (omega arith) in
     let other : has_mode Exclusive g ≡ false = ap (λ (kind : GroupKind). is_control kind && is_mode Exclusive g.mode) mine.control ∙ ap (is_mode Exclusive) mine.shareable in
-    rw (not_it other) (none_exclusive gid domain gs (λ k d within. each (suc k) d (omega arith)))
+    rw (not_it other) (masks_of_others-exclusive gid domain gs (λ k d within. each (suc k) d (omega arith)))
   where
     not_it : has_mode Exclusive g ≡ false → is_other_in gid Exclusive g ≡ false
     not_it other = ap (λ (b : Bool). is_other gid g && b) other ∙ and_false (is_other gid g)
@@ -81,95 +82,109 @@ none_exclusive gid domain (g ∷ gs) each =
         and_false true = refl
         and_false false = refl
 
-overlaps_none : (mask : ℕ) → overlaps mask 0 ≡ false
+-- no mask overlaps one without ways
+overlaps-zero : (mask : ℕ) → overlaps mask 0 ≡ false
 unfolding overlaps
-overlaps_none mask = list_any_none (has_way 0) (ways_of mask) (λ k d within. has_way-zero 0 (get_or (ways_of mask) k d) (bit_at-zero (get_or (ways_of mask) k d)))
+overlaps-zero mask = list_any_none (has_way 0) (ways_of mask) (λ k d within. has_way-zero 0 (get_or (ways_of mask) k d) (bit_at-zero (get_or (ways_of mask) k d)))
 
 module _ {m : Parameters} {t : Tables} {s : State} {epoch : ℕ} (keeps : Keeps m t s epoch) where
-  no_region : (domain : ℕ) → region_mask s.regions domain ≡ 0
-  no_region domain = ap (λ (rs : List (Option Region)). region_mask rs domain) keeps.not_reached.regions ∙ at m.domains domain
+  -- no way is in a region
+  region_mask-none : (domain : ℕ) → region_mask s.regions domain ≡ 0
+  region_mask-none domain = ap (λ (rs : List (Option Region)). region_mask rs domain) keeps.not_reached.regions ∙ at m.domains domain
     where
       at : (n k : ℕ) → region_mask (replicate n None) k ≡ 0
       at zero k = refl
       at (suc n) zero = refl
       at (suc n) (suc k) = at n k
 
-  none_against : (gid : Gid) (mask domain : ℕ) → write_overlap Shareable mask (used_in m s (Some gid) domain) ≡ Ok tt
+  -- so no mask of a shareable group overlaps another's
+  write_overlap-shareable : (gid : Gid) (mask domain : ℕ) → write_overlap Shareable mask (used_in m s (Some gid) domain) ≡ Ok tt
   unfolding write_overlap
-  none_against gid mask domain = rw (none_exclusive (Some gid) domain s.groups keeps.not_reached.groups, no_region domain, overlaps_none mask) refl
+  write_overlap-shareable gid mask domain = rw (masks_of_others-exclusive (Some gid) domain s.groups keeps.not_reached.groups, region_mask-none domain, overlaps-zero mask) refl
 
-  entries_fine : (g : Group) → g.mode ≡ Shareable → (all : List Assignment) → against_entries m s g all ≡ None
-  entries_fine g shareable [] = refl
-  entries_fine g shareable (a ∷ all) =
-      let one : write_overlap g.mode a.mask (used_in m s (Some g.gid) a.domain) ≡ Ok tt = ap (λ (mode : Mode). write_overlap mode a.mask (used_in m s (Some g.gid) a.domain)) shareable ∙ none_against g.gid a.mask a.domain in
-      rw one (entries_fine g shareable all)
+  -- and nothing is against its assignments
+  against_entries-shareable : (g : Group) → g.mode ≡ Shareable → (all : List Assignment) → against_entries m s g all ≡ None
+  against_entries-shareable g shareable [] = refl
+  against_entries-shareable g shareable (a ∷ all) =
+      let one : write_overlap g.mode a.mask (used_in m s (Some g.gid) a.domain) ≡ Ok tt = ap (λ (mode : Mode). write_overlap mode a.mask (used_in m s (Some g.gid) a.domain)) shareable ∙ write_overlap-shareable g.gid a.mask a.domain in
+      rw one (against_entries-shareable g shareable all)
 
   -- ---- by the reading of a text
 
   module _ (dir : DirRef) (text : List ℕ) (writable : find (write.against s (File dir files.Schemata)) write.reasons ≡ None) where
     -- a directory that is no control group's takes any text
-    pub nowhere_accepted : control_at s dir ≡ None → refusal m s (Write (File dir files.Schemata) text) ≡ None
-    nowhere_accepted none = write_writable m s (File dir files.Schemata) text writable ∙ ap (λ (o : Option Group). option_map_or (λ g. schemata.refusal m s g (schemata_read m text)) o None) none
+    pub refusal-nowhere : control_at s dir ≡ None → refusal m s (Write (File dir files.Schemata) text) ≡ None
+    refusal-nowhere none = refusal-write_text m s (File dir files.Schemata) text writable ∙ ap (λ (o : Option Group). option_map_or (λ g. schemata.refusal m s g (schemata_read m text)) o None) none
 
-    pub nowhere_same : (looks : List ℕ) → control_at s dir ≡ None → accepted m s (Write (File dir files.Schemata) text) looks ≡ s
+    -- it changes nothing
+    pub accepted-nowhere : (looks : List ℕ) → control_at s dir ≡ None → accepted m s (Write (File dir files.Schemata) text) looks ≡ s
     unfolding write.accepted
-    nowhere_same looks none = ap (λ (o : Option Group). option_map_or (λ g. schemata.accepted s g (schemata_read m text)) o s) none
+    accepted-nowhere looks none = ap (λ (o : Option Group). option_map_or (λ g. schemata.accepted s g (schemata_read m text)) o s) none
 
-    pub nowhere_alone : (k : ℕ) → control_at s dir ≡ None → after_accepted m s k (Write (File dir files.Schemata) text) ≡ []
+    -- and nothing follows it
+    pub after_accepted-nowhere : (k : ℕ) → control_at s dir ≡ None → after_accepted m s k (Write (File dir files.Schemata) text) ≡ []
     unfolding write.after
-    nowhere_alone k none = ap (λ (o : Option Group). option_map_or (λ g. schemata.after m s g (schemata_read m text)) o []) none
+    after_accepted-nowhere k none = ap (λ (o : Option Group). option_map_or (λ g. schemata.after m s g (schemata_read m text)) o []) none
 
     module _ (g : Group) (is_group : control_at s dir ≡ Some g) where
-      pub shareable_there : g.mode ≡ Shareable
-      shareable_there = (found_plain keeps g.gid g (find-control_at s dir g is_group)).shareable
+      -- the group of the directory is shareable
+      pub mode-shareable : g.mode ≡ Shareable
+      mode-shareable = (IsShareableControl-found keeps g.gid g (find-control_at s dir g is_group)).shareable
 
-      refusal_is : (read : Result (List Assignment) TextFault) → schemata_read m text ≡ read → refusal m s (Write (File dir files.Schemata) text) ≡ schemata.refusal m s g read
-      refusal_is read is = write_writable m s (File dir files.Schemata) text writable ∙ ap (λ (o : Option Group). option_map_or (λ x. schemata.refusal m s x (schemata_read m text)) o None) is_group ∙ ap (schemata.refusal m s g) is
+      -- what is against the command is against the reading of the text
+      refusal-schemata : (read : Result (List Assignment) TextFault) → schemata_read m text ≡ read → refusal m s (Write (File dir files.Schemata) text) ≡ schemata.refusal m s g read
+      refusal-schemata read is = refusal-write_text m s (File dir files.Schemata) text writable ∙ ap (λ (o : Option Group). option_map_or (λ x. schemata.refusal m s x (schemata_read m text)) o None) is_group ∙ ap (schemata.refusal m s g) is
 
-      pub text_refused : (fault : TextFault) → schemata_read m text ≡ Err fault → refusal m s (Write (File dir files.Schemata) text) ≡ Some (text_refusal fault)
+      -- a fault of the text is against the command
+      pub refusal-schemata_fault : (fault : TextFault) → schemata_read m text ≡ Err fault → refusal m s (Write (File dir files.Schemata) text) ≡ Some (text_refusal fault)
       unfolding schemata.refusal
-      text_refused fault is = refusal_is (Err fault) is ∙ ap (λ (mode : Mode). cond (schemata.is_locked mode) (Some (plain whys.GroupLocked)) (Some (text_refusal fault))) shareable_there
+      refusal-schemata_fault fault is = refusal-schemata (Err fault) is ∙ ap (λ (mode : Mode). cond (schemata.is_locked mode) (Some (plain whys.GroupLocked)) (Some (text_refusal fault))) mode-shareable
 
-      pub text_accepted : (all : List Assignment) → schemata_read m text ≡ Ok all → refusal m s (Write (File dir files.Schemata) text) ≡ None
+      -- nothing is against a text without a fault
+      pub refusal-schemata_read : (all : List Assignment) → schemata_read m text ≡ Ok all → refusal m s (Write (File dir files.Schemata) text) ≡ None
       unfolding schemata.refusal
-      text_accepted all is =
-          refusal_is (Ok all) is
-          ∙ ap (λ (mode : Mode). cond (schemata.is_locked mode) (Some (plain whys.GroupLocked)) (cond (schemata.names_many mode all) (Some (plain whys.OneDomain)) (against_entries m s g all))) shareable_there
-          ∙ entries_fine g shareable_there all
+      refusal-schemata_read all is =
+          refusal-schemata (Ok all) is
+          ∙ ap (λ (mode : Mode). cond (schemata.is_locked mode) (Some (plain whys.GroupLocked)) (cond (schemata.names_many mode all) (Some (plain whys.OneDomain)) (against_entries m s g all))) mode-shareable
+          ∙ against_entries-shareable g mode-shareable all
 
       -- the state with its new masks
       abbrev pub with_masks : List Assignment → State
       with_masks all = with_record s (record g { masks = assigned g.masks all })
 
-      pub accepted_is : (all : List Assignment) (looks : List ℕ) → schemata_read m text ≡ Ok all → accepted m s (Write (File dir files.Schemata) text) looks ≡ with_masks all
+      -- the command leaves that state
+      pub accepted-schemata : (all : List Assignment) (looks : List ℕ) → schemata_read m text ≡ Ok all → accepted m s (Write (File dir files.Schemata) text) looks ≡ with_masks all
       unfolding write.accepted schemata.accepted
-      accepted_is all looks is =
+      accepted-schemata all looks is =
           ap (λ (o : Option Group). option_map_or (λ x. schemata.accepted s x (schemata_read m text)) o s) is_group
           ∙ ap (schemata.accepted s g) is
-          ∙ ap (λ (mode : Mode). schemata.with_masks s g mode all) shareable_there
+          ∙ ap (λ (mode : Mode). schemata.with_masks s g mode all) mode-shareable
 
-      pub after_is : (all : List Assignment) (k : ℕ) → schemata_read m text ≡ Ok all → after_accepted m s k (Write (File dir files.Schemata) text) ≡ raises m all
+      -- each domain that the text names follows it
+      pub after_accepted-schemata : (all : List Assignment) (k : ℕ) → schemata_read m text ≡ Ok all → after_accepted m s k (Write (File dir files.Schemata) text) ≡ raises m all
       unfolding write.after schemata.after
-      after_is all k is =
+      after_accepted-schemata all k is =
           ap (λ (o : Option Group). option_map_or (λ x. schemata.after m s x (schemata_read m text)) o []) is_group
           ∙ ap (schemata.after m s g) is
-          ∙ ap (λ (mode : Mode). schemata.follow m s mode all) shareable_there
+          ∙ ap (λ (mode : Mode). schemata.follow m s mode all) mode-shareable
 
-      pub masks_sound : (all : List Assignment) → InRange m → length text ≤ 4096 → schemata_read m text ≡ Ok all → IsSound m (record (with_masks all) { status = replies.Ok })
-      masks_sound all range short is =
+      -- the state is sound
+      pub IsSound-with_masks : (all : List Assignment) → InRange m → length text ≤ 4096 → schemata_read m text ≡ Ok all → IsSound m (record (with_masks all) { status = replies.Ok })
+      IsSound-with_masks all range short is =
           let op = Write (File dir files.Schemata) text in
-          let next = next_sound m s op [] range keeps.sound short (ap length (sym (needs_nothing m s op no_needs))) in
-          let after = subst (λ (o : Outcome). IsSound m o.state) (next_accepted m s op [] (text_accepted all is)) next in
-          subst (λ (x : State). IsSound m (record x { status = replies.Ok })) (accepted_is all [] is) after
+          let next = next-sound m s op [] range keeps.sound short (ap length (sym (needs-nothing m s op no_needs))) in
+          let after = subst (λ (o : Outcome). IsSound m o.state) (next-accepted m s op [] (refusal-schemata_read all is)) next in
+          subst (λ (x : State). IsSound m (record x { status = replies.Ok })) (accepted-schemata all [] is) after
         where
           no_needs : counts_of m (write.freed s (File dir files.Schemata) text) ≡ []
-          no_needs = ap (counts_of m) (write_nothing s dir files.Schemata text refl)
+          no_needs = ap (counts_of m) (freed-write s dir files.Schemata text refl)
 
   -- ---- what the type keeps of it
 
-  pub masks_kept : (g : Group) (masks : List ℕ) (groups' : GroupList) (after : State) → find (has_gid g.gid) s.groups ≡ Some g → groups'.groups ≡ replaced (record g { masks = masks }) t.groups.groups → groups'.shareable ≡ t.groups.shareable
+  -- the state with other masks of a group that was found
+  pub Keeps-with_record : (g : Group) (masks : List ℕ) (groups' : GroupList) (after : State) → find (has_gid g.gid) s.groups ≡ Some g → groups'.groups ≡ replaced (record g { masks = masks }) t.groups.groups → groups'.shareable ≡ t.groups.shareable
       → after ≡ record (with_record s (record g { masks = masks })) { status = replies.Ok } → IsSound m (record (with_record s (record g { masks = masks })) { status = replies.Ok }) → Keeps m (record t { groups = groups' }) after epoch
-  masks_kept g masks groups' after found is_groups shareable is sound = subst (λ (x : State). Keeps m (record t { groups = groups' }) x epoch) (sym is) (record {
+  Keeps-with_record g masks groups' after found is_groups shareable is sound = subst (λ (x : State). Keeps m (record t { groups = groups' }) x epoch) (sym is) (record {
     stands = record {
       groups = is_groups ∙ ap (replaced (record g { masks = masks })) keeps.stands.groups;
       tasks = keeps.stands.tasks;
@@ -179,14 +194,14 @@ module _ {m : Parameters} {t : Tables} {s : State} {epoch : ℕ} (keeps : Keeps 
       regions = keeps.stands.regions;
       locks = keeps.stands.locks;
       shareable = shareable ∙ keeps.stands.shareable;
-      taken = taken-replaced m s.groups t.classes t.rmids (record g { masks = masks }) keeps.stands.taken (λ k d within is.
+      taken = AreTaken-replaced m s.groups t.classes t.rmids (record g { masks = masks }) keeps.stands.taken (λ k d within is.
           let same : get_or s.groups k d ≡ g = get_or-key (λ (x : Group). x.gid.0) s.groups (record g { masks = masks }) g keeps.sound.named.gids found k d within is in
           (ap (λ (x : Group). x.class) same, ap (λ (x : Group). x.rmid) same));
       gids_left = keeps.stands.gids_left;
     };
     sound = sound;
-    not_reached = unreached_with m s (replaced (record g { masks = masks }) s.groups) s.limbo replies.Ok s.next_gid keeps.not_reached (plain_replaced s.groups (record g { masks = masks }) keeps.not_reached.groups plain_new);
+    not_reached = NotReached-with m s (replaced (record g { masks = masks }) s.groups) s.limbo replies.Ok s.next_gid keeps.not_reached (All-shareable_replaced s.groups (record g { masks = masks }) keeps.not_reached.groups plain_new);
   })
     where
       plain_new : IsShareableControl (record g { masks = masks })
-      plain_new = (let old = found_plain keeps g.gid g found in record { control = old.control; shareable = old.shareable })
+      plain_new = (let old = IsShareableControl-found keeps g.gid g found in record { control = old.control; shareable = old.shareable })

@@ -4,6 +4,8 @@ use Rattle.std.specs.List.{All}
 use Rattle.group_tree.specs.Records as records
 use Rattle.group_tree.specs.declared.group.Group as groups
 use Rattle.group_tree.specs.declared.group_kind.GroupKind as kinds
+use Rattle.path_names.specs.ShortNames.{IsShortName}
+use Rattle.path_names.specs.declared.names.NameId.{NameId}
 use Rattle.rc_base.specs.declared.names.Gid.{Gid}
 
 -- the record of a group
@@ -26,6 +28,15 @@ is_monitor_of control kind = records.is_monitor_of control kind
 abbrev pub mask_in : ℕ → Group → ℕ
 mask_in domain g = records.mask_in domain g
 
--- the name of every group is one of these
+-- a name is one of these, and as short as the component of a path
+pub record IsName (names : List (List ℕ)) (id : NameId) : Type 0 where
+  pub known : id.0 < length names
+  pub short : IsShortName names id.0
+
+-- a group without a name, or with such a one
+abbrev pub IsNamed : List (List ℕ) → Group → Type 0
+IsNamed names g = IfSome g.name (IsName names)
+
+-- the name of every group is one of these, and short
 abbrev pub AreNamed : List (List ℕ) → List Group → Type 0
-AreNamed names groups = All (λ (g : Group). IfSome g.name (λ id. id.0 < length names)) groups
+AreNamed names groups = All (IsNamed names) groups

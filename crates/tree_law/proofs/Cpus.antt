@@ -29,14 +29,14 @@ use Rattle.tree_law.specs.commands.Cpus.{accepted, against_set, cpu_after, cpus_
 
 module _ (groups : List Group) (gid : Gid) (set : ℕ) where
   -- a CPU of a control group's set, or one that it drops
-  after_control_served : (cpu : ℕ) (c : CpuGroups) → IsCounted groups gid → IsCounted groups (record { 0 = 0 }) → IsServed groups c → IsServed groups (after_control gid set cpu c)
-  after_control_served cpu c may default served =
+  IsServed-after_control : (cpu : ℕ) (c : CpuGroups) → IsCounted groups gid → IsCounted groups (record { 0 = 0 }) → IsServed groups c → IsServed groups (after_control gid set cpu c)
+  IsServed-after_control cpu c may default served =
       cond-case (IsServed groups) (has_cpu set cpu) (joined gid) (cond (has_control gid c) opening_cpu c) (λ is. (may, tt))
       (λ is. cond-case (IsServed groups) (has_control gid c) opening_cpu c (λ mine. (default, tt)) (λ other. served))
 
   -- the same of a monitor group
-  after_monitor_served : (parent : Gid) (cpu : ℕ) (c : CpuGroups) → ((control : Gid) → control.0 ≡ parent.0 → IsOf groups control gid) → is_strange parent set (cpu, c) ≡ false → IsServed groups c → IsServed groups (after_monitor gid set cpu c)
-  after_monitor_served parent cpu c may known served =
+  IsServed-after_monitor : (parent : Gid) (cpu : ℕ) (c : CpuGroups) → ((control : Gid) → control.0 ≡ parent.0 → IsOf groups control gid) → is_strange parent set (cpu, c) ≡ false → IsServed groups c → IsServed groups (after_monitor gid set cpu c)
+  IsServed-after_monitor parent cpu c may known served =
       cond-case (IsServed groups) (has_cpu set cpu) (record { control = c.control; monitor = Some gid }) (cond (has_monitor gid c) (joined c.control) c)
       (λ is. (served.0, may c.control (eqb-true c.control.0 parent.0 (parents (has_cpu set cpu) (has_control parent c) is known))))
       (λ is. cond-case (IsServed groups) (has_monitor gid c) (joined c.control) c (λ mine. (served.0, tt)) (λ other. served))
@@ -46,11 +46,12 @@ module _ (groups : List Group) (gid : Gid) (set : ℕ) where
       parents true false is known = absurd (let f : true ≡ false = known in cc)
       parents false b is known = absurd (let f : false ≡ true = is in cc)
 
-  each_served : (kind : GroupKind) (cpus : List CpuGroups) → MayTake groups gid kind → IsCounted groups (record { 0 = 0 }) → against_set gid kind cpus set ≡ None → All (IsServed groups) cpus → All (IsServed groups) (cpus_after gid kind set cpus)
-  each_served Control cpus may default none all = All-map (IsServed groups) (cpu_after gid Control set) (enumerate_from 0 cpus)
-      (λ k d within. after_control_served (get_or (enumerate_from 0 cpus) k d).0 (get_or (enumerate_from 0 cpus) k d).1 may default (All-enumerate_from (IsServed groups) 0 cpus all k d within))
-  each_served (Monitor parent) cpus may default none all = All-map (IsServed groups) (cpu_after gid (Monitor parent) set) (enumerate_from 0 cpus)
-      (λ k d within. after_monitor_served parent (get_or (enumerate_from 0 cpus) k d).0 (get_or (enumerate_from 0 cpus) k d).1 may
+  -- each CPU is served after a write of a set that nothing is against
+  All-cpus_after : (kind : GroupKind) (cpus : List CpuGroups) → MayTake groups gid kind → IsCounted groups (record { 0 = 0 }) → against_set gid kind cpus set ≡ None → All (IsServed groups) cpus → All (IsServed groups) (cpus_after gid kind set cpus)
+  All-cpus_after Control cpus may default none all = All-map (IsServed groups) (cpu_after gid Control set) (enumerate_from 0 cpus)
+      (λ k d within. IsServed-after_control (get_or (enumerate_from 0 cpus) k d).0 (get_or (enumerate_from 0 cpus) k d).1 may default (All-enumerate_from (IsServed groups) 0 cpus all k d within))
+  All-cpus_after (Monitor parent) cpus may default none all = All-map (IsServed groups) (cpu_after gid (Monitor parent) set) (enumerate_from 0 cpus)
+      (λ k d within. IsServed-after_monitor parent (get_or (enumerate_from 0 cpus) k d).0 (get_or (enumerate_from 0 cpus) k d).1 may
       (All-from_none (is_strange parent set) (enumerate_from 0 cpus) (known (list_any (is_strange parent set) (enumerate_from 0 cpus)) none) k d within)
       (All-enumerate_from (IsServed groups) 0 cpus all k d within))
     where
@@ -59,13 +60,14 @@ module _ (groups : List Group) (gid : Gid) (set : ℕ) where
       known false e = refl
 
 -- a group that is not being locked may take tasks and CPUs
-pub may_take : (s : State) (g : Group) → find (has_gid g.gid) s.groups ≡ Some g → is_closed s (controlling g.gid g.kind) ≡ false → MayTake s.groups g.gid g.kind
-may_take s g found opened = at g.kind refl opened
+pub MayTake-open : (s : State) (g : Group) → find (has_gid g.gid) s.groups ≡ Some g → is_closed s (controlling g.gid g.kind) ≡ false → MayTake s.groups g.gid g.kind
+MayTake-open s g found opened = at g.kind refl opened
   where
     at : (kind : GroupKind) → g.kind ≡ kind → is_closed s (controlling g.gid kind) ≡ false → MayTake s.groups g.gid kind
     at Control is opened = IsCounted-found g.gid s.groups g found (is_counted-open s g.gid g found opened)
     at (Monitor parent) is opened = λ control same. IsOf-found g.gid control s.groups g found (ap (λ (k : GroupKind). is_monitor_of control k) is ∙ eq-eqb control.0 parent.0 same)
 
+-- an accepted write of CPUs keeps a sound tree
 pub cpus-sound : (m : Parameters) (s : State) (g : Group) (read : Result (List ℕ) CpuFault) → IsSound m s → find (has_gid g.gid) s.groups ≡ Some g → refusal s g read ≡ None → IsSound m (accepted s g read)
 unfolding accepted refusal
 cpus-sound m s g (Err fault) sound found none = sound
@@ -84,6 +86,6 @@ cpus-sound m s g (Ok numbers) sound found none = at (is_closed s (controlling g.
       tasks = sound.tasks;
       cpus = record {
         count = length-map (enumerate_from 0 s.cpus) (cpu_after g.gid g.kind (set_of numbers)) ∙ length-enumerate_from 0 s.cpus ∙ sound.cpus.count;
-        each = each_served s.groups g.gid (set_of numbers) g.kind s.cpus (may_take s g found is) (IsCounted-default s.groups s.next_gid sound.named) e sound.cpus.each;
+        each = All-cpus_after s.groups g.gid (set_of numbers) g.kind s.cpus (MayTake-open s g found is) (IsCounted-default s.groups s.next_gid sound.named) e sound.cpus.each;
       };
     }

@@ -5,6 +5,7 @@ use Rattle.std.proofs.lemmas.Bool.{eqb-false}
 use Rattle.std.proofs.lemmas.List.FromFn.{get_or-range_with_len, length-range_with_len}
 use Rattle.group_tree.specs.declared.group.Group.{Group}
 use Rattle.hw_ids.specs.Ids.{contains}
+use Rattle.lists.proofs.Choices.{not-true}
 use Rattle.lists.proofs.Tests.{find-found, All-from_none}
 use Rattle.machine.specs.declared.parameters.Parameters.{Parameters}
 use Rattle.tree_law.specs.Sound.{Differ, IsUsed}
@@ -28,24 +29,22 @@ pub Differ-is_id : (id : ℕ) (o : Option ℕ) → is_id id o ≡ false → Diff
 Differ-is_id id None e = tt
 Differ-is_id id (Some other) e = λ same. eqb-false other id e (sym same)
 
-not_none : (b : Bool) → not b ≡ true → b ≡ false
-not_none true e = absurd (let f : false ≡ true = e in cc)
-not_none false e = refl
-
-two : (a b : Bool) → (not a && not b) ≡ true → (a ≡ false) × (b ≡ false)
-two false false e = (refl, refl)
-two false true e = absurd (let f : false ≡ true = e in cc)
-two true b e = absurd (let f : false ≡ true = e in cc)
+-- where neither of two tests passes, both are false
+and-not_true : (a b : Bool) → (not a && not b) ≡ true → (a ≡ false) × (b ≡ false)
+and-not_true false false e = (refl, refl)
+and-not_true false true e = absurd (let f : false ≡ true = e in cc)
+and-not_true true b e = absurd (let f : false ≡ true = e in cc)
 
 -- the lowest free RMID is the machine's, not in limbo, and no group has it
 pub free_rmid-some : (m : Parameters) (s : State) (id : ℕ) → free_rmid m s ≡ Some id → IsUsed m s.limbo id × All (λ (g : Group). Differ (Some id) g.rmid) s.groups
 free_rmid-some m s id found =
     let f = find-range (rmid_is_free s) m.rmids id found in
-    let both = two (list_any (λ (g : Group). is_id id g.rmid) s.groups) (contains id s.limbo) f.1 in
+    let both = and-not_true (list_any (λ (g : Group). is_id id g.rmid) s.groups) (contains id s.limbo) f.1 in
     ((f.0, both.1), λ k d within. Differ-is_id id (get_or s.groups k d).rmid (All-from_none (λ (g : Group). is_id id g.rmid) s.groups both.0 k d within))
 
+-- the lowest free class is the machine's, and no group has it
 pub free_class-some : (m : Parameters) (s : State) (id : ℕ) → free_class m s ≡ Some id → (id < m.classes) × All (λ (g : Group). Differ (Some id) g.class) s.groups
 free_class-some m s id found =
     let f = find-range (class_is_free s) m.classes id found in
-    let none = not_none (list_any (λ (g : Group). is_id id g.class) s.groups) f.1 in
+    let none = not-true (list_any (λ (g : Group). is_id id g.class) s.groups) f.1 in
     (f.0, λ k d within. Differ-is_id id (get_or s.groups k d).class (All-from_none (λ (g : Group). is_id id g.class) s.groups none k d within))

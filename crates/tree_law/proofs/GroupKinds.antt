@@ -21,6 +21,7 @@ is_control-counted x counted = at x.kind counted
     at Control e = refl
     at (Monitor p) e = absurd (let f : false ≡ true = e in cc)
 
+-- a pseudo-locked group is a control group
 pub is_control-locked : (x : Group) → has_mode Locked x ≡ true → is_control x.kind ≡ true
 is_control-locked x is = at x.kind is
   where
@@ -28,6 +29,7 @@ is_control-locked x is = at x.kind is
     at Control e = refl
     at (Monitor p) e = absurd (let f : false ≡ true = e in cc)
 
+-- a control group is no monitor group
 pub is_monitor_of-control : (gid : Gid) (kind : GroupKind) → is_control kind ≡ true → is_monitor_of gid kind ≡ false
 is_monitor_of-control gid Control e = refl
 is_monitor_of-control gid (Monitor p) e = absurd (let f : false ≡ true = e in cc)

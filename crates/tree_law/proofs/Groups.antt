@@ -24,6 +24,7 @@ has_gid-own g = eq-eqb g.gid.0 g.gid.0 refl
 abbrev pub gid_number : Group → ℕ
 gid_number g = g.gid.0
 
+-- the group of a number
 abbrev as_gid : ℕ → Gid
 as_gid n = record { 0 = n }
 
@@ -31,6 +32,7 @@ as_gid n = record { 0 = n }
 pub find-gid : (gid : Gid) (groups : List Group) (g : Group) → find (has_gid gid) groups ≡ Some g → gid ≡ g.gid
 find-gid gid groups g found = ap as_gid (eqb-true gid.0 g.gid.0 (find-found (has_gid gid) groups g found).passes)
 
+-- what was found by a gid is found by its own gid
 pub find-own : (gid : Gid) (groups : List Group) (g : Group) → find (has_gid gid) groups ≡ Some g → find (has_gid g.gid) groups ≡ Some g
 find-own gid groups g found = subst (λ (i : Gid). find (has_gid i) groups ≡ Some g) (find-gid gid groups g found) found
 

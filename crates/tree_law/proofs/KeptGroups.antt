@@ -27,17 +27,19 @@ All-option_to_list P None p = λ k d within. absurd (omega arith)
 All-option_to_list P (Some id) p = All-cons P id [] p (λ k d within. absurd (omega arith))
 
 -- the RMIDs of the records that pass a test
-pub All-rmids : (P : ℕ → Type 0) (test : Group → Bool) (groups : List Group) → ((k : ℕ) (d : Group) → k < length groups → test (get_or groups k d) ≡ true → IfSome (get_or groups k d).rmid P) → All P (flat_map rmids_of (filter test groups))
-All-rmids P test groups each = All-flat_map P rmids_of (filter test groups) (All-kept (λ (x : Group). All P (rmids_of x)) test groups (λ k d within is. All-option_to_list P (get_or groups k d).rmid (each k d within is)))
+pub All-rmids_of : (P : ℕ → Type 0) (test : Group → Bool) (groups : List Group) → ((k : ℕ) (d : Group) → k < length groups → test (get_or groups k d) ≡ true → IfSome (get_or groups k d).rmid P) → All P (flat_map rmids_of (filter test groups))
+All-rmids_of P test groups each = All-flat_map P rmids_of (filter test groups) (All-kept (λ (x : Group). All P (rmids_of x)) test groups (λ k d within is. All-option_to_list P (get_or groups k d).rmid (each k d within is)))
 
-pub All-found_rmids : (P : ℕ → Type 0) (test : Group → Bool) (groups : List Group) → ((k : ℕ) (d : Group) → k < length groups → test (get_or groups k d) ≡ true → IfSome (get_or groups k d).rmid P) → All P (option_map_or rmids_of (find test groups) [])
-All-found_rmids P test groups each = at (find test groups) refl
+-- the RMID of the first record that passes a test
+pub All-rmids_of_found : (P : ℕ → Type 0) (test : Group → Bool) (groups : List Group) → ((k : ℕ) (d : Group) → k < length groups → test (get_or groups k d) ≡ true → IfSome (get_or groups k d).rmid P) → All P (option_map_or rmids_of (find test groups) [])
+All-rmids_of_found P test groups each = at (find test groups) refl
   where
     at : (o : Option Group) → find test groups ≡ o → All P (option_map_or rmids_of o [])
     at None is = λ k d within. absurd (omega arith)
     at (Some x) is = let f = find-found test groups x is in All-option_to_list P x.rmid (subst (λ (y : Group). IfSome y.rmid P) (f.at x) (each f.place x f.within (ap test (f.at x) ∙ f.passes)))
 
 module _ (groups : List Group) (q : Group → Bool) where
+  -- groups are still named where the default group is kept
   pub AreNamed-filter : (next_gid : ℕ) → AreNamed groups next_gid → ((x : Group) → IsDefault x → q x ≡ true) → AreNamed (filter q groups) next_gid
   AreNamed-filter next_gid named stays = record {
     first = first groups named.first;
@@ -58,10 +60,12 @@ module _ (groups : List Group) (q : Group → Bool) where
   pub IsCounted-filter : (gid : Gid) → ((k : ℕ) (d : Group) → k < length groups → counts gid (get_or groups k d) ≡ true → q (get_or groups k d) ≡ true) → IsCounted groups gid → IsCounted (filter q groups) gid
   IsCounted-filter gid stays counted = list_any-kept (counts gid) q groups (λ k d within is. stays k d within is) counted
 
+  -- a group has the ids of its kind where its parent stays counted
   HasIds-filter : (kind : GroupKind) (x : Group) → ((parent : Gid) → kind ≡ Monitor parent → IsCounted groups parent → IsCounted (filter q groups) parent) → HasIds groups kind x → HasIds (filter q groups) kind x
   HasIds-filter Control x stays has = has
   HasIds-filter (Monitor parent) x stays has = (has.0, has.1, stays parent refl has.2)
 
+  -- groups are still numbered where the parents of those that are kept stay counted
   pub AreNumbered-filter : (m : Parameters) (limbo : List ℕ) → AreNumbered m groups limbo
       → ((k : ℕ) (d : Group) (parent : Gid) → k < length groups → q (get_or groups k d) ≡ true → (get_or groups k d).kind ≡ Monitor parent → IsCounted groups parent → IsCounted (filter q groups) parent)
       → AreNumbered m (filter q groups) limbo
@@ -74,6 +78,7 @@ module _ (groups : List Group) (q : Group → Bool) where
     apart = AllPairs-filter IdsDiffer q groups numbered.apart;
   }
 
+  -- the groups that are kept have the masks that they had
   pub HaveMasks-filter : (m : Parameters) → HaveMasks m groups → HaveMasks m (filter q groups)
   HaveMasks-filter m have = record {
     places = All-filter q (λ (x : Group). length x.masks ≡ 8) groups have.places;

@@ -1,5 +1,5 @@
 -- RMIDs that are freed: the limbo after it.
-use Rattle.std.proofs.Common.{◌≡◌, ℕ, zero, suc, ◌*◌, ◌<◌, Bool, true, false, ◌||◌, cond, eqb, ltb, List, [], ◌∷◌, length, filter, get_or, take, drop, Option, None, Some, IfSome, refl, sym, ap, ◌∙◌, arith}
+use Rattle.std.proofs.Common.{◌≡◌, ℕ, zero, suc, ◌*◌, ◌<◌, Bool, true, false, ◌||◌, cond, eqb, ltb, List, [], ◌∷◌, length, filter, get_or, take, drop, Option, None, Some, IfSome, sym, ap, ◌∙◌, arith}
 use Rattle.std.specs.List.{All, AllPairs}
 use Rattle.std.proofs.lemmas.Bool.{eqb-false, ltb-true, ne_eqb, or_parts}
 use Rattle.std.proofs.lemmas.List.Elements.{All-append, All-cons, All-filter, All-head, All-tail, filter_passes}
@@ -33,6 +33,7 @@ AllPairs-with_id id xs rising =
 abbrev pub HasNone : List ℕ → Group → Type 0
 HasNone freed g = IfSome g.rmid (λ id. contains id freed ≡ false)
 
+-- what holds of an id and of each in a list holds of each once the id is in it
 All-with_id : (P : ℕ → Type 0) (id : ℕ) (xs : List ℕ) → P id → All P xs → All P (with_id id xs)
 All-with_id P id xs p all = All-append P (filter (λ (o : ℕ). ltb o id) xs) (id ∷ filter (λ (o : ℕ). ltb id o) xs) (All-filter (λ (o : ℕ). ltb o id) P xs all)
     (All-cons P id (filter (λ (o : ℕ). ltb id o) xs) p (All-filter (λ (o : ℕ). ltb id o) P xs all))
@@ -53,6 +54,7 @@ module _ (m : Parameters) (groups : List Group) (threshold : ℕ) where
       both None used other = tt
       both (Some id) used other = (used.0, contains-with_id r id limbo ∙ ap (λ (b : Bool). b || contains id limbo) (ne_eqb id r (λ e. eqb-false r id other (sym e))) ∙ used.1)
 
+  -- ids that no group has any more go into limbo, and the ids stay in order
   pub AreNumbered-limbo_after : (freed limbo looks : List ℕ) → AreNumbered m groups limbo → All (λ id. id < m.rmids) freed → All (HasNone freed) groups → AreNumbered m groups (limbo_after m threshold limbo freed looks)
   AreNumbered-limbo_after [] limbo looks numbered exist none = numbered
   AreNumbered-limbo_after (r ∷ rs) limbo looks numbered exist none =

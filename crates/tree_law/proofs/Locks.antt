@@ -28,7 +28,7 @@ use Rattle.rc_base.specs.declared.names.Mode.TheVariants.{Shareable, Exclusive, 
 use Rattle.schemata_text.specs.declared.assignment.Assignment.{Assignment}
 use Rattle.tree_law.proofs.Groups.{has_gid-own, gid_number}
 use Rattle.tree_law.proofs.Masks.{cond-Ok}
-use Rattle.tree_law.proofs.ModeTests.{control_ids, unnot}
+use Rattle.tree_law.proofs.ModeTests.{HasIds-control, not-false}
 use Rattle.tree_law.proofs.NewRecords.{AreBound-replaced, HaveMasks-replaced, AreNamed-replaced, AreNumbered-replaced, AreServed-replaced}
 use Rattle.tree_law.proofs.Unions.{AreApart-each, has_mode-counted, is_other_in-mode}
 use Rattle.tree_law.specs.Counted.{is_counted, is_counted_mode}
@@ -43,14 +43,17 @@ use Rattle.mode_rules.specs.declared.overlap.Overlap.TheVariants as overlap
 
 module _ (m : Parameters) (s : State) (g : Group) (a : Assignment) (sound : IsSound m s) (found : find (has_gid g.gid) s.groups ≡ Some g) (control : is_control g.kind ≡ true) (setup : g.mode ≡ LockSetup)
     (range : InRange m) (exists : a.domain < m.domains) (valid : IsValid m a.mask) (free : write_overlap LockSetup a.mask (used_in m s (Some g.gid) a.domain) ≡ Ok tt) where
+  -- the record of the locked group
   abbrev new : Group
   new = locked g a
 
-  place : IsFound (has_gid g.gid) s.groups g
-  place = find-found (has_gid g.gid) s.groups g found
+  -- the group is found by its gid
+  IsFound-gid : IsFound (has_gid g.gid) s.groups g
+  IsFound-gid = find-found (has_gid g.gid) s.groups g found
 
-  within : a.domain < length s.regions
-  within = omega (arith, sound.regions.each, exists)
+  -- the domain has a place among the regions
+  domain-below : a.domain < length s.regions
+  domain-below = omega (arith, sound.regions.each, exists)
 
   -- what the tests give
   record Tests : Type 0 where
@@ -59,9 +62,10 @@ module _ (m : Parameters) (s : State) (g : Group) (a : Assignment) (sound : IsSo
     pub shareable : overlaps a.mask m.shareable ≡ false
     pub no_region : has_region (used_in m s (Some g.gid) a.domain) ≡ false
 
-  tests : Tests
+  -- where no overlap is found, each test is passed
+  Tests-write_overlap : Tests
   unfolding write_overlap
-  tests =
+  Tests-write_overlap =
       let used = used_in m s (Some g.gid) a.domain in
       let one = cond-Ok (overlaps a.mask used.exclusive) overlap.Exclusive _ tt free in
       let two = cond-Ok (overlaps a.mask used.region) overlap.Region _ tt one.1 in
@@ -72,54 +76,57 @@ module _ (m : Parameters) (s : State) (g : Group) (a : Assignment) (sound : IsSo
       record { exclusive = one.0; shared = both.0; shareable = four.0; no_region = five.0 }
 
   -- the domain has no region yet
-  none_yet : get_or s.regions a.domain None ≡ None
-  none_yet = at (get_or s.regions a.domain None) refl
+  get_or-no_region : get_or s.regions a.domain None ≡ None
+  get_or-no_region = at (get_or s.regions a.domain None) refl
     where
       zero_is : (n : ℕ) → not (eqb n 0) ≡ false → n ≡ 0
-      zero_is n e = eqb-true n 0 (unnot (eqb n 0) e)
+      zero_is n e = eqb-true n 0 (not-false (eqb n 0) e)
 
       at : (o : Option Region) → get_or s.regions a.domain None ≡ o → o ≡ None
       at None is = refl
       at (Some r) is =
-          (let there : slice_get s.regions a.domain ≡ Some (Some r) = slice_get-get_or s.regions a.domain None within ∙ ap Some is in
+          (let there : slice_get s.regions a.domain ≡ Some (Some r) = slice_get-get_or s.regions a.domain None domain-below ∙ ap Some is in
           let old = (sound.regions.lawful a.domain r there).valid.faultless in
           let mask : region_mask s.regions a.domain ≡ r.mask = ap (λ (o : Option Region). option_map_or (λ (q : Region). q.mask) o 0) is in
-          let empty : r.mask ≡ 0 = sym mask ∙ zero_is (region_mask s.regions a.domain) tests.no_region in
+          let empty : r.mask ≡ 0 = sym mask ∙ zero_is (region_mask s.regions a.domain) Tests-write_overlap.no_region in
           let bad : ◌≡◌ {A = Result ℕ CbmFault} (Err Range) (Ok r.mask) = checked-zero (geometry_of m) r.mask empty ∙ old in
           absurd (let f = bad in cc))
 
   -- the group was neither counted nor pseudo-locked
-  uncounted : is_counted g ≡ true → ⊥
-  uncounted e = at g.kind e
+  is_counted-setup : is_counted g ≡ true → ⊥
+  is_counted-setup e = at g.kind e
     where
       at : (kind : GroupKind) → cond (is_control kind) (is_counted_mode g.mode) false ≡ true → ⊥
       at Control e = let f : false ≡ true = ap is_counted_mode (sym setup) ∙ e in cc
       at (Monitor p) e = let f : false ≡ true = e in cc
 
-  now_uncounted : is_counted new ≡ true → ⊥
-  now_uncounted e = at g.kind e
+  -- the locked record is not counted
+  is_counted-locked : is_counted new ≡ true → ⊥
+  is_counted-locked e = at g.kind e
     where
       at : (kind : GroupKind) → cond (is_control kind) false false ≡ true → ⊥
       at Control e = let f : false ≡ true = e in cc
       at (Monitor p) e = let f : false ≡ true = e in cc
 
-  was_unlocked : has_mode Locked g ≡ false
-  was_unlocked = at g.kind
+  -- the record before is not pseudo-locked
+  has_mode-setup : has_mode Locked g ≡ false
+  has_mode-setup = at g.kind
     where
       at : (kind : GroupKind) → (is_control kind && is_mode Locked g.mode) ≡ false
       at Control = ap (is_mode Locked) setup
       at (Monitor p) = refl
 
-  now_locked : has_mode Locked new ≡ true
-  now_locked = at g.kind control
+  -- the new record is pseudo-locked
+  has_mode-locked : has_mode Locked new ≡ true
+  has_mode-locked = at g.kind control
     where
       at : (kind : GroupKind) → is_control kind ≡ true → (is_control kind && true) ≡ true
       at Control e = refl
       at (Monitor p) e = absurd (let f : false ≡ true = e in cc)
 
   -- no region was the group's
-  none_mine : All (λ (o : Option Region). has_region_of g.gid o ≡ false) s.regions
-  none_mine k d lt = at (get_or s.regions k d) refl
+  has_region_of-none : All (λ (o : Option Region). has_region_of g.gid o ≡ false) s.regions
+  has_region_of-none k d lt = at (get_or s.regions k d) refl
     where
       held : (r : Region) (x : Group) → r.gid.0 ≡ g.gid.0 → holds_region k r x ≡ true → (has_gid g.gid x ≡ true) × (has_mode Locked x ≡ true)
       held r x same e = both (has_gid r.gid x) (has_mode Locked x) (eqb (mask_in k x) r.mask) refl e
@@ -137,55 +144,58 @@ module _ (m : Parameters) (s : State) (g : Group) (a : Assignment) (sound : IsSo
           let x = some.1 in
           let two = held r x same some.4 in
           let there : get_or s.groups some.0 x ≡ g = get_or-key gid_number s.groups g g sound.named.gids found some.0 x some.2 (ap (has_gid g.gid) some.3 ∙ two.0) in
-          let f : true ≡ false = sym two.1 ∙ ap (has_mode Locked) (sym some.3 ∙ there) ∙ was_unlocked in cc)
+          let f : true ≡ false = sym two.1 ∙ ap (has_mode Locked) (sym some.3 ∙ there) ∙ has_mode-setup in cc)
 
   -- the new mask in the region's domain, and in another
-  mask_here : mask_in a.domain new ≡ a.mask
-  mask_here = get_or-set_same (replicate {A = ℕ} 8 0) a.domain a.mask 0 (let most = range.domain_limit in omega (arith, exists, length-replicate {A = ℕ} 8 0))
+  mask_in-locked : mask_in a.domain new ≡ a.mask
+  mask_in-locked = get_or-set_same (replicate {A = ℕ} 8 0) a.domain a.mask 0 (let most = range.domain_limit in omega (arith, exists, length-replicate {A = ℕ} 8 0))
 
-  mask_there : (domain : ℕ) → domain ≢ a.domain → mask_in domain new ≡ 0
-  mask_there domain other = get_or-set_other (replicate {A = ℕ} 8 0) a.domain domain a.mask 0 other ∙ at (cases_lt domain 8)
+  -- in another domain the new mask is empty
+  mask_in-locked_other : (domain : ℕ) → domain ≢ a.domain → mask_in domain new ≡ 0
+  mask_in-locked_other domain other = get_or-set_other (replicate {A = ℕ} 8 0) a.domain domain a.mask 0 other ∙ at (cases_lt domain 8)
     where
       at : (domain < 8) ⊎ (8 ≤ domain) → ◌≡◌ {A = ℕ} (get_or (replicate {A = ℕ} 8 0) domain 0) 0
       at (inl lt) = get_or-replicate 8 domain 0 0 lt
       at (inr le) = get_or_past (replicate {A = ℕ} 8 0) domain 0 (omega (arith, length-replicate {A = ℕ} 8 0))
 
+  -- the groups with the locked record
   abbrev groups' : List Group
   groups' = replaced (locked g a) s.groups
 
+  -- the regions with the new one
   abbrev regions' : List (Option Region)
   regions' = set s.regions a.domain (Some (region_for s g a))
 
   -- the new region
-  new_region : IsRegion m groups' a.domain (region_for s g a)
-  new_region = record {
+  IsRegion-new : IsRegion m groups' a.domain (region_for s g a)
+  IsRegion-new = record {
     own = refl;
     valid = valid;
-    off_shareable = tests.shareable;
-    off_counted = All-replaced gid_number s.groups new g sound.named.gids found (OffCounted a.domain a.mask) (λ c. absurd (now_uncounted c)) (λ k d lt other c. at k d lt other (has_mode-counted (get_or s.groups k d) c));
-    held = list_any_at (holds_region a.domain (region_for s g a)) groups' place.place g (omega (arith, place.within, length-map s.groups (exchanged new)))
-        (ap (holds_region a.domain (region_for s g a)) (get_or-map (exchanged new) s.groups place.place g g place.within ∙ ap (exchanged new) (place.at g) ∙ mine (has_gid g.gid g) (has_gid-own g)) ∙ passes);
+    off_shareable = Tests-write_overlap.shareable;
+    off_counted = All-replaced gid_number s.groups new g sound.named.gids found (OffCounted a.domain a.mask) (λ c. absurd (is_counted-locked c)) (λ k d lt other c. at k d lt other (has_mode-counted (get_or s.groups k d) c));
+    held = list_any_at (holds_region a.domain (region_for s g a)) groups' IsFound-gid.place g (omega (arith, IsFound-gid.within, length-map s.groups (exchanged new)))
+        (ap (holds_region a.domain (region_for s g a)) (get_or-map (exchanged new) s.groups IsFound-gid.place g g IsFound-gid.within ∙ ap (exchanged new) (IsFound-gid.at g) ∙ mine (has_gid g.gid g) (has_gid-own g)) ∙ passes);
   }
     where
       at : (k : ℕ) (d : Group) → k < length s.groups → has_gid g.gid (get_or s.groups k d) ≡ false → (has_mode Shareable (get_or s.groups k d) ≡ true) ⊎ (has_mode Exclusive (get_or s.groups k d) ≡ true) → AreApart a.mask (mask_in a.domain (get_or s.groups k d))
-      at k d lt other (inl is) = AreApart-each a.mask a.domain s.groups (Some g.gid) Shareable tests.shared k d lt (is_other_in-mode g.gid Shareable (get_or s.groups k d) other is)
-      at k d lt other (inr is) = AreApart-each a.mask a.domain s.groups (Some g.gid) Exclusive tests.exclusive k d lt (is_other_in-mode g.gid Exclusive (get_or s.groups k d) other is)
+      at k d lt other (inl is) = AreApart-each a.mask a.domain s.groups (Some g.gid) Shareable Tests-write_overlap.shared k d lt (is_other_in-mode g.gid Shareable (get_or s.groups k d) other is)
+      at k d lt other (inr is) = AreApart-each a.mask a.domain s.groups (Some g.gid) Exclusive Tests-write_overlap.exclusive k d lt (is_other_in-mode g.gid Exclusive (get_or s.groups k d) other is)
 
       mine : (b : Bool) → b ≡ true → cond b new g ≡ new
       mine true e = refl
       mine false e = absurd (let f : false ≡ true = e in cc)
 
       passes : holds_region a.domain (region_for s g a) new ≡ true
-      passes = rw (has_gid-own g, now_locked, mask_here, eq-eqb a.mask a.mask refl) refl
+      passes = rw (has_gid-own g, has_mode-locked, mask_in-locked, eq-eqb a.mask a.mask refl) refl
 
   -- an old one
-  old_region : (domain : ℕ) (r : Region) → slice_get s.regions domain ≡ Some (Some r) → IsRegion m groups' domain r
-  old_region domain r there = (let old = sound.regions.lawful domain r there in record {
+  IsRegion-old : (domain : ℕ) (r : Region) → slice_get s.regions domain ≡ Some (Some r) → IsRegion m groups' domain r
+  IsRegion-old domain r there = (let old = sound.regions.lawful domain r there in record {
     own = old.own;
     valid = old.valid;
     off_shareable = old.off_shareable;
-    off_counted = All-replaced_kept gid_number s.groups new g sound.named.gids found (OffCounted domain r.mask) (λ c. absurd (now_uncounted c)) old.off_counted;
-    held = list_any-replaced gid_number s.groups new g sound.named.gids found (holds_region domain r) (λ passes. absurd (held (has_gid r.gid g) (has_mode Locked g) was_unlocked passes)) old.held;
+    off_counted = All-replaced_kept gid_number s.groups new g sound.named.gids found (OffCounted domain r.mask) (λ c. absurd (is_counted-locked c)) old.off_counted;
+    held = list_any-replaced gid_number s.groups new g sound.named.gids found (holds_region domain r) (λ passes. absurd (held (has_gid r.gid g) (has_mode Locked g) has_mode-setup passes)) old.held;
   })
     where
       held : (p q : Bool) → q ≡ false → cond p (cond q (eqb (mask_in domain g) r.mask) false) false ≡ true → ⊥
@@ -193,15 +203,16 @@ module _ (m : Parameters) (s : State) (g : Group) (a : Assignment) (sound : IsSo
       held true false was e = let f : false ≡ true = e in cc
       held false q was e = let f : false ≡ true = e in cc
 
+  -- the regions and the records still tell each other
   HaveRegions-locked : HaveRegions m groups' regions'
   HaveRegions-locked = record {
     each = length-set s.regions a.domain (Some (region_for s g a)) ∙ sound.regions.each;
     lawful = λ domain r there. lawful domain r (eqb domain a.domain) refl there;
     once = All-replaced gid_number s.groups new g sound.named.gids found (HasOneRegion regions')
-        (λ is. length-filter_set (has_region_of g.gid) s.regions a.domain (Some (region_for s g a)) none_mine within (eq-eqb g.gid.0 g.gid.0 refl))
-        (λ k d lt other is. ap length (filter-set (has_region_of (get_or s.groups k d).gid) s.regions a.domain (Some (region_for s g a)) None within (ap (has_region_of (get_or s.groups k d).gid) none_yet) other) ∙ sound.regions.once k d lt is);
+        (λ is. length-filter_set (has_region_of g.gid) s.regions a.domain (Some (region_for s g a)) has_region_of-none domain-below (eq-eqb g.gid.0 g.gid.0 refl))
+        (λ k d lt other is. ap length (filter-set (has_region_of (get_or s.groups k d).gid) s.regions a.domain (Some (region_for s g a)) None domain-below (ap (has_region_of (get_or s.groups k d).gid) get_or-no_region) other) ∙ sound.regions.once k d lt is);
     no_other = All-replaced gid_number s.groups new g sound.named.gids found (HasNoOther regions')
-        (λ is domain lt r there none. mask_there domain (λ e. elsewhere r (sym (ap (slice_get regions') e ∙ slice_get-set_same s.regions a.domain (Some (region_for s g a)) within) ∙ there) none))
+        (λ is domain lt r there none. mask_in-locked_other domain (λ e. elsewhere r (sym (ap (slice_get regions') e ∙ slice_get-set_same s.regions a.domain (Some (region_for s g a)) domain-below) ∙ there) none))
         (λ k d lt other is domain lt' r there none. others k d lt is domain (omega (arith, lt', length-set s.regions a.domain (Some (region_for s g a)))) r (eqb domain a.domain) refl there none);
   }
     where
@@ -211,9 +222,9 @@ module _ (m : Parameters) (s : State) (g : Group) (a : Assignment) (sound : IsSo
       lawful : (domain : ℕ) (r : Region) (b : Bool) → eqb domain a.domain ≡ b → slice_get regions' domain ≡ Some (Some r) → IsRegion m groups' domain r
       lawful domain r true is there =
           (let same : domain ≡ a.domain = eqb-true domain a.domain is in
-          let one : region_for s g a ≡ r = same_some (region_for s g a) r (same_some (Some (region_for s g a)) (Some r) (sym (slice_get-set_same s.regions a.domain (Some (region_for s g a)) within) ∙ ap (slice_get regions') (sym same) ∙ there)) in
-          subst (λ (n : ℕ). IsRegion m groups' n r) (sym same) (subst (IsRegion m groups' a.domain) one new_region))
-      lawful domain r false is there = old_region domain r (sym (slice_get-set_other s.regions a.domain domain (Some (region_for s g a)) (eqb-false domain a.domain is)) ∙ there)
+          let one : region_for s g a ≡ r = same_some (region_for s g a) r (same_some (Some (region_for s g a)) (Some r) (sym (slice_get-set_same s.regions a.domain (Some (region_for s g a)) domain-below) ∙ ap (slice_get regions') (sym same) ∙ there)) in
+          subst (λ (n : ℕ). IsRegion m groups' n r) (sym same) (subst (IsRegion m groups' a.domain) one IsRegion-new))
+      lawful domain r false is there = IsRegion-old domain r (sym (slice_get-set_other s.regions a.domain domain (Some (region_for s g a)) (eqb-false domain a.domain is)) ∙ there)
 
       elsewhere : (r : Option Region) → ◌≡◌ {A = Option (Option Region)} (Some (Some (region_for s g a))) (Some r) → has_region_of g.gid r ≡ false → ⊥
       elsewhere r e none = (let same : Some (region_for s g a) ≡ r = same_some (Some (region_for s g a)) r e in
@@ -223,7 +234,7 @@ module _ (m : Parameters) (s : State) (g : Group) (a : Assignment) (sound : IsSo
           → slice_get regions' domain ≡ Some r → has_region_of (get_or s.groups k d).gid r ≡ false → mask_in domain (get_or s.groups k d) ≡ 0
       others k d lt lock domain lt' r true is there none =
           (let same : domain ≡ a.domain = eqb-true domain a.domain is in
-          sound.regions.no_other k d lt lock domain lt' None (slice_get-get_or s.regions domain None lt' ∙ ap (λ (n : ℕ). Some (get_or s.regions n None)) same ∙ ap Some none_yet) refl)
+          sound.regions.no_other k d lt lock domain lt' None (slice_get-get_or s.regions domain None lt' ∙ ap (λ (n : ℕ). Some (get_or s.regions n None)) same ∙ ap Some get_or-no_region) refl)
       others k d lt lock domain lt' r false is there none =
           sound.regions.no_other k d lt lock domain lt' r (sym (slice_get-set_other s.regions a.domain domain (Some (region_for s g a)) (eqb-false domain a.domain is)) ∙ there) none
 
@@ -248,25 +259,26 @@ module _ (m : Parameters) (s : State) (g : Group) (a : Assignment) (sound : IsSo
       apart None placed = tt
       apart (Some r) placed = λ e. (let k = placed.0 in let less = placed.1 in let is = placed.2 in omega arith)
 
-  pub locked-sound : IsSound m (with_region s g a)
-  locked-sound = (let gids = sound.named.gids in let masks = set (replicate 8 0) a.domain a.mask in record {
-    named = AreNamed-replaced s.groups g Locked None g.rmid masks gids found s.next_gid sound.named (λ d. absurd (uncounted d.counted));
+  -- a locked group with its region keeps a sound tree
+  pub with_region-sound : IsSound m (with_region s g a)
+  with_region-sound = (let gids = sound.named.gids in let masks = set (replicate 8 0) a.domain a.mask in record {
+    named = AreNamed-replaced s.groups g Locked None g.rmid masks gids found s.next_gid sound.named (λ d. absurd (is_counted-setup d.counted));
     numbered = AreNumbered-replaced s.groups g Locked None g.rmid masks gids found m s.limbo sound.numbered
-        (λ k d parent lt is. inl (λ c. absurd (uncounted c)))
-        (control_ids groups' g.kind new Locked refl control (refl, no_rmid g.kind control (IsFound-all (λ (x : Group). HasIds s.groups x.kind x) (has_gid g.gid) s.groups g place sound.numbered.ids)))
+        (λ k d parent lt is. inl (λ c. absurd (is_counted-setup c)))
+        (HasIds-control groups' g.kind new Locked refl control (refl, no_rmid g.kind control (IsFound-all (λ (x : Group). HasIds s.groups x.kind x) (has_gid g.gid) s.groups g IsFound-gid sound.numbered.ids)))
         tt
-        (IsFound-all (λ (x : Group). IfSome x.rmid (IsUsed m s.limbo)) (has_gid g.gid) s.groups g place sound.numbered.rmids)
+        (IsFound-all (λ (x : Group). IfSome x.rmid (IsUsed m s.limbo)) (has_gid g.gid) s.groups g IsFound-gid sound.numbered.rmids)
         (λ k d lt other old. (tt, old.1));
     masks = HaveMasks-replaced s.groups g Locked None g.rmid masks gids found m sound.masks
         (length-set (replicate 8 0) a.domain a.mask ∙ length-replicate {A = ℕ} 8 0)
         (λ domain lt c u. absurd (u refl))
-        (λ domain lt k d lt' other keep cn cx either. absurd (now_uncounted cn))
-        (λ domain lt cn e. absurd (now_uncounted cn));
+        (λ domain lt k d lt' other keep cn cx either. absurd (is_counted-locked cn))
+        (λ domain lt cn e. absurd (is_counted-locked cn));
     regions = HaveRegions-locked;
     lines = HaveLines-locked;
     threshold = sound.threshold;
-    tasks = AreBound-replaced s.groups g Locked None g.rmid masks gids found s.tasks (λ k d lt. inl (λ c. absurd (uncounted c))) sound.tasks;
-    cpus = AreServed-replaced s.groups g Locked None g.rmid masks gids found m s.cpus (λ k d lt. inl (λ c. absurd (uncounted c))) sound.cpus;
+    tasks = AreBound-replaced s.groups g Locked None g.rmid masks gids found s.tasks (λ k d lt. inl (λ c. absurd (is_counted-setup c))) sound.tasks;
+    cpus = AreServed-replaced s.groups g Locked None g.rmid masks gids found m s.cpus (λ k d lt. inl (λ c. absurd (is_counted-setup c))) sound.cpus;
   })
     where
       no_rmid : (kind : GroupKind) → is_control kind ≡ true → HasIds s.groups kind g → IsNone g.rmid

@@ -45,6 +45,7 @@ get_or-assigned P n (a ∷ all) masks places each old = get_or-assigned P n all 
         subst (λ (k : ℕ). P k (get_or (set masks a.domain a.mask) k 0)) (sym same) (subst (P a.domain) (sym (get_or-set_same masks a.domain a.mask 0 (omega (arith, places, one.0)))) one.1))
     at domain lt false is = subst (P domain) (sym (get_or-set_other masks a.domain domain a.mask 0 (eqb-false domain a.domain is))) (old domain lt)
 
+-- assignments keep the number of masks
 pub length-assigned : (all : List Assignment) (masks : List ℕ) → length (assigned masks all) ≡ length masks
 length-assigned [] masks = refl
 length-assigned (a ∷ all) masks = length-assigned all (set masks a.domain a.mask) ∙ length-set masks a.domain a.mask
@@ -57,16 +58,17 @@ module _ (m : Parameters) (s : State) (g : Group) (sound : IsSound m s) (found :
     pub off : mode ≡ Exclusive → AreApart mask m.shareable
     pub region : (r : Region) → slice_get s.regions domain ≡ Some (Some r) → AreApart r.mask mask
 
-  place : IsFound (has_gid g.gid) s.groups g
-  place = find-found (has_gid g.gid) s.groups g found
+  -- the group is found by its gid
+  IsFound-gid : IsFound (has_gid g.gid) s.groups g
+  IsFound-gid = find-found (has_gid g.gid) s.groups g found
 
   -- its mask as it is fits its mode
   pub FitsBeside-old : is_control g.kind ≡ true → g.mode ≢ Locked → is_counted g ≡ true → (domain : ℕ) → domain < m.domains → FitsBeside g.mode domain (mask_in domain g)
   FitsBeside-old control unlocked counted domain lt = record {
-    valid = IsFound-all (HasValid m domain) (has_gid g.gid) s.groups g place (sound.masks.valid domain lt) control unlocked;
+    valid = IsFound-all (HasValid m domain) (has_gid g.gid) s.groups g IsFound-gid (sound.masks.valid domain lt) control unlocked;
     apart = λ k d within other cx either. AllPairs-beside gid_number s.groups g g sound.named.gids found (KeepApart domain) (KeepApart-turned domain) (sound.masks.apart domain lt) k d within other counted cx either;
-    off = λ exclusive. IsFound-all (OffShareable m domain) (has_gid g.gid) s.groups g place (sound.masks.off_shareable domain lt) counted exclusive;
-    region = λ r there. IsFound-all (OffCounted domain r.mask) (has_gid g.gid) s.groups g place (sound.regions.lawful domain r there).off_counted counted;
+    off = λ exclusive. IsFound-all (OffShareable m domain) (has_gid g.gid) s.groups g IsFound-gid (sound.masks.off_shareable domain lt) counted exclusive;
+    region = λ r there. IsFound-all (OffCounted domain r.mask) (has_gid g.gid) s.groups g IsFound-gid (sound.regions.lawful domain r there).off_counted counted;
   }
 
   -- a mask that is apart from the others' exclusive masks and from the region, and in an exclusive group from all others

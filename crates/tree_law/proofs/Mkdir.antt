@@ -26,8 +26,8 @@ use Rattle.rc_base.specs.declared.names.Mode.TheVariants.{Exclusive, Shareable}
 use Rattle.rc_base.specs.declared.replies.Why.TheVariants.{NoSuchPath, NotAPlace, Exists, OutOfClosids, NoSpace, OutOfRmids, RmidsBusy, Locking}
 use Rattle.tree_law.proofs.FreeIds.{free_class-some, free_rmid-some, All-range}
 use Rattle.tree_law.proofs.Groups.{IsCounted-found, IsCounted-default, is_counted-open}
-use Rattle.tree_law.proofs.NewGroup.{added-sound, IsCounted-push}
-use Rattle.tree_law.proofs.NewMasks.{new_valid, off_exclusive, off_region}
+use Rattle.tree_law.proofs.NewGroup.{with_group-sound, IsCounted-push}
+use Rattle.tree_law.proofs.NewMasks.{IsValid-new, AreApart-new_exclusive, AreApart-new_region}
 use Rattle.tree_law.specs.Existing.{is_held, is_in_place, owner_gid, path_exists}
 use Rattle.tree_law.specs.Masks.{AreApart, IsValid}
 use Rattle.tree_law.specs.Places.{is_closed}
@@ -39,12 +39,14 @@ use Rattle.tree_law.proofs.NewRecords.{Differ-turned}
 
 -- ---- nothing is against it
 
-passes_none : {X : Type 0} (b : Bool) (x : X) (rest : Option X) → cond b (Some x) rest ≡ None → (b ≡ false) × (rest ≡ None)
-passes_none true x rest e = absurd (let f : Some x ≡ None = e in cc)
-passes_none false x rest e = (refl, e)
+-- the first of the tests does not pass where nothing is refused, nor do those after it
+cond-none : {X : Type 0} (b : Bool) (x : X) (rest : Option X) → cond b (Some x) rest ≡ None → (b ≡ false) × (rest ≡ None)
+cond-none true x rest e = absurd (let f : Some x ≡ None = e in cc)
+cond-none false x rest e = (refl, e)
 
-unnamed : {X Y : Type 0} (f : X → Y) (p : X → Bool) (xs : List X) → is_some (option_map f (find p xs)) ≡ false → All (λ x. p x ≡ false) xs
-unnamed f p xs e = All-from_find p xs (at (find p xs) e)
+-- where none is found, none passes
+All-find_none : {X Y : Type 0} (f : X → Y) (p : X → Bool) (xs : List X) → is_some (option_map f (find p xs)) ≡ false → All (λ x. p x ≡ false) xs
+All-find_none f p xs e = All-from_find p xs (at (find p xs) e)
   where
     at : (o : Option _) → is_some (option_map f o) ≡ false → o ≡ None
     at None e = refl
@@ -57,18 +59,19 @@ record Free (m : Parameters) (s : State) (path : PathRef) : Type 0 where
   pub parent : has_closed_parent s path ≡ false
   pub rmids : is_none (free_rmid m s) ≡ false
 
-nothing_against : (m : Parameters) (s : State) (path : PathRef) → refusal m s path ≡ None → Free m s path
+-- where nothing is refused, name, ids and space are free
+Free-refusal : (m : Parameters) (s : State) (path : PathRef) → refusal m s path ≡ None → Free m s path
 unfolding refusal
-nothing_against m s path none =
+Free-refusal m s path none =
     let found = option_map-none (with_argument m s) (find (against m s path) reasons) none in
-    let one = passes_none (not (is_held s path)) NoSuchPath _ found in
-    let two = passes_none (path_exists s path) Exists _ one.1 in
-    let three = passes_none (not (is_in_place path)) NotAPlace _ two.1 in
-    let four = passes_none (makes_control path && is_none (free_class m s)) OutOfClosids _ three.1 in
-    let five = passes_none (makes_control path && is_some (full_domain m s)) NoSpace _ four.1 in
-    let six = passes_none (has_closed_parent s path) Locking _ five.1 in
-    let seven = passes_none (is_none (free_rmid m s) && none_in_limbo s) OutOfRmids _ six.1 in
-    let eight = passes_none (is_none (free_rmid m s) && not (none_in_limbo s)) RmidsBusy _ seven.1 in
+    let one = cond-none (not (is_held s path)) NoSuchPath _ found in
+    let two = cond-none (path_exists s path) Exists _ one.1 in
+    let three = cond-none (not (is_in_place path)) NotAPlace _ two.1 in
+    let four = cond-none (makes_control path && is_none (free_class m s)) OutOfClosids _ three.1 in
+    let five = cond-none (makes_control path && is_some (full_domain m s)) NoSpace _ four.1 in
+    let six = cond-none (has_closed_parent s path) Locking _ five.1 in
+    let seven = cond-none (is_none (free_rmid m s) && none_in_limbo s) OutOfRmids _ six.1 in
+    let eight = cond-none (is_none (free_rmid m s) && not (none_in_limbo s)) RmidsBusy _ seven.1 in
     record { fresh = two.0; classes = four.0; space = five.0; parent = six.0; rmids = either (is_none (free_rmid m s)) (none_in_limbo s) seven.0 eight.0 }
   where
     either : (a b : Bool) → (a && b) ≡ false → (a && not b) ≡ false → a ≡ false
@@ -76,46 +79,50 @@ nothing_against m s path none =
     either true false e f = f
     either false b e f = refl
 
--- what is there
-some_of : (o : Option ℕ) → is_none o ≡ false → (id : ℕ) × (o ≡ Some id)
-some_of None e = absurd (let f : true ≡ false = e in cc)
-some_of (Some id) e = (id, refl)
+-- an option that is not empty has a value
+is_none-false : (o : Option ℕ) → is_none o ≡ false → (id : ℕ) × (o ≡ Some id)
+is_none-false None e = absurd (let f : true ≡ false = e in cc)
+is_none-false (Some id) e = (id, refl)
 
 -- ---- names
 
 -- a group beside which a name is new has another name
-name_fresh : (mine : GroupKind → Bool) (kind : GroupKind) (name : NameId) (x : Group) → (StandTogether x.kind kind → mine x.kind ≡ true) → (mine x.kind && has_name name x.name) ≡ false
+has_name-fresh : (mine : GroupKind → Bool) (kind : GroupKind) (name : NameId) (x : Group) → (StandTogether x.kind kind → mine x.kind ≡ true) → (mine x.kind && has_name name x.name) ≡ false
     → StandTogether x.kind kind → x.name ≢ Some name
-name_fresh mine kind name x stands none together same = at (mine x.kind) (has_name name x.name) (stands together) (ap (has_name name) same ∙ eq-eqb name.0 name.0 refl) none
+has_name-fresh mine kind name x stands none together same = at (mine x.kind) (has_name name x.name) (stands together) (ap (has_name name) same ∙ eq-eqb name.0 name.0 refl) none
   where
     at : (a b : Bool) → a ≡ true → b ≡ true → (a && b) ≡ false → ⊥
     at true true e f g = let h : true ≡ false = g in cc
     at true false e f g = let h : false ≡ true = f in cc
     at false b e f g = let h : false ≡ true = e in cc
 
-control_beside : (kind : GroupKind) → StandTogether kind Control → is_control kind ≡ true
-control_beside Control t = refl
-control_beside (Monitor p) t = absurd t
+-- only control groups stand beside a control group
+is_control-beside : (kind : GroupKind) → StandTogether kind Control → is_control kind ≡ true
+is_control-beside Control t = refl
+is_control-beside (Monitor p) t = absurd t
 
-monitor_beside : (parent : Gid) (kind : GroupKind) → StandTogether kind (Monitor parent) → is_monitor_of parent kind ≡ true
-monitor_beside parent Control t = absurd t
-monitor_beside parent (Monitor p) t = eq-eqb parent.0 p.0 (sym t)
+-- only monitor groups of the same parent stand beside a monitor group
+is_monitor_of-beside : (parent : Gid) (kind : GroupKind) → StandTogether kind (Monitor parent) → is_monitor_of parent kind ≡ true
+is_monitor_of-beside parent Control t = absurd t
+is_monitor_of-beside parent (Monitor p) t = eq-eqb parent.0 p.0 (sym t)
 
-differ_none : (o : Option ℕ) → Differ o None
-differ_none None = tt
-differ_none (Some x) = tt
+-- each id differs from no id
+Differ-none : (o : Option ℕ) → Differ o None
+Differ-none None = tt
+Differ-none (Some x) = tt
 
 -- ---- a control group
 
-control_made : (m : Parameters) (s : State) (name : NameId) → InRange m → IsSound m s → Free m s (Dir (Ctrl name)) → IsSound m (with_group s (new_control m s name))
-control_made m s name range sound free =
-    let class = some_of (free_class m s) free.classes in
-    let rmid = some_of (free_rmid m s) free.rmids in
+-- a new control group keeps a sound tree
+new_control-sound : (m : Parameters) (s : State) (name : NameId) → InRange m → IsSound m s → Free m s (Dir (Ctrl name)) → IsSound m (with_group s (new_control m s name))
+new_control-sound m s name range sound free =
+    let class = is_none-false (free_class m s) free.classes in
+    let rmid = is_none-false (free_rmid m s) free.rmids in
     let class_is = free_class-some m s class.0 class.1 in
     let rmid_is = free_rmid-some m s rmid.0 rmid.1 in
-    let names = unnamed (λ (g : Group). g.gid) (is_control_named name) s.groups free.fresh in
-    added-sound m s (Some name) Control (free_class m s) (free_rmid m s) (initial_masks m s) sound (record {
-      names = λ k d within. name_fresh is_control Control name (get_or s.groups k d) (control_beside (get_or s.groups k d).kind) (names k d within);
+    let names = All-find_none (λ (g : Group). g.gid) (is_control_named name) s.groups free.fresh in
+    with_group-sound m s (Some name) Control (free_class m s) (free_rmid m s) (initial_masks m s) sound (record {
+      names = λ k d within. has_name-fresh is_control Control name (get_or s.groups k d) (is_control-beside (get_or s.groups k d).kind) (names k d within);
       ids = (ap is_some class.1, ap is_some rmid.1);
       class_exists = subst (λ (o : Option ℕ). IfSome o (λ id. id < m.classes)) (sym class.1) class_is.0;
       rmid_used = subst (λ (o : Option ℕ). IfSome o (IsUsed m s.limbo)) (sym rmid.1) rmid_is.0;
@@ -124,12 +131,12 @@ control_made m s name range sound free =
         subst (λ (o : Option ℕ). Differ (get_or s.groups k d).rmid o) (sym rmid.1) (Differ-turned (Some rmid.0) (get_or s.groups k d).rmid (rmid_is.1 k d within)),
       );
       places = let most = range.domain_limit in omega (arith, most, length-append (map first (range_with_len 0 m.domains)) (replicate (8 - m.domains) 0), length-map-range_with_len first 0 m.domains, length-replicate {A = ℕ} (8 - m.domains) 0);
-      valid = λ domain lt c u. let mask = some_mask domain lt in subst (λ (n : ℕ). IsValid m n) (sym (here domain lt mask.0 mask.1)) (new_valid m s sound range domain lt mask.0 mask.1);
+      valid = λ domain lt c u. let mask = some_mask domain lt in subst (λ (n : ℕ). IsValid m n) (sym (here domain lt mask.0 mask.1)) (IsValid-new m s sound range domain lt mask.0 mask.1);
       masks_apart = λ domain lt k d within counted cn either. let mask = some_mask domain lt in subst (λ (n : ℕ). AreApart (mask_in domain (get_or s.groups k d)) n) (sym (here domain lt mask.0 mask.1))
-          (off_exclusive m s sound range domain lt mask.0 mask.1 k d within counted (theirs (get_or s.groups k d) either));
+          (AreApart-new_exclusive m s sound range domain lt mask.0 mask.1 k d within counted (theirs (get_or s.groups k d) either));
       off_regions = λ domain r there cn.
           let lt : domain < m.domains = (let within = slice_get_within s.regions domain (Some r) there in omega (arith, within, sound.regions.each)) in
-          let mask = some_mask domain lt in subst (λ (n : ℕ). AreApart r.mask n) (sym (here domain lt mask.0 mask.1)) (off_region m s sound range domain lt mask.0 mask.1 r there);
+          let mask = some_mask domain lt in subst (λ (n : ℕ). AreApart r.mask n) (sym (here domain lt mask.0 mask.1)) (AreApart-new_region m s sound range domain lt mask.0 mask.1 r there);
     })
   where
     first : ℕ → ℕ
@@ -159,46 +166,49 @@ control_made m s name range sound free =
 -- ---- a monitor group
 
 -- a parent that is not being locked is counted
-parent_counted : (m : Parameters) (s : State) (owner : Owner) (parent : Gid) → IsSound m s → owner_gid s owner ≡ Some parent → is_closed s parent ≡ false → IsCounted s.groups parent
-parent_counted m s TheDefault parent sound is opened = subst (IsCounted s.groups) same (IsCounted-default s.groups s.next_gid sound.named)
+IsCounted-parent : (m : Parameters) (s : State) (owner : Owner) (parent : Gid) → IsSound m s → owner_gid s owner ≡ Some parent → is_closed s parent ≡ false → IsCounted s.groups parent
+IsCounted-parent m s TheDefault parent sound is opened = subst (IsCounted s.groups) same (IsCounted-default s.groups s.next_gid sound.named)
   where
     same_some : (x y : Gid) → Some x ≡ Some y → x ≡ y
     same_some x y e = cc
 
     same : record { 0 = 0 } ≡ parent
     same = same_some (record { 0 = 0 }) parent is
-parent_counted m s (Named name) parent sound is opened =
+IsCounted-parent m s (Named name) parent sound is opened =
     let c = option_map-some (λ (g : Group). g.gid) (find (is_control_named name) s.groups) parent is in
     let f = find-found (is_control_named name) s.groups c.0 c.1 in
     let some = find-some (has_gid parent) s.groups (list_any_at (has_gid parent) s.groups f.place c.0 f.within (ap (has_gid parent) (f.at c.0) ∙ eq-eqb parent.0 c.0.gid.0 (ap (λ (i : Gid). i.0) (sym c.2)))) in
     IsCounted-found parent s.groups some.0 some.1 (is_counted-open s parent some.0 some.1 opened)
 
-monitor_made : (m : Parameters) (s : State) (name : NameId) (parent : Gid) → IsSound m s → IsCounted s.groups parent → is_none (free_rmid m s) ≡ false → All (λ x. is_monitor_named parent name x ≡ false) s.groups
+-- a new monitor group of a counted parent keeps a sound tree
+new_monitor-sound : (m : Parameters) (s : State) (name : NameId) (parent : Gid) → IsSound m s → IsCounted s.groups parent → is_none (free_rmid m s) ≡ false → All (λ x. is_monitor_named parent name x ≡ false) s.groups
     → IsSound m (with_group s (new_monitor m s name parent))
-monitor_made m s name parent sound counted rmids names =
-    let rmid = some_of (free_rmid m s) rmids in
+new_monitor-sound m s name parent sound counted rmids names =
+    let rmid = is_none-false (free_rmid m s) rmids in
     let rmid_is = free_rmid-some m s rmid.0 rmid.1 in
-    added-sound m s (Some name) (Monitor parent) None (free_rmid m s) (replicate 8 0) sound (record {
-      names = λ k d within. name_fresh (is_monitor_of parent) (Monitor parent) name (get_or s.groups k d) (monitor_beside parent (get_or s.groups k d).kind) (names k d within);
+    with_group-sound m s (Some name) (Monitor parent) None (free_rmid m s) (replicate 8 0) sound (record {
+      names = λ k d within. has_name-fresh (is_monitor_of parent) (Monitor parent) name (get_or s.groups k d) (is_monitor_of-beside parent (get_or s.groups k d).kind) (names k d within);
       ids = (refl, ap is_some rmid.1, IsCounted-push m s (Some name) (Monitor parent) None (free_rmid m s) (replicate 8 0) parent counted);
       class_exists = tt;
       rmid_used = subst (λ (o : Option ℕ). IfSome o (IsUsed m s.limbo)) (sym rmid.1) rmid_is.0;
-      apart = λ k d within. (differ_none (get_or s.groups k d).class, subst (λ (o : Option ℕ). Differ (get_or s.groups k d).rmid o) (sym rmid.1) (Differ-turned (Some rmid.0) (get_or s.groups k d).rmid (rmid_is.1 k d within)));
+      apart = λ k d within. (Differ-none (get_or s.groups k d).class, subst (λ (o : Option ℕ). Differ (get_or s.groups k d).rmid o) (sym rmid.1) (Differ-turned (Some rmid.0) (get_or s.groups k d).rmid (rmid_is.1 k d within)));
       places = length-replicate {A = ℕ} 8 0;
       valid = λ domain lt c u. absurd (let f : false ≡ true = c in cc);
       masks_apart = λ domain lt k d within c cn either. absurd (let f : false ≡ true = cn in cc);
       off_regions = λ domain r there cn. absurd (let f : false ≡ true = cn in cc);
     })
 
-monitor-sound : (m : Parameters) (s : State) (owner : Owner) (name : NameId) → IsSound m s → Free m s (Dir (Mon owner name)) → IsSound m (with_monitor m s name (owner_gid s owner))
-monitor-sound m s owner name sound free = at (owner_gid s owner) refl free.fresh free.parent
+-- a monitor group of an owner that may be missing keeps a sound tree
+with_monitor-sound : (m : Parameters) (s : State) (owner : Owner) (name : NameId) → IsSound m s → Free m s (Dir (Mon owner name)) → IsSound m (with_monitor m s name (owner_gid s owner))
+with_monitor-sound m s owner name sound free = at (owner_gid s owner) refl free.fresh free.parent
   where
     at : (o : Option Gid) → owner_gid s owner ≡ o → is_some (option_and_then (λ (parent : Gid). option_map (λ (g : Group). g.gid) (find (is_monitor_named parent name) s.groups)) o) ≡ false → option_map_or (is_closed s) o false ≡ false → IsSound m (with_monitor m s name o)
     at None is fresh closed = sound
-    at (Some parent) is fresh closed = monitor_made m s name parent sound (parent_counted m s owner parent sound is closed) free.rmids (unnamed (λ (g : Group). g.gid) (is_monitor_named parent name) s.groups fresh)
+    at (Some parent) is fresh closed = new_monitor-sound m s name parent sound (IsCounted-parent m s owner parent sound is closed) free.rmids (All-find_none (λ (g : Group). g.gid) (is_monitor_named parent name) s.groups fresh)
 
+-- an accepted mkdir keeps a sound tree
 pub mkdir-sound : (m : Parameters) (s : State) (path : PathRef) → InRange m → IsSound m s → refusal m s path ≡ None → IsSound m (accepted m s path)
 unfolding accepted
-mkdir-sound m s (Dir (Ctrl name)) range sound none = control_made m s name range sound (nothing_against m s (Dir (Ctrl name)) none)
-mkdir-sound m s (Dir (Mon owner name)) range sound none = monitor-sound m s owner name sound (nothing_against m s (Dir (Mon owner name)) none)
+mkdir-sound m s (Dir (Ctrl name)) range sound none = new_control-sound m s name range sound (Free-refusal m s (Dir (Ctrl name)) none)
+mkdir-sound m s (Dir (Mon owner name)) range sound none = with_monitor-sound m s owner name sound (Free-refusal m s (Dir (Mon owner name)) none)
 mkdir-sound m s path range sound none = sound

@@ -38,33 +38,35 @@ use Rattle.tree_law.specs.commands.Mode.{accepted, against_change, against_entry
 use Rattle.tree_law.specs.commands.Schemata.{against_overlap, is_locked}
 use Rattle.cpu_binding.specs.Groups as cpu_groups
 use Rattle.task_binding.specs.Bindings as bindings
-use Rattle.tree_law.proofs.ModeTests.{unnot, MayEnter, may_enter, has_class, unlocked_mode, not_has_locked, control_ids, counted_ids, counted_kind, counted_unlocks}
+use Rattle.tree_law.proofs.ModeTests.{not-false, MayEnter, MayEnter-none, IsSome-class, is_locked-false, has_mode-unlocked, HasIds-control, HasIdsOf-counted, cond-counted, is_locked-counted}
 
 module _ (m : Parameters) (s : State) (g : Group) (sound : IsSound m s) (found : find (has_gid g.gid) s.groups ≡ Some g) (control : is_control g.kind ≡ true) (unlocked : is_locked g.mode ≡ false) where
-  place : IsFound (has_gid g.gid) s.groups g
-  place = find-found (has_gid g.gid) s.groups g found
+  -- the group is found by its gid
+  IsFound-gid : IsFound (has_gid g.gid) s.groups g
+  IsFound-gid = find-found (has_gid g.gid) s.groups g found
 
-  class_there : IsSome g.class
-  class_there = has_class s.groups g.kind g control unlocked (IsFound-all (λ (x : Group). HasIds s.groups x.kind x) (has_gid g.gid) s.groups g place sound.numbered.ids)
+  -- the group has a class
+  IsSome-class_here : IsSome g.class
+  IsSome-class_here = IsSome-class s.groups g.kind g control unlocked (IsFound-all (λ (x : Group). HasIds s.groups x.kind x) (has_gid g.gid) s.groups g IsFound-gid sound.numbered.ids)
 
   -- to a counted mode
-  to_counted : (mode : Mode) (rmid : Option ℕ) → is_counted_mode mode ≡ true → (IsDefault g → rmid ≡ Some 0) → IsSome rmid → IfSome rmid (IsUsed m s.limbo)
+  IsSound-counted : (mode : Mode) (rmid : Option ℕ) → is_counted_mode mode ≡ true → (IsDefault g → rmid ≡ Some 0) → IsSome rmid → IfSome rmid (IsUsed m s.limbo)
       → ((k : ℕ) (d : Group) → k < length s.groups → has_gid g.gid (get_or s.groups k d) ≡ false → Differ rmid (get_or s.groups k d).rmid)
       → ((domain : ℕ) → domain < m.domains → FitsBeside m s g sound found mode domain (mask_in domain g)) → IsSound m (with_record s (record g { mode = mode; rmid = rmid }))
-  to_counted mode rmid counted default some used differ fits =
+  IsSound-counted mode rmid counted default some used differ fits =
       let gids = sound.named.gids in
-      let stays : is_counted g ≡ true → cond (is_control g.kind) (is_counted_mode mode) false ≡ true = λ _. counted_kind g.kind mode control counted in
-      let p = place in record {
-        named = AreNamed-replaced s.groups g mode g.class rmid g.masks gids found s.next_gid sound.named (λ d. record { gid = d.gid; name = d.name; counted = counted_kind g.kind mode control counted; class = d.class; rmid = default d });
+      let stays : is_counted g ≡ true → cond (is_control g.kind) (is_counted_mode mode) false ≡ true = λ _. cond-counted g.kind mode control counted in
+      let p = IsFound-gid in record {
+        named = AreNamed-replaced s.groups g mode g.class rmid g.masks gids found s.next_gid sound.named (λ d. record { gid = d.gid; name = d.name; counted = cond-counted g.kind mode control counted; class = d.class; rmid = default d });
         numbered = AreNumbered-replaced s.groups g mode g.class rmid g.masks gids found m s.limbo sound.numbered
             (λ k d parent within is. inl stays)
-            (control_ids (after s.groups g mode g.class rmid g.masks gids found) g.kind (new_record s.groups g mode g.class rmid g.masks gids found) mode refl control (counted_ids mode (new_record s.groups g mode g.class rmid g.masks gids found) counted class_there some))
+            (HasIds-control (after s.groups g mode g.class rmid g.masks gids found) g.kind (new_record s.groups g mode g.class rmid g.masks gids found) mode refl control (HasIdsOf-counted mode (new_record s.groups g mode g.class rmid g.masks gids found) counted IsSome-class_here some))
             (IsFound-all (λ (x : Group). IfSome x.class (λ id. id < m.classes)) (has_gid g.gid) s.groups g p sound.numbered.classes)
             used
             (λ k d within other old. (old.0, differ k d within other));
         masks = HaveMasks-fitting m s g sound found mode g.class rmid g.masks (IsFound-all (λ (x : Group). length x.masks ≡ 8) (has_gid g.gid) s.groups g p sound.masks.places) fits;
         regions = HaveRegions-fitting m s g sound found mode g.class rmid g.masks (IsFound-all (λ (x : Group). length x.masks ≡ 8) (has_gid g.gid) s.groups g p sound.masks.places) fits
-            (not_has_locked g.kind g.mode unlocked) (not_has_locked g.kind mode (counted_unlocks mode counted));
+            (has_mode-unlocked g.kind g.mode unlocked) (has_mode-unlocked g.kind mode (is_locked-counted mode counted));
         lines = sound.lines;
         threshold = sound.threshold;
         tasks = AreBound-replaced s.groups g mode g.class rmid g.masks gids found s.tasks (λ k d within. inl stays) sound.tasks;
@@ -72,16 +74,16 @@ module _ (m : Parameters) (s : State) (g : Group) (sound : IsSound m s) (found :
       }
 
   -- to pseudo-locksetup
-  to_setup : (looks : List ℕ) → MayEnter (holdings s g) → IsSound m (record (with_record s (record g { mode = LockSetup; rmid = None })) { limbo = limbo_after m s.threshold s.limbo (option_to_list g.rmid) looks })
-  to_setup looks enter =
+  IsSound-setup : (looks : List ℕ) → MayEnter (holdings s g) → IsSound m (record (with_record s (record g { mode = LockSetup; rmid = None })) { limbo = limbo_after m s.threshold s.limbo (option_to_list g.rmid) looks })
+  IsSound-setup looks enter =
       let gids = sound.named.gids in
       let uncounted = off g.kind in
-      let p = place in record {
+      let p = IsFound-gid in record {
         named = AreNamed-replaced s.groups g LockSetup g.class None g.masks gids found s.next_gid sound.named (λ d. absurd (let f : true ≡ false = sym (eq-eqb g.gid.0 0 d.gid) ∙ enter.other in cc));
         numbered = AreNumbered-limbo_after m (after s.groups g LockSetup g.class None g.masks gids found) s.threshold (option_to_list g.rmid) s.limbo looks
             (AreNumbered-replaced s.groups g LockSetup g.class None g.masks gids found m s.limbo sound.numbered
             (λ k d parent within is. inr (λ e. no_child k d parent within is e))
-            (control_ids (after s.groups g LockSetup g.class None g.masks gids found) g.kind (new_record s.groups g LockSetup g.class None g.masks gids found) LockSetup refl control (class_there, refl))
+            (HasIds-control (after s.groups g LockSetup g.class None g.masks gids found) g.kind (new_record s.groups g LockSetup g.class None g.masks gids found) LockSetup refl control (IsSome-class_here, refl))
             (IsFound-all (λ (x : Group). IfSome x.class (λ id. id < m.classes)) (has_gid g.gid) s.groups g p sound.numbered.classes)
             tt
             (λ k d within other old. (old.0, tt)))
@@ -90,10 +92,10 @@ module _ (m : Parameters) (s : State) (g : Group) (sound : IsSound m s) (found :
             (λ k d within other. apart g.rmid (get_or s.groups k d).rmid (AllPairs-beside gid_number s.groups g g gids found IdsDiffer IdsDiffer-turned sound.numbered.apart k d within other).1));
         masks = HaveMasks-replaced s.groups g LockSetup g.class None g.masks gids found m sound.masks
             (IsFound-all (λ (x : Group). length x.masks ≡ 8) (has_gid g.gid) s.groups g p sound.masks.places)
-            (λ domain lt c u. IsFound-all (HasValid m domain) (has_gid g.gid) s.groups g p (sound.masks.valid domain lt) control (unlocked_mode g.mode unlocked))
+            (λ domain lt c u. IsFound-all (HasValid m domain) (has_gid g.gid) s.groups g p (sound.masks.valid domain lt) control (is_locked-false g.mode unlocked))
             (λ domain lt k d within other keep cn cx either. absurd (uncounted cn))
             (λ domain lt cn e. absurd (uncounted cn));
-        regions = HaveRegions-replaced s.groups g LockSetup g.class None g.masks gids found m s.regions sound.regions (not_has_locked g.kind g.mode unlocked) (not_has_locked g.kind LockSetup refl)
+        regions = HaveRegions-replaced s.groups g LockSetup g.class None g.masks gids found m s.regions sound.regions (has_mode-unlocked g.kind g.mode unlocked) (has_mode-unlocked g.kind LockSetup refl)
             (λ domain r there cn. absurd (uncounted cn));
         lines = sound.lines;
         threshold = sound.threshold;
@@ -121,37 +123,40 @@ module _ (m : Parameters) (s : State) (g : Group) (sound : IsSound m s) (found :
 
   -- ---- the tests of a change
 
-  all_leave : (domains : List ℕ) → against_masks m s g domains ≡ None → All (λ domain. leaving_overlap (mask_in domain g) (used_in m s (Some g.gid) domain) ≡ Ok tt) domains
-  all_leave [] none = λ k d within. absurd (omega arith)
-  all_leave (domain ∷ domains) none =
+  -- where no domain is against leaving pseudo-locksetup, the mask of each may leave
+  All-leaving_overlap : (domains : List ℕ) → against_masks m s g domains ≡ None → All (λ domain. leaving_overlap (mask_in domain g) (used_in m s (Some g.gid) domain) ≡ Ok tt) domains
+  All-leaving_overlap [] none = λ k d within. absurd (omega arith)
+  All-leaving_overlap (domain ∷ domains) none =
       let both = option_or-none (against_overlap domain (leaving_overlap (mask_in domain g) (used_in m s (Some g.gid) domain))) (against_masks m s g domains) none in
       All-cons (λ domain. leaving_overlap (mask_in domain g) (used_in m s (Some g.gid) domain) ≡ Ok tt) domain domains
-      (against_overlap-none domain (leaving_overlap (mask_in domain g) (used_in m s (Some g.gid) domain)) both.0) (all_leave domains both.1)
+      (against_overlap-none domain (leaving_overlap (mask_in domain g) (used_in m s (Some g.gid) domain)) both.0) (All-leaving_overlap domains both.1)
 
-  all_apart : against_exclusive m s g Exclusive ≡ None → (domain : ℕ) → domain < m.domains → is_apart (mask_in domain g) (used_in m s (Some g.gid) domain) ≡ true
-  all_apart none = All-range (λ domain. is_apart (mask_in domain g) (used_in m s (Some g.gid) domain) ≡ true) m.domains
-      (λ k d within. unnot (is_apart (mask_in (get_or (range_with_len 0 m.domains) k d) g) (used_in m s (Some g.gid) (get_or (range_with_len 0 m.domains) k d)))
+  -- where nothing is against exclusive mode, each mask is apart from all others
+  is_apart-exclusive : against_exclusive m s g Exclusive ≡ None → (domain : ℕ) → domain < m.domains → is_apart (mask_in domain g) (used_in m s (Some g.gid) domain) ≡ true
+  is_apart-exclusive none = All-range (λ domain. is_apart (mask_in domain g) (used_in m s (Some g.gid) domain) ≡ true) m.domains
+      (λ k d within. not-false (is_apart (mask_in (get_or (range_with_len 0 m.domains) k d) g) (used_in m s (Some g.gid) (get_or (range_with_len 0 m.domains) k d)))
       (All-from_none (overlaps_some m s g) (range_with_len 0 m.domains) (at (list_any (overlaps_some m s g) (range_with_len 0 m.domains)) none) k d within))
     where
       at : (b : Bool) → cond {A = Option Refusal} b (Some (plain SchemataOverlap)) None ≡ None → b ≡ false
       at true e = absurd (let f : Some (plain SchemataOverlap) ≡ None = e in cc)
       at false e = refl
 
-  valid_here : (domain : ℕ) → domain < m.domains → HasValid m domain g
-  valid_here domain lt = IsFound-all (HasValid m domain) (has_gid g.gid) s.groups g place (sound.masks.valid domain lt)
+  -- each mask of the group is valid
+  HasValid-own : (domain : ℕ) → domain < m.domains → HasValid m domain g
+  HasValid-own domain lt = IsFound-all (HasValid m domain) (has_gid g.gid) s.groups g IsFound-gid (sound.masks.valid domain lt)
 
-  -- an RMID is free
-  some_free : rmid_refusal m s ≡ None → (id : ℕ) × (free_rmid m s ≡ Some id)
-  some_free none = at (free_rmid m s) refl none
+  -- an RMID is free where nothing is against taking one
+  free_rmid-unrefused : rmid_refusal m s ≡ None → (id : ℕ) × (free_rmid m s ≡ Some id)
+  free_rmid-unrefused none = at (free_rmid m s) refl none
     where
       at : (o : Option ℕ) → free_rmid m s ≡ o → cond {A = Option Refusal} (is_none o) (Some (plain (cond (none_in_limbo s) OutOfRmids RmidsBusy))) None ≡ None → (id : ℕ) × (free_rmid m s ≡ Some id)
       at None is e = absurd (let f : Some (plain (cond (none_in_limbo s) OutOfRmids RmidsBusy)) ≡ None = e in cc)
       at (Some id) is e = (id, is)
 
   -- from a counted mode its own RMID stays
-  kept_rmid : is_counted_mode g.mode ≡ true → (mode : Mode) → is_counted_mode mode ≡ true → ((domain : ℕ) → domain < m.domains → FitsBeside m s g sound found mode domain (mask_in domain g)) → IsSound m (with_record s (record g { mode = mode; rmid = g.rmid }))
-  kept_rmid was mode counted fits = to_counted mode g.rmid counted (λ d. d.rmid) (rmid_there g.kind control (IsFound-all (λ (x : Group). HasIds s.groups x.kind x) (has_gid g.gid) s.groups g place sound.numbered.ids))
-      (IsFound-all (λ (x : Group). IfSome x.rmid (IsUsed m s.limbo)) (has_gid g.gid) s.groups g place sound.numbered.rmids)
+  IsSound-own_rmid : is_counted_mode g.mode ≡ true → (mode : Mode) → is_counted_mode mode ≡ true → ((domain : ℕ) → domain < m.domains → FitsBeside m s g sound found mode domain (mask_in domain g)) → IsSound m (with_record s (record g { mode = mode; rmid = g.rmid }))
+  IsSound-own_rmid was mode counted fits = IsSound-counted mode g.rmid counted (λ d. d.rmid) (rmid_there g.kind control (IsFound-all (λ (x : Group). HasIds s.groups x.kind x) (has_gid g.gid) s.groups g IsFound-gid sound.numbered.ids))
+      (IsFound-all (λ (x : Group). IfSome x.rmid (IsUsed m s.limbo)) (has_gid g.gid) s.groups g IsFound-gid sound.numbered.rmids)
       (λ k d within other. (AllPairs-beside gid_number s.groups g g sound.named.gids found IdsDiffer IdsDiffer-turned sound.numbered.apart k d within other).1) fits
     where
       by_mode : (mode : Mode) → is_counted_mode mode ≡ true → HasIdsOf mode g → IsSome g.rmid
@@ -165,12 +170,12 @@ module _ (m : Parameters) (s : State) (g : Group) (sound : IsSound m s) (found :
       rmid_there (Monitor p) c h = absurd (let f : false ≡ true = c in cc)
 
   -- from pseudo-locksetup it takes a free one
-  new_rmid : g.mode ≡ LockSetup → rmid_refusal m s ≡ None → (mode : Mode) → is_counted_mode mode ≡ true → ((domain : ℕ) → domain < m.domains → FitsBeside m s g sound found mode domain (mask_in domain g)) → IsSound m (with_record s (record g { mode = mode; rmid = free_rmid m s }))
-  new_rmid setup none mode counted fits =
-      let id = some_free none in
+  IsSound-free_rmid : g.mode ≡ LockSetup → rmid_refusal m s ≡ None → (mode : Mode) → is_counted_mode mode ≡ true → ((domain : ℕ) → domain < m.domains → FitsBeside m s g sound found mode domain (mask_in domain g)) → IsSound m (with_record s (record g { mode = mode; rmid = free_rmid m s }))
+  IsSound-free_rmid setup none mode counted fits =
+      let id = free_rmid-unrefused none in
       let is = free_rmid-some m s id.0 id.1 in
       subst (λ (o : Option ℕ). IsSound m (with_record s (record g { mode = mode; rmid = o }))) (sym id.1)
-      (to_counted mode (Some id.0) counted (λ d. absurd (not_counted g.kind d.counted)) refl is.0 (λ k d within other. is.1 k d within) fits)
+      (IsSound-counted mode (Some id.0) counted (λ d. absurd (not_counted g.kind d.counted)) refl is.0 (λ k d within other. is.1 k d within) fits)
     where
       not_counted : (kind : GroupKind) → cond (is_control kind) (is_counted_mode g.mode) false ≡ true → ⊥
       not_counted Control e = let f : false ≡ true = ap is_counted_mode (sym setup) ∙ e in cc
@@ -179,55 +184,59 @@ module _ (m : Parameters) (s : State) (g : Group) (sound : IsSound m s) (found :
   -- ---- each change
 
   -- what is against a change to a mode from another, by the modes alone
-  tests : (mode : Mode) → against_change m s g mode ≡ None → (against_entry s g mode ≡ None) × (against_leaving m s g ≡ None) × (against_exclusive m s g mode ≡ None) × (against_rmid m s g ≡ None)
-  tests mode none =
+  against_change-none : (mode : Mode) → against_change m s g mode ≡ None → (against_entry s g mode ≡ None) × (against_leaving m s g ≡ None) × (against_exclusive m s g mode ≡ None) × (against_rmid m s g ≡ None)
+  against_change-none mode none =
       let one = option_or-none (against_entry s g mode) (option_or (against_leaving m s g) (option_or (against_exclusive m s g mode) (against_rmid m s g))) none in
       let two = option_or-none (against_leaving m s g) (option_or (against_exclusive m s g mode) (against_rmid m s g)) one.1 in
       let three = option_or-none (against_exclusive m s g mode) (against_rmid m s g) two.1 in
       (one.0, two.0, three.0, three.1)
 
-  exclusive_if : (mode : Mode) → against_exclusive m s g mode ≡ None → mode ≡ Exclusive → (domain : ℕ) → domain < m.domains → is_apart (mask_in domain g) (used_in m s (Some g.gid) domain) ≡ true
-  exclusive_if mode none is = all_apart (subst (λ (x : Mode). against_exclusive m s g x ≡ None) is none)
+  -- each mask is apart from all others where the new mode is exclusive
+  is_apart-to_exclusive : (mode : Mode) → against_exclusive m s g mode ≡ None → mode ≡ Exclusive → (domain : ℕ) → domain < m.domains → is_apart (mask_in domain g) (used_in m s (Some g.gid) domain) ≡ true
+  is_apart-to_exclusive mode none is = is_apart-exclusive (subst (λ (x : Mode). against_exclusive m s g x ≡ None) is none)
 
-  from_counted : is_counted_mode g.mode ≡ true → (mode : Mode) → is_counted_mode mode ≡ true → against_exclusive m s g mode ≡ None → IsSound m (with_record s (record g { mode = mode; rmid = g.rmid }))
-  from_counted was mode counted none = kept_rmid was mode counted (λ domain lt. fits mode counted none domain lt)
+  -- from a counted mode to a counted mode
+  IsSound-from_counted : is_counted_mode g.mode ≡ true → (mode : Mode) → is_counted_mode mode ≡ true → against_exclusive m s g mode ≡ None → IsSound m (with_record s (record g { mode = mode; rmid = g.rmid }))
+  IsSound-from_counted was mode counted none = IsSound-own_rmid was mode counted (λ domain lt. fits mode counted none domain lt)
     where
       old : (domain : ℕ) → domain < m.domains → FitsBeside m s g sound found g.mode domain (mask_in domain g)
-      old = FitsBeside-old m s g sound found control (unlocked_mode g.mode unlocked) (counted_kind g.kind g.mode control was)
+      old = FitsBeside-old m s g sound found control (is_locked-false g.mode unlocked) (cond-counted g.kind g.mode control was)
 
       fits : (mode : Mode) → is_counted_mode mode ≡ true → against_exclusive m s g mode ≡ None → (domain : ℕ) → domain < m.domains → FitsBeside m s g sound found mode domain (mask_in domain g)
       fits Shareable c none domain lt = FitsBeside-shared m s g sound found domain (mask_in domain g) (old domain lt)
-      fits Exclusive c none domain lt = FitsBeside-exclusive m s g sound found domain (mask_in domain g) (old domain lt) (all_apart none domain lt)
+      fits Exclusive c none domain lt = FitsBeside-exclusive m s g sound found domain (mask_in domain g) (old domain lt) (is_apart-exclusive none domain lt)
       fits LockSetup c none domain lt = absurd (let f : false ≡ true = c in cc)
       fits Locked c none domain lt = absurd (let f : false ≡ true = c in cc)
 
-  from_setup : g.mode ≡ LockSetup → (mode : Mode) → is_counted_mode mode ≡ true → against_leaving m s g ≡ None → against_exclusive m s g mode ≡ None → against_rmid m s g ≡ None → IsSound m (with_record s (record g { mode = mode; rmid = free_rmid m s }))
-  from_setup setup mode counted leaving exclusive rmid =
+  -- from pseudo-locksetup to a counted mode
+  IsSound-from_setup : g.mode ≡ LockSetup → (mode : Mode) → is_counted_mode mode ≡ true → against_leaving m s g ≡ None → against_exclusive m s g mode ≡ None → against_rmid m s g ≡ None → IsSound m (with_record s (record g { mode = mode; rmid = free_rmid m s }))
+  IsSound-from_setup setup mode counted leaving exclusive rmid =
       let masks : against_masks m s g (range_with_len 0 m.domains) ≡ None = ap (λ (x : Mode). cond (is_setup x) (against_masks m s g (range_with_len 0 m.domains)) None) (sym setup) ∙ leaving in
       let ids : rmid_refusal m s ≡ None = ap (λ (x : Mode). cond (is_setup x) (rmid_refusal m s) None) (sym setup) ∙ rmid in
-      let leave = All-range (λ domain. leaving_overlap (mask_in domain g) (used_in m s (Some g.gid) domain) ≡ Ok tt) m.domains (all_leave (range_with_len 0 m.domains) masks) in
-      new_rmid setup ids mode counted (λ domain lt. FitsBeside-leaving m s g sound found mode domain (mask_in domain g) tt (valid_here domain lt control (unlocked_mode g.mode unlocked)) (leave domain lt) (λ e. exclusive_if mode exclusive e domain lt))
+      let leave = All-range (λ domain. leaving_overlap (mask_in domain g) (used_in m s (Some g.gid) domain) ≡ Ok tt) m.domains (All-leaving_overlap (range_with_len 0 m.domains) masks) in
+      IsSound-free_rmid setup ids mode counted (λ domain lt. FitsBeside-leaving m s g sound found mode domain (mask_in domain g) tt (HasValid-own domain lt control (is_locked-false g.mode unlocked)) (leave domain lt) (λ e. is_apart-to_exclusive mode exclusive e domain lt))
 
   -- to a counted mode from any
-  change_counted : (mode : Mode) → is_counted_mode mode ≡ true → against_change m s g mode ≡ None → IsSound m (with_record s (record g { mode = mode; rmid = cond (is_setup g.mode) (free_rmid m s) g.rmid }))
-  change_counted mode counted none = (let t = tests mode none in at g.mode refl t.1 t.2 t.3)
+  IsSound-to_counted : (mode : Mode) → is_counted_mode mode ≡ true → against_change m s g mode ≡ None → IsSound m (with_record s (record g { mode = mode; rmid = cond (is_setup g.mode) (free_rmid m s) g.rmid }))
+  IsSound-to_counted mode counted none = (let t = against_change-none mode none in at g.mode refl t.1 t.2 t.3)
     where
       at : (x : Mode) → g.mode ≡ x → against_leaving m s g ≡ None → against_exclusive m s g mode ≡ None → against_rmid m s g ≡ None → IsSound m (with_record s (record g { mode = mode; rmid = cond (is_setup x) (free_rmid m s) g.rmid }))
-      at Shareable is l e r = from_counted (ap is_counted_mode is) mode counted e
-      at Exclusive is l e r = from_counted (ap is_counted_mode is) mode counted e
-      at LockSetup is l e r = from_setup is mode counted l e r
+      at Shareable is l e r = IsSound-from_counted (ap is_counted_mode is) mode counted e
+      at Exclusive is l e r = IsSound-from_counted (ap is_counted_mode is) mode counted e
+      at LockSetup is l e r = IsSound-from_setup is mode counted l e r
       at Locked is l e r = absurd (let f : true ≡ false = sym (ap is_locked is) ∙ unlocked in cc)
 
-  pub change-sound : (mode : Mode) (looks : List ℕ) → mode ≢ Locked → against_change m s g mode ≡ None → IsSound m (with_mode m s g (freed_by g (Some mode)) looks (Some mode))
-  change-sound Shareable looks writable none = change_counted Shareable refl none
-  change-sound Exclusive looks writable none = change_counted Exclusive refl none
-  change-sound LockSetup looks writable none = to_setup looks (may_enter (holdings s g) (tests LockSetup none).0)
-  change-sound Locked looks writable none = absurd (writable refl)
+  -- a change of mode that nothing is against keeps a sound tree
+  pub with_mode-sound : (mode : Mode) (looks : List ℕ) → mode ≢ Locked → against_change m s g mode ≡ None → IsSound m (with_mode m s g (freed_by g (Some mode)) looks (Some mode))
+  with_mode-sound Shareable looks writable none = IsSound-to_counted Shareable refl none
+  with_mode-sound Exclusive looks writable none = IsSound-to_counted Exclusive refl none
+  with_mode-sound LockSetup looks writable none = IsSound-setup looks (MayEnter-none (holdings s g) (against_change-none LockSetup none).0)
+  with_mode-sound Locked looks writable none = absurd (writable refl)
 
 -- no text asks for the mode of a pseudo-locked group
-writable : (text : List ℕ) (mode : Mode) → mode_in text ≡ Some mode → mode ≢ Locked
+mode_in-not_locked : (text : List ℕ) (mode : Mode) → mode_in text ≡ Some mode → mode ≢ Locked
 unfolding mode_in
-writable text mode is e = at (is_named (trim text) Shareable) (is_named (trim text) Exclusive) (is_named (trim text) LockSetup) (is ∙ ap Some e)
+mode_in-not_locked text mode is e = at (is_named (trim text) Shareable) (is_named (trim text) Exclusive) (is_named (trim text) LockSetup) (is ∙ ap Some e)
   where
     at : (a b c : Bool) → cond {A = Option Mode} a (Some Shareable) (cond b (Some Exclusive) (cond c (Some LockSetup) None)) ≡ Some Locked → ⊥
     at true b c e = let f : Some Shareable ≡ Some Locked = e in cc
@@ -235,6 +244,7 @@ writable text mode is e = at (is_named (trim text) Shareable) (is_named (trim te
     at false false true e = let f : Some LockSetup ≡ Some Locked = e in cc
     at false false false e = let f : ◌≡◌ {A = Option Mode} None (Some Locked) = e in cc
 
+-- an accepted write of a mode keeps a sound tree
 pub mode-sound : (m : Parameters) (s : State) (g : Group) (text looks : List ℕ) → IsSound m s → find (has_gid g.gid) s.groups ≡ Some g → is_control g.kind ≡ true → refusal m s g text ≡ None → IsSound m (accepted m s g text looks)
 unfolding refusal accepted freed
 mode-sound m s g text looks sound found control none = at (is_present g.mode text) (is_locked g.mode) (mode_in text) refl refl none
@@ -244,4 +254,4 @@ mode-sound m s g text looks sound found control none = at (is_present g.mode tex
     at true b o isb iso e = sound
     at false true o isb iso e = absurd (let f : Some (plain GroupLocked) ≡ None = e in cc)
     at false false None isb iso e = absurd (let f : Some (plain UnknownMode) ≡ None = e in cc)
-    at false false (Some mode) isb iso e = change-sound m s g sound found control isb mode looks (writable text mode iso) e
+    at false false (Some mode) isb iso e = with_mode-sound m s g sound found control isb mode looks (mode_in-not_locked text mode iso) e

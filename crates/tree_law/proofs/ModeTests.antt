@@ -17,9 +17,10 @@ use Rattle.tree_law.specs.Sound.{HasIds, HasIdsOf}
 use Rattle.tree_law.specs.commands.Mode.{reason_of}
 use Rattle.tree_law.specs.commands.Schemata.{is_locked}
 
-pub unnot : (b : Bool) → not b ≡ false → b ≡ true
-unnot true e = refl
-unnot false e = absurd (let f : true ≡ false = e in cc)
+-- what is not untrue is true
+pub not-false : (b : Bool) → not b ≡ false → b ≡ true
+not-false true e = refl
+not-false false e = absurd (let f : true ≡ false = e in cc)
 
 -- a group that nothing keeps out of pseudo-locksetup
 pub record MayEnter (h : Holdings) : Type 0 where
@@ -28,24 +29,25 @@ pub record MayEnter (h : Holdings) : Type 0 where
   pub tasks : eqb h.tasks 0 ≡ true
   pub cpus : eqb h.cpus 0 ≡ true
 
-pub may_enter : (h : Holdings) → reason_of (entry_refusal h) ≡ None → MayEnter h
+-- a group that nothing keeps out of pseudo-locksetup may enter it
+pub MayEnter-none : (h : Holdings) → reason_of (entry_refusal h) ≡ None → MayEnter h
 unfolding entry_refusal
-may_enter h none =
+MayEnter-none h none =
     let is = entered (first_of (keeps_out h) (DefaultGroup ∷ HasMonGroups ∷ HasTasks ∷ HasCpus ∷ [])) none in
     let one = cond-Ok h.is_default DefaultGroup _ tt is in
     let two = cond-Ok (not (eqb h.monitors 0)) HasMonGroups _ tt one.1 in
     let three = cond-Ok (not (eqb h.tasks 0)) HasTasks _ tt two.1 in
     let four = cond-Ok (not (eqb h.cpus 0)) HasCpus _ tt three.1 in
-    record { other = one.0; monitors = unnot (eqb h.monitors 0) two.0; tasks = unnot (eqb h.tasks 0) three.0; cpus = unnot (eqb h.cpus 0) four.0 }
+    record { other = one.0; monitors = not-false (eqb h.monitors 0) two.0; tasks = not-false (eqb h.tasks 0) three.0; cpus = not-false (eqb h.cpus 0) four.0 }
   where
     entered : (r : Result (Unit {0}) Why) → reason_of r ≡ None → r ≡ Ok tt
     entered (Ok u) e = refl
     entered (Err why) e = absurd (let f : Some (plain why) ≡ None = e in cc)
 
 -- a control group that is not pseudo-locked has a class
-pub has_class : (groups : List Group) (kind : GroupKind) (g : Group) → is_control kind ≡ true → is_locked g.mode ≡ false → HasIds groups kind g → IsSome g.class
-has_class groups (Monitor p) g control unlocked has = absurd (let f : false ≡ true = control in cc)
-has_class groups Control g control unlocked has = at g.mode unlocked has
+pub IsSome-class : (groups : List Group) (kind : GroupKind) (g : Group) → is_control kind ≡ true → is_locked g.mode ≡ false → HasIds groups kind g → IsSome g.class
+IsSome-class groups (Monitor p) g control unlocked has = absurd (let f : false ≡ true = control in cc)
+IsSome-class groups Control g control unlocked has = at g.mode unlocked has
   where
     at : (mode : Mode) → is_locked mode ≡ false → HasIdsOf mode g → IsSome g.class
     at Shareable u h = h.0
@@ -53,32 +55,38 @@ has_class groups Control g control unlocked has = at g.mode unlocked has
     at LockSetup u h = h.0
     at Locked u h = absurd (let f : true ≡ false = u in cc)
 
-pub unlocked_mode : (mode : Mode) → is_locked mode ≡ false → mode ≢ Locked
-unlocked_mode mode unlocked e = let f : true ≡ false = sym (ap is_locked e) ∙ unlocked in cc
+-- a mode that fails the test of locked is another mode
+pub is_locked-false : (mode : Mode) → is_locked mode ≡ false → mode ≢ Locked
+is_locked-false mode unlocked e = let f : true ≡ false = sym (ap is_locked e) ∙ unlocked in cc
 
-pub not_has_locked : (kind : GroupKind) (mode : Mode) → is_locked mode ≡ false → (is_control kind && is_mode Locked mode) ≡ false
-not_has_locked (Monitor p) mode e = refl
-not_has_locked Control Shareable e = refl
-not_has_locked Control Exclusive e = refl
-not_has_locked Control LockSetup e = refl
-not_has_locked Control Locked e = e
+-- a group in another mode is not pseudo-locked
+pub has_mode-unlocked : (kind : GroupKind) (mode : Mode) → is_locked mode ≡ false → (is_control kind && is_mode Locked mode) ≡ false
+has_mode-unlocked (Monitor p) mode e = refl
+has_mode-unlocked Control Shareable e = refl
+has_mode-unlocked Control Exclusive e = refl
+has_mode-unlocked Control LockSetup e = refl
+has_mode-unlocked Control Locked e = e
 
-pub control_ids : (groups : List Group) (kind : GroupKind) (new : Group) (mode : Mode) → new.mode ≡ mode → is_control kind ≡ true → HasIdsOf mode new → HasIds groups kind new
-control_ids groups Control new mode is control has = subst (λ (x : Mode). HasIdsOf x new) (sym is) has
-control_ids groups (Monitor p) new mode is control has = absurd (let f : false ≡ true = control in cc)
+-- a control group has the ids of its kind where it has those of its mode
+pub HasIds-control : (groups : List Group) (kind : GroupKind) (new : Group) (mode : Mode) → new.mode ≡ mode → is_control kind ≡ true → HasIdsOf mode new → HasIds groups kind new
+HasIds-control groups Control new mode is control has = subst (λ (x : Mode). HasIdsOf x new) (sym is) has
+HasIds-control groups (Monitor p) new mode is control has = absurd (let f : false ≡ true = control in cc)
 
-pub counted_ids : (mode : Mode) (new : Group) → is_counted_mode mode ≡ true → IsSome new.class → IsSome new.rmid → HasIdsOf mode new
-counted_ids Shareable new c class rmid = (class, rmid)
-counted_ids Exclusive new c class rmid = (class, rmid)
-counted_ids LockSetup new c class rmid = absurd (let f : false ≡ true = c in cc)
-counted_ids Locked new c class rmid = absurd (let f : false ≡ true = c in cc)
+-- in a counted mode a class and an RMID are the ids
+pub HasIdsOf-counted : (mode : Mode) (new : Group) → is_counted_mode mode ≡ true → IsSome new.class → IsSome new.rmid → HasIdsOf mode new
+HasIdsOf-counted Shareable new c class rmid = (class, rmid)
+HasIdsOf-counted Exclusive new c class rmid = (class, rmid)
+HasIdsOf-counted LockSetup new c class rmid = absurd (let f : false ≡ true = c in cc)
+HasIdsOf-counted Locked new c class rmid = absurd (let f : false ≡ true = c in cc)
 
-pub counted_kind : (kind : GroupKind) (mode : Mode) → is_control kind ≡ true → is_counted_mode mode ≡ true → cond (is_control kind) (is_counted_mode mode) false ≡ true
-counted_kind Control mode control counted = counted
-counted_kind (Monitor p) mode control counted = absurd (let f : false ≡ true = control in cc)
+-- a control group in a counted mode is counted
+pub cond-counted : (kind : GroupKind) (mode : Mode) → is_control kind ≡ true → is_counted_mode mode ≡ true → cond (is_control kind) (is_counted_mode mode) false ≡ true
+cond-counted Control mode control counted = counted
+cond-counted (Monitor p) mode control counted = absurd (let f : false ≡ true = control in cc)
 
-pub counted_unlocks : (mode : Mode) → is_counted_mode mode ≡ true → is_locked mode ≡ false
-counted_unlocks Shareable e = refl
-counted_unlocks Exclusive e = refl
-counted_unlocks LockSetup e = refl
-counted_unlocks Locked e = absurd (let f : false ≡ true = e in cc)
+-- a counted mode is not locked
+pub is_locked-counted : (mode : Mode) → is_counted_mode mode ≡ true → is_locked mode ≡ false
+is_locked-counted Shareable e = refl
+is_locked-counted Exclusive e = refl
+is_locked-counted LockSetup e = refl
+is_locked-counted Locked e = absurd (let f : false ≡ true = e in cc)

@@ -25,23 +25,27 @@ module _ (m : Parameters) (s : State) (name : Option NameId) (kind : GroupKind) 
   abbrev pub added : Group
   added = record { gid = record { 0 = s.next_gid }; name = name; kind = kind; mode = Shareable; class = class; rmid = rmid; masks = masks }
 
+  -- the groups with the new one at the end
   abbrev pub longer : List Group
   longer = s.groups ++ added ∷ []
 
+  -- a counted group stays counted
   pub IsCounted-push : (gid : Gid) → IsCounted s.groups gid → IsCounted longer gid
   IsCounted-push gid counted = list_any-push (counts gid) s.groups added counted
 
+  -- a monitor group stays one of its parent
   IsOf-push : (control gid : Gid) → IsOf s.groups control gid → IsOf longer control gid
   IsOf-push control gid (inl e) = inl e
   IsOf-push control gid (inr some) = inr (list_any-push (monitors control gid) s.groups added some)
 
+  -- a group keeps the ids of its kind
   HasIds-push : (k : GroupKind) (x : Group) → HasIds s.groups k x → HasIds longer k x
   HasIds-push Control x has = has
   HasIds-push (Monitor parent) x has = (has.0, has.1, IsCounted-push parent has.2)
 
   -- it is not pseudo-locked
-  unlocked : has_mode Locked added ≡ true → ⊥
-  unlocked e = at (is_control kind) e
+  has_mode-added : has_mode Locked added ≡ true → ⊥
+  has_mode-added e = at (is_control kind) e
     where
       at : (b : Bool) → (b && false) ≡ true → ⊥
       at true e = let f : false ≡ true = e in cc
@@ -59,8 +63,9 @@ module _ (m : Parameters) (s : State) (name : Option NameId) (kind : GroupKind) 
     pub masks_apart : (domain : ℕ) → domain < m.domains → (k : ℕ) (d : Group) → k < length s.groups → KeepApart domain (get_or s.groups k d) added
     pub off_regions : (domain : ℕ) (r : Region) → slice_get s.regions domain ≡ Some (Some r) → OffCounted domain r.mask added
 
-  pub added-sound : IsSound m s → MayAdd → IsSound m (with_group s added)
-  added-sound sound may = record {
+  -- a group that may be added keeps a sound tree
+  pub with_group-sound : IsSound m s → MayAdd → IsSound m (with_group s added)
+  with_group-sound sound may = record {
     named = record {
       first = first s.groups sound.named.first;
       gids = all_pairs_push (λ a b. a.gid.0 ≢ b.gid.0) s.groups added sound.named.gids (λ k d within. below (get_or s.groups k d).gid.0 (sound.named.serial k d within));
@@ -90,8 +95,8 @@ module _ (m : Parameters) (s : State) (name : Option NameId) (kind : GroupKind) 
         off_counted = All-push (OffCounted domain r.mask) s.groups added old.off_counted (may.off_regions domain r there);
         held = list_any-push (holds_region domain r) s.groups added old.held;
       };
-      once = All-push (HasOneRegion s.regions) s.groups added sound.regions.once (λ e. absurd (unlocked e));
-      no_other = All-push (HasNoOther s.regions) s.groups added sound.regions.no_other (λ e. absurd (unlocked e));
+      once = All-push (HasOneRegion s.regions) s.groups added sound.regions.once (λ e. absurd (has_mode-added e));
+      no_other = All-push (HasNoOther s.regions) s.groups added sound.regions.no_other (λ e. absurd (has_mode-added e));
     };
     lines = sound.lines;
     threshold = sound.threshold;

@@ -26,24 +26,29 @@ use Rattle.pseudo_lock.specs.declared.region.Region.{Region}
 
 -- ---- what is the same from both sides
 
+-- groups stand together in either order
 StandTogether-turned : (a b : GroupKind) → StandTogether a b → StandTogether b a
 StandTogether-turned Control Control together = tt
 StandTogether-turned (Monitor p) (Monitor q) together = sym together
 StandTogether-turned Control (Monitor q) together = together
 StandTogether-turned (Monitor p) Control together = together
 
+-- names differ in either order
 pub NamesDiffer-turned : (a b : Group) → NamesDiffer a b → NamesDiffer b a
 NamesDiffer-turned a b differ = λ together e. differ (StandTogether-turned b.kind a.kind together) (sym e)
 
+-- ids differ in either order
 pub Differ-turned : (a b : Option ℕ) → Differ a b → Differ b a
 Differ-turned None None differ = tt
 Differ-turned None (Some b) differ = tt
 Differ-turned (Some a) None differ = tt
 Differ-turned (Some a) (Some b) differ = λ e. differ (sym e)
 
+-- the ids of two groups differ in either order
 pub IdsDiffer-turned : (a b : Group) → IdsDiffer a b → IdsDiffer b a
 IdsDiffer-turned a b differ = (Differ-turned a.class b.class differ.0, Differ-turned a.rmid b.rmid differ.1)
 
+-- groups keep apart in either order
 pub KeepApart-turned : (domain : ℕ) (a b : Group) → KeepApart domain a b → KeepApart domain b a
 KeepApart-turned domain a b apart = λ cb ca either. overlaps-comm (mask_in domain b) (mask_in domain a) ∙ apart ca cb (turned either)
   where
@@ -63,14 +68,17 @@ module _ (groups : List Group) (g : Group) (mode : Mode) (class rmid : Option �
   abbrev pub new_record : Group
   new_record = record g { mode = mode; class = class; rmid = rmid; masks = masks }
 
+  -- the groups with the new record in place of the old one
   abbrev pub after : List Group
   after = replaced new_record groups
 
-  place : IsFound (has_gid g.gid) groups g
-  place = find-found (has_gid g.gid) groups g found
+  -- the group is found by its gid
+  IsFound-gid : IsFound (has_gid g.gid) groups g
+  IsFound-gid = find-found (has_gid g.gid) groups g found
 
   -- ---- names
 
+  -- the first record is still the default group's
   IsDefault-replaced : (gs : List Group) → IsSomeAnd (slice_get gs 0) IsDefault → find (has_gid g.gid) gs ≡ Some g → (IsDefault g → IsDefault new_record) → IsSomeAnd (slice_get (replaced new_record gs) 0) IsDefault
   IsDefault-replaced [] first f kept = first
   IsDefault-replaced (x ∷ xs) first f kept = at (has_gid g.gid x) f
@@ -79,11 +87,12 @@ module _ (groups : List Group) (g : Group) (mode : Mode) (class rmid : Option �
       at true e = let same : x ≡ g = (let s : Some x ≡ Some g = e in cc) in kept (subst IsDefault same first)
       at false e = first
 
+  -- the groups are still named
   pub AreNamed-replaced : (next_gid : ℕ) → AreNamed groups next_gid → (IsDefault g → IsDefault new_record) → AreNamed after next_gid
   AreNamed-replaced next_gid named kept = record {
     first = IsDefault-replaced groups named.first found kept;
     gids = AllPairs-replaced gid_number groups new_record g gids found (λ a b. a.gid.0 ≢ b.gid.0) (λ a b differ e. differ (sym e)) gids (λ k d within other differ. differ);
-    serial = All-replaced_kept gid_number groups new_record g gids found (λ x. x.gid.0 < next_gid) (IsFound-all (λ (x : Group). x.gid.0 < next_gid) (has_gid g.gid) groups g place named.serial) named.serial;
+    serial = All-replaced_kept gid_number groups new_record g gids found (λ x. x.gid.0 < next_gid) (IsFound-all (λ (x : Group). x.gid.0 < next_gid) (has_gid g.gid) groups g IsFound-gid named.serial) named.serial;
     names = AllPairs-replaced gid_number groups new_record g gids found NamesDiffer NamesDiffer-turned named.names (λ k d within other differ. differ);
   }
 
@@ -93,6 +102,7 @@ module _ (groups : List Group) (g : Group) (mode : Mode) (class rmid : Option �
   abbrev pub Stays : Gid → Type 0
   Stays gid = (is_counted g ≡ true → is_counted new_record ≡ true) ⊎ (gid.0 ≢ g.gid.0)
 
+  -- the new record is counted where the old one was and stays so
   counts-replaced : (gid : Gid) → Stays gid → counts gid g ≡ true → counts gid new_record ≡ true
   counts-replaced gid stays passes = at (eqb gid.0 g.gid.0) refl stays passes
     where
@@ -101,21 +111,25 @@ module _ (groups : List Group) (g : Group) (mode : Mode) (class rmid : Option �
       at true is (inr other) e = absurd (other (eqb-true gid.0 g.gid.0 is))
       at false is stays e = e
 
+  -- a group that stays counted is counted
   pub IsCounted-replaced : (gid : Gid) → Stays gid → IsCounted groups gid → IsCounted after gid
   IsCounted-replaced gid stays counted = list_any-replaced gid_number groups new_record g gids found (counts gid) (counts-replaced gid stays) counted
 
+  -- a monitor group is still one of its parent
   pub IsOf-replaced : (control gid : Gid) → IsOf groups control gid → IsOf after control gid
   IsOf-replaced control gid (inl same) = inl same
   IsOf-replaced control gid (inr some) = inr (list_any-replaced gid_number groups new_record g gids found (monitors control gid) (λ passes. passes) some)
 
   -- ---- tasks and CPUs
 
+  -- tasks are still bound where their groups stay counted
   pub AreBound-replaced : (tasks : List Binding) → All (λ (b : Binding). Stays b.control) tasks → AreBound groups tasks → AreBound after tasks
   AreBound-replaced tasks stay bound = record {
     rising = bound.rising;
     each = λ k d within. let b = bound.each k d within in (IsCounted-replaced (get_or tasks k d).control (stay k d within) b.0, IsOf-replaced (get_or tasks k d).control (get_or tasks k d).monitor b.1);
   }
 
+  -- CPUs are still served where their groups stay counted
   pub AreServed-replaced : (m : Parameters) (cpus : List CpuGroups) → All (λ (c : CpuGroups). Stays c.control) cpus → AreServed m groups cpus → AreServed m after cpus
   AreServed-replaced m cpus stay served = record {
     count = served.count;
@@ -127,10 +141,12 @@ module _ (groups : List Group) (g : Group) (mode : Mode) (class rmid : Option �
 
   -- ---- ids
 
+  -- a group has the ids of its kind where its parent stays counted
   HasIds-replaced : (kind : GroupKind) (x : Group) → ((parent : Gid) → kind ≡ Monitor parent → Stays parent) → HasIds groups kind x → HasIds after kind x
   HasIds-replaced Control x stays has = has
   HasIds-replaced (Monitor parent) x stays has = (has.0, has.1, IsCounted-replaced parent (stays parent refl) has.2)
 
+  -- the groups are still numbered where the new record's ids are its own
   pub AreNumbered-replaced : (m : Parameters) (limbo : List ℕ) → AreNumbered m groups limbo
       → ((k : ℕ) (d : Group) (parent : Gid) → k < length groups → (get_or groups k d).kind ≡ Monitor parent → Stays parent)
       → HasIds after g.kind new_record → IfSome class (λ id. id < m.classes) → IfSome rmid (IsUsed m limbo)
@@ -147,6 +163,7 @@ module _ (groups : List Group) (g : Group) (mode : Mode) (class rmid : Option �
 
   -- ---- masks
 
+  -- the masks are still lawful where the new record's are
   pub HaveMasks-replaced : (m : Parameters) → HaveMasks m groups → length masks ≡ 8
       → ((domain : ℕ) → domain < m.domains → HasValid m domain new_record)
       → ((domain : ℕ) → domain < m.domains → (k : ℕ) (d : Group) → k < length groups → has_gid g.gid (get_or groups k d) ≡ false → KeepApart domain g (get_or groups k d) → KeepApart domain new_record (get_or groups k d))
@@ -161,9 +178,11 @@ module _ (groups : List Group) (g : Group) (mode : Mode) (class rmid : Option �
 
   -- ---- regions, where neither record is pseudo-locked
 
-  not_locked : (x : Bool) → x ≡ false → x ≡ true → ⊥
-  not_locked x is e = let f : false ≡ true = sym is ∙ e in cc
+  -- no test both fails and passes
+  false-absurd : (x : Bool) → x ≡ false → x ≡ true → ⊥
+  false-absurd x is e = let f : false ≡ true = sym is ∙ e in cc
 
+  -- the regions are as they were where neither record is pseudo-locked
   pub HaveRegions-replaced : (m : Parameters) (regions : List (Option Region)) → HaveRegions m groups regions → has_mode Locked g ≡ false → has_mode Locked new_record ≡ false
       → ((domain : ℕ) (r : Region) → slice_get regions domain ≡ Some (Some r) → OffCounted domain r.mask new_record) → HaveRegions m after regions
   HaveRegions-replaced m regions have was is off = record {
@@ -175,8 +194,8 @@ module _ (groups : List Group) (g : Group) (mode : Mode) (class rmid : Option �
       off_counted = All-replaced_kept gid_number groups new_record g gids found (OffCounted domain r.mask) (off domain r there) old.off_counted;
       held = list_any-replaced gid_number groups new_record g gids found (holds_region domain r) (λ passes. absurd (held domain r (has_gid r.gid g) (has_mode Locked g) was passes)) old.held;
     };
-    once = All-replaced_kept gid_number groups new_record g gids found (HasOneRegion regions) (λ locked. absurd (not_locked (has_mode Locked new_record) is locked)) have.once;
-    no_other = All-replaced_kept gid_number groups new_record g gids found (HasNoOther regions) (λ locked. absurd (not_locked (has_mode Locked new_record) is locked)) have.no_other;
+    once = All-replaced_kept gid_number groups new_record g gids found (HasOneRegion regions) (λ locked. absurd (false-absurd (has_mode Locked new_record) is locked)) have.once;
+    no_other = All-replaced_kept gid_number groups new_record g gids found (HasNoOther regions) (λ locked. absurd (false-absurd (has_mode Locked new_record) is locked)) have.no_other;
   }
     where
       held : (domain : ℕ) (r : Region) (a b : Bool) → b ≡ false → cond a (cond b (eqb (mask_in domain g) r.mask) false) false ≡ true → ⊥

@@ -42,9 +42,9 @@ Agrees domain a b =
     × (option_map (λ (g : Group). g.mode) b ≡ option_map (λ (g : Group). g.mode) a)
 
 -- one record in place of another that agrees with it where it is the one that is asked for
-pub agrees-replaced : (groups : List Group) (g new : Group) (gid : Gid) (domain : ℕ) → new.gid.0 ≡ g.gid.0 → find (has_gid g.gid) groups ≡ Some g
+pub Agrees-replaced : (groups : List Group) (g new : Group) (gid : Gid) (domain : ℕ) → new.gid.0 ≡ g.gid.0 → find (has_gid g.gid) groups ≡ Some g
     → (find (has_gid gid) groups ≡ Some g → Agrees domain (Some g) (Some new)) → Agrees domain (find (has_gid gid) groups) (find (has_gid gid) (replaced new groups))
-agrees-replaced groups g new gid domain same found agrees =
+Agrees-replaced groups g new gid domain same found agrees =
     subst (Agrees domain (find (has_gid gid) groups)) (sym (find-map (has_gid gid) (exchanged new) keeps groups)) (at (find (has_gid gid) groups) refl)
   where
     keeps : (x : Group) → has_gid gid (exchanged new x) ≡ has_gid gid x
@@ -67,9 +67,9 @@ agrees-replaced groups g new gid domain same found agrees =
 
 module _ (m : Parameters) (s : State) (task cpu : ℕ) where
   -- by the groups of its task and CPU, and the record of its owner
-  pub seen-agreeing : (later : State) → StandsStill s later task cpu → Agrees (domain_of m cpu) (group_of s (owner_of s task cpu)) (group_of later (owner_of s task cpu)) → IsSeenAs m s later task cpu
+  pub IsSeenAs-agreeing : (later : State) → StandsStill s later task cpu → Agrees (domain_of m cpu) (group_of s (owner_of s task cpu)) (group_of later (owner_of s task cpu)) → IsSeenAs m s later task cpu
   unfolding resolve
-  seen-agreeing later still agrees =
+  IsSeenAs-agreeing later still agrees =
       let control : control_of later task ≡ control_of s task = ap (λ (o : Option Binding). option_map_or (λ (b : Binding). b.control) o default_gid) still.0 in
       let same : owner_of later task cpu ≡ owner_of s task cpu = ap (λ (c : Gid). cond (is_default c) (cpu_groups_of later cpu).control c) control ∙ ap (λ (c : _). cond (is_default (control_of s task)) c.control (control_of s task)) still.1 in record {
         owner = same;
@@ -79,27 +79,29 @@ module _ (m : Parameters) (s : State) (task cpu : ℕ) where
       }
 
   -- where the groups are the same
-  pub seen-groups : (later : State) → StandsStill s later task cpu → later.groups ≡ s.groups → IsSeenAs m s later task cpu
-  seen-groups later still same = seen-agreeing later still (subst (λ (gs : List Group). Agrees (domain_of m cpu) (group_of s (owner_of s task cpu)) (find (has_gid (owner_of s task cpu)) gs)) (sym same) (refl, refl, refl))
+  pub IsSeenAs-groups : (later : State) → StandsStill s later task cpu → later.groups ≡ s.groups → IsSeenAs m s later task cpu
+  IsSeenAs-groups later still same = IsSeenAs-agreeing later still (subst (λ (gs : List Group). Agrees (domain_of m cpu) (group_of s (owner_of s task cpu)) (find (has_gid (owner_of s task cpu)) gs)) (sym same) (refl, refl, refl))
 
-  pub seen-same : IsSeenAs m s s task cpu
-  seen-same = record { owner = refl; class = refl; mask = refl; mode = refl }
+  -- a state is seen as itself
+  pub IsSeenAs-same : IsSeenAs m s s task cpu
+  IsSeenAs-same = record { owner = refl; class = refl; mask = refl; mode = refl }
 
   -- the last status says nothing of it
-  pub seen-status : (op : Op) (reply : Reply) (later : State) → IsSeenAs m s later task cpu → IsSeenAs m s (with_status op reply later) task cpu
+  pub with_status-seen : (op : Op) (reply : Reply) (later : State) → IsSeenAs m s later task cpu → IsSeenAs m s (with_status op reply later) task cpu
   unfolding resolve
-  seen-status (ops.Mkdir path) reply later seen = record { owner = seen.owner; class = seen.class; mask = seen.mask; mode = seen.mode }
-  seen-status (ops.Write path text) reply later seen = record { owner = seen.owner; class = seen.class; mask = seen.mask; mode = seen.mode }
-  seen-status op reply later seen = seen
+  with_status-seen (ops.Mkdir path) reply later seen = record { owner = seen.owner; class = seen.class; mask = seen.mask; mode = seen.mode }
+  with_status-seen (ops.Write path text) reply later seen = record { owner = seen.owner; class = seen.class; mask = seen.mask; mode = seen.mode }
+  with_status-seen op reply later seen = seen
 
-  pub still-status : (op : Op) (reply : Reply) (later : State) → StandsStill s (with_status op reply later) task cpu → StandsStill s later task cpu
-  still-status (ops.Mkdir path) reply later still = still
-  still-status (ops.Write path text) reply later still = still
-  still-status op reply later still = still
+  -- the last status moves no task or CPU
+  pub StandsStill-with_status : (op : Op) (reply : Reply) (later : State) → StandsStill s (with_status op reply later) task cpu → StandsStill s later task cpu
+  StandsStill-with_status (ops.Mkdir path) reply later still = still
+  StandsStill-with_status (ops.Write path text) reply later still = still
+  StandsStill-with_status op reply later still = still
 
   -- after a refused command
-  pub seen-left : (op : Op) → (moves op ≡ true → StandsStill s (left s op) task cpu) → IsSeenAs m s (left s op) task cpu
-  seen-left op still = at (moves op) refl
+  pub left-seen : (op : Op) → (moves op ≡ true → StandsStill s (left s op) task cpu) → IsSeenAs m s (left s op) task cpu
+  left-seen op still = at (moves op) refl
     where
       no_tasks : (op : Op) → moves op ≡ false → writes_tasks op ≡ false
       no_tasks (ops.Write (File dir kinds.Tasks) text) e = absurd (let f : true ≡ false = e in cc)
@@ -107,14 +109,14 @@ module _ (m : Parameters) (s : State) (task cpu : ℕ) where
       no_tasks op e = refl
 
       at : (b : Bool) → moves op ≡ b → IsSeenAs m s (left s op) task cpu
-      at true is = seen-groups (left s op) (still is) (ap (λ (x : State). x.groups) (left-tasks s op))
-      at false is = subst (λ (x : State). IsSeenAs m s x task cpu) (sym (left-same s op (no_tasks op is))) seen-same
+      at true is = IsSeenAs-groups (left s op) (still is) (ap (λ (x : State). x.groups) (left-tasks s op))
+      at false is = subst (λ (x : State). IsSeenAs m s x task cpu) (sym (left-same s op (no_tasks op is))) IsSeenAs-same
 
 -- ---- domains that are raised
 
 -- a domain that is not raised is not among those that are
-pub not-raised : (which : ℕ → Bool) (n domain : ℕ) → domain < n → list_any (settles domain) (map (λ d. follows.Raise d) (filter which (range_with_len 0 n))) ≡ false → which domain ≡ false
-not-raised which n domain lt none = at (which domain) refl
+pub settles-raise : (which : ℕ → Bool) (n domain : ℕ) → domain < n → list_any (settles domain) (map (λ d. follows.Raise d) (filter which (range_with_len 0 n))) ≡ false → which domain ≡ false
+settles-raise which n domain lt none = at (which domain) refl
   where
     each : which (get_or (range_with_len 0 n) domain 0) ≡ true → eqb (get_or (range_with_len 0 n) domain 0) domain ≡ false
     each = All-from_mapped (settles domain) (λ d. follows.Raise d) which (range_with_len 0 n) none domain 0 (omega (arith, length-range_with_len 0 n))
@@ -127,15 +129,15 @@ not-raised which n domain lt none = at (which domain) refl
     at true is = absurd (let f : true ≡ false = sym (eq-eqb domain domain refl) ∙ (rw here at each) is in cc)
 
 -- where every domain is raised, each is
-pub raised-all : (n domain : ℕ) → domain < n → list_any (settles domain) (map (λ d. follows.Raise d) (range_with_len 0 n)) ≡ false → ⊥
-raised-all n domain lt none =
+pub settles-raise_all : (n domain : ℕ) → domain < n → list_any (settles domain) (map (λ d. follows.Raise d) (range_with_len 0 n)) ≡ false → ⊥
+settles-raise_all n domain lt none =
     let each = All-from_none (settles domain) (map (λ d. follows.Raise d) (range_with_len 0 n)) none domain (follows.Raise 0) (omega (arith, lt, length-map-range_with_len (λ d. follows.Raise d) 0 n)) in
     let here = get_or-map-range_with_len (λ d. follows.Raise d) 0 n domain domain (follows.Raise 0) lt (zero-add domain) in
     let f : true ≡ false = sym (eq-eqb domain domain refl) ∙ ap (settles domain) (sym here) ∙ each in cc
 
 -- a domain that no assignment names keeps its mask
-pub assigned-other : (all : List Assignment) (masks : List ℕ) (domain : ℕ) → schemata.names_domain all domain ≡ false → get_or (schemata.assigned masks all) domain 0 ≡ get_or masks domain 0
-assigned-other [] masks domain none = refl
-assigned-other (a ∷ all) masks domain none =
+pub get_or-assigned_other : (all : List Assignment) (masks : List ℕ) (domain : ℕ) → schemata.names_domain all domain ≡ false → get_or (schemata.assigned masks all) domain 0 ≡ get_or masks domain 0
+get_or-assigned_other [] masks domain none = refl
+get_or-assigned_other (a ∷ all) masks domain none =
     let both = or_parts (eqb domain a.domain) (list_any (is_of domain) all) none in
-    assigned-other all (set masks a.domain a.mask) domain both.1 ∙ get_or-set_other masks a.domain domain a.mask 0 (eqb-false domain a.domain both.0)
+    get_or-assigned_other all (set masks a.domain a.mask) domain both.1 ∙ get_or-set_other masks a.domain domain a.mask 0 (eqb-false domain a.domain both.0)

@@ -17,30 +17,37 @@ use Rattle.tree_law.specs.commands.Mode as mode
 use Rattle.tree_law.specs.commands.Schemata as schemata
 use Rattle.tree_law.specs.commands.Tasks as tasks
 
-pub limbo_row : LimboRow
+-- the row of RMIDs in limbo
+pub LimboRow-holds : LimboRow
 unfolding steps.next steps.refusal mkdir.refusal mkdir.accepted rmdir.refusal rmdir.accepted rmdir.freed tick.accepted write.refusal write.accepted tasks.refusal tasks.kept tasks.elements tasks.task_in initial_ways starting_ways
-limbo_row = refl
+LimboRow-holds = refl
 
-pub tasks_row : TasksRow
+-- the row of a write of tasks
+pub TasksRow-holds : TasksRow
 unfolding steps.next steps.refusal mkdir.refusal mkdir.accepted write.refusal write.accepted write.refused tasks.refusal tasks.kept tasks.elements tasks.task_in initial_ways starting_ways
-tasks_row = refl
+TasksRow-holds = refl
 
-pub setup_row : SetupRow
+-- the row of pseudo-locksetup
+pub SetupRow-holds : SetupRow
 unfolding steps.next steps.refusal mkdir.refusal mkdir.accepted rmdir.refusal rmdir.accepted rmdir.freed write.refusal write.accepted write.refused mode.refusal mode.accepted mode.freed mode.mode_in mode.is_present schemata.refusal schemata.accepted schemata.schemata_read initial_ways starting_ways is_text overlaps ways_of checked write_overlap leaving_overlap is_apart entry_refusal reading_from line_of entry_of
-setup_row = refl
+SetupRow-holds = refl
 
-pub lock_row : LockRow
+-- the row of a lock
+pub LockRow-holds : LockRow
 unfolding steps.next steps.refusal mkdir.refusal mkdir.accepted write.refusal write.accepted write.refused tasks.refusal tasks.kept tasks.elements tasks.task_in mode.refusal mode.accepted mode.freed mode.mode_in mode.is_present schemata.refusal schemata.accepted schemata.schemata_read initial_ways starting_ways is_text overlaps ways_of checked write_overlap leaving_overlap is_apart entry_refusal reading_from line_of entry_of
-lock_row = refl
+LockRow-holds = refl
 
-pub lock_state : LockState
+-- the state that the row of a lock leaves
+pub LockState-holds : LockState
 unfolding steps.next steps.refusal mkdir.refusal mkdir.accepted write.refusal write.accepted write.refused tasks.refusal tasks.kept tasks.elements tasks.task_in mode.refusal mode.accepted mode.freed mode.mode_in mode.is_present schemata.refusal schemata.accepted schemata.schemata_read initial_ways starting_ways is_text overlaps ways_of checked write_overlap leaving_overlap is_apart entry_refusal reading_from line_of entry_of
-lock_state = refl
+LockState-holds = refl
 
-pub space_row : SpaceRow
+-- the row of space for a new group
+pub SpaceRow-holds : SpaceRow
 unfolding steps.next steps.refusal mkdir.refusal mkdir.accepted write.refusal write.accepted write.refused tasks.refusal tasks.kept tasks.elements tasks.task_in mode.refusal mode.accepted mode.freed mode.mode_in mode.is_present schemata.refusal schemata.accepted schemata.schemata_read initial_ways starting_ways is_text overlaps ways_of checked write_overlap leaving_overlap is_apart entry_refusal reading_from line_of entry_of
-space_row = refl
+SpaceRow-holds = refl
 
-pub region_row : RegionRow
+-- the row of a region
+pub RegionRow-holds : RegionRow
 unfolding steps.next steps.refusal mkdir.refusal mkdir.accepted write.refusal write.accepted write.refused tasks.refusal tasks.kept tasks.elements tasks.task_in mode.refusal mode.accepted mode.freed mode.mode_in mode.is_present schemata.refusal schemata.accepted schemata.schemata_read initial_ways starting_ways is_text overlaps ways_of checked write_overlap leaving_overlap is_apart entry_refusal reading_from line_of entry_of
-region_row = refl
+RegionRow-holds = refl

@@ -28,6 +28,7 @@ pub against_overlap-none : (domain : ℕ) (r : Result (Unit {0}) Overlap) → ag
 against_overlap-none domain (Ok u) e = refl
 against_overlap-none domain (Err o) e = absurd (let f : Some (overlap_refusal domain o) ≡ None = e in cc)
 
+-- where no assignment is refused, nothing stands against the mask of any
 pub against_entries-none : (m : Parameters) (s : State) (g : Group) (all : List Assignment) → against_entries m s g all ≡ None → (k : ℕ) (d : Assignment) → k < length all
     → write_overlap g.mode (get_or all k d).mask (used_in m s (Some g.gid) (get_or all k d).domain) ≡ Ok tt
 against_entries-none m s g [] none k d within = absurd (omega arith)
@@ -51,8 +52,9 @@ HasIds-same groups after Control g new mode c r control has = subst (λ (x : Mod
 HasIds-same groups after (Monitor p) g new mode c r control has = absurd (let f : false ≡ true = control in cc)
 
 module _ (m : Parameters) (s : State) (g : Group) (sound : IsSound m s) (found : find (has_gid g.gid) s.groups ≡ Some g) (control : is_control g.kind ≡ true) (counted : is_counted g ≡ true) where
-  pub remasked-sound : (masks : List ℕ) → length masks ≡ 8 → ((domain : ℕ) → domain < m.domains → FitsBeside m s g sound found g.mode domain (get_or masks domain 0)) → IsSound m (with_record s (record g { masks = masks }))
-  remasked-sound masks places fits = let p = find-found (has_gid g.gid) s.groups g found in let gids = sound.named.gids in let unlocked = (mode-counted g counted).1 in record {
+  -- masks that fit keep a sound tree
+  pub with_record-sound : (masks : List ℕ) → length masks ≡ 8 → ((domain : ℕ) → domain < m.domains → FitsBeside m s g sound found g.mode domain (get_or masks domain 0)) → IsSound m (with_record s (record g { masks = masks }))
+  with_record-sound masks places fits = let p = find-found (has_gid g.gid) s.groups g found in let gids = sound.named.gids in let unlocked = (mode-counted g counted).1 in record {
     named = AreNamed-replaced s.groups g g.mode g.class g.rmid masks gids found s.next_gid sound.named (λ d. record { gid = d.gid; name = d.name; counted = d.counted; class = d.class; rmid = d.rmid });
     numbered = AreNumbered-replaced s.groups g g.mode g.class g.rmid masks gids found m s.limbo sound.numbered
         (λ k d parent within is. inl (λ c. c))
@@ -68,9 +70,10 @@ module _ (m : Parameters) (s : State) (g : Group) (sound : IsSound m s) (found :
     cpus = AreServed-replaced s.groups g g.mode g.class g.rmid masks gids found m s.cpus (λ k d within. inl (λ c. c)) sound.cpus;
   }
 
-  pub written-sound : (all : List Assignment) → InRange m → ((k : ℕ) (d : Assignment) → k < length all → ((get_or all k d).domain < m.domains) × IsValid m (get_or all k d).mask) → against_entries m s g all ≡ None
+  -- assignments that nothing is against keep a sound tree
+  pub assigned-sound : (all : List Assignment) → InRange m → ((k : ℕ) (d : Assignment) → k < length all → ((get_or all k d).domain < m.domains) × IsValid m (get_or all k d).mask) → against_entries m s g all ≡ None
       → IsSound m (with_record s (record g { masks = assigned g.masks all }))
-  written-sound all range lawful none = remasked-sound (assigned g.masks all) (length-assigned all g.masks ∙ places)
+  assigned-sound all range lawful none = with_record-sound (assigned g.masks all) (length-assigned all g.masks ∙ places)
       (get_or-assigned (FitsBeside m s g sound found g.mode) m.domains all g.masks places
       (λ k d within. let one = lawful k d within in (let lt = one.0 in let most = range.domain_limit in omega arith, FitsBeside-written m s g sound found g.mode (get_or all k d).domain (get_or all k d).mask tt one.1 (against_entries-none m s g all none k d within)))
       (FitsBeside-old m s g sound found control (mode-counted g counted).0 counted))

@@ -26,26 +26,32 @@ use Rattle.tree_law.specs.commands.Tick as tick
 use Rattle.tree_law.specs.commands.Touch as touch
 use Rattle.tree_law.specs.commands.Write as write
 
-pub first_answers : FirstAnswers
+-- the answers of the first script
+pub FirstAnswers-holds : FirstAnswers
 unfolding steps.next steps.refusal steps.needs steps.after mkdir.refusal mkdir.accepted reads.refusal reads.list_refusal reads.needs rmdir.refusal rmdir.accepted rmdir.freed tick.accepted tick.needs flush.after touch.touched touch.refusal touch.after resolve write.refusal write.accepted write.refused write.freed write.after cpus.mask_read cpus.list_read cpus.refusal cpus.accepted threshold.threshold_in threshold.refusal threshold.accepted tasks.refusal tasks.kept tasks.elements tasks.task_in mode.refusal mode.accepted mode.freed mode.mode_in mode.is_present mode.after schemata.refusal schemata.accepted schemata.schemata_read schemata.after initial_ways starting_ways is_text overlaps ways_of checked write_overlap leaving_overlap is_apart entry_refusal reading_from line_of entry_of answer_of mask_cpus list_cpus numbers_of
-first_answers = refl
+FirstAnswers-holds = refl
 
-pub first_left : FirstLeft
+-- the state that the first script leaves
+pub FirstLeft-holds : FirstLeft
 unfolding steps.next steps.refusal steps.needs steps.after mkdir.refusal mkdir.accepted reads.refusal reads.list_refusal reads.needs rmdir.refusal rmdir.accepted rmdir.freed tick.accepted tick.needs flush.after touch.touched touch.refusal touch.after resolve write.refusal write.accepted write.refused write.freed write.after cpus.mask_read cpus.list_read cpus.refusal cpus.accepted threshold.threshold_in threshold.refusal threshold.accepted tasks.refusal tasks.kept tasks.elements tasks.task_in mode.refusal mode.accepted mode.freed mode.mode_in mode.is_present mode.after schemata.refusal schemata.accepted schemata.schemata_read schemata.after initial_ways starting_ways is_text overlaps ways_of checked write_overlap leaving_overlap is_apart entry_refusal reading_from line_of entry_of answer_of mask_cpus list_cpus numbers_of
-first_left = refl
+FirstLeft-holds = refl
 
-pub second_answers : SecondAnswers
+-- the answers of the second script
+pub SecondAnswers-holds : SecondAnswers
 unfolding steps.next steps.refusal steps.needs steps.after mkdir.refusal mkdir.accepted reads.refusal reads.list_refusal reads.needs rmdir.refusal rmdir.accepted rmdir.freed tick.accepted tick.needs flush.after touch.touched touch.refusal touch.after resolve write.refusal write.accepted write.refused write.freed write.after cpus.mask_read cpus.list_read cpus.refusal cpus.accepted threshold.threshold_in threshold.refusal threshold.accepted tasks.refusal tasks.kept tasks.elements tasks.task_in mode.refusal mode.accepted mode.freed mode.mode_in mode.is_present mode.after schemata.refusal schemata.accepted schemata.schemata_read schemata.after initial_ways starting_ways is_text overlaps ways_of checked write_overlap leaving_overlap is_apart entry_refusal reading_from line_of entry_of answer_of mask_cpus list_cpus numbers_of
-second_answers = refl
+SecondAnswers-holds = refl
 
-pub second_left : SecondLeft
+-- the state that the second script leaves
+pub SecondLeft-holds : SecondLeft
 unfolding steps.next steps.refusal steps.needs steps.after mkdir.refusal mkdir.accepted reads.refusal reads.list_refusal reads.needs rmdir.refusal rmdir.accepted rmdir.freed tick.accepted tick.needs flush.after touch.touched touch.refusal touch.after resolve write.refusal write.accepted write.refused write.freed write.after cpus.mask_read cpus.list_read cpus.refusal cpus.accepted threshold.threshold_in threshold.refusal threshold.accepted tasks.refusal tasks.kept tasks.elements tasks.task_in mode.refusal mode.accepted mode.freed mode.mode_in mode.is_present mode.after schemata.refusal schemata.accepted schemata.schemata_read schemata.after initial_ways starting_ways is_text overlaps ways_of checked write_overlap leaving_overlap is_apart entry_refusal reading_from line_of entry_of answer_of mask_cpus list_cpus numbers_of
-second_left = refl
+SecondLeft-holds = refl
 
-pub third_answers : ThirdAnswers
+-- the answers of the third script
+pub ThirdAnswers-holds : ThirdAnswers
 unfolding steps.next steps.refusal steps.needs steps.after mkdir.refusal mkdir.accepted reads.refusal reads.list_refusal reads.needs rmdir.refusal rmdir.accepted rmdir.freed tick.accepted tick.needs flush.after touch.touched touch.refusal touch.after resolve write.refusal write.accepted write.refused write.freed write.after cpus.mask_read cpus.list_read cpus.refusal cpus.accepted threshold.threshold_in threshold.refusal threshold.accepted tasks.refusal tasks.kept tasks.elements tasks.task_in mode.refusal mode.accepted mode.freed mode.mode_in mode.is_present mode.after schemata.refusal schemata.accepted schemata.schemata_read schemata.after initial_ways starting_ways is_text overlaps ways_of checked write_overlap leaving_overlap is_apart entry_refusal reading_from line_of entry_of answer_of mask_cpus list_cpus numbers_of
-third_answers = refl
+ThirdAnswers-holds = refl
 
-pub third_left : ThirdLeft
+-- the state that the third script leaves
+pub ThirdLeft-holds : ThirdLeft
 unfolding steps.next steps.refusal steps.needs steps.after mkdir.refusal mkdir.accepted reads.refusal reads.list_refusal reads.needs rmdir.refusal rmdir.accepted rmdir.freed tick.accepted tick.needs flush.after touch.touched touch.refusal touch.after resolve write.refusal write.accepted write.refused write.freed write.after cpus.mask_read cpus.list_read cpus.refusal cpus.accepted threshold.threshold_in threshold.refusal threshold.accepted tasks.refusal tasks.kept tasks.elements tasks.task_in mode.refusal mode.accepted mode.freed mode.mode_in mode.is_present mode.after schemata.refusal schemata.accepted schemata.schemata_read schemata.after initial_ways starting_ways is_text overlaps ways_of checked write_overlap leaving_overlap is_apart entry_refusal reading_from line_of entry_of answer_of mask_cpus list_cpus numbers_of
-third_left = refl
+ThirdLeft-holds = refl

@@ -1,10 +1,8 @@
 -- The mask of the ways that a new group may start with.
-use Rattle.std.proofs.Common.{◌≡◌, ◌≢◌, ℕ, zero, suc, ◌+◌, ◌-◌, ◌*◌, ◌/◌, ◌%◌, ◌^◌, ◌<◌, ◌≤◌, bit_or, Bool, true, false, not, ◌||◌, cond, eqb, List, [], ◌∷◌, ◌++◌, length, filter, Option, Some, None, Ok, inl, inr, refl, sym, subst, ap, ◌∙◌, arith, zero-add, w32, w64}
+use Rattle.std.proofs.Common.{◌≡◌, ◌≢◌, ℕ, zero, suc, ◌+◌, ◌-◌, ◌/◌, ◌%◌, ◌^◌, ◌<◌, ◌≤◌, bit_or, Bool, true, false, not, ◌||◌, cond, eqb, List, length, Option, Some, None, Ok, inl, inr, refl, sym, subst, ap, ◌∙◌, arith, w32, w64}
 use Rattle.std.specs.Int.{bit_at, bit_not, trailing_ones, trailing_zeros}
-use Rattle.std.specs.List.{range_with_len}
 use Rattle.std.proofs.lemmas.Bool.{cases_lt, eqb-false, ltb-false}
 use Rattle.std.proofs.lemmas.List.FromFn.{length-range_with_len}
-use Rattle.std.proofs.lemmas.Nat.{mod-pow-add}
 use Rattle.std.proofs.lemmas.Nat.Bits.{bit_at_above, bit_at_and, bit_at_ones_above, same_from_bits}
 use Rattle.std.proofs.Math.Pow.{pow_mono, pow_pos}
 use Rattle.cbm.proofs.laws.LowestRuns.{IsLowestRun, trailing_zeros-lowest_run, ways_of-mod_pow}
@@ -18,74 +16,38 @@ use Rattle.mode_rules.proofs.laws.StartingMasks.{checked-run, checked-every, may
 use Rattle.mode_rules.proofs.laws.StartingWays.{filter-starting_ways, union, ways_of-union}
 use Rattle.mode_rules.specs.Space.{has_no_space, initial_ways, may_start_with, starting_ways}
 use Rattle.mode_rules.specs.declared.domain_use.DomainUse.{DomainUse}
+use Rattle.tree_law.proofs.laws.WayMasks.{mask_of-ways_of}
 use Rattle.tree_law.specs.Space.{mask_of}
-
--- ---- the mask of the ways of a mask
-
-mask_of-append : (xs ys : List ℕ) → mask_of (xs ++ ys) ≡ mask_of xs + mask_of ys
-mask_of-append [] ys = sym (zero-add (mask_of ys))
-mask_of-append (x ∷ xs) ys = omega (arith, mask_of-append xs ys)
-
--- one number more in a range
-range_more : (p : ℕ → Bool) (a n : ℕ) → filter p (range_with_len a (suc n)) ≡ filter p (range_with_len a n) ++ cond (p (a + n)) ((a + n) ∷ []) []
-range_more p a zero = let e : a + 0 ≡ a = omega arith in rw e refl
-range_more p a (suc n) =
-    let next : (a + 1) + n ≡ a + suc n = omega arith in
-    ap (λ (xs : List ℕ). cond (p a) (a ∷ xs) xs) (rw next at (range_more p (a + 1) n)) ∙ at (p a)
-  where
-    tail : List ℕ
-    tail = cond (p (a + suc n)) ((a + suc n) ∷ []) []
-
-    at : (b : Bool) → cond b (a ∷ (filter p (range_with_len (a + 1) n) ++ tail)) (filter p (range_with_len (a + 1) n) ++ tail) ≡ cond b (a ∷ filter p (range_with_len (a + 1) n)) (filter p (range_with_len (a + 1) n)) ++ tail
-    at true = refl
-    at false = refl
-
--- the ways below a number make the part of the mask below it
-mask_below : (mask n : ℕ) → mask_of (filter (has_way mask) (range_with_len 0 n)) ≡ mask % 2 ^ n
-mask_below mask zero = omega arith
-mask_below mask (suc n) =
-    let more = range_more (has_way mask) 0 n in
-    let zeroth : 0 + n ≡ n = zero-add n in
-    let grown : mask_of (filter (has_way mask) (range_with_len 0 (suc n))) ≡ mask % 2 ^ n + mask_of (cond (has_way mask n) (n ∷ []) [])
-    = ap mask_of (rw zeroth at more) ∙ mask_of-append (filter (has_way mask) (range_with_len 0 n)) (cond (has_way mask n) (n ∷ []) []) ∙ ap (λ (k : ℕ). k + mask_of (cond (has_way mask n) (n ∷ []) [])) (mask_below mask n) in
-    let parts = mod-pow-add mask 1 n in
-    let turned : 1 + n ≡ suc n = omega arith in
-    grown ∙ bit (mask / 2 ^ n % 2) (mask % 2 ^ n) (omega arith) ∙ sym (rw turned at parts)
-  where
-    bit : (b low : ℕ) → b < 2 → low + mask_of (cond (eqb b 1) (n ∷ []) []) ≡ b * 2 ^ n + low
-    bit zero low lt = omega arith
-    bit (suc zero) low lt = omega arith
-    bit (suc (suc b)) low lt = absurd (omega arith)
-
-pub mask_of-ways_of : (mask : ℕ) → mask < 2 ^ 64 → mask_of (ways_of mask) ≡ mask
-unfolding ways_of
-mask_of-ways_of mask small = mask_below mask 64 ∙ omega arith
 
 -- ---- the mask of the ways that a new group may start with
 
 -- the low 32 bits
-low_way : (x k : ℕ) → k < 32 → has_way (x % 2 ^ 32) k ≡ has_way x k
-low_way x k lt = ap (λ (n : ℕ). eqb n 1) (bit_at-mod_pow x 32 k lt)
+has_way-mod_pow : (x k : ℕ) → k < 32 → has_way (x % 2 ^ 32) k ≡ has_way x k
+has_way-mod_pow x k lt = ap (λ (n : ℕ). eqb n 1) (bit_at-mod_pow x 32 k lt)
 
+-- the shareable bits and the ways of shareable groups
 abbrev given_of : DomainUse → ℕ
 given_of u = bit_or u.hardware u.shared
 
+-- the ways of exclusive groups and of the region, in 32 bits
 abbrev taken_of : DomainUse → ℕ
 taken_of u = bit_or u.exclusive u.region % 2 ^ 32
 
--- there is such a mask
+-- the mask of the ways that are given or not taken
 abbrev start_mask : DomainUse → ℕ → ℕ
 start_mask u len = union (given_of u) (taken_of u) len
 
-start_ways : (u : DomainUse) (len : ℕ) → len ≤ 32 → ways_of (start_mask u len) ≡ starting_ways len u
-start_ways u len le =
+-- the ways of the mask are those to start with
+ways_of-start_mask : (u : DomainUse) (len : ℕ) → len ≤ 32 → ways_of (start_mask u len) ≡ starting_ways len u
+ways_of-start_mask u len le =
     ways_of-union (given_of u) (taken_of u) len le (omega arith)
     ∙ filter-same (λ way. has_way (given_of u) way || not (has_way (taken_of u) way)) (λ way. has_way (bit_or u.hardware u.shared) way || not (has_way (bit_or u.exclusive u.region) way)) 0 len
-    (λ k low high. ap (λ (b : Bool). has_way (bit_or u.hardware u.shared) k || not b) (low_way (bit_or u.exclusive u.region) k (omega arith)))
+    (λ k low high. ap (λ (b : Bool). has_way (bit_or u.hardware u.shared) k || not b) (has_way-mod_pow (bit_or u.exclusive u.region) k (omega arith)))
     ∙ filter-starting_ways u len
 
-start_small : (u : DomainUse) (len : ℕ) → len ≤ 32 → start_mask u len < 2 ^ 32
-start_small u len le = let same : start_mask u len ≡ start_mask u len % 2 ^ 32 = same_from_bits (start_mask u len) (start_mask u len % 2 ^ 32) bits in omega arith
+-- the mask is of 32 bits
+start_mask-below : (u : DomainUse) (len : ℕ) → len ≤ 32 → start_mask u len < 2 ^ 32
+start_mask-below u len le = let same : start_mask u len ≡ start_mask u len % 2 ^ 32 = same_from_bits (start_mask u len) (start_mask u len % 2 ^ 32) bits in omega arith
   where
     bits : (i : ℕ) → bit_at (start_mask u len) i ≡ bit_at (start_mask u len % 2 ^ 32) i
     bits i = elim (cases_lt i 32) [
@@ -102,17 +64,19 @@ pub record IsStartMask (g : Geometry) (u : DomainUse) (mask : ℕ) : Type 0 wher
   pub within : (way : ℕ) → has_way mask way ≡ true → may_start_with u way ≡ true
   pub small : mask < 2 ^ 32
 
-has_space : (g : Geometry) (ways : List ℕ) → has_no_space g ways ≡ false → (length ways ≢ 0) × (g.min ≤ length (lowest_run ways))
-has_space g ways none = at (eqb (length ways) 0) (is_too_few g ways) refl refl none
+-- where there is space, there are ways enough, side by side
+has_no_space-false : (g : Geometry) (ways : List ℕ) → has_no_space g ways ≡ false → (length ways ≢ 0) × (g.min ≤ length (lowest_run ways))
+has_no_space-false g ways none = at (eqb (length ways) 0) (is_too_few g ways) refl refl none
   where
     at : (a b : Bool) → eqb (length ways) 0 ≡ a → is_too_few g ways ≡ b → (a || b) ≡ false → (length ways ≢ 0) × (g.min ≤ length (lowest_run ways))
     at true b isa isb e = absurd (let f : true ≡ false = e in cc)
     at false true isa isb e = absurd (let f : true ≡ false = e in cc)
     at false false isa isb e = (eqb-false (length ways) 0 isa, ltb-false (length (lowest_run ways)) g.min isb)
 
-pub good_mask : (g : Geometry) (u : DomainUse) (ways : List ℕ) → g.len ≤ 32 → initial_ways g u ≡ Some ways → IsStartMask g u (mask_of ways)
+-- the mask of the first ways is one that a group may start with
+pub IsStartMask-mask_of : (g : Geometry) (u : DomainUse) (ways : List ℕ) → g.len ≤ 32 → initial_ways g u ≡ Some ways → IsStartMask g u (mask_of ways)
 unfolding initial_ways
-good_mask g u ways le is = at (has_no_space g (starting_ways g.len u)) g.sparse refl refl is
+IsStartMask-mask_of g u ways le is = at (has_no_space g (starting_ways g.len u)) g.sparse refl refl is
   where
     all : List ℕ
     all = starting_ways g.len u
@@ -121,9 +85,9 @@ good_mask g u ways le is = at (has_no_space g (starting_ways g.len u)) g.sparse 
     at true b space sparse e = absurd (let f : ◌≡◌ {A = Option (List ℕ)} None (Some ways) = e in cc)
     at false true space sparse e =
         (let mask = start_mask u g.len in
-        let are = start_ways u g.len le in
-        let small = start_small u g.len le in
-        let has = has_space g (starting_ways g.len u) space in
+        let are = ways_of-start_mask u g.len le in
+        let small = start_mask-below u g.len le in
+        let has = has_no_space-false g (starting_ways g.len u) space in
         let same : starting_ways g.len u ≡ ways = (let f : Some (starting_ways g.len u) ≡ Some ways = e in cc) in
         let is_mask : mask_of ways ≡ mask = ap mask_of (sym same ∙ sym are) ∙ mask_of-ways_of mask (omega arith) in
         subst (IsStartMask g u) (sym is_mask) (record {
@@ -133,9 +97,9 @@ good_mask g u ways le is = at (has_no_space g (starting_ways g.len u)) g.sparse 
         }))
     at false false space sparse e =
         (let mask = start_mask u g.len in
-        let are = start_ways u g.len le in
-        let small = start_small u g.len le in
-        let has = has_space g (starting_ways g.len u) space in
+        let are = ways_of-start_mask u g.len le in
+        let small = start_mask-below u g.len le in
+        let has = has_no_space-false g (starting_ways g.len u) space in
         let same : lowest_run (starting_ways g.len u) ≡ ways = (let f : Some (lowest_run (starting_ways g.len u)) ≡ Some ways = e in cc) in
         let some : 0 < mask = positive mask (λ zeroth. has.0 (ap length (sym are ∙ ways_of-zero mask zeroth))) in
         let low = trailing_zeros w64 mask in

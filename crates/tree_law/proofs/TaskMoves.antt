@@ -84,6 +84,7 @@ module _ (groups : List Group) (gid : Gid) where
           by_test true is e = AreBound-changed kind task b tasks may bound found is
           by_test false is e = absurd (let f : Some (record { why = OtherControl; arg = task }) ≡ None = e in cc)
 
+  -- after the moves of a whole text
   pub AreBound-moves : (kind : GroupKind) (es : List (List ℕ)) (tasks : List Binding) → MayTake kind → AreBound groups tasks → AreBound groups (moves gid kind es tasks).tasks
   AreBound-moves kind [] tasks may bound = bound
   AreBound-moves kind (e ∷ es) tasks may bound = at (against_task kind tasks (task_in e)) refl (λ is. AreBound-moves kind es (moved gid kind (task_in e) tasks) may (AreBound-moved kind (task_in e) tasks may bound is))

@@ -17,23 +17,27 @@ use Rattle.tree_law.specs.commands.Tick.{accepted}
 
 -- those that stay in limbo are some of those that were there
 module _ (m : Parameters) (threshold : ℕ) where
+  -- what holds of each in limbo holds of those that stay
   All-staying_in_limbo : (P : ℕ → Type 0) (limbo looks : List ℕ) → All P limbo → All P (staying_in_limbo m threshold limbo looks)
   All-staying_in_limbo P [] looks all = all
   All-staying_in_limbo P (r ∷ rs) looks all = let rest = All-staying_in_limbo P rs (drop m.domains looks) (All-tail P r rs all) in
       cond-both (All P) (ltb threshold (greatest (take m.domains looks) * 64)) (r ∷ staying_in_limbo m threshold rs (drop m.domains looks)) (staying_in_limbo m threshold rs (drop m.domains looks))
       (All-cons P r (staying_in_limbo m threshold rs (drop m.domains looks)) (All-head P r rs all) rest) rest
 
+  -- what holds of each two in limbo holds of those that stay
   AllPairs-staying_in_limbo : (R : ℕ → ℕ → Type 0) (limbo looks : List ℕ) → AllPairs R limbo → AllPairs R (staying_in_limbo m threshold limbo looks)
   AllPairs-staying_in_limbo R [] looks pairs = pairs
   AllPairs-staying_in_limbo R (r ∷ rs) looks pairs = let rest = AllPairs-staying_in_limbo R rs (drop m.domains looks) (AllPairs-tail R r rs pairs) in
       cond-both (AllPairs R) (ltb threshold (greatest (take m.domains looks) * 64)) (r ∷ staying_in_limbo m threshold rs (drop m.domains looks)) (staying_in_limbo m threshold rs (drop m.domains looks))
       (AllPairs-cons R r (staying_in_limbo m threshold rs (drop m.domains looks)) (All-staying_in_limbo (R r) rs (drop m.domains looks) (AllPairs-head R r rs pairs)) rest) rest
 
+  -- an id that is not in limbo does not come in
   contains-staying_in_limbo : (id : ℕ) (limbo looks : List ℕ) → contains id limbo ≡ false → contains id (staying_in_limbo m threshold limbo looks) ≡ false
   contains-staying_in_limbo id limbo looks none =
       list_any_none (λ (other : ℕ). eqb other id) (staying_in_limbo m threshold limbo looks)
       (All-staying_in_limbo (λ (other : ℕ). eqb other id ≡ false) limbo looks (All-from_none (λ (other : ℕ). eqb other id) limbo none))
 
+-- a tick keeps a sound tree
 pub tick-sound : (m : Parameters) (s : State) (looks : List ℕ) → IsSound m s → IsSound m (accepted m s looks)
 unfolding accepted
 tick-sound m s looks sound = record {

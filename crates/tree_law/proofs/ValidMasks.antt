@@ -24,9 +24,9 @@ checked-bounded g mask small is = at (mask / 2 ^ g.len) refl
         let bad : ◌≡◌ {A = Result ℕ CbmFault} (Err Range) (Ok mask) = fault ∙ is in absurd (let f = bad in cc))
 
 -- a mask of 64 bits without a fault is valid
-pub valid-checked : (m : Parameters) (mask : ℕ) → mask < 2 ^ 64 → checked (geometry_of m) mask ≡ Ok mask → IsValid m mask
-valid-checked m mask small is = record { faultless = is; bounded = checked-bounded (geometry_of m) mask small is }
+pub IsValid-checked : (m : Parameters) (mask : ℕ) → mask < 2 ^ 64 → checked (geometry_of m) mask ≡ Ok mask → IsValid m mask
+IsValid-checked m mask small is = record { faultless = is; bounded = checked-bounded (geometry_of m) mask small is }
 
 -- the mask with every way is valid
-pub valid-full : (m : Parameters) → InRange m → IsValid m (full_mask m)
-valid-full m range = record { faultless = checked-ones (geometry_of m) range.some_way range.way_limit range.min_limit; bounded = omega (arith, pow_pos m.ways) }
+pub IsValid-full_mask : (m : Parameters) → InRange m → IsValid m (full_mask m)
+IsValid-full_mask m range = record { faultless = checked-ones (geometry_of m) range.some_way range.way_limit range.min_limit; bounded = omega (arith, pow_pos m.ways) }

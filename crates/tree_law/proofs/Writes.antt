@@ -26,13 +26,13 @@ use Rattle.schemata_text.specs.declared.assignment.Assignment.{Assignment}
 use Rattle.schemata_text.specs.declared.fault.TextFault.{TextFault}
 use Rattle.tree_law.proofs.Cpus.{cpus-sound}
 use Rattle.tree_law.proofs.Groups.{group_at-found}
-use Rattle.tree_law.proofs.Locks.{locked-sound}
+use Rattle.tree_law.proofs.Locks.{with_region-sound}
 use Rattle.tree_law.proofs.Mode.{mode-sound}
 use Rattle.tree_law.proofs.Readings.{reading-valid}
 use Rattle.tree_law.proofs.GroupKinds.{is_control-counted, gid-not_default}
 use Rattle.tree_law.proofs.RemovedControl.{without_control-sound}
 use Rattle.tree_law.proofs.RemovedMonitor.{without_monitor-sound}
-use Rattle.tree_law.proofs.Schemata.{against_entries-none, written-sound}
+use Rattle.tree_law.proofs.Schemata.{against_entries-none, assigned-sound}
 use Rattle.tree_law.proofs.Tasks.{tasks-sound, threshold-sound}
 use Rattle.tree_law.specs.Counted.{is_counted, is_counted_mode}
 use Rattle.tree_law.specs.Existing.{directory_gid, group_of, owner_gid}
@@ -55,54 +55,60 @@ use Rattle.tree_law.specs.commands.Tasks as tasks
 -- ---- rmdir
 
 -- the default group has no name
-unnamed_default : (name : NameId) (c : Group) → is_control_named name c ≡ true → IsDefault c → ⊥
-unnamed_default name c named d = at (is_control c.kind) (ap (λ (o : Option NameId). is_control c.kind && has_name name o) (sym d.name) ∙ named)
+is_control_named-default : (name : NameId) (c : Group) → is_control_named name c ≡ true → IsDefault c → ⊥
+is_control_named-default name c named d = at (is_control c.kind) (ap (λ (o : Option NameId). is_control c.kind && has_name name o) (sym d.name) ∙ named)
   where
     at : (b : Bool) → (b && false) ≡ true → ⊥
     at true e = let f : false ≡ true = e in cc
     at false e = let f : false ≡ true = e in cc
 
-not_control : (parent : Gid) (kind : GroupKind) → is_monitor_of parent kind ≡ true → is_control kind ≡ false
-not_control parent Control e = absurd (let f : false ≡ true = e in cc)
-not_control parent (Monitor p) e = refl
+-- a monitor group is no control group
+is_control-monitor : (parent : Gid) (kind : GroupKind) → is_monitor_of parent kind ≡ true → is_control kind ≡ false
+is_control-monitor parent Control e = absurd (let f : false ≡ true = e in cc)
+is_control-monitor parent (Monitor p) e = refl
 
-first_true : (a b : Bool) → (a && b) ≡ true → a ≡ true
-first_true true b e = refl
-first_true false b e = absurd (let f : false ≡ true = e in cc)
+-- where both tests pass, the first does
+and-left : (a b : Bool) → (a && b) ≡ true → a ≡ true
+and-left true b e = refl
+and-left false b e = absurd (let f : false ≡ true = e in cc)
 
-control_gone : (m : Parameters) (s : State) (name : NameId) (gid : Gid) (looks : List ℕ) → IsSound m s → owner_gid s (Named name) ≡ Some gid → IsSound m (rmdir.without_control m s gid (rmids_with s gid) looks)
-control_gone m s name gid looks sound is =
+-- the control group of a name, removed, leaves a sound tree
+without_control-sound_named : (m : Parameters) (s : State) (name : NameId) (gid : Gid) (looks : List ℕ) → IsSound m s → owner_gid s (Named name) ≡ Some gid → IsSound m (rmdir.without_control m s gid (rmids_with s gid) looks)
+without_control-sound_named m s name gid looks sound is =
     let c = option_map-some (λ (g : Group). g.gid) (find (is_control_named name) s.groups) gid is in
     let f = find-found (is_control_named name) s.groups c.0 c.1 in
-    without_control-sound m s gid c.0 (is_control_named name) sound f c.2 (first_true (is_control c.0.kind) (has_name name c.0.name) f.passes)
-    (gid-not_default s.groups s.next_gid (is_control_named name) c.0 gid sound.named f c.2 (unnamed_default name c.0 f.passes)) looks
+    without_control-sound m s gid c.0 (is_control_named name) sound f c.2 (and-left (is_control c.0.kind) (has_name name c.0.name) f.passes)
+    (gid-not_default s.groups s.next_gid (is_control_named name) c.0 gid sound.named f c.2 (is_control_named-default name c.0 f.passes)) looks
 
-monitor_gone : (m : Parameters) (s : State) (owner : Owner) (name : NameId) (gid : Gid) (looks : List ℕ) → IsSound m s → directory_gid s (Mon owner name) ≡ Some gid
+-- the monitor group of a name, removed, leaves a sound tree
+without_monitor-sound_named : (m : Parameters) (s : State) (owner : Owner) (name : NameId) (gid : Gid) (looks : List ℕ) → IsSound m s → directory_gid s (Mon owner name) ≡ Some gid
     → IsSound m (rmdir.without_monitor m s gid (option_map_or rmids_of (group_of s gid) []) looks)
-monitor_gone m s owner name gid looks sound is =
+without_monitor-sound_named m s owner name gid looks sound is =
     let parent = option_and_then-some (λ (p : Gid). option_map (λ (g : Group). g.gid) (find (is_monitor_named p name) s.groups)) (owner_gid s owner) gid is in
     let c = option_map-some (λ (g : Group). g.gid) (find (is_monitor_named parent.0 name) s.groups) gid parent.2 in
     let f = find-found (is_monitor_named parent.0 name) s.groups c.0 c.1 in
-    let monitor : is_control c.0.kind ≡ false = not_control parent.0 c.0.kind (first_true (is_monitor_of parent.0 c.0.kind) (has_name name c.0.name) f.passes) in
+    let monitor : is_control c.0.kind ≡ false = is_control-monitor parent.0 c.0.kind (and-left (is_monitor_of parent.0 c.0.kind) (has_name name c.0.name) f.passes) in
     without_monitor-sound m s gid c.0 (is_monitor_named parent.0 name) sound f c.2 monitor
     (gid-not_default s.groups s.next_gid (is_monitor_named parent.0 name) c.0 gid sound.named f c.2 (λ d. let g : true ≡ false = sym (is_control-counted c.0 d.counted) ∙ monitor in cc)) looks
 
+-- an accepted rmdir keeps a sound tree
 pub rmdir-sound : (m : Parameters) (s : State) (path : PathRef) (looks : List ℕ) → IsSound m s → IsSound m (rmdir.accepted m s path looks)
 unfolding rmdir.accepted rmdir.freed
 rmdir-sound m s (Dir (Ctrl name)) looks sound = at (directory_gid s (Ctrl name)) refl
   where
     at : (o : Option Gid) → directory_gid s (Ctrl name) ≡ o → IsSound m (option_map_or (λ gid. rmdir.without_control m s gid (option_map_or (rmids_with s) o []) looks) o s)
     at None is = sound
-    at (Some gid) is = control_gone m s name gid looks sound is
+    at (Some gid) is = without_control-sound_named m s name gid looks sound is
 rmdir-sound m s (Dir (Mon owner name)) looks sound = at (directory_gid s (Mon owner name)) refl
   where
     at : (o : Option Gid) → directory_gid s (Mon owner name) ≡ o → IsSound m (option_map_or (λ gid. rmdir.without_monitor m s gid (option_map_or (λ i. option_map_or rmids_of (group_of s i) []) o []) looks) o s)
     at None is = sound
-    at (Some gid) is = monitor_gone m s owner name gid looks sound is
+    at (Some gid) is = without_monitor-sound_named m s owner name gid looks sound is
 rmdir-sound m s path looks sound = sound
 
 -- ---- schemata
 
+-- the control group of a directory is in the list
 pub control_at-found : (s : State) (dir : DirRef) (g : Group) → control_at s dir ≡ Some g → (find (has_gid g.gid) s.groups ≡ Some g) × (is_control g.kind ≡ true)
 control_at-found s dir g is =
     let x = option_and_then-some only_control (group_at s dir) g is in
@@ -113,6 +119,7 @@ control_at-found s dir g is =
     only x true is e = ((let f : Some x ≡ Some g = e in cc), is)
     only x false is e = absurd (let f : ◌≡◌ {A = Option Group} None (Some g) = e in cc)
 
+-- a control group in a counted mode is counted
 is_counted-control : (g : Group) → is_control g.kind ≡ true → is_counted_mode g.mode ≡ true → is_counted g ≡ true
 is_counted-control g control counted = at (is_control g.kind) control
   where
@@ -120,17 +127,18 @@ is_counted-control g control counted = at (is_control g.kind) control
     at true e = counted
     at false e = absurd (let f : false ≡ true = e in cc)
 
+-- an accepted write of schemata keeps a sound tree
 schemata-sound : (m : Parameters) (s : State) (g : Group) (text : List ℕ) → InRange m → IsSound m s → find (has_gid g.gid) s.groups ≡ Some g → is_control g.kind ≡ true
     → schemata.refusal m s g (schemata.schemata_read m text) ≡ None → IsSound m (schemata.accepted s g (schemata.schemata_read m text))
 unfolding schemata.refusal schemata.accepted schemata.schemata_read
 schemata-sound m s g text range sound found control none = by_read (schemata.schemata_read m text) refl none
   where
     by_mode : (all : List Assignment) → ((k : ℕ) (d : Assignment) → k < length all → ((get_or all k d).domain < m.domains) × IsValid m (get_or all k d).mask) → schemata.against_entries m s g all ≡ None → (x : Mode) → g.mode ≡ x → IsSound m (schemata.with_masks s g x all)
-    by_mode all lawful none Shareable is = written-sound m s g sound found control (is_counted-control g control (ap is_counted_mode is)) all range lawful none
-    by_mode all lawful none Exclusive is = written-sound m s g sound found control (is_counted-control g control (ap is_counted_mode is)) all range lawful none
+    by_mode all lawful none Shareable is = assigned-sound m s g sound found control (is_counted-control g control (ap is_counted_mode is)) all range lawful none
+    by_mode all lawful none Exclusive is = assigned-sound m s g sound found control (is_counted-control g control (ap is_counted_mode is)) all range lawful none
     by_mode [] lawful none LockSetup is = sound
     by_mode (a ∷ all) lawful none LockSetup is = (let one = lawful 0 a (omega arith) in
-        locked-sound m s g a sound found control is range one.0 one.1 (subst (λ (x : Mode). write_overlap x a.mask (used_in m s (Some g.gid) a.domain) ≡ Ok tt) is (against_entries-none m s g (a ∷ all) none 0 a (omega arith))))
+        with_region-sound m s g a sound found control is range one.0 one.1 (subst (λ (x : Mode). write_overlap x a.mask (used_in m s (Some g.gid) a.domain) ≡ Ok tt) is (against_entries-none m s g (a ∷ all) none 0 a (omega arith))))
     by_mode all lawful none Locked is = sound
 
     by_read : (r : Result (List Assignment) TextFault) → schemata.schemata_read m text ≡ r → cond (schemata.is_locked g.mode) (Some (plain whys.GroupLocked)) (schemata.against_read m s g r) ≡ None → IsSound m (schemata.accepted s g r)
@@ -144,52 +152,58 @@ schemata-sound m s g text range sound found control none = by_read (schemata.sch
 
 -- ---- write
 
--- what is against the text is not there
-text_free : (m : Parameters) (s : State) (path : PathRef) (text : List ℕ) → write.refusal m s path text ≡ None → write.text_refusal m s path text ≡ None
+-- where a write is not refused, its text is not
+text_refusal-none : (m : Parameters) (s : State) (path : PathRef) (text : List ℕ) → write.refusal m s path text ≡ None → write.text_refusal m s path text ≡ None
 unfolding write.refusal
-text_free m s path text none = (option_or-none (first_of (write.against s path) write.reasons) (write.text_refusal m s path text) none).1
+text_refusal-none m s path text none = (option_or-none (first_of (write.against s path) write.reasons) (write.text_refusal m s path text) none).1
 
-cpus_written : (m : Parameters) (s : State) (dir : DirRef) (read : Result (List ℕ) CpuFault) → IsSound m s → option_map_or (λ g. cpus.refusal s g read) (group_at s dir) None ≡ None → IsSound m (option_map_or (λ g. cpus.accepted s g read) (group_at s dir) s)
-cpus_written m s dir read sound none = at (group_at s dir) refl none
+-- a write of CPUs to a directory
+cpus-sound_at : (m : Parameters) (s : State) (dir : DirRef) (read : Result (List ℕ) CpuFault) → IsSound m s → option_map_or (λ g. cpus.refusal s g read) (group_at s dir) None ≡ None → IsSound m (option_map_or (λ g. cpus.accepted s g read) (group_at s dir) s)
+cpus-sound_at m s dir read sound none = at (group_at s dir) refl none
   where
     at : (o : Option Group) → group_at s dir ≡ o → option_map_or (λ g. cpus.refusal s g read) o None ≡ None → IsSound m (option_map_or (λ g. cpus.accepted s g read) o s)
     at None is e = sound
     at (Some g) is e = cpus-sound m s g read sound (group_at-found s dir g is) e
 
-tasks_written : (m : Parameters) (s : State) (dir : DirRef) (text : List ℕ) → IsSound m s → IsSound m (option_map_or (λ g. tasks.kept s g text) (group_at s dir) s)
-tasks_written m s dir text sound = at (group_at s dir) refl
+-- a write of tasks to a directory
+tasks-sound_at : (m : Parameters) (s : State) (dir : DirRef) (text : List ℕ) → IsSound m s → IsSound m (option_map_or (λ g. tasks.kept s g text) (group_at s dir) s)
+tasks-sound_at m s dir text sound = at (group_at s dir) refl
   where
     at : (o : Option Group) → group_at s dir ≡ o → IsSound m (option_map_or (λ g. tasks.kept s g text) o s)
     at None is = sound
     at (Some g) is = tasks-sound m s g text sound (group_at-found s dir g is)
 
-schemata_written : (m : Parameters) (s : State) (dir : DirRef) (text : List ℕ) → InRange m → IsSound m s → option_map_or (λ g. schemata.refusal m s g (schemata.schemata_read m text)) (control_at s dir) None ≡ None
+-- a write of schemata to a directory
+schemata-sound_at : (m : Parameters) (s : State) (dir : DirRef) (text : List ℕ) → InRange m → IsSound m s → option_map_or (λ g. schemata.refusal m s g (schemata.schemata_read m text)) (control_at s dir) None ≡ None
     → IsSound m (option_map_or (λ g. schemata.accepted s g (schemata.schemata_read m text)) (control_at s dir) s)
-schemata_written m s dir text range sound none = at (control_at s dir) refl none
+schemata-sound_at m s dir text range sound none = at (control_at s dir) refl none
   where
     at : (o : Option Group) → control_at s dir ≡ o → option_map_or (λ g. schemata.refusal m s g (schemata.schemata_read m text)) o None ≡ None → IsSound m (option_map_or (λ g. schemata.accepted s g (schemata.schemata_read m text)) o s)
     at None is e = sound
     at (Some g) is e = let two = control_at-found s dir g is in schemata-sound m s g text range sound two.0 two.1 e
 
-mode_written : (m : Parameters) (s : State) (dir : DirRef) (text looks : List ℕ) → IsSound m s → option_map_or (λ g. mode.refusal m s g text) (control_at s dir) None ≡ None
+-- a write of a mode to a directory
+mode-sound_at : (m : Parameters) (s : State) (dir : DirRef) (text looks : List ℕ) → IsSound m s → option_map_or (λ g. mode.refusal m s g text) (control_at s dir) None ≡ None
     → IsSound m (option_map_or (λ g. mode.accepted m s g text looks) (control_at s dir) s)
-mode_written m s dir text looks sound none = at (control_at s dir) refl none
+mode-sound_at m s dir text looks sound none = at (control_at s dir) refl none
   where
     at : (o : Option Group) → control_at s dir ≡ o → option_map_or (λ g. mode.refusal m s g text) o None ≡ None → IsSound m (option_map_or (λ g. mode.accepted m s g text looks) o s)
     at None is e = sound
     at (Some g) is e = let two = control_at-found s dir g is in mode-sound m s g text looks sound two.0 two.1 e
 
+-- an accepted write keeps a sound tree
 pub write-sound : (m : Parameters) (s : State) (path : PathRef) (text looks : List ℕ) → InRange m → IsSound m s → write.refusal m s path text ≡ None → IsSound m (write.accepted m s path text looks)
 unfolding write.accepted
-write-sound m s (File dir kinds.Cpus) text looks range sound none = cpus_written m s dir (cpus.mask_read m text) sound (text_free m s (File dir kinds.Cpus) text none)
-write-sound m s (File dir kinds.CpusList) text looks range sound none = cpus_written m s dir (cpus.list_read m text) sound (text_free m s (File dir kinds.CpusList) text none)
-write-sound m s (File dir kinds.Tasks) text looks range sound none = tasks_written m s dir text sound
-write-sound m s (File dir kinds.Schemata) text looks range sound none = schemata_written m s dir text range sound (text_free m s (File dir kinds.Schemata) text none)
-write-sound m s (File dir kinds.Mode) text looks range sound none = mode_written m s dir text looks sound (text_free m s (File dir kinds.Mode) text none)
+write-sound m s (File dir kinds.Cpus) text looks range sound none = cpus-sound_at m s dir (cpus.mask_read m text) sound (text_refusal-none m s (File dir kinds.Cpus) text none)
+write-sound m s (File dir kinds.CpusList) text looks range sound none = cpus-sound_at m s dir (cpus.list_read m text) sound (text_refusal-none m s (File dir kinds.CpusList) text none)
+write-sound m s (File dir kinds.Tasks) text looks range sound none = tasks-sound_at m s dir text sound
+write-sound m s (File dir kinds.Schemata) text looks range sound none = schemata-sound_at m s dir text range sound (text_refusal-none m s (File dir kinds.Schemata) text none)
+write-sound m s (File dir kinds.Mode) text looks range sound none = mode-sound_at m s dir text looks sound (text_refusal-none m s (File dir kinds.Mode) text none)
 write-sound m s (File dir kinds.MaxThreshold) text looks range sound none = threshold-sound m s text sound
 write-sound m s path text looks range sound none = sound
 
+-- a refused write keeps a sound tree
 pub refused-sound : (m : Parameters) (s : State) (path : PathRef) (text : List ℕ) → IsSound m s → IsSound m (write.refused s path text)
 unfolding write.refused
-refused-sound m s (File dir kinds.Tasks) text sound = tasks_written m s dir text sound
+refused-sound m s (File dir kinds.Tasks) text sound = tasks-sound_at m s dir text sound
 refused-sound m s path text sound = sound

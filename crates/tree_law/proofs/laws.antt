@@ -10,3 +10,4 @@ pub mod Opening
 pub mod Refusals
 pub mod Regions
 pub mod Steps
+pub mod WayMasks

@@ -1,13 +1,12 @@
 -- The state of the tree of groups.
 -- (Kernel documentation, "Resource alloc and monitor groups", "Info directory" and "Cache Pseudo-Locking".)
-use Rattle.std.specs.Prelude.{ℕ, ◌+◌, ◌*◌, ◌^◌, List, [], ◌∷◌, map, replicate, Option, None}
+use Rattle.std.specs.Prelude.{ℕ, List, [], ◌∷◌, map, replicate, Option, None}
 use Rattle.cpu_binding.specs.Groups as cpu_groups
 use Rattle.cpu_binding.specs.declared.groups.CpuGroups.{CpuGroups}
 use Rattle.group_tree.specs.Opening.{default_group}
 use Rattle.group_tree.specs.declared.group.Group.{Group}
 use Rattle.machine.specs.declared.parameters.Parameters.{Parameters}
 use Rattle.pseudo_lock.specs.declared.region.Region.{Region}
-use Rattle.rc_base.specs.declared.names.Gid.{Gid}
 use Rattle.rc_base.specs.declared.replies.Reply.{Reply}
 use Rattle.rc_base.specs.declared.replies.Reply.TheVariants as replies
 use Rattle.task_binding.specs.Bindings as bindings

@@ -23,26 +23,26 @@ length-threads_of script h = elim (cases_lt 1 (length (threads_of script))) [
 ]
 
 -- what stands in a list of which all pass passes
-passes_at : {A : Type 0} (p : A → Bool) (xs : List A) (k : ℕ) (x : A) → list_all p xs ≡ true → slice_get xs k ≡ Some x → p x ≡ true
-passes_at p [] k x all at = absurd cc
-passes_at p (y ∷ xs) zero x all at = let same : y ≡ x = cc in ap p (sym same) ∙ (and_parts (p y) (list_all p xs) all).0
-passes_at p (y ∷ xs) (suc k) x all at = passes_at p xs k x (and_parts (p y) (list_all p xs) all).1 at
+list_all-at : {A : Type 0} (p : A → Bool) (xs : List A) (k : ℕ) (x : A) → list_all p xs ≡ true → slice_get xs k ≡ Some x → p x ≡ true
+list_all-at p [] k x all at = absurd cc
+list_all-at p (y ∷ xs) zero x all at = let same : y ≡ x = cc in ap p (sym same) ∙ (and_parts (p y) (list_all p xs) all).0
+list_all-at p (y ∷ xs) (suc k) x all at = list_all-at p xs k x (and_parts (p y) (list_all p xs) all).1 at
 
 -- a thread passes a test that all pass, and the empty one where there is no such thread
-thread_passes : (p : List Op → Bool) (threads : List (List Op)) (thread : ℕ) → list_all p threads ≡ true → p [] ≡ true → p (slice_index_or threads thread []) ≡ true
-thread_passes p [] thread all empty = empty
-thread_passes p (t ∷ threads) zero all empty = (and_parts (p t) (list_all p threads) all).0
-thread_passes p (t ∷ threads) (suc thread) all empty = thread_passes p threads thread (and_parts (p t) (list_all p threads) all).1 empty
+list_all-thread : (p : List Op → Bool) (threads : List (List Op)) (thread : ℕ) → list_all p threads ≡ true → p [] ≡ true → p (slice_index_or threads thread []) ≡ true
+list_all-thread p [] thread all empty = empty
+list_all-thread p (t ∷ threads) zero all empty = (and_parts (p t) (list_all p threads) all).0
+list_all-thread p (t ∷ threads) (suc thread) all empty = list_all-thread p threads thread (and_parts (p t) (list_all p threads) all).1 empty
 
 -- a command that can be played is one that the tree takes
-command_built : (op : Op) → is_playable_op op ≡ true → IsTrue (is_command op) → IsBuilt op
-command_built (Access task cpu addr) playable command = absurd cc
-command_built op playable command = playable
+IsBuilt-command : (op : Op) → is_playable_op op ≡ true → IsTrue (is_command op) → IsBuilt op
+IsBuilt-command (Access task cpu addr) playable command = absurd cc
+IsBuilt-command op playable command = playable
 
 -- and its commands are such as the tree takes
 pub EachCommand-built : (script : ScriptValue) → is_playable script ≡ true → EachCommand IsBuilt script
 unfolding is_playable
 EachCommand-built script h thread op c is command =
     let all : list_all are_playable (threads_of script) ≡ true = (and_parts (nat_le (length (threads_of script)) 1) (list_all are_playable (threads_of script)) h).1 in
-    let own : are_playable (ops_of script thread) ≡ true = thread_passes are_playable (threads_of script) thread all refl in
-    command_built c (passes_at is_playable_op (ops_of script thread) op c own is) command
+    let own : are_playable (ops_of script thread) ≡ true = list_all-thread are_playable (threads_of script) thread all refl in
+    IsBuilt-command c (list_all-at is_playable_op (ops_of script thread) op c own is) command

@@ -1,18 +1,18 @@
--- The names of groups are known ones, and stay so after a command whose names are known.
-use Rattle.std.proofs.Common.{◌≡◌, ℕ, zero, suc, ◌-◌, ◌<◌, Bool, true, false, List, [], ◌∷◌, ◌++◌, length, get_or, cond, not, refl, Option, Some, None, Result, Ok, Err, subst, arith, length-append}
-use Rattle.std.specs.Prelude.{IfSome, slice_get}
+-- The names of groups are known and short ones, and stay so after a command whose names are known and short.
+use Rattle.std.proofs.Common.{◌≡◌, ℕ, zero, suc, ◌<◌, Bool, true, false, List, [], ◌∷◌, ◌++◌, length, get_or, cond, not, refl, Option, Some, None, Result, Ok, Err, subst, arith, length-append}
 use Rattle.std.specs.Option.{option_map_or}
 use Rattle.std.proofs.lemmas.List.Elements.{All-filter, All-map, All-push}
-use Rattle.std.proofs.lemmas.List.{get_or-append_right}
-use Rattle.std.proofs.lemmas.Option.{get_or_from_slice_get, slice_get_within}
+use Rattle.std.proofs.Math.Seq.{get_or-append_seam}
 use Rattle.group_tree.specs.Lists.{exchanged, replaced}
 use Rattle.group_tree.specs.Records.{has_gid, is_control}
 use Rattle.group_tree.specs.declared.group.Group.{Group}
 use Rattle.cpu_lists.specs.declared.fault.CpuFault.{CpuFault}
 use Rattle.lists.proofs.Choices.{cond-both}
-use Rattle.lists.proofs.Tests.{IsFound-all, find-found}
+use Rattle.lists.proofs.Tests.{All-one, IsFound-all, find-found}
 use Rattle.machine.specs.declared.parameters.Parameters.{Parameters}
+use Rattle.path_names.proofs.laws.KnownIds.{AreKnown-last}
 use Rattle.path_names.specs.NamesIn.{owner_ids, path_ids, AreKnown}
+use Rattle.path_names.specs.ShortNames.{AreShort, IsShortName, component_ids}
 use Rattle.path_names.specs.declared.dirs.DirRef.{DirRef}
 use Rattle.path_names.specs.declared.dirs.DirRef.TheVariants.{Ctrl, Mon}
 use Rattle.path_names.specs.declared.files.FileKind.TheVariants as kinds
@@ -25,11 +25,11 @@ use Rattle.rc_base.specs.declared.names.Mode.TheVariants.{Shareable, Exclusive, 
 use Rattle.rc_base.specs.declared.replies.Reply.{Reply}
 use Rattle.schemata_text.specs.declared.assignment.Assignment.{Assignment}
 use Rattle.schemata_text.specs.declared.fault.TextFault.{TextFault}
-use Rattle.script_ops.specs.Canonical.{op_ids}
+use Rattle.script_ops.specs.Canonical.{IsShort, op_ids}
 use Rattle.script_ops.specs.declared.op.Op.{Op}
 use Rattle.script_ops.specs.declared.op.Op.TheVariants as ops
-use Rattle.tree_core.proofs.Found.{option_and_then-some}
-use Rattle.tree_core.specs.Named.{AreNamed}
+use Rattle.lists.proofs.Options.{option_and_then-some}
+use Rattle.tree_core.specs.Named.{AreNamed, IsName, IsNamed}
 use Rattle.tree_law.specs.Existing.{directory_gid, group_of, owner_gid}
 use Rattle.tree_law.specs.Places.{control_at, controlling, group_at, is_closed, only_control}
 use Rattle.tree_law.specs.Refusals.{Refusal, reply_of}
@@ -45,46 +45,35 @@ use Rattle.tree_law.specs.commands.Threshold as threshold
 use Rattle.tree_law.specs.commands.Tick as tick
 use Rattle.tree_law.specs.commands.Write as write
 
--- a group at a place is named, as each is
-pub named_at : (names : List (List ℕ)) (groups : List Group) (k : ℕ) (g : Group) → AreNamed names groups → slice_get groups k ≡ Some g → IfSome g.name (λ id. id.0 < length names)
-named_at names groups k g all is =
-    subst (λ (x : Group). IfSome x.name (λ id. id.0 < length names)) (get_or_from_slice_get groups k g g is) (all k g (slice_get_within groups k g is))
-
--- a group without a name, or with one of these
-abbrev pub IsNamed : List (List ℕ) → Group → Type 0
-IsNamed names g = IfSome g.name (λ id. id.0 < length names)
+-- the last of short names
+AreShort-last : (names : List (List ℕ)) (ids : List ℕ) (id : ℕ) → AreShort names (ids ++ id ∷ []) → IsShortName names id
+AreShort-last names ids id short = subst (IsShortName names) (get_or-append_seam ids id [] id) (short (length ids) id (omega (arith, length-append ids (id ∷ []))))
 
 -- the default group has no name
 pub named_opening : (names : List (List ℕ)) (m : Parameters) (tasks : List ℕ) → AreNamed names (opening m tasks).groups
 named_opening names m tasks zero d within = tt
 named_opening names m tasks (suc k) d within = absurd (omega (arith, within))
 
--- the last name of a monitor group's directory
-last_known : (count : ℕ) (ids : List ℕ) (id : ℕ) → AreKnown count (ids ++ id ∷ []) → id < count
-last_known count ids id known =
-    let at = get_or-append_right ids (id ∷ []) (length ids) (length ids) 0 refl (omega arith) in
-    let none : length ids - length ids ≡ 0 = omega arith in
-    let last : get_or (ids ++ id ∷ []) (length ids) 0 ≡ id = rw none at at in
-    subst (λ (n : ℕ). n < count) last (known (length ids) 0 (omega (arith, length-append ids (id ∷ []))))
-
 module _ (names : List (List ℕ)) where
-  named_push : (groups : List Group) (g : Group) → IsNamed names g → AreNamed names groups → AreNamed names (groups ++ g ∷ [])
-  named_push groups g is named = All-push (IsNamed names) groups g named is
+  -- one more group with a known and short name
+  AreNamed-push : (groups : List Group) (g : Group) → IsNamed names g → AreNamed names groups → AreNamed names (groups ++ g ∷ [])
+  AreNamed-push groups g is named = All-push (IsNamed names) groups g named is
 
   -- a record that takes the place of one, and has a known name
-  named_replaced : (new : Group) (groups : List Group) → IsNamed names new → AreNamed names groups → AreNamed names (replaced new groups)
-  named_replaced new groups is named = All-map (IsNamed names) (exchanged new) groups (λ k d within. cond-both (IsNamed names) (has_gid new.gid (get_or groups k d)) new (get_or groups k d) is (named k d within))
+  AreNamed-replaced : (new : Group) (groups : List Group) → IsNamed names new → AreNamed names groups → AreNamed names (replaced new groups)
+  AreNamed-replaced new groups is named = All-map (IsNamed names) (exchanged new) groups (λ k d within. cond-both (IsNamed names) (has_gid new.gid (get_or groups k d)) new (get_or groups k d) is (named k d within))
 
   -- the group of a directory
-  named_group : (s : State) (dir : DirRef) (g : Group) → AreNamed names s.groups → group_at s dir ≡ Some g → IsNamed names g
-  named_group s dir g named is =
+  IsNamed-group_at : (s : State) (dir : DirRef) (g : Group) → AreNamed names s.groups → group_at s dir ≡ Some g → IsNamed names g
+  IsNamed-group_at s dir g named is =
       let by = option_and_then-some (group_of s) (directory_gid s dir) g is in
       IsFound-all (IsNamed names) (has_gid by.0) s.groups g (find-found (has_gid by.0) s.groups g by.2) named
 
-  named_control : (s : State) (dir : DirRef) (g : Group) → AreNamed names s.groups → control_at s dir ≡ Some g → IsNamed names g
-  named_control s dir g named is =
+  -- the control group of a directory
+  IsNamed-control_at : (s : State) (dir : DirRef) (g : Group) → AreNamed names s.groups → control_at s dir ≡ Some g → IsNamed names g
+  IsNamed-control_at s dir g named is =
       let at = option_and_then-some only_control (group_at s dir) g is in
-      either at.0 (is_control at.0.kind) (named_group s dir at.0 named at.1) at.2
+      either at.0 (is_control at.0.kind) (IsNamed-group_at s dir at.0 named at.1) at.2
     where
       either : (x : Group) (b : Bool) → IsNamed names x → cond b (Some x) None ≡ Some g → IsNamed names g
       either x true known e = subst (IsNamed names) (let some : Some x ≡ Some g = e in same x g some) known
@@ -95,113 +84,129 @@ module _ (names : List (List ℕ)) where
 
   -- ---- the commands
 
-  named_monitor : (m : Parameters) (s : State) (name : NameId) (parent : Option Gid) → name.0 < length names → AreNamed names s.groups → AreNamed names (mkdir.with_monitor m s name parent).groups
-  named_monitor m s name None known named = named
-  named_monitor m s name (Some parent) known named = named_push s.groups (mkdir.new_monitor m s name parent) known named
+  -- a monitor group more
+  AreNamed-with_monitor : (m : Parameters) (s : State) (name : NameId) (parent : Option Gid) → IsName names name → AreNamed names s.groups → AreNamed names (mkdir.with_monitor m s name parent).groups
+  AreNamed-with_monitor m s name None known named = named
+  AreNamed-with_monitor m s name (Some parent) known named = AreNamed-push s.groups (mkdir.new_monitor m s name parent) known named
 
-  named_mkdir : (m : Parameters) (s : State) (path : PathRef) → AreKnown (length names) (path_ids path) → AreNamed names s.groups → AreNamed names (mkdir.accepted m s path).groups
+  -- after mkdir
+  AreNamed-mkdir : (m : Parameters) (s : State) (path : PathRef) → AreKnown (length names) (path_ids path) → AreShort names (component_ids path) → AreNamed names s.groups → AreNamed names (mkdir.accepted m s path).groups
   unfolding mkdir.accepted
-  named_mkdir m s (Dir (Ctrl name)) known named = named_push s.groups (mkdir.new_control m s name) (known 0 name.0 (omega arith)) named
-  named_mkdir m s (Dir (Mon owner name)) known named = named_monitor m s name (owner_gid s owner) (last_known (length names) (owner_ids owner) name.0 known) named
-  named_mkdir m s path known named = named
+  AreNamed-mkdir m s (Dir (Ctrl name)) known short named = AreNamed-push s.groups (mkdir.new_control m s name) (record { known = known 0 name.0 (omega arith); short = short 0 name.0 (omega arith) }) named
+  AreNamed-mkdir m s (Dir (Mon owner name)) known short named =
+      AreNamed-with_monitor m s name (owner_gid s owner) (record { known = AreKnown-last (length names) (owner_ids owner) name.0 known; short = AreShort-last names (owner_ids owner) name.0 short }) named
+  AreNamed-mkdir m s path known short named = named
 
-  named_rmdir : (m : Parameters) (s : State) (path : PathRef) (looks : List ℕ) → AreNamed names s.groups → AreNamed names (rmdir.accepted m s path looks).groups
+  -- after rmdir
+  AreNamed-rmdir : (m : Parameters) (s : State) (path : PathRef) (looks : List ℕ) → AreNamed names s.groups → AreNamed names (rmdir.accepted m s path looks).groups
   unfolding rmdir.accepted
-  named_rmdir m s (Dir (Ctrl name)) looks named = at (directory_gid s (Ctrl name))
+  AreNamed-rmdir m s (Dir (Ctrl name)) looks named = at (directory_gid s (Ctrl name))
     where
       at : (o : Option Gid) → AreNamed names (option_map_or (λ gid. rmdir.without_control m s gid (rmdir.freed s (Dir (Ctrl name))) looks) o s).groups
       at None = named
       at (Some gid) = All-filter (λ g. not (rmdir.goes_with gid g)) (IsNamed names) s.groups named
-  named_rmdir m s (Dir (Mon owner name)) looks named = at (directory_gid s (Mon owner name))
+  AreNamed-rmdir m s (Dir (Mon owner name)) looks named = at (directory_gid s (Mon owner name))
     where
       at : (o : Option Gid) → AreNamed names (option_map_or (λ gid. rmdir.without_monitor m s gid (rmdir.freed s (Dir (Mon owner name))) looks) o s).groups
       at None = named
       at (Some gid) = All-filter (λ (g : Group). not (has_gid gid g)) (IsNamed names) s.groups named
-  named_rmdir m s path looks named = named
+  AreNamed-rmdir m s path looks named = named
 
-  named_schemata : (s : State) (g : Group) (read : Result (List Assignment) TextFault) → IsNamed names g → AreNamed names s.groups → AreNamed names (schemata.accepted s g read).groups
+  -- after a write of `schemata`
+  AreNamed-schemata : (s : State) (g : Group) (read : Result (List Assignment) TextFault) → IsNamed names g → AreNamed names s.groups → AreNamed names (schemata.accepted s g read).groups
   unfolding schemata.accepted
-  named_schemata s g (Err fault) known named = named
-  named_schemata s g (Ok all) known named = by_mode g.mode all
+  AreNamed-schemata s g (Err fault) known named = named
+  AreNamed-schemata s g (Ok all) known named = by_mode g.mode all
     where
       first : (all : List Assignment) → AreNamed names (schemata.with_first s g all).groups
       first [] = named
-      first (a ∷ more) = named_replaced (schemata.locked g a) s.groups known named
+      first (a ∷ more) = AreNamed-replaced (schemata.locked g a) s.groups known named
 
       by_mode : (way : Mode) (all : List Assignment) → AreNamed names (schemata.with_masks s g way all).groups
-      by_mode Shareable all = named_replaced (record g { masks = schemata.assigned g.masks all }) s.groups known named
-      by_mode Exclusive all = named_replaced (record g { masks = schemata.assigned g.masks all }) s.groups known named
+      by_mode Shareable all = AreNamed-replaced (record g { masks = schemata.assigned g.masks all }) s.groups known named
+      by_mode Exclusive all = AreNamed-replaced (record g { masks = schemata.assigned g.masks all }) s.groups known named
       by_mode LockSetup all = first all
       by_mode Locked all = named
 
-  named_mode : (m : Parameters) (s : State) (g : Group) (text looks : List ℕ) → IsNamed names g → AreNamed names s.groups → AreNamed names (mode.accepted m s g text looks).groups
+  -- after a write of `mode`
+  AreNamed-mode : (m : Parameters) (s : State) (g : Group) (text looks : List ℕ) → IsNamed names g → AreNamed names s.groups → AreNamed names (mode.accepted m s g text looks).groups
   unfolding mode.accepted
-  named_mode m s g text looks known named = cond-both (λ (x : State). AreNamed names x.groups) (mode.is_present g.mode text) s (mode.with_mode m s g (mode.freed g text) looks (mode.mode_in text)) named (at (mode.mode_in text))
+  AreNamed-mode m s g text looks known named = cond-both (λ (x : State). AreNamed names x.groups) (mode.is_present g.mode text) s (mode.with_mode m s g (mode.freed g text) looks (mode.mode_in text)) named (at (mode.mode_in text))
     where
       at : (o : Option Mode) → AreNamed names (mode.with_mode m s g (mode.freed g text) looks o).groups
       at None = named
-      at (Some way) = named_replaced (mode.changed m s g way) s.groups known named
+      at (Some way) = AreNamed-replaced (mode.changed m s g way) s.groups known named
 
-  named_tasks : (s : State) (g : Group) (text : List ℕ) → AreNamed names s.groups → AreNamed names (tasks.kept s g text).groups
+  -- after a write of `tasks`
+  AreNamed-tasks : (s : State) (g : Group) (text : List ℕ) → AreNamed names s.groups → AreNamed names (tasks.kept s g text).groups
   unfolding tasks.kept
-  named_tasks s g text named = cond-both (λ (x : State). AreNamed names x.groups) (is_closed s (controlling g.gid g.kind)) s (record s { tasks = (tasks.moves_in s g text).tasks }) named named
+  AreNamed-tasks s g text named = cond-both (λ (x : State). AreNamed names x.groups) (is_closed s (controlling g.gid g.kind)) s (record s { tasks = (tasks.moves_in s g text).tasks }) named named
 
-  named_cpus : (s : State) (g : Group) (read : Result (List ℕ) CpuFault) → AreNamed names s.groups → AreNamed names (cpus.accepted s g read).groups
+  -- after a write of `cpus` or `cpus_list`
+  AreNamed-cpus : (s : State) (g : Group) (read : Result (List ℕ) CpuFault) → AreNamed names s.groups → AreNamed names (cpus.accepted s g read).groups
   unfolding cpus.accepted
-  named_cpus s g (Ok numbers) named = named
-  named_cpus s g (Err fault) named = named
+  AreNamed-cpus s g (Ok numbers) named = named
+  AreNamed-cpus s g (Err fault) named = named
 
-  named_threshold : (m : Parameters) (s : State) (text : List ℕ) → AreNamed names s.groups → AreNamed names (threshold.accepted m s text).groups
+  -- after a write of `max_threshold_occupancy`
+  AreNamed-threshold : (m : Parameters) (s : State) (text : List ℕ) → AreNamed names s.groups → AreNamed names (threshold.accepted m s text).groups
   unfolding threshold.accepted
-  named_threshold m s text named = at (threshold.threshold_in m text)
+  AreNamed-threshold m s text named = at (threshold.threshold_in m text)
     where
       at : (o : Option ℕ) → AreNamed names (threshold.with_threshold s o).groups
       at None = named
       at (Some n) = named
 
   -- what is done for the group of a directory, where it exists
-  named_for : (s : State) (o : Option Group) (f : Group → State) → ((g : Group) → o ≡ Some g → AreNamed names (f g).groups) → AreNamed names s.groups → AreNamed names (option_map_or f o s).groups
-  named_for s None f each named = named
-  named_for s (Some g) f each named = each g refl
+  AreNamed-option_map_or : (s : State) (o : Option Group) (f : Group → State) → ((g : Group) → o ≡ Some g → AreNamed names (f g).groups) → AreNamed names s.groups → AreNamed names (option_map_or f o s).groups
+  AreNamed-option_map_or s None f each named = named
+  AreNamed-option_map_or s (Some g) f each named = each g refl
 
-  named_write : (m : Parameters) (s : State) (path : PathRef) (text looks : List ℕ) → AreNamed names s.groups → AreNamed names (write.accepted m s path text looks).groups
+  -- after any write
+  AreNamed-write : (m : Parameters) (s : State) (path : PathRef) (text looks : List ℕ) → AreNamed names s.groups → AreNamed names (write.accepted m s path text looks).groups
   unfolding write.accepted
-  named_write m s (File dir kinds.Cpus) text looks named = named_for s (group_at s dir) (λ g. cpus.accepted s g (cpus.mask_read m text)) (λ g is. named_cpus s g (cpus.mask_read m text) named) named
-  named_write m s (File dir kinds.CpusList) text looks named = named_for s (group_at s dir) (λ g. cpus.accepted s g (cpus.list_read m text)) (λ g is. named_cpus s g (cpus.list_read m text) named) named
-  named_write m s (File dir kinds.Tasks) text looks named = named_for s (group_at s dir) (λ g. tasks.kept s g text) (λ g is. named_tasks s g text named) named
-  named_write m s (File dir kinds.Schemata) text looks named = named_for s (control_at s dir) (λ g. schemata.accepted s g (schemata.schemata_read m text)) (λ g is. named_schemata s g (schemata.schemata_read m text) (named_control s dir g named is) named) named
-  named_write m s (File dir kinds.Mode) text looks named = named_for s (control_at s dir) (λ g. mode.accepted m s g text looks) (λ g is. named_mode m s g text looks (named_control s dir g named is) named) named
-  named_write m s (File dir kinds.MaxThreshold) text looks named = named_threshold m s text named
-  named_write m s path text looks named = named
+  AreNamed-write m s (File dir kinds.Cpus) text looks named = AreNamed-option_map_or s (group_at s dir) (λ g. cpus.accepted s g (cpus.mask_read m text)) (λ g is. AreNamed-cpus s g (cpus.mask_read m text) named) named
+  AreNamed-write m s (File dir kinds.CpusList) text looks named = AreNamed-option_map_or s (group_at s dir) (λ g. cpus.accepted s g (cpus.list_read m text)) (λ g is. AreNamed-cpus s g (cpus.list_read m text) named) named
+  AreNamed-write m s (File dir kinds.Tasks) text looks named = AreNamed-option_map_or s (group_at s dir) (λ g. tasks.kept s g text) (λ g is. AreNamed-tasks s g text named) named
+  AreNamed-write m s (File dir kinds.Schemata) text looks named = AreNamed-option_map_or s (control_at s dir) (λ g. schemata.accepted s g (schemata.schemata_read m text)) (λ g is. AreNamed-schemata s g (schemata.schemata_read m text) (IsNamed-control_at s dir g named is) named) named
+  AreNamed-write m s (File dir kinds.Mode) text looks named = AreNamed-option_map_or s (control_at s dir) (λ g. mode.accepted m s g text looks) (λ g is. AreNamed-mode m s g text looks (IsNamed-control_at s dir g named is) named) named
+  AreNamed-write m s (File dir kinds.MaxThreshold) text looks named = AreNamed-threshold m s text named
+  AreNamed-write m s path text looks named = named
 
-  named_accepted : (m : Parameters) (s : State) (op : Op) (looks : List ℕ) → AreKnown (length names) (op_ids op) → AreNamed names s.groups → AreNamed names (accepted m s op looks).groups
+  -- after any command that is accepted
+  AreNamed-accepted : (m : Parameters) (s : State) (op : Op) (looks : List ℕ) → AreKnown (length names) (op_ids op) → IsShort names op → AreNamed names s.groups → AreNamed names (accepted m s op looks).groups
   unfolding tick.accepted
-  named_accepted m s (ops.Mkdir path) looks known named = named_mkdir m s path known named
-  named_accepted m s (ops.Rmdir path) looks known named = named_rmdir m s path looks named
-  named_accepted m s (ops.Write path text) looks known named = named_write m s path text looks named
-  named_accepted m s op looks known named = named
+  AreNamed-accepted m s (ops.Mkdir path) looks known short named = AreNamed-mkdir m s path known short named
+  AreNamed-accepted m s (ops.Rmdir path) looks known short named = AreNamed-rmdir m s path looks named
+  AreNamed-accepted m s (ops.Write path text) looks known short named = AreNamed-write m s path text looks named
+  AreNamed-accepted m s op looks known short named = named
 
-  named_left : (s : State) (op : Op) → AreNamed names s.groups → AreNamed names (left s op).groups
+  -- after any command that is refused
+  AreNamed-left : (s : State) (op : Op) → AreNamed names s.groups → AreNamed names (left s op).groups
   unfolding write.refused
-  named_left s (ops.Write (File dir kinds.Tasks) text) named = named_for s (group_at s dir) (λ g. tasks.kept s g text) (λ g is. named_tasks s g text named) named
-  named_left s (ops.Write path text) named = named
-  named_left s op named = named
+  AreNamed-left s (ops.Write (File dir kinds.Tasks) text) named = AreNamed-option_map_or s (group_at s dir) (λ g. tasks.kept s g text) (λ g is. AreNamed-tasks s g text named) named
+  AreNamed-left s (ops.Write path text) named = named
+  AreNamed-left s op named = named
 
-  named_status : (s : State) (op : Op) (reply : Reply) → AreNamed names s.groups → AreNamed names (with_status op reply s).groups
-  named_status s (ops.Mkdir path) reply named = named
-  named_status s (ops.Write path text) reply named = named
-  named_status s op reply named = named
+  -- with another last status
+  AreNamed-with_status : (s : State) (op : Op) (reply : Reply) → AreNamed names s.groups → AreNamed names (with_status op reply s).groups
+  AreNamed-with_status s (ops.Mkdir path) reply named = named
+  AreNamed-with_status s (ops.Write path text) reply named = named
+  AreNamed-with_status s op reply named = named
 
 -- after a command
-pub named_next : (names : List (List ℕ)) (m : Parameters) (s : State) (op : Op) (looks : List ℕ) → AreKnown (length names) (op_ids op) → AreNamed names s.groups → AreNamed names (next m s op looks).state.groups
+pub named_next : (names : List (List ℕ)) (m : Parameters) (s : State) (op : Op) (looks : List ℕ) → AreKnown (length names) (op_ids op) → IsShort names op → AreNamed names s.groups → AreNamed names (next m s op looks).state.groups
 unfolding next
-named_next names m s op looks known named = named_status names (next_if m s op looks (refusal m s op)) op (reply_of (refusal m s op)) (at (refusal m s op))
+named_next names m s op looks known short named = AreNamed-with_status names (next_if m s op looks (refusal m s op)) op (reply_of (refusal m s op)) (at (refusal m s op))
   where
     at : (against : Option Refusal) → AreNamed names (next_if m s op looks against).groups
-    at None = named_accepted names m s op looks known named
-    at (Some r) = named_left names s op named
+    at None = AreNamed-accepted names m s op looks known short named
+    at (Some r) = AreNamed-left names s op named
 
--- the only name of an op
+-- the only name of an op is known
 pub known_only : (n : ℕ) (id : ℕ) → id < n → AreKnown n (id ∷ [])
-known_only n id within zero d there = within
-known_only n id within (suc k) d there = absurd (omega (arith, there))
+known_only n id within = All-one (λ k. k < n) id within
+
+-- the only name of an op is short
+pub short_only : (names : List (List ℕ)) (id : ℕ) → IsShortName names id → AreShort names (id ∷ [])
+short_only names id short = All-one (IsShortName names) id short

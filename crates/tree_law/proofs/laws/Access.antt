@@ -45,8 +45,8 @@ module _ (m : Parameters) (s : State) (sound : IsSound m s) where
       (y.0, y.1, f, ap p same ∙ two.1)
 
   -- the ids of a counted group
-  counted_ids : (g : Group) → is_counted g ≡ true → HasIds s.groups g.kind g → IsSome g.class × IsSome g.rmid
-  counted_ids g counted has = by_kind g.kind has counted
+  IsSome-counted : (g : Group) → is_counted g ≡ true → HasIds s.groups g.kind g → IsSome g.class × IsSome g.rmid
+  IsSome-counted g counted has = by_kind g.kind has counted
     where
       by_mode : (mode : Mode) → is_counted_mode mode ≡ true → HasIdsOf mode g → IsSome g.class × IsSome g.rmid
       by_mode Shareable c h = h
@@ -59,49 +59,55 @@ module _ (m : Parameters) (s : State) (sound : IsSound m s) where
       by_kind (Monitor p) h c = absurd (let f : false ≡ true = c in cc)
 
   -- the ids of a monitor group
-  monitor_ids : (control : Gid) (g : Group) → is_monitor_of control g.kind ≡ true → HasIds s.groups g.kind g → IsSome g.rmid
-  monitor_ids control g monitor has = at g.kind monitor has
+  IsSome-monitor : (control : Gid) (g : Group) → is_monitor_of control g.kind ≡ true → HasIds s.groups g.kind g → IsSome g.rmid
+  IsSome-monitor control g monitor has = at g.kind monitor has
     where
       at : (kind : GroupKind) → is_monitor_of control kind ≡ true → HasIds s.groups kind g → IsSome g.rmid
       at Control e h = absurd (let f : false ≡ true = e in cc)
       at (Monitor p) e h = h.1
 
-  there : (P : ℕ → Type 0) (o : Option ℕ) → IsSome o → IfSome o P → P (unwrap_or o 0)
-  there P None some p = absurd (let f : false ≡ true = some in cc)
-  there P (Some id) some p = p
+  -- what holds of an option's value holds of the value that is taken out
+  unwrap_or-some : (P : ℕ → Type 0) (o : Option ℕ) → IsSome o → IfSome o P → P (unwrap_or o 0)
+  unwrap_or-some P None some p = absurd (let f : false ≡ true = some in cc)
+  unwrap_or-some P (Some id) some p = p
 
-  below_rmids : (o : Option ℕ) → IfSome o (IsUsed m s.limbo) → IfSome o (λ id. id < m.rmids)
-  below_rmids None u = tt
-  below_rmids (Some id) u = u.0
+  -- an RMID that is in use is the machine's
+  IfSome-used : (o : Option ℕ) → IfSome o (IsUsed m s.limbo) → IfSome o (λ id. id < m.rmids)
+  IfSome-used None u = tt
+  IfSome-used (Some id) u = u.0
 
+  -- the class of a counted group is the machine's
   class_of-below : (gid : Gid) → IsCounted s.groups gid → class_of s gid < m.classes
   class_of-below gid counted =
       let g = group_of-one gid is_counted counted in
       subst (λ (o : Option Group). unwrap_or (option_and_then (λ (x : Group). x.class) o) 0 < m.classes) (sym g.1)
-      (there (λ id. id < m.classes) g.0.class (counted_ids g.0 g.3 (IsFound-all (λ (x : Group). HasIds s.groups x.kind x) (has_gid gid) s.groups g.0 g.2 sound.numbered.ids)).0
+      (unwrap_or-some (λ id. id < m.classes) g.0.class (IsSome-counted g.0 g.3 (IsFound-all (λ (x : Group). HasIds s.groups x.kind x) (has_gid gid) s.groups g.0 g.2 sound.numbered.ids)).0
       (IsFound-all (λ (x : Group). IfSome x.class (λ id. id < m.classes)) (has_gid gid) s.groups g.0 g.2 sound.numbered.classes))
 
+  -- the mask of a counted group is valid
   mask_of_group-valid : (gid : Gid) (domain : ℕ) → domain < m.domains → IsCounted s.groups gid → IsValid m (mask_of_group s domain gid)
   mask_of_group-valid gid domain lt counted =
       let g = group_of-one gid is_counted counted in
       subst (λ (o : Option Group). IsValid m (option_map_or (mask_in domain) o 0)) (sym g.1)
       (IsFound-all (HasValid m domain) (has_gid gid) s.groups g.0 g.2 (sound.masks.valid domain lt) (is_control-counted g.0 g.3) (mode-counted g.0 g.3).0)
 
-  rmid_found : (gid : Gid) (g : Group) → group_of s gid ≡ Some g → IsFound (has_gid gid) s.groups g → IsSome g.rmid → rmid_of s gid < m.rmids
-  rmid_found gid g found f some = subst (λ (o : Option Group). unwrap_or (option_and_then (λ (x : Group). x.rmid) o) 0 < m.rmids) (sym found)
-      (there (λ id. id < m.rmids) g.rmid some (below_rmids g.rmid (IsFound-all (λ (x : Group). IfSome x.rmid (IsUsed m s.limbo)) (has_gid gid) s.groups g f sound.numbered.rmids)))
+  -- the RMID of a group that is there is the machine's
+  rmid_of-found : (gid : Gid) (g : Group) → group_of s gid ≡ Some g → IsFound (has_gid gid) s.groups g → IsSome g.rmid → rmid_of s gid < m.rmids
+  rmid_of-found gid g found f some = subst (λ (o : Option Group). unwrap_or (option_and_then (λ (x : Group). x.rmid) o) 0 < m.rmids) (sym found)
+      (unwrap_or-some (λ id. id < m.rmids) g.rmid some (IfSome-used g.rmid (IsFound-all (λ (x : Group). IfSome x.rmid (IsUsed m s.limbo)) (has_gid gid) s.groups g f sound.numbered.rmids)))
 
+  -- the RMID of a task's group is the machine's
   rmid_of-below : (control gid : Gid) → IsCounted s.groups control → IsOf s.groups control gid → rmid_of s gid < m.rmids
   rmid_of-below control gid counted (inl same) =
       let g = group_of-one control is_counted counted in
       subst (λ (i : Gid). rmid_of s i < m.rmids) (ap gid_of (sym same))
-      (rmid_found control g.0 g.1 g.2 (counted_ids g.0 g.3 (IsFound-all (λ (x : Group). HasIds s.groups x.kind x) (has_gid control) s.groups g.0 g.2 sound.numbered.ids)).1)
+      (rmid_of-found control g.0 g.1 g.2 (IsSome-counted g.0 g.3 (IsFound-all (λ (x : Group). HasIds s.groups x.kind x) (has_gid control) s.groups g.0 g.2 sound.numbered.ids)).1)
     where
       gid_of : ℕ → Gid
       gid_of n = record { 0 = n }
   rmid_of-below control gid counted (inr some) =
       let g = group_of-one gid (λ (x : Group). is_monitor_of control x.kind) some in
-      rmid_found gid g.0 g.1 g.2 (monitor_ids control g.0 g.3 (IsFound-all (λ (x : Group). HasIds s.groups x.kind x) (has_gid gid) s.groups g.0 g.2 sound.numbered.ids))
+      rmid_of-found gid g.0 g.1 g.2 (IsSome-monitor control g.0 g.3 (IsFound-all (λ (x : Group). HasIds s.groups x.kind x) (has_gid gid) s.groups g.0 g.2 sound.numbered.ids))
 
   -- the groups of a task, and of a CPU
   control_of-counted : (task : ℕ) → IsCounted s.groups (control_of s task) × IsOf s.groups (control_of s task) (monitor_of s task)
@@ -117,9 +123,10 @@ module _ (m : Parameters) (s : State) (sound : IsSound m s) where
       let c : IsServed s.groups (cpu_groups_of s cpu) = sound.cpus.each cpu cpu_groups.opening_cpu (omega (arith, lt, sound.cpus.count)) in
       cond-both (IsCounted s.groups) (is_default (control_of s task)) (cpu_groups_of s cpu).control (control_of s task) c.0 (control_of-counted task).0
 
-  tag_good : (task cpu : ℕ) → cpu < m.cpus → domain_of m cpu < m.domains → IsGood m (resolve m s task cpu)
+  -- an access has a class, an RMID and a mask of the machine
+  IsGood-resolve : (task cpu : ℕ) → cpu < m.cpus → domain_of m cpu < m.domains → IsGood m (resolve m s task cpu)
   unfolding resolve
-  tag_good task cpu lt exists =
+  IsGood-resolve task cpu lt exists =
       let t = control_of-counted task in
       let c : IsServed s.groups (cpu_groups_of s cpu) = sound.cpus.each cpu cpu_groups.opening_cpu (omega (arith, lt, sound.cpus.count)) in
       let owner : IsCounted s.groups (owner_of s task cpu) = cond-both (IsCounted s.groups) (is_default (control_of s task)) (cpu_groups_of s cpu).control (control_of s task) c.0 t.0 in
@@ -136,4 +143,4 @@ module _ (m : Parameters) (s : State) (sound : IsSound m s) where
 
 -- in a sound tree each access has a class, an RMID and a mask of the machine
 pub resolve-good : (m : Parameters) (s : State) (task cpu : ℕ) → IsSound m s → cpu < m.cpus → domain_of m cpu < m.domains → IsGood m (resolve m s task cpu)
-resolve-good m s task cpu sound lt exists = tag_good m s sound task cpu lt exists
+resolve-good m s task cpu sound lt exists = IsGood-resolve m s sound task cpu lt exists

@@ -15,7 +15,7 @@ use Rattle.path_names.specs.declared.path_ref.PathRef.TheVariants.{Dir, File}
 use Rattle.rc_base.specs.declared.names.Gid.{Gid}
 use Rattle.rc_base.specs.declared.names.Mode.{Mode}
 use Rattle.script_ops.specs.declared.op.Op.{Op}
-use Rattle.tree_law.proofs.KeptGroups.{All-found_rmids, All-option_to_list, All-rmids}
+use Rattle.tree_law.proofs.KeptGroups.{All-rmids_of_found, All-option_to_list, All-rmids_of}
 use Rattle.tree_law.proofs.Writes.{control_at-found}
 use Rattle.tree_law.specs.Existing.{directory_gid, group_of, holder_gid}
 use Rattle.tree_law.specs.Freeing.{counts_of, rmids_of, rmids_with}
@@ -33,9 +33,11 @@ use Rattle.tree_law.specs.commands.Write as write
 use Rattle.tree_law.specs.commands.Mode as mode
 
 module _ (m : Parameters) (s : State) (sound : IsSound m s) where
+  -- an RMID of the machine
   abbrev Exists : ℕ → Type 0
   Exists id = id < m.rmids
 
+  -- the RMID of each group is the machine's
   rmid-exists : (k : ℕ) (d : Group) → k < length s.groups → IfSome (get_or s.groups k d).rmid Exists
   rmid-exists k d within = at (get_or s.groups k d).rmid (sound.numbered.rmids k d within)
     where
@@ -43,10 +45,11 @@ module _ (m : Parameters) (s : State) (sound : IsSound m s) where
       at None u = tt
       at (Some id) u = u.0
 
+  -- those of a group and of its monitor groups
   rmids_with-exist : (gid : Gid) → All Exists (rmids_with s gid)
   rmids_with-exist gid = All-append Exists (option_map_or rmids_of (find (has_gid gid) s.groups) []) (flat_map rmids_of (filter (λ (x : Group). is_monitor_of gid x.kind) s.groups))
-      (All-found_rmids Exists (has_gid gid) s.groups (λ k d within is. rmid-exists k d within))
-      (All-rmids Exists (λ (x : Group). is_monitor_of gid x.kind) s.groups (λ k d within is. rmid-exists k d within))
+      (All-rmids_of_found Exists (has_gid gid) s.groups (λ k d within is. rmid-exists k d within))
+      (All-rmids_of Exists (λ (x : Group). is_monitor_of gid x.kind) s.groups (λ k d within is. rmid-exists k d within))
 
   -- each RMID in each domain
   counts_of-exist : (rmids : List ℕ) → All Exists rmids → All (CanLook m) (counts_of m rmids)
@@ -58,6 +61,7 @@ module _ (m : Parameters) (s : State) (sound : IsSound m s) where
       below : (k d : ℕ) → k < length (range_with_len 0 m.domains) → get_or (range_with_len 0 m.domains) k d < m.domains
       below k d within = let lt : k < m.domains = omega (arith, within, length-range_with_len 0 m.domains) in omega (arith, lt, get_or-range_with_len 0 m.domains k d lt)
 
+  -- those that rmdir frees
   rmdir-exist : (path : PathRef) → All Exists (rmdir.freed s path)
   unfolding rmdir.freed
   rmdir-exist (Dir (Ctrl name)) = at (directory_gid s (Ctrl name))
@@ -69,9 +73,10 @@ module _ (m : Parameters) (s : State) (sound : IsSound m s) where
     where
       at : (o : Option Gid) → All (λ id. id < m.rmids) (option_map_or (λ gid. option_map_or rmids_of (group_of s gid) []) o [])
       at None = λ k d within. absurd (omega arith)
-      at (Some gid) = All-found_rmids Exists (has_gid gid) s.groups (λ k d within is. rmid-exists k d within)
+      at (Some gid) = All-rmids_of_found Exists (has_gid gid) s.groups (λ k d within is. rmid-exists k d within)
   rmdir-exist path = λ k d within. absurd (omega arith)
 
+  -- those that a write of a mode frees
   mode-exist : (g : Group) (text : List ℕ) → find (has_gid g.gid) s.groups ≡ Some g → All Exists (mode.freed g text)
   unfolding mode.freed
   mode-exist g text found = cond-both (All Exists) (mode.is_present g.mode text) [] (mode.freed_by g (mode.mode_in text)) (λ k d within. absurd (omega arith)) (at (mode.mode_in text))
@@ -83,6 +88,7 @@ module _ (m : Parameters) (s : State) (sound : IsSound m s) where
       at None = λ k d within. absurd (omega arith)
       at (Some x) = cond-both (All Exists) (mode.is_setup x) (rmids_of g) [] own (λ k d within. absurd (omega arith))
 
+  -- those that a write frees
   write-exist : (path : PathRef) (text : List ℕ) → All Exists (write.freed s path text)
   unfolding write.freed
   write-exist (File dir kinds.Mode) text = at (control_at s dir) refl
@@ -92,6 +98,7 @@ module _ (m : Parameters) (s : State) (sound : IsSound m s) where
       at (Some g) is = mode-exist g text (control_at-found s dir g is).0
   write-exist path text = λ k d within. absurd (omega arith)
 
+  -- the counts that a read needs
   read-exist : (path : PathRef) → NamesDomain m (ops.Read path) → All (CanLook m) (read.needs s path)
   unfolding read.needs
   read-exist (File (MonDomain holder domain) kinds.Occupancy) exists = All-map (CanLook m) (λ (rmid : ℕ). (domain, rmid)) (option_map_or (rmids_with s) (holder_gid s holder) []) (λ k d within. (exists, at (holder_gid s holder) k d within))
@@ -101,6 +108,7 @@ module _ (m : Parameters) (s : State) (sound : IsSound m s) where
       at (Some gid) = rmids_with-exist gid
   read-exist path exists = λ k d within. absurd (omega arith)
 
+  -- the counts that an accepted command needs
   accepted-exist : (op : Op) → NamesDomain m op → All (CanLook m) (needs_accepted m s op)
   unfolding tick.needs
   accepted-exist (ops.Rmdir path) exists = counts_of-exist (rmdir.freed s path) (rmdir-exist path)
@@ -109,6 +117,7 @@ module _ (m : Parameters) (s : State) (sound : IsSound m s) where
   accepted-exist ops.Tick exists = counts_of-exist s.limbo sound.numbered.limbo_exists
   accepted-exist op exists = λ k d within. absurd (omega arith)
 
+-- in a sound tree each count that a command needs can be looked at
 pub needs-exist : (m : Parameters) (s : State) (op : Op) → IsSound m s → NamesDomain m op → All (CanLook m) (needs m s op)
 unfolding needs
 needs-exist m s op sound exists = cond-both (All (CanLook m)) (is_some (refusal m s op)) [] (needs_accepted m s op) (λ k d within. absurd (omega arith)) (accepted-exist m s sound op exists)

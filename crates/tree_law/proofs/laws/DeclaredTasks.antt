@@ -51,6 +51,7 @@ numbers_of-changed which how same (b ∷ bs) = ap (λ (n : ℕ). n ∷ numbers_o
 
 -- ---- a write of tasks
 
+-- one move
 numbers_of-moved : (gid : Gid) (kind : GroupKind) (task : Option ℕ) (bs : List Binding) → numbers_of (tasks.moved gid kind task bs) ≡ numbers_of bs
 numbers_of-moved gid kind None bs = refl
 numbers_of-moved gid kind (Some task) bs = numbers_of-changed (bindings.is_of task) (tasks.in_group gid kind) (same kind) bs
@@ -59,6 +60,7 @@ numbers_of-moved gid kind (Some task) bs = numbers_of-changed (bindings.is_of ta
     same Control b = refl
     same (Monitor parent) b = refl
 
+-- the moves of a whole text
 numbers_of-moves : (gid : Gid) (kind : GroupKind) (es : List (List ℕ)) (bs : List Binding) → numbers_of (tasks.moves gid kind es bs).tasks ≡ numbers_of bs
 numbers_of-moves gid kind [] bs = refl
 numbers_of-moves gid kind (e ∷ es) bs = at (tasks.against_task kind bs (tasks.task_in e)) (numbers_of-moves gid kind es (tasks.moved gid kind (tasks.task_in e) bs) ∙ numbers_of-moved gid kind (tasks.task_in e) bs)
@@ -69,26 +71,30 @@ numbers_of-moves gid kind (e ∷ es) bs = at (tasks.against_task kind bs (tasks.
     at (Some r) rest = refl
 
 module _ (s : State) where
+  -- a later state has tasks of the same numbers
   abbrev Keeps : State → Type 0
   Keeps later = tasks_of later ≡ tasks_of s
 
+  -- after a write of tasks
   tasks-keeps : (g : Group) (text : List ℕ) → Keeps (tasks.kept s g text)
   unfolding tasks.kept
   tasks-keeps g text = cond-both Keeps (is_closed s (controlling g.gid g.kind)) s (record s { tasks = (tasks.moves_in s g text).tasks }) refl (numbers_of-moves g.gid g.kind (tasks.elements text) s.tasks)
 
   -- of the group of a directory, where it is there
-  found-keeps : (f : Group → State) (o : Option Group) → ((g : Group) → Keeps (f g)) → Keeps (option_map_or f o s)
-  found-keeps f None each = refl
-  found-keeps f (Some g) each = each g
+  option_map_or-keeps : (f : Group → State) (o : Option Group) → ((g : Group) → Keeps (f g)) → Keeps (option_map_or f o s)
+  option_map_or-keeps f None each = refl
+  option_map_or-keeps f (Some g) each = each g
 
+  -- after a refused command
   left-keeps : (op : Op) → Keeps (left s op)
   unfolding write.refused
-  left-keeps (ops.Write (File dir kinds.Tasks) text) = found-keeps (λ g. tasks.kept s g text) (group_at s dir) (λ g. tasks-keeps g text)
+  left-keeps (ops.Write (File dir kinds.Tasks) text) = option_map_or-keeps (λ g. tasks.kept s g text) (group_at s dir) (λ g. tasks-keeps g text)
   left-keeps (ops.Write path text) = refl
   left-keeps op = refl
 
   -- ---- accepted commands
 
+  -- after mkdir
   mkdir-keeps : (m : Parameters) (path : PathRef) → Keeps (mkdir.accepted m s path)
   unfolding mkdir.accepted
   mkdir-keeps m (Dir (Ctrl name)) = refl
@@ -99,6 +105,7 @@ module _ (s : State) where
       at (Some parent) = refl
   mkdir-keeps m path = refl
 
+  -- after rmdir
   rmdir-keeps : (m : Parameters) (path : PathRef) (looks : List ℕ) → Keeps (rmdir.accepted m s path looks)
   unfolding rmdir.accepted
   rmdir-keeps m (Dir (Ctrl name)) looks = at (directory_gid s (Ctrl name))
@@ -113,6 +120,7 @@ module _ (s : State) where
       at (Some gid) = numbers_of-changed (bindings.has_monitor gid) rmdir.uncounted (λ b. refl) s.tasks
   rmdir-keeps m path looks = refl
 
+  -- after a write of schemata
   schemata-keeps : (g : Group) (read : Result (List Assignment) TextFault) → Keeps (schemata.accepted s g read)
   unfolding schemata.accepted
   schemata-keeps g (Err fault) = refl
@@ -125,6 +133,7 @@ module _ (s : State) where
       at (a ∷ all) LockSetup = refl
       at all Locked = refl
 
+  -- after a write of a mode
   mode-keeps : (m : Parameters) (g : Group) (text looks : List ℕ) → Keeps (mode.accepted m s g text looks)
   unfolding mode.accepted
   mode-keeps m g text looks = cond-both Keeps (mode.is_present g.mode text) s (mode.with_mode m s g (mode.freed g text) looks (mode.mode_in text)) refl (at (mode.mode_in text))
@@ -133,11 +142,13 @@ module _ (s : State) where
       at None = refl
       at (Some x) = refl
 
+  -- after a write of CPUs
   cpus-keeps : (g : Group) (read : Result (List ℕ) _) → Keeps (cpus.accepted s g read)
   unfolding cpus.accepted
   cpus-keeps g (Ok numbers) = refl
   cpus-keeps g (Err fault) = refl
 
+  -- after a write of the threshold
   threshold-keeps : (m : Parameters) (text : List ℕ) → Keeps (threshold.accepted m s text)
   unfolding threshold.accepted
   threshold-keeps m text = at (threshold.threshold_in m text)
@@ -146,16 +157,18 @@ module _ (s : State) where
       at None = refl
       at (Some n) = refl
 
+  -- after each write
   write-keeps : (m : Parameters) (path : PathRef) (text looks : List ℕ) → Keeps (write.accepted m s path text looks)
   unfolding write.accepted
-  write-keeps m (File dir kinds.Cpus) text looks = found-keeps (λ g. cpus.accepted s g (cpus.mask_read m text)) (group_at s dir) (λ g. cpus-keeps g (cpus.mask_read m text))
-  write-keeps m (File dir kinds.CpusList) text looks = found-keeps (λ g. cpus.accepted s g (cpus.list_read m text)) (group_at s dir) (λ g. cpus-keeps g (cpus.list_read m text))
-  write-keeps m (File dir kinds.Tasks) text looks = found-keeps (λ g. tasks.kept s g text) (group_at s dir) (λ g. tasks-keeps g text)
-  write-keeps m (File dir kinds.Schemata) text looks = found-keeps (λ g. schemata.accepted s g (schemata.schemata_read m text)) (control_at s dir) (λ g. schemata-keeps g (schemata.schemata_read m text))
-  write-keeps m (File dir kinds.Mode) text looks = found-keeps (λ g. mode.accepted m s g text looks) (control_at s dir) (λ g. mode-keeps m g text looks)
+  write-keeps m (File dir kinds.Cpus) text looks = option_map_or-keeps (λ g. cpus.accepted s g (cpus.mask_read m text)) (group_at s dir) (λ g. cpus-keeps g (cpus.mask_read m text))
+  write-keeps m (File dir kinds.CpusList) text looks = option_map_or-keeps (λ g. cpus.accepted s g (cpus.list_read m text)) (group_at s dir) (λ g. cpus-keeps g (cpus.list_read m text))
+  write-keeps m (File dir kinds.Tasks) text looks = option_map_or-keeps (λ g. tasks.kept s g text) (group_at s dir) (λ g. tasks-keeps g text)
+  write-keeps m (File dir kinds.Schemata) text looks = option_map_or-keeps (λ g. schemata.accepted s g (schemata.schemata_read m text)) (control_at s dir) (λ g. schemata-keeps g (schemata.schemata_read m text))
+  write-keeps m (File dir kinds.Mode) text looks = option_map_or-keeps (λ g. mode.accepted m s g text looks) (control_at s dir) (λ g. mode-keeps m g text looks)
   write-keeps m (File dir kinds.MaxThreshold) text looks = threshold-keeps m text
   write-keeps m path text looks = refl
 
+  -- after each accepted command
   accepted-keeps : (m : Parameters) (op : Op) (looks : List ℕ) → Keeps (accepted m s op looks)
   unfolding tick.accepted
   accepted-keeps m (ops.Mkdir path) looks = mkdir-keeps m path
@@ -164,15 +177,16 @@ module _ (s : State) where
   accepted-keeps m ops.Tick looks = refl
   accepted-keeps m op looks = refl
 
-  status-keeps : (op : Op) (reply : Reply) (later : State) → Keeps later → Keeps (with_status op reply later)
-  status-keeps (ops.Mkdir path) reply later same = same
-  status-keeps (ops.Write path text) reply later same = same
-  status-keeps op reply later same = same
+  -- the last status says nothing of the tasks
+  with_status-keeps : (op : Op) (reply : Reply) (later : State) → Keeps later → Keeps (with_status op reply later)
+  with_status-keeps (ops.Mkdir path) reply later same = same
+  with_status-keeps (ops.Write path text) reply later same = same
+  with_status-keeps op reply later same = same
 
 -- a command keeps the numbers of the tasks
 pub tasks_of-next : (m : Parameters) (s : State) (op : Op) (looks : List ℕ) → tasks_of (next m s op looks).state ≡ tasks_of s
 unfolding next
-tasks_of-next m s op looks = status-keeps s op (reply_of (refusal m s op)) (next_if m s op looks (refusal m s op)) (at (refusal m s op))
+tasks_of-next m s op looks = with_status-keeps s op (reply_of (refusal m s op)) (next_if m s op looks (refusal m s op)) (at (refusal m s op))
   where
     at : (o : Option Refusal) → tasks_of (next_if m s op looks o) ≡ tasks_of s
     at None = accepted-keeps s m op looks

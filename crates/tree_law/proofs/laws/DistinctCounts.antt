@@ -40,18 +40,21 @@ use Rattle.tree_law.specs.commands.Rmdir as rmdir
 use Rattle.tree_law.specs.commands.Tick as tick
 use Rattle.tree_law.specs.commands.Write as write
 
+-- each two of these RMIDs differ
 abbrev AreDistinct : List ℕ → Type 0
 AreDistinct ns = AllPairs (λ (a b : ℕ). a ≢ b) ns
 
+-- two counts that differ
 abbrev Apart : ℕ × ℕ → ℕ × ℕ → Type 0
 Apart a b = a ≢ b
 
 -- nothing has no pairs
-empty-pairs : {X : Type 0} (R : X → X → Type 0) → AllPairs R []
-empty-pairs R = λ i j d below within. absurd (omega arith)
+AllPairs-nil : {X : Type 0} (R : X → X → Type 0) → AllPairs R []
+AllPairs-nil R = λ i j d below within. absurd (omega arith)
 
 -- ---- counts of distinct RMIDs
 
+-- the counts of distinct RMIDs differ
 counts_of-distinct : (m : Parameters) (rmids : List ℕ) → AreDistinct rmids → AllPairs Apart (counts_of m rmids)
 counts_of-distinct m rmids distinct = AllPairs-flat_map Apart each_domain rmids (λ k d within. of_one (get_or rmids k d)) (λ i j c below within. of_two (get_or rmids i c) (get_or rmids j c) (distinct i j c below within))
   where
@@ -74,11 +77,11 @@ counts_of-distinct m rmids distinct = AllPairs-flat_map Apart each_domain rmids 
 -- ---- the RMIDs of records
 
 -- of records whose ids differ
-rmids-distinct : (groups : List Group) → AllPairs IdsDiffer groups → AreDistinct (flat_map rmids_of groups)
-rmids-distinct groups pairs = AllPairs-flat_map (λ (a b : ℕ). a ≢ b) rmids_of groups (λ k d within. of_one (get_or groups k d).rmid) (λ i j d below within. of_two (get_or groups i d).rmid (get_or groups j d).rmid (pairs i j d below within).1)
+flat_map-distinct : (groups : List Group) → AllPairs IdsDiffer groups → AreDistinct (flat_map rmids_of groups)
+flat_map-distinct groups pairs = AllPairs-flat_map (λ (a b : ℕ). a ≢ b) rmids_of groups (λ k d within. of_one (get_or groups k d).rmid) (λ i j d below within. of_two (get_or groups i d).rmid (get_or groups j d).rmid (pairs i j d below within).1)
   where
     of_one : (o : Option ℕ) → AreDistinct (option_to_list o)
-    of_one None = empty-pairs (λ (a b : ℕ). a ≢ b)
+    of_one None = AllPairs-nil (λ (a b : ℕ). a ≢ b)
     of_one (Some id) = AllPairs-one (λ (a b : ℕ). a ≢ b) id
 
     of_two : (a b : Option ℕ) → Differ a b → AllAcross (λ (x y : ℕ). x ≢ y) (option_to_list a) (option_to_list b)
@@ -91,17 +94,18 @@ rmids-distinct groups pairs = AllPairs-flat_map (λ (a b : ℕ). a ≢ b) rmids_
         at zero (suc j) d less within = absurd (omega arith)
         at (suc i) j d less within = absurd (omega arith)
 
-own-distinct : (g : Group) → AreDistinct (rmids_of g)
-own-distinct g = at g.rmid
+-- one record has no RMID twice
+rmids_of-distinct : (g : Group) → AreDistinct (rmids_of g)
+rmids_of-distinct g = at g.rmid
   where
     at : (o : Option ℕ) → AreDistinct (option_to_list o)
-    at None = empty-pairs (λ (a b : ℕ). a ≢ b)
+    at None = AllPairs-nil (λ (a b : ℕ). a ≢ b)
     at (Some id) = AllPairs-one (λ (a b : ℕ). a ≢ b) id
 
 module _ (m : Parameters) (s : State) (sound : IsSound m s) where
   -- no group is its own monitor group
-  not_own : (gid : Gid) (g : Group) → find (has_gid gid) s.groups ≡ Some g → (k : ℕ) (d : Group) → k < length s.groups → is_monitor_of gid (get_or s.groups k d).kind ≡ true → has_gid g.gid (get_or s.groups k d) ≡ false
-  not_own gid g found k d within monitor = at (has_gid g.gid (get_or s.groups k d)) refl
+  has_gid-monitor : (gid : Gid) (g : Group) → find (has_gid gid) s.groups ≡ Some g → (k : ℕ) (d : Group) → k < length s.groups → is_monitor_of gid (get_or s.groups k d).kind ≡ true → has_gid g.gid (get_or s.groups k d) ≡ false
+  has_gid-monitor gid g found k d within monitor = at (has_gid g.gid (get_or s.groups k d)) refl
     where
       own : find (has_gid g.gid) s.groups ≡ Some g
       own = find-own gid s.groups g found
@@ -130,67 +134,72 @@ module _ (m : Parameters) (s : State) (sound : IsSound m s) where
       monitors = filter (λ (x : Group). is_monitor_of gid x.kind) s.groups
 
       at : (o : Option Group) → find (has_gid gid) s.groups ≡ o → AreDistinct (option_map_or rmids_of o [] ++ flat_map rmids_of (filter (λ (x : Group). is_monitor_of gid x.kind) s.groups))
-      at None is = rmids-distinct (filter (λ (x : Group). is_monitor_of gid x.kind) s.groups) (AllPairs-filter IdsDiffer (λ (x : Group). is_monitor_of gid x.kind) s.groups sound.numbered.apart)
-      at (Some g) is = rmids-distinct (g ∷ filter (λ (x : Group). is_monitor_of gid x.kind) s.groups)
+      at None is = flat_map-distinct (filter (λ (x : Group). is_monitor_of gid x.kind) s.groups) (AllPairs-filter IdsDiffer (λ (x : Group). is_monitor_of gid x.kind) s.groups sound.numbered.apart)
+      at (Some g) is = flat_map-distinct (g ∷ filter (λ (x : Group). is_monitor_of gid x.kind) s.groups)
           (AllPairs-cons IdsDiffer g (filter (λ (x : Group). is_monitor_of gid x.kind) s.groups)
-          (All-kept (IdsDiffer g) (λ (x : Group). is_monitor_of gid x.kind) s.groups (λ k d within monitor. AllPairs-beside gid_number s.groups g g sound.named.gids (find-own gid s.groups g is) IdsDiffer IdsDiffer-turned sound.numbered.apart k d within (not_own gid g is k d within monitor)))
+          (All-kept (IdsDiffer g) (λ (x : Group). is_monitor_of gid x.kind) s.groups (λ k d within monitor. AllPairs-beside gid_number s.groups g g sound.named.gids (find-own gid s.groups g is) IdsDiffer IdsDiffer-turned sound.numbered.apart k d within (has_gid-monitor gid g is k d within monitor)))
           (AllPairs-filter IdsDiffer (λ (x : Group). is_monitor_of gid x.kind) s.groups sound.numbered.apart))
 
   -- ---- each command
 
+  -- those that rmdir frees
   rmdir-distinct : (path : PathRef) → AreDistinct (rmdir.freed s path)
   unfolding rmdir.freed
   rmdir-distinct (Dir (Ctrl name)) = at (directory_gid s (Ctrl name))
     where
       at : (o : Option Gid) → AreDistinct (option_map_or (rmids_with s) o [])
-      at None = empty-pairs (λ (a b : ℕ). a ≢ b)
+      at None = AllPairs-nil (λ (a b : ℕ). a ≢ b)
       at (Some gid) = rmids_with-distinct gid
   rmdir-distinct (Dir (Mon owner name)) = at (directory_gid s (Mon owner name))
     where
       found : (o : Option Group) → AreDistinct (option_map_or rmids_of o [])
-      found None = empty-pairs (λ (a b : ℕ). a ≢ b)
-      found (Some g) = own-distinct g
+      found None = AllPairs-nil (λ (a b : ℕ). a ≢ b)
+      found (Some g) = rmids_of-distinct g
 
       at : (o : Option Gid) → AreDistinct (option_map_or (λ gid. option_map_or rmids_of (group_of s gid) []) o [])
-      at None = empty-pairs (λ (a b : ℕ). a ≢ b)
+      at None = AllPairs-nil (λ (a b : ℕ). a ≢ b)
       at (Some gid) = found (group_of s gid)
-  rmdir-distinct path = empty-pairs (λ (a b : ℕ). a ≢ b)
+  rmdir-distinct path = AllPairs-nil (λ (a b : ℕ). a ≢ b)
 
+  -- those that a write of a mode frees
   mode-distinct : (g : Group) (text : List ℕ) → AreDistinct (mode.freed g text)
   unfolding mode.freed
-  mode-distinct g text = cond-both AreDistinct (mode.is_present g.mode text) [] (mode.freed_by g (mode.mode_in text)) (empty-pairs (λ (a b : ℕ). a ≢ b)) (at (mode.mode_in text))
+  mode-distinct g text = cond-both AreDistinct (mode.is_present g.mode text) [] (mode.freed_by g (mode.mode_in text)) (AllPairs-nil (λ (a b : ℕ). a ≢ b)) (at (mode.mode_in text))
     where
       at : (o : Option Mode) → AreDistinct (mode.freed_by g o)
-      at None = empty-pairs (λ (a b : ℕ). a ≢ b)
-      at (Some x) = cond-both AreDistinct (mode.is_setup x) (rmids_of g) [] (own-distinct g) (empty-pairs (λ (a b : ℕ). a ≢ b))
+      at None = AllPairs-nil (λ (a b : ℕ). a ≢ b)
+      at (Some x) = cond-both AreDistinct (mode.is_setup x) (rmids_of g) [] (rmids_of-distinct g) (AllPairs-nil (λ (a b : ℕ). a ≢ b))
 
+  -- those that a write frees
   write-distinct : (path : PathRef) (text : List ℕ) → AreDistinct (write.freed s path text)
   unfolding write.freed
   write-distinct (File dir kinds.Mode) text = at (control_at s dir)
     where
       at : (o : Option Group) → AreDistinct (option_map_or (λ g. mode.freed g text) o [])
-      at None = empty-pairs (λ (a b : ℕ). a ≢ b)
+      at None = AllPairs-nil (λ (a b : ℕ). a ≢ b)
       at (Some g) = mode-distinct g text
-  write-distinct path text = empty-pairs (λ (a b : ℕ). a ≢ b)
+  write-distinct path text = AllPairs-nil (λ (a b : ℕ). a ≢ b)
 
+  -- the counts that a read needs
   read-distinct : (path : PathRef) → AllPairs Apart (read.needs s path)
   unfolding read.needs
   read-distinct (File (MonDomain holder domain) kinds.Occupancy) = AllPairs-map Apart (λ (rmid : ℕ). (domain, rmid)) (option_map_or (rmids_with s) (holder_gid s holder) []) (λ i j d below within e. at (holder_gid s holder) i j d below within (ap (λ (p : ℕ × ℕ). p.1) e))
     where
       at : (o : Option Gid) → AreDistinct (option_map_or (rmids_with s) o [])
-      at None = empty-pairs (λ (a b : ℕ). a ≢ b)
+      at None = AllPairs-nil (λ (a b : ℕ). a ≢ b)
       at (Some gid) = rmids_with-distinct gid
-  read-distinct path = empty-pairs Apart
+  read-distinct path = AllPairs-nil Apart
 
+  -- the counts that an accepted command needs
   accepted-distinct : (op : Op) → AllPairs Apart (needs_accepted m s op)
   unfolding tick.needs
   accepted-distinct (ops.Rmdir path) = counts_of-distinct m (rmdir.freed s path) (rmdir-distinct path)
   accepted-distinct (ops.Write path text) = counts_of-distinct m (write.freed s path text) (write-distinct path text)
   accepted-distinct (ops.Read path) = read-distinct path
   accepted-distinct ops.Tick = counts_of-distinct m s.limbo (λ i j d below within e. let less = sound.numbered.limbo_rising i j d below within in omega arith)
-  accepted-distinct op = empty-pairs Apart
+  accepted-distinct op = AllPairs-nil Apart
 
 -- in a sound tree no count is needed twice
 pub needs-distinct : (m : Parameters) (s : State) (op : Op) → IsSound m s → AllPairs (λ (a b : ℕ × ℕ). a ≢ b) (needs m s op)
 unfolding needs
-needs-distinct m s op sound = cond-both (AllPairs Apart) (is_some (refusal m s op)) [] (needs_accepted m s op) (empty-pairs Apart) (accepted-distinct m s sound op)
+needs-distinct m s op sound = cond-both (AllPairs Apart) (is_some (refusal m s op)) [] (needs_accepted m s op) (AllPairs-nil Apart) (accepted-distinct m s sound op)

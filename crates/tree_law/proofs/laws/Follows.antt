@@ -2,17 +2,18 @@
 use Rattle.std.proofs.Common.{◌≡◌, ℕ, ◌+◌, ◌*◌, ◌/◌, ◌<◌, Bool, true, false, not, cond, eqb, leb, List, [], ◌∷◌, length, map, filter, find, get_or, Option, None, Some, is_some, Result, Ok, Err, refl, sym, ap, ◌∙◌, arith, zero-add}
 use Rattle.std.specs.List.{All, enumerate_from, range_with_len}
 use Rattle.std.specs.Option.{option_map_or}
-use Rattle.std.proofs.Math.Nat.{div-lt_iff_lt-mul, mul-lt-mul_of_pos_right, mul_assoc, mul_comm}
+use Rattle.std.proofs.Math.Nat.{mul_assoc, mul_comm}
 use Rattle.std.proofs.lemmas.Bool.{eqb-true, leb-false}
 use Rattle.std.proofs.lemmas.List.{get_or_default}
-use Rattle.std.proofs.lemmas.List.Elements.{All-cons, All-filter, All-map}
+use Rattle.std.proofs.lemmas.List.Elements.{All-filter, All-map}
 use Rattle.std.proofs.lemmas.List.FromFn.{get_or-enumerate_from, get_or-range_with_len, length-enumerate_from, length-range_with_len}
 use Rattle.cbm.specs.Masks.{ways_of}
 use Rattle.group_tree.specs.Records.{has_mode}
 use Rattle.group_tree.specs.declared.group.Group.{Group}
 use Rattle.lists.proofs.Choices.{cond-both}
-use Rattle.lists.proofs.Tests.{find-found}
+use Rattle.lists.proofs.Tests.{All-one, find-found}
 use Rattle.lists.proofs.Options.{option_and_then-some}
+use Rattle.machine.proofs.laws.Domains.{domain_of-lt}
 use Rattle.machine.specs.Maps.{bytes_of, domain_of}
 use Rattle.machine.specs.Ranges.{InRange}
 use Rattle.machine.specs.declared.parameters.Parameters.{Parameters}
@@ -47,31 +48,22 @@ use Rattle.tree_law.specs.commands.Touch as touch
 use Rattle.tree_law.specs.commands.Write as write
 
 -- what a range has is below its end
-below-range : (n : ℕ) → All (λ k. k < n) (range_with_len 0 n)
-below-range n k d within = let lt : k < n = omega (arith, within, length-range_with_len 0 n) in omega (arith, lt, get_or-range_with_len 0 n k d lt)
+range_with_len-below : (n : ℕ) → All (λ k. k < n) (range_with_len 0 n)
+range_with_len-below n k d within = let lt : k < n = omega (arith, within, length-range_with_len 0 n) in omega (arith, lt, get_or-range_with_len 0 n k d lt)
 
--- the domain of a CPU is one of the machine
-pub domain_of-below : (m : Parameters) (cpu : ℕ) → InRange m → cpu < m.cpus → domain_of m cpu < m.domains
-domain_of-below m cpu range lt =
-    let some = range.some_domain in
-    let product : cpu * m.domains < m.cpus * m.domains = mul-lt-mul_of_pos_right {m = cpu} {n = m.cpus} {k = m.domains} lt some in
-    let turned : m.cpus * m.domains ≡ m.domains * m.cpus = mul_comm m.cpus m.domains in
-    let less : cpu * m.domains < m.domains * m.cpus = omega arith in
-    (div-lt_iff_lt-mul {k = m.cpus} {x = cpu * m.domains} {y = m.domains} (omega arith)).1 less
-
-none : {X : Type 0} (P : X → Type 0) → All P []
-none P = λ k d within. absurd (omega arith)
-
-one : {X : Type 0} (P : X → Type 0) (x : X) → P x → All P (x ∷ [])
-one P x p = All-cons P x [] p (none P)
+-- anything holds of each in an empty list
+All-nil : {X : Type 0} (P : X → Type 0) → All P []
+All-nil P = λ k d within. absurd (omega arith)
 
 -- ---- the region that is touched
 
-same_some : {X : Type 0} (x y : X) → Some x ≡ Some y → x ≡ y
-same_some x y e = cc
+-- equal options have equal values
+Some-same : {X : Type 0} (x y : X) → Some x ≡ Some y → x ≡ y
+Some-same x y e = cc
 
-region_of-in : (s : State) (gid : Gid) (domain : ℕ) (r : Region) → touch.region_of s gid ≡ Some (domain, r) → region_in s.regions domain ≡ Some r
-region_of-in s gid domain r is =
+-- the region of a group stands at its domain
+region_in-region_of : (s : State) (gid : Gid) (domain : ℕ) (r : Region) → touch.region_of s gid ≡ Some (domain, r) → region_in s.regions domain ≡ Some r
+region_in-region_of s gid domain r is =
     let e = option_and_then-some touch.with_domain (find (touch.is_held_by gid) (enumerate_from 0 s.regions)) (domain, r) is in
     let f = find-found (touch.is_held_by gid) (enumerate_from 0 s.regions) e.0 e.1 in
     let within : f.place < length s.regions = omega (arith, f.within, length-enumerate_from 0 s.regions) in
@@ -83,17 +75,18 @@ region_of-in s gid domain r is =
   where
     parts : (p : ℕ × Option Region) → touch.with_domain p ≡ Some (domain, r) → (p.0 ≡ domain) × (p.1 ≡ Some r)
     parts (d, None) e = absurd (let f : ◌≡◌ {A = Option (ℕ × Region)} None (Some (domain, r)) = e in cc)
-    parts (d, Some q) e = let same = same_some (d, q) (domain, r) e in (ap (λ (p : ℕ × Region). p.0) same, ap (λ (p : ℕ × Region). Some p.1) same)
+    parts (d, Some q) e = let same = Some-same (d, q) (domain, r) e in (ap (λ (p : ℕ × Region). p.0) same, ap (λ (p : ℕ × Region). Some p.1) same)
 
-touched-in : (s : State) (path : PathRef) (domain : ℕ) (r : Region) → touch.touched s path ≡ Some (domain, r) → region_in s.regions domain ≡ Some r
+-- the region that a path touches stands at its domain
+region_in-touched : (s : State) (path : PathRef) (domain : ℕ) (r : Region) → touch.touched s path ≡ Some (domain, r) → region_in s.regions domain ≡ Some r
 unfolding touch.touched
-touched-in s (Dir (Ctrl name)) domain r is =
+region_in-touched s (Dir (Ctrl name)) domain r is =
     let g = option_and_then-some (touch.region_if_locked s) (group_at s (Ctrl name)) (domain, r) is in at g.0 (has_mode Locked g.0) g.2
   where
     at : (g : Group) (b : Bool) → cond b (touch.region_of s g.gid) None ≡ Some (domain, r) → region_in s.regions domain ≡ Some r
-    at g true e = region_of-in s g.gid domain r e
+    at g true e = region_in-region_of s g.gid domain r e
     at g false e = absurd (let f : ◌≡◌ {A = Option (ℕ × Region)} None (Some (domain, r)) = e in cc)
-touched-in s path domain r is = absurd (let f : ◌≡◌ {A = Option (ℕ × Region)} None (Some (domain, r)) = is in cc)
+region_in-touched s path domain r is = absurd (let f : ◌≡◌ {A = Option (ℕ × Region)} None (Some (domain, r)) = is in cc)
 
 -- ---- what each command gives
 
@@ -102,57 +95,64 @@ module _ (m : Parameters) (s : State) (range : InRange m) where
   abbrev IsGoodFollow : Follow → Type 0
   IsGoodFollow f = (follow_domain f < m.domains) × IsLawful m s f
 
-  raises-good : (which : ℕ → Bool) → All IsGoodFollow (map (λ d. follows.Raise d) (filter which (range_with_len 0 m.domains)))
-  raises-good which = All-map IsGoodFollow (λ d. follows.Raise d) (filter which (range_with_len 0 m.domains)) (λ k d within. (All-filter which (λ n. n < m.domains) (range_with_len 0 m.domains) (below-range m.domains) k d within, tt))
+  -- domains of the machine that are raised
+  Raise-good : (which : ℕ → Bool) → All IsGoodFollow (map (λ d. follows.Raise d) (filter which (range_with_len 0 m.domains)))
+  Raise-good which = All-map IsGoodFollow (λ d. follows.Raise d) (filter which (range_with_len 0 m.domains)) (λ k d within. (All-filter which (λ n. n < m.domains) (range_with_len 0 m.domains) (range_with_len-below m.domains) k d within, tt))
 
-  raise_all-good : All IsGoodFollow (map (λ d. follows.Raise d) (range_with_len 0 m.domains))
-  raise_all-good = All-map IsGoodFollow (λ d. follows.Raise d) (range_with_len 0 m.domains) (λ k d within. (below-range m.domains k d within, tt))
+  -- every domain raised
+  Raise-good_all : All IsGoodFollow (map (λ d. follows.Raise d) (range_with_len 0 m.domains))
+  Raise-good_all = All-map IsGoodFollow (λ d. follows.Raise d) (range_with_len 0 m.domains) (λ k d within. (range_with_len-below m.domains k d within, tt))
 
+  -- after a flush
   flush-good : (domain : Option ℕ) → Fits m (tasks_of s) (ops.Flush domain) → All IsGoodFollow (flush.after m domain)
   unfolding flush.after
-  flush-good None fits = All-map IsGoodFollow (λ d. follows.Flush d) (range_with_len 0 m.domains) (λ k d within. (below-range m.domains k d within, tt))
-  flush-good (Some domain) fits = one IsGoodFollow (follows.Flush domain) (fits, tt)
+  flush-good None fits = All-map IsGoodFollow (λ d. follows.Flush d) (range_with_len 0 m.domains) (λ k d within. (range_with_len-below m.domains k d within, tt))
+  flush-good (Some domain) fits = All-one IsGoodFollow (follows.Flush domain) (fits, tt)
 
+  -- after a write of schemata
   schemata-good : (g : Group) (text : List ℕ) → All IsGoodFollow (schemata.after m s g (schemata.schemata_read m text))
   unfolding schemata.after schemata.schemata_read
   schemata-good g text = by_read (schemata.schemata_read m text) refl
     where
       by_mode : (all : List Assignment) (x : Mode) → ((k : ℕ) (d : Assignment) → k < length all → IsGoodFollow (follows.Lock (get_or all k d).domain (get_or all k d).mask (schemata.next_first_line s))) → All IsGoodFollow (schemata.follow m s x all)
-      by_mode all Shareable lawful = raises-good (schemata.names_domain all)
-      by_mode all Exclusive lawful = raises-good (schemata.names_domain all)
-      by_mode [] LockSetup lawful = none IsGoodFollow
-      by_mode (a ∷ all) LockSetup lawful = one IsGoodFollow (follows.Lock a.domain a.mask (schemata.next_first_line s)) (lawful 0 a (omega arith))
-      by_mode all Locked lawful = none IsGoodFollow
+      by_mode all Shareable lawful = Raise-good (schemata.names_domain all)
+      by_mode all Exclusive lawful = Raise-good (schemata.names_domain all)
+      by_mode [] LockSetup lawful = All-nil IsGoodFollow
+      by_mode (a ∷ all) LockSetup lawful = All-one IsGoodFollow (follows.Lock a.domain a.mask (schemata.next_first_line s)) (lawful 0 a (omega arith))
+      by_mode all Locked lawful = All-nil IsGoodFollow
 
       by_read : (r : Result (List Assignment) TextFault) → schemata.schemata_read m text ≡ r → All IsGoodFollow (schemata.after m s g r)
-      by_read (Err fault) is = none IsGoodFollow
+      by_read (Err fault) is = All-nil IsGoodFollow
       by_read (Ok all) is = by_mode all g.mode (λ k d within. let valid = reading-valid m (trim text) all is k d within in (valid.0, (valid.1, refl)))
 
+  -- after a write of a mode
   mode-good : (g : Group) (text : List ℕ) → All IsGoodFollow (mode.after m g text)
   unfolding mode.after
-  mode-good g text = cond-both (All IsGoodFollow) (mode.is_present g.mode text) [] (map (λ d. follows.Raise d) (range_with_len 0 m.domains)) (none IsGoodFollow) raise_all-good
+  mode-good g text = cond-both (All IsGoodFollow) (mode.is_present g.mode text) [] (map (λ d. follows.Raise d) (range_with_len 0 m.domains)) (All-nil IsGoodFollow) Raise-good_all
 
+  -- after each write
   write-good : (path : PathRef) (text : List ℕ) → All IsGoodFollow (write.after m s path text)
   unfolding write.after
   write-good (File dir kinds.Schemata) text = at (control_at s dir)
     where
       at : (o : Option Group) → All IsGoodFollow (option_map_or (λ g. schemata.after m s g (schemata.schemata_read m text)) o [])
-      at None = none IsGoodFollow
+      at None = All-nil IsGoodFollow
       at (Some g) = schemata-good g text
   write-good (File dir kinds.Mode) text = at (control_at s dir)
     where
       at : (o : Option Group) → All IsGoodFollow (option_map_or (λ g. mode.after m g text) o [])
-      at None = none IsGoodFollow
+      at None = All-nil IsGoodFollow
       at (Some g) = mode-good g text
-  write-good path text = none IsGoodFollow
+  write-good path text = All-nil IsGoodFollow
 
   -- the line of an offset below the bytes of a region is one of its lines
-  line-of : (r : Region) (offset : ℕ) → leb (bytes_of m (ways_of r.mask)) offset ≡ false → IsLineOf m r (r.first_line + offset / 64)
-  line-of r offset e =
+  IsLineOf-offset : (r : Region) (offset : ℕ) → leb (bytes_of m (ways_of r.mask)) offset ≡ false → IsLineOf m r (r.first_line + offset / 64)
+  IsLineOf-offset r offset e =
       let less = leb-false (bytes_of m (ways_of r.mask)) offset e in
       let same : m.sets * 64 * length (ways_of r.mask) ≡ lines_of m r * 64 = mul_assoc m.sets 64 (length (ways_of r.mask)) ∙ ap (λ (n : ℕ). m.sets * n) (mul_comm 64 (length (ways_of r.mask))) ∙ sym (mul_assoc m.sets (length (ways_of r.mask)) 64) in
       (omega arith, omega arith)
 
+  -- after a touch that is not refused
   touch-good : (k : ℕ) (path : PathRef) (offset task cpu : ℕ) → cpu < m.cpus → touch.refusal m s path offset cpu ≡ None → All IsGoodFollow (touch.after m s k path offset task cpu)
   unfolding touch.after touch.refusal
   touch-good k path offset task cpu lt free = at (touch.touched s path) refl free
@@ -161,20 +161,21 @@ module _ (m : Parameters) (s : State) (range : InRange m) where
           → cond a (Some (plain PastRegion)) (cond (not b) (Some (plain WrongCpu)) None) ≡ None → (r' : Region) × (region_in s.regions (domain_of m cpu) ≡ Some r') × IsLineOf m r' (r.first_line + offset / 64)
       by_tests domain r true b there isa isb e = absurd (let f : Some (plain PastRegion) ≡ None = e in cc)
       by_tests domain r false false there isa isb e = absurd (let f : Some (plain WrongCpu) ≡ None = e in cc)
-      by_tests domain r false true there isa isb e = (r, ap (region_in s.regions) (eqb-true (domain_of m cpu) domain isb) ∙ there, line-of r offset isa)
+      by_tests domain r false true there isa isb e = (r, ap (region_in s.regions) (eqb-true (domain_of m cpu) domain isb) ∙ there, IsLineOf-offset r offset isa)
 
       at : (o : Option (ℕ × Region)) → touch.touched s path ≡ o → touch.against_region m offset cpu o ≡ None → All IsGoodFollow (touch.follow m s k offset task cpu o)
-      at None is e = none IsGoodFollow
-      at (Some (domain, r)) is e = one IsGoodFollow (follows.Touch _ (r.first_line + offset / 64))
-          (domain_of-below m cpu range lt, by_tests domain r (leb (bytes_of m (ways_of r.mask)) offset) (eqb (domain_of m cpu) domain) (touched-in s path domain r is) refl refl e)
+      at None is e = All-nil IsGoodFollow
+      at (Some (domain, r)) is e = All-one IsGoodFollow (follows.Touch _ (r.first_line + offset / 64))
+          (domain_of-lt m cpu range lt, by_tests domain r (leb (bytes_of m (ways_of r.mask)) offset) (eqb (domain_of m cpu) domain) (region_in-touched s path domain r is) refl refl e)
 
-  accepted-good : (k : ℕ) (op : Op) → Fits m (tasks_of s) op → refusal m s op ≡ None → All IsGoodFollow (after_accepted m s k op)
+  -- after each accepted command
+  after_accepted-good : (k : ℕ) (op : Op) → Fits m (tasks_of s) op → refusal m s op ≡ None → All IsGoodFollow (after_accepted m s k op)
   unfolding refusal
-  accepted-good k (ops.Rmdir path) fits free = raise_all-good
-  accepted-good k (ops.Write path text) fits free = write-good path text
-  accepted-good k (ops.Flush domain) fits free = flush-good domain fits
-  accepted-good k (ops.Touch path offset task cpu) fits free = touch-good k path offset task cpu fits.1 free
-  accepted-good k op fits free = none IsGoodFollow
+  after_accepted-good k (ops.Rmdir path) fits free = Raise-good_all
+  after_accepted-good k (ops.Write path text) fits free = write-good path text
+  after_accepted-good k (ops.Flush domain) fits free = flush-good domain fits
+  after_accepted-good k (ops.Touch path offset task cpu) fits free = touch-good k path offset task cpu fits.1 free
+  after_accepted-good k op fits free = All-nil IsGoodFollow
 
 -- what follows a command that fits is of domains of the machine, and lawful
 pub after-good : (m : Parameters) (s : State) (k : ℕ) (op : Op) → InRange m → Fits m (tasks_of s) op → All (λ (f : Follow). (follow_domain f < m.domains) × IsLawful m s f) (after m s k op)
@@ -182,5 +183,5 @@ unfolding after
 after-good m s k op range fits = at (refusal m s op) refl
   where
     at : (o : Option Refusal) → refusal m s op ≡ o → All (λ (f : Follow). (follow_domain f < m.domains) × IsLawful m s f) (cond (is_some o) [] (after_accepted m s k op))
-    at None is = accepted-good m s range k op fits is
-    at (Some r) is = none (λ (f : Follow). (follow_domain f < m.domains) × IsLawful m s f)
+    at None is = after_accepted-good m s range k op fits is
+    at (Some r) is = All-nil (λ (f : Follow). (follow_domain f < m.domains) × IsLawful m s f)

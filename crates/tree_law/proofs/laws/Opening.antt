@@ -1,17 +1,18 @@
 -- The opening tree is sound.
 use Rattle.std.proofs.Common.{◌≡◌, ◌≢◌, ℕ, zero, suc, ◌-◌, ◌<◌, ◌≤◌, true, false, List, [], ◌∷◌, length, get_or, replicate, Option, None, Some, IfSome, inl, refl, sym, subst, ◌∙◌, arith}
-use Rattle.std.specs.List.{All, slice_get}
+use Rattle.std.specs.List.{slice_get}
 use Rattle.std.specs.List.Sorted.{IsStrictlyIncreasing}
 use Rattle.std.proofs.lemmas.List.{length-append, length-replicate, get_or_append_left, get_or-replicate}
-use Rattle.std.proofs.lemmas.List.Elements.{All-cons, All-map, All-replicate}
+use Rattle.std.proofs.lemmas.List.Elements.{All-map, All-replicate}
 use Rattle.std.proofs.lemmas.List.Kept.{AllPairs-from_increasing}
 use Rattle.group_tree.specs.declared.group.Group.{Group}
+use Rattle.lists.proofs.Tests.{All-one}
 use Rattle.lists.proofs.Pairs.{AllPairs-map, AllPairs-one}
 use Rattle.machine.specs.Ranges.{InRange}
 use Rattle.machine.specs.declared.parameters.Parameters.{Parameters}
 use Rattle.rc_base.specs.declared.names.Mode.TheVariants.{Exclusive, Shareable}
 use Rattle.task_binding.specs.declared.binding.Binding.{Binding}
-use Rattle.tree_law.proofs.ValidMasks.{valid-full}
+use Rattle.tree_law.proofs.ValidMasks.{IsValid-full_mask}
 use Rattle.tree_law.specs.Masks.{HasValid, IsValid, KeepApart, OffShareable}
 use Rattle.tree_law.specs.Regions.{HasNoOther, HasOneRegion, IsPlaced, LinesDiffer}
 use Rattle.tree_law.specs.Sound.{HasIds, IdsDiffer, IsBound, IsCounted, IsServed, IsSound, IsUsed, NamesDiffer}
@@ -21,42 +22,40 @@ use Rattle.group_tree.specs.Opening.{default_group, full_mask, in_each_domain}
 use Rattle.cpu_binding.specs.Groups as cpu_groups
 use Rattle.task_binding.specs.Bindings as bindings
 
--- a list of one
-one_all : {X : Type 0} (P : X → Type 0) (x : X) → P x → All P (x ∷ [])
-one_all P x p = All-cons P x [] p (λ k d within. absurd (omega arith))
+-- where no domain has a region, none is found
+slice_get-replicate_none : (n domain : ℕ) (r : Region) → slice_get {X = Option Region} (replicate n None) domain ≡ Some (Some r) → ⊥
+slice_get-replicate_none zero domain r e = cc
+slice_get-replicate_none (suc n) zero r e = cc
+slice_get-replicate_none (suc n) (suc domain) r e = slice_get-replicate_none n domain r e
 
-no_region : (n domain : ℕ) (r : Region) → slice_get {X = Option Region} (replicate n None) domain ≡ Some (Some r) → ⊥
-no_region zero domain r e = cc
-no_region (suc n) zero r e = cc
-no_region (suc n) (suc domain) r e = no_region n domain r e
-
+-- the tree at the start is sound
 pub opening-sound : (m : Parameters) (tasks : List ℕ) → InRange m → IsStrictlyIncreasing tasks → IsSound m (opening m tasks)
 opening-sound m tasks range rising = record {
   named = record {
     first = record { gid = refl; name = refl; counted = refl; class = refl; rmid = refl };
     gids = AllPairs-one (λ (a b : Group). a.gid.0 ≢ b.gid.0) (default_group m);
-    serial = one_all (λ (x : Group). x.gid.0 < 1) (default_group m) (omega arith);
+    serial = All-one (λ (x : Group). x.gid.0 < 1) (default_group m) (omega arith);
     names = AllPairs-one NamesDiffer (default_group m);
   };
   numbered = record {
-    ids = one_all (λ (x : Group). HasIds ((default_group m) ∷ []) x.kind x) (default_group m) (refl, refl);
-    classes = one_all (λ (x : Group). IfSome x.class (λ id. id < m.classes)) (default_group m) range.some_class;
-    rmids = one_all (λ (x : Group). IfSome x.rmid (IsUsed m [])) (default_group m) (range.some_rmid, refl);
+    ids = All-one (λ (x : Group). HasIds ((default_group m) ∷ []) x.kind x) (default_group m) (refl, refl);
+    classes = All-one (λ (x : Group). IfSome x.class (λ id. id < m.classes)) (default_group m) range.some_class;
+    rmids = All-one (λ (x : Group). IfSome x.rmid (IsUsed m [])) (default_group m) (range.some_rmid, refl);
     limbo_exists = λ k d within. absurd (omega arith);
     limbo_rising = λ i j d below within. absurd (omega arith);
     apart = AllPairs-one IdsDiffer (default_group m);
   };
   masks = record {
-    places = one_all (λ (x : Group). length x.masks ≡ 8) (default_group m) places;
-    valid = λ domain lt. one_all (HasValid m domain) (default_group m) (λ control unlocked. subst (IsValid m) (sym (in_place domain lt)) (valid-full m range));
+    places = All-one (λ (x : Group). length x.masks ≡ 8) (default_group m) places;
+    valid = λ domain lt. All-one (HasValid m domain) (default_group m) (λ control unlocked. subst (IsValid m) (sym (in_place domain lt)) (IsValid-full_mask m range));
     apart = λ domain lt. AllPairs-one (KeepApart domain) (default_group m);
-    off_shareable = λ domain lt. one_all (OffShareable m domain) (default_group m) (λ counted e. absurd (let f : Shareable ≡ Exclusive = e in cc));
+    off_shareable = λ domain lt. All-one (OffShareable m domain) (default_group m) (λ counted e. absurd (let f : Shareable ≡ Exclusive = e in cc));
   };
   regions = record {
     each = length-replicate m.domains None;
-    lawful = λ domain r there. absurd (no_region m.domains domain r there);
-    once = one_all (HasOneRegion (replicate m.domains None)) (default_group m) (λ e. absurd (let f : false ≡ true = e in cc));
-    no_other = one_all (HasNoOther (replicate m.domains None)) (default_group m) (λ e. absurd (let f : false ≡ true = e in cc));
+    lawful = λ domain r there. absurd (slice_get-replicate_none m.domains domain r there);
+    once = All-one (HasOneRegion (replicate m.domains None)) (default_group m) (λ e. absurd (let f : false ≡ true = e in cc));
+    no_other = All-one (HasNoOther (replicate m.domains None)) (default_group m) (λ e. absurd (let f : false ≡ true = e in cc));
   };
   lines = record {
     placed = All-replicate (λ (o : Option Region). IfSome o (IsPlaced 0)) m.domains None tt;

@@ -64,7 +64,7 @@ status-rmdir m s (Dir (Mon owner name)) looks = at (directory_gid s (Mon owner n
     at (Some gid) = refl
 status-rmdir m s path looks = refl
 
--- a command that is no mkdir and no write keeps the last status
+-- a command that is no mkdir and no write keeps the last status, accepted or refused
 status-either : (m : Parameters) (s : State) (op : Op) (looks : List ℕ) (reply : Reply) (o : Option Refusal) → sets_status op ≡ false → (with_status op reply (next_if m s op looks o)).status ≡ s.status
 unfolding tick.accepted
 status-either m s (ops.Mkdir path) looks reply o e = absurd (let f : true ≡ false = e in cc)
@@ -73,6 +73,7 @@ status-either m s (ops.Rmdir path) looks reply None e = status-rmdir m s path lo
 status-either m s op looks reply None e = refl
 status-either m s op looks reply (Some r) e = refl
 
+-- a command that is no mkdir and no write keeps the last status
 pub status-next : (m : Parameters) (s : State) (op : Op) (looks : List ℕ) → sets_status op ≡ false → (next m s op looks).state.status ≡ s.status
 unfolding next
 status-next m s op looks e = status-either m s op looks (reply_of (refusal m s op)) (refusal m s op) e

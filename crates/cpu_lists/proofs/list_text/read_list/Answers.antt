@@ -5,20 +5,20 @@ use Rattle.std.specs.Option.{option_map}
 use Rattle.std.specs.List.{slice_split, flat_map}
 use Rattle.cpu_lists.specs.Masks.{each, comma}
 use Rattle.cpu_lists.specs.Lists.{numbers_in, run_of}
-use Rattle.cpu_lists.proofs.Texts.{list_is, empty_list, says_nothing, says_collected, says_bad}
+use Rattle.cpu_lists.proofs.Texts.{list_cpus-pieces, list_cpus-nil, answer_of-nil, Says-collected, answer_of-bad}
 use Rattle.cpu_lists.proofs.list_text.read_list.Goals as goal
 
 pub returns-then-is_empty-clause-said : goal.returns-then-is_empty-clause-said
 returns-then-is_empty-clause-said c =
     let none : c.args.text.now ≡ [] = nil_from_length c.args.text.now (eqb-true (length c.args.text.now) 0 (sym c.if-is_empty.ensures)) in
-    rw (none, empty_list) (says_nothing c.args.cpus)
+    rw (none, list_cpus-nil) (answer_of-nil c.args.cpus)
 
 pub returns-in-Some-clause-said : goal.returns-in-Some-clause-said
 returns-in-Some-clause-said c =
     let some = eqb-false (length c.args.text.now) 0 (sym c.if-is_empty.ensures) in
-    rw (list_is c.args.text.now (omega arith)) (says_collected c.args.cpus (option_map (flat_map numbers_in) (each run_of (slice_split comma c.args.text.now))) c.in-Some.found c.answer.result c.in-Some.ensures c.answer.ensures.said)
+    rw (list_cpus-pieces c.args.text.now (omega arith)) (Says-collected c.args.cpus (option_map (flat_map numbers_in) (each run_of (slice_split comma c.args.text.now))) c.in-Some.found c.answer.result c.in-Some.ensures c.answer.ensures.said)
 
 pub returns-in-None-clause-said : goal.returns-in-None-clause-said
 returns-in-None-clause-said c =
     let some = eqb-false (length c.args.text.now) 0 (sym c.if-is_empty.ensures) in
-    rw (list_is c.args.text.now (omega arith)) (says_bad c.args.cpus (option_map (flat_map numbers_in) (each run_of (slice_split comma c.args.text.now))) c.in-None.ensures)
+    rw (list_cpus-pieces c.args.text.now (omega arith)) (answer_of-bad c.args.cpus (option_map (flat_map numbers_in) (each run_of (slice_split comma c.args.text.now))) c.in-None.ensures)

@@ -3,13 +3,13 @@ use Rattle.std.proofs.lemmas.Bool.{ne_eqb}
 use Rattle.std.proofs.lemmas.List.{append-nil}
 use Rattle.cpu_lists.specs.Sets.{numbers_from}
 use Rattle.cpu_lists.specs.Printed.{list_text, runs_of, element_text}
-use Rattle.cpu_lists.proofs.RunsOfSets.{text_of, text_none, text_some, list_text_is}
+use Rattle.cpu_lists.proofs.RunsOfSets.{text_of, text_of-nil, text_of-cons, list_text-text_of}
 use Rattle.cpu_lists.proofs.printing.print_list.Goals as goal
 
 pub runs-init : goal.runs-init
 runs-init c = record {
   within = omega arith;
-  bytes = ap (λ (text : List ℕ). c.args.out.now.bytes ++ text) (list_text_is c.args.set);
+  bytes = ap (λ (text : List ℕ). c.args.out.now.bytes ++ text) (list_text-text_of c.args.set);
   spare = omega arith;
   short = omega arith;
 }
@@ -17,12 +17,12 @@ runs-init c = record {
 pub returns-in_default-clause-bytes : goal.returns-in_default-clause-bytes
 returns-in_default-clause-bytes c =
     let is_first = eqb c.runs.from 0 in
-    sym (c.runs.invariant.bytes ∙ ap (λ (text : List ℕ). c.runs.out.bytes ++ text) (ap (λ (ns : List ℕ). text_of is_first (runs_of ns)) c.in_default.ensures ∙ text_none is_first) ∙ append-nil c.runs.out.bytes)
+    sym (c.runs.invariant.bytes ∙ ap (λ (text : List ℕ). c.runs.out.bytes ++ text) (ap (λ (ns : List ℕ). text_of is_first (runs_of ns)) c.in_default.ensures ∙ text_of-nil is_first) ∙ append-nil c.runs.out.bytes)
 
 pub returns-in_default-clause-spare : goal.returns-in_default-clause-spare
 returns-in_default-clause-spare c =
     let is_first = eqb c.runs.from 0 in
-    let bytes : c.args.out.now.bytes ++ list_text c.args.set ≡ c.runs.out.bytes = c.runs.invariant.bytes ∙ ap (λ (text : List ℕ). c.runs.out.bytes ++ text) (ap (λ (ns : List ℕ). text_of is_first (runs_of ns)) c.in_default.ensures ∙ text_none is_first) ∙ append-nil c.runs.out.bytes in
+    let bytes : c.args.out.now.bytes ++ list_text c.args.set ≡ c.runs.out.bytes = c.runs.invariant.bytes ∙ ap (λ (text : List ℕ). c.runs.out.bytes ++ text) (ap (λ (ns : List ℕ). text_of is_first (runs_of ns)) c.in_default.ensures ∙ text_of-nil is_first) ∙ append-nil c.runs.out.bytes in
     omega (arith, ap length bytes, length-append c.args.out.now.bytes (list_text c.args.set), c.runs.invariant.spare)
 
 pub runs-preserved : goal.runs-preserved
@@ -37,7 +37,7 @@ runs-preserved c =
     record {
       within = omega arith;
       bytes = c.runs.invariant.bytes
-          ∙ ap (λ (text : List ℕ). c.runs.out.bytes ++ text) (ap (text_of is_first) facts.3 ∙ text_some is_first run behind)
+          ∙ ap (λ (text : List ℕ). c.runs.out.bytes ++ text) (ap (text_of is_first) facts.3 ∙ text_of-cons is_first run behind)
           ∙ sym (append_assoc c.runs.out.bytes (element_text is_first run) (text_of false behind))
           ∙ ap (λ (text : List ℕ). text ++ text_of false behind) (sym c.push_element.ensures.bytes)
           ∙ ap (λ (b : Bool). c.push_element.new.out.bytes ++ text_of b behind) (sym later);

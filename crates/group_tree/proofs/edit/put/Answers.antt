@@ -1,6 +1,6 @@
 use Rattle.std.proofs.Common.{◌≡◌, ◌<◌, length, get_or, true, ap, ◌∙◌, arith}
 use Rattle.group_tree.specs.Records.{has_gid}
-use Rattle.group_tree.proofs.Edits.{refill_set, replaced_at}
+use Rattle.group_tree.proofs.Edits.{refill-set, set-replaced}
 use Rattle.group_tree.proofs.edit.put.Goals as goal
 
 pub returns : goal.returns
@@ -9,4 +9,4 @@ returns c =
     let found : has_gid c.args.g.gid (get_or items c.place_of-place.result c.args.g) ≡ true = rw c.as_slice.ensures.value at (c.place_of-place.ensures.found c.args.g) in
     let within : c.place_of-place.result < length items = omega (arith, ap length c.as_slice.ensures.value) in
     rw c.deref_mut.ensures.value
-    (refill_set items c.place_of-place.result c.args.g ∙ replaced_at c.args.g items c.place_of-place.result c.args.g within found c.requires.gids_differ)
+    (refill-set items c.place_of-place.result c.args.g ∙ set-replaced c.args.g items c.place_of-place.result c.args.g within found c.requires.gids_differ)

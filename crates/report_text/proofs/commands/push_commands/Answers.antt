@@ -1,30 +1,47 @@
-use Rattle.std.proofs.Common.{sym, arith}
+use Rattle.std.proofs.Common.{◌++◌, sym, ap, ◌∙◌, subst, arith}
 use Rattle.std.proofs.lemmas.List.{append-nil}
+use Rattle.run_law.specs.Entries.{entry_value}
+use Rattle.run_law.specs.TreeHistory.{IsLegalTree, state_after}
+use Rattle.script_ops.specs.Values.{op_at}
 use Rattle.tree_law.specs.State.{opening}
-use Rattle.report_text.proofs.Replays.{replayed-opening}
-use Rattle.report_text.proofs.Pieces.{command_lines_more, counted_at, made_more, state_more}
+use Rattle.report_text.specs.Made.{made_by}
+use Rattle.report_text.specs.Replayed.{IsCounted, ReplayValue}
+use Rattle.report_text.proofs.Entries.{IsAnswered-at, IsCounted-answered}
+use Rattle.report_text.proofs.Pieces.{command_lines-take_suc, made_from-take_suc, tree_from-take_suc}
+use Rattle.report_text.proofs.Replays.{IsReplay-opening}
 use Rattle.report_text.proofs.commands.push_commands.Goals as goal
+
+pub push_command-requires-clause-answered : goal.push_command-requires-clause-answered
+push_command-requires-clause-answered c =
+    let legal = subst (IsLegalTree c.args.script.now) (sym c.tree-tree.ensures) c.requires.legal in
+    IsAnswered-at c.args.script.now c.tree-tree.result.now c.loop-k.k c.index-tree-k.result c.loop-k.replay.tree.state legal c.loop-k-test.true c.index-tree-k.is c.loop-k.invariant.state
 
 pub take-requires-clause-counted : goal.take-requires-clause-counted
 take-requires-clause-counted c =
-    counted_at c.args.script.now c.args.tree.now c.loop-k.k c.index-tree-k.result c.loop-k.replay.tree.state c.requires.legal c.loop-k-test.true c.index-tree-k.is c.loop-k.invariant.state
+    let legal = subst (IsLegalTree c.args.script.now) (sym c.tree-tree.ensures) c.requires.legal in
+    let answered = IsAnswered-at c.args.script.now c.tree-tree.result.now c.loop-k.k c.index-tree-k.result c.loop-k.replay.tree.state legal c.loop-k-test.true c.index-tree-k.is c.loop-k.invariant.state in
+    let counted = IsCounted-answered c.args.script.now c.loop-k.replay.tree.state (entry_value c.index-tree-k.result) answered in
+    subst (λ (r : ReplayValue). IsCounted c.args.script.now r.tree.state (entry_value c.index-tree-k.result)) (sym c.push_command.ensures.kept) counted
 
 pub loop-k-preserved : goal.loop-k-preserved
 loop-k-preserved c =
     let script = c.args.script.now in
+    let j = c.args.journals.now in
     let start = opening script.machine script.tasks in
-    let es = c.args.tree.now in
+    let es = c.tree-tree.result.now in
     let k = c.loop-k.k in
     let e = c.index-tree-k.result in
     let now = c.loop-k.replay.tree.state in
+    let op = op_at script e.thread e.op in
     let told = c.in_ok-take.ensures in
     let before = c.loop-k.invariant in
+    let kept = c.push_command.ensures.kept in
     record {
       replay = told.replay;
-      state = state_more script start now c.take.new.replay.tree.state es k e c.loop-k-test.true c.index-tree-k.is before.state told.state;
-      epoch = let late = told.epoch in let early = before.epoch in omega (arith, late, early);
-      made = made_more script start now c.loop-k.replay.made c.take.new.replay.made es k e c.loop-k-test.true c.index-tree-k.is before.state before.made told.made;
-      text = command_lines_more script start es k e now c.args.report.now c.loop-k.report c.push_command.new.report c.loop-k-test.true c.index-tree-k.is before.state before.text c.in_ok-push_command.ensures;
+      state = tree_from-take_suc script start now c.take.new.replay.tree.state es k e c.loop-k-test.true c.index-tree-k.is before.state (told.state ∙ ap (λ (r : ReplayValue). state_after script.machine r.tree.state e.looks.numbers op) kept);
+      epoch = let late = told.epoch in let early = before.epoch in omega (arith, late, early, ap (λ (r : ReplayValue). r.tree.epoch) kept);
+      made = made_from-take_suc script start now c.loop-k.replay.made c.take.new.replay.made es k e c.loop-k-test.true c.index-tree-k.is before.state before.made (told.made ∙ ap (λ (r : ReplayValue). r.made ++ made_by r.tree.state op e.reply) kept);
+      text = command_lines-take_suc script j start es k e now c.args.report.now c.loop-k.report c.push_command.new.report c.loop-k-test.true c.index-tree-k.is before.state before.text c.in_ok-push_command.ensures.text;
     }
 
 pub loop-k-init : goal.loop-k-init
@@ -32,7 +49,7 @@ loop-k-init c =
     let first = c.in_ok-replay.ensures in
     let epoch = first.epoch in
     record {
-      replay = replayed-opening c.args.script.now c.in_ok-replay.replay first.machine first.state first.made;
+      replay = IsReplay-opening c.args.script.now c.in_ok-replay.replay first.machine first.state first.made;
       state = first.state;
       epoch = omega (arith, epoch);
       made = first.made;

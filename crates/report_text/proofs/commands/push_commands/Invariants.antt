@@ -13,5 +13,5 @@ invariant-loop-k l = record {
   state : l.replay.tree.state ≡ tree_from l.script (opening l.script.machine l.script.tasks) (map entry_value (take l.k l.tree));
   epoch : l.replay.tree.epoch ≤ l.k;
   made : l.replay.made ≡ made_from l.script (opening l.script.machine l.script.tasks) (map entry_value (take l.k l.tree));
-  text : l.report ≡ l.initial.report ++ command_lines l.script (opening l.script.machine l.script.tasks) 0 (map entry_value (take l.k l.tree));
+  text : l.report ≡ l.initial.report ++ command_lines l.script l.journals (opening l.script.machine l.script.tasks) 0 (map entry_value (take l.k l.tree));
 }

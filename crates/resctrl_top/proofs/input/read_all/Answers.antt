@@ -1,7 +1,7 @@
 use Rattle.std.proofs.Common.{◌≡◌, ◌<◌, ◌≤◌, length, take, vec_len, arith}
 use Rattle.std.proofs.lemmas.List.{length-take}
 use Rattle.std.proofs.lemmas.Grind.{common_steps}
-use Rattle.resctrl_top.proofs.InputBytes.{read_to_end, read_too_much}
+use Rattle.resctrl_top.proofs.InputBytes.{IsInput-at_end, IsInput-full}
 use Rattle.resctrl_top.proofs.input.read_all.Goals as goal
 
 pub returns-in-Ok-eq0-clause-bytes : goal.returns-in-Ok-eq0-clause-bytes
@@ -13,7 +13,7 @@ returns-in-Ok-eq0-clause-bytes g c =
     let before : vec_len c.loop-bytes.bytes ≤ 67108864 = grind (arith, common_steps) in
     let now : vec_len c.read_piece.new.bytes ≡ length c.read_piece.new.bytes.items = c.read_piece.new.bytes.ok.0 in
     let fits : length c.read_piece.new.bytes.items ≤ 67108865 = omega (arith, before, now, read.count, c.in-Ok-eq0.field-0-test) in
-    read_to_end (g.S.Source.left c.args.source.now) (g.S.Source.left c.read_piece.new.source) c.read_piece.new.bytes.items
+    IsInput-at_end (g.S.Source.left c.args.source.now) (g.S.Source.left c.read_piece.new.source) c.read_piece.new.bytes.items
     (read.bytes (g.S.Source.left c.args.source.now) c.loop-bytes.invariant.bytes) (read.end c.in-Ok-eq0.field-0-test some) fits
 
 pub returns-clause-bytes : goal.returns-clause-bytes
@@ -22,4 +22,4 @@ returns-clause-bytes g c =
     let more : 67108864 < vec_len c.loop-bytes.bytes = grind (arith, common_steps) in
     let most = c.loop-bytes.invariant.room in
     let full : length c.loop-bytes.bytes.items ≡ 67108865 = omega (arith, now, more, most) in
-    read_too_much (g.S.Source.left c.args.source.now) (g.S.Source.left c.loop-bytes.source) c.loop-bytes.bytes.items c.loop-bytes.invariant.bytes full
+    IsInput-full (g.S.Source.left c.args.source.now) (g.S.Source.left c.loop-bytes.source) c.loop-bytes.bytes.items c.loop-bytes.invariant.bytes full

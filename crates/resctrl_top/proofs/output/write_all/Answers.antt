@@ -1,7 +1,7 @@
 use Rattle.std.proofs.Common.{◌-◌, ◌≤◌, drop, arith, subst, ◌∙◌}
 use Rattle.std.proofs.lemmas.List.{take-take, length-take, length-drop}
 use Rattle.std.specs.Io.KnownBytes.{Appends}
-use Rattle.resctrl_top.proofs.WrittenBytes.{appends_more, appends_some}
+use Rattle.resctrl_top.proofs.WrittenBytes.{Appends-more, AppendsSome-kept}
 use Rattle.resctrl_top.proofs.output.write_all.Goals as goal
 
 pub loop-at-preserved : goal.loop-at-preserved
@@ -15,12 +15,12 @@ loop-at-preserved g c =
     record {
       within = omega (arith, told.bound, length-take piece (drop at bytes), length-drop at bytes);
       faults = told.cause.kept ∙ c.loop-at.invariant.faults;
-      bytes = appends_more (g.K.Sink.taken c.args.sink.now) (g.K.Sink.taken c.loop-at.sink) (g.K.Sink.taken c.write.new.self) bytes at n c.loop-at.invariant.bytes
+      bytes = Appends-more (g.K.Sink.taken c.args.sink.now) (g.K.Sink.taken c.loop-at.sink) (g.K.Sink.taken c.write.new.self) bytes at n c.loop-at.invariant.bytes
           (subst (λ l. Appends (g.K.Sink.taken c.loop-at.sink) (g.K.Sink.taken c.write.new.self) l) (take-take n piece (drop at bytes) within) told.bytes);
     }
 
 pub returns-in-Err-clause-err : goal.returns-in-Err-clause-err
-returns-in-Err-clause-err g c = (
-  appends_some (g.K.Sink.taken c.args.sink.now) (g.K.Sink.taken c.loop-at.sink) (g.K.Sink.taken c.write.new.self) c.args.bytes.now c.loop-at.at c.loop-at.invariant.bytes c.in-Err.ensures.bytes,
-  let risen = c.in-Err.ensures.cause.failed in omega (arith, risen, c.loop-at.invariant.faults),
-)
+returns-in-Err-clause-err g c = record {
+  taken = AppendsSome-kept (g.K.Sink.taken c.args.sink.now) (g.K.Sink.taken c.loop-at.sink) (g.K.Sink.taken c.write.new.self) c.args.bytes.now c.loop-at.at c.loop-at.invariant.bytes c.in-Err.ensures.bytes;
+  fault = let risen = c.in-Err.ensures.cause.failed in omega (arith, risen, c.loop-at.invariant.faults);
+}

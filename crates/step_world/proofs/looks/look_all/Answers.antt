@@ -3,8 +3,8 @@ use Rattle.machine.specs.Maps.{parameters_of}
 use Rattle.machine.specs.declared.parameters.Parameters.{Parameters}
 use Rattle.run_law.specs.Journals.{JournalsValue}
 use Rattle.step_world.specs.Playing.{AllLeft, AllLeftBy, HaveLooked, journals_of}
-use Rattle.step_world.proofs.Needs.{HaveAnswered, one_more_answered}
-use Rattle.step_world.proofs.Slices.{left_by_own}
+use Rattle.step_world.proofs.Needs.{HaveAnswered, HaveAnswered-push}
+use Rattle.step_world.proofs.Slices.{AllLeftBy-own}
 use Rattle.tree_law.specs.Steps.{needs}
 use Rattle.step_world.proofs.looks.look_all.Goals as goal
 
@@ -26,6 +26,6 @@ loop-i-preserved c =
     record {
       spare = omega (arith, c.push.ensures.spare, c.loop-i.invariant.spare);
       answering = subst (λ xs. HaveAnswered m j c.args.n tree.epoch (take (c.loop-i.i + 1) all) xs old new) (sym c.push.ensures.numbers)
-          (one_more_answered m j c.args.n tree.epoch all c.loop-i.i need c.loop-i.looks.numbers lines old now new
-          (left_by_own m [] old c.requires.left) c.need-domain.ensures.need c.need-domain.ensures.domain here left c.loop-i.invariant.answering);
+          (HaveAnswered-push m j c.args.n tree.epoch all c.loop-i.i need c.loop-i.looks.numbers lines old now new
+          (AllLeftBy-own m [] old c.requires.left) c.need-domain.ensures.need c.need-domain.ensures.domain here left c.loop-i.invariant.answering);
     }

@@ -5,7 +5,7 @@ use Rattle.run_law.specs.Entries.{entry_value}
 use Rattle.machine.specs.Slices.{slice_count}
 use Rattle.step_world.specs.Playing.{AreFresh}
 use Rattle.tree_law.specs.State.{opening}
-use Rattle.step_world.proofs.Opening.{opens}
+use Rattle.step_world.proofs.Opening.{IsAt-zero}
 use Rattle.step_world.proofs.player.opening_player.Goals as goal
 
 pub returns : goal.returns
@@ -17,6 +17,6 @@ returns c =
     let fresh : AreFresh script.machine (slice_count script.machine) slices = subst (λ p. AreFresh p (slice_count p) slices) same c.in_ok-slices.ensures in
     let tree = c.in_ok-tree.tree in
     let told = c.in_ok-tree.ensures in
-    opens script tree (map entry_value c.new.result.items) slices (subst (λ p. InRange p) same m.in_range)
+    IsAt-zero script tree (map entry_value c.new.result.items) slices (subst (λ p. InRange p) same m.in_range)
     (told.machine ∙ same) (told.state ∙ (ap (λ p. opening p c.tasks.result.now) same ∙ ap (opening script.machine) c.tasks.ensures.tasks)) told.epoch (ap (map entry_value) c.new.ensures.items)
     fresh.count fresh.each

@@ -1,4 +1,4 @@
-use Rattle.step_world.proofs.ByOp.{is_command-not_access}
+use Rattle.step_world.proofs.OpKinds.{is_command-not_access}
 use Rattle.step_world.proofs.player.step.Goals as goal
 
 pub take-requires-clause-built : goal.take-requires-clause-built

@@ -8,14 +8,14 @@ use Rattle.step_world.specs.Playing.{AllContinue, IsAt}
 use Rattle.tree_core.specs.Follows.{IsRaiseOrFlush}
 use Rattle.tree_law.specs.Steps.{follow_domain, next}
 use Rattle.step_world.proofs.CommandEntries.{all_entries_in}
-use Rattle.step_world.proofs.Steps.{Takes, fits_tree, took}
+use Rattle.step_world.proofs.Steps.{Takes, Fits-tree, IsAt-command}
 use Rattle.step_world.proofs.player.take.Goals as goal
 
 pub look_all-requires-clause-fits : goal.look_all-requires-clause-fits
-look_all-requires-clause-fits c = fits_tree c.args.script.now c.args.n c.args.player.now.tree (map entry_value c.args.player.now.commands.items) c.args.player.now.slices.items c.args.op.now c.requires.at c.requires.fits
+look_all-requires-clause-fits c = Fits-tree c.args.script.now c.args.n c.args.player.now.tree (map entry_value c.args.player.now.commands.items) c.args.player.now.slices.items c.args.op.now c.requires.at c.requires.fits
 
 pub apply-reply-requires-clause-fits : goal.apply-reply-requires-clause-fits
-apply-reply-requires-clause-fits c = fits_tree c.args.script.now c.args.n c.args.player.now.tree (map entry_value c.args.player.now.commands.items) c.args.player.now.slices.items c.args.op.now c.requires.at c.requires.fits
+apply-reply-requires-clause-fits c = Fits-tree c.args.script.now c.args.n c.args.player.now.tree (map entry_value c.args.player.now.commands.items) c.args.player.now.slices.items c.args.op.now c.requires.at c.requires.fits
 
 pub returns : goal.returns
 returns c =
@@ -55,5 +55,5 @@ returns c =
       followed = followed;
     } in
     subst (λ hs. IsAt script (n + 1) c.apply-reply.new.self hs new) (sym all)
-    (took script n tree c.apply-reply.new.self commands h op slices looked new follows c.requires.at c.requires.op c.requires.command refl refl told.machine told.epoch takes))
+    (IsAt-command script n tree c.apply-reply.new.self commands h op slices looked new follows c.requires.at c.requires.op c.requires.command refl refl told.machine told.epoch takes))
     c.follow_all.ensures

@@ -3,7 +3,7 @@ use Rattle.std.proofs.Common.{ℕ, [], ◌∷◌, refl, sym, ap, ◌∙◌, ◌+
 use Rattle.std.proofs.lemmas.List.FromFn.{map-range_with_len_more}
 use Rattle.tree_law.specs.declared.follow.Follow.{Follow}
 use Rattle.tree_law.specs.declared.follow.Follow.TheVariants.{Flush}
-use Rattle.tree_core.proofs.Raises.{below_push}
+use Rattle.tree_core.proofs.Raises.{All-follow_domain_push}
 use Rattle.std.proofs.lemmas.List.Elements.{All-map}
 use Rattle.tree_core.specs.Follows.{IsRaiseOrFlush}
 use Rattle.tree_core.proofs.follow.flushes.Goals as goal
@@ -15,7 +15,7 @@ loop-domain-preserved c =
     rw c.push.ensures.items (record {
       flushes = ap (λ (fs : List Follow). fs ++ Flush domain ∷ []) c.loop-domain.invariant.flushes ∙ sym more;
       few = omega (arith, c.loop-domain.invariant.few, length-append c.loop-domain.after.items (Flush domain ∷ []));
-      domains = below_push domain c.loop-domain.after.items (Flush domain) c.loop-domain.invariant.domains refl;
+      domains = All-follow_domain_push domain c.loop-domain.after.items (Flush domain) c.loop-domain.invariant.domains refl;
     })
 
 pub returns-clause-plain : goal.returns-clause-plain

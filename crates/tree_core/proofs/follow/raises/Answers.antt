@@ -4,7 +4,7 @@ use Rattle.std.proofs.lemmas.List.{append-nil}
 use Rattle.tree_law.specs.commands.Schemata.{names_domain}
 use Rattle.tree_law.specs.declared.follow.Follow.{Follow}
 use Rattle.tree_law.specs.declared.follow.Follow.TheVariants.{Raise}
-use Rattle.tree_core.proofs.Raises.{below_more, below_push, filter_more}
+use Rattle.tree_core.proofs.Raises.{All-follow_domain_push, All-follow_domain_suc, map-filter_suc}
 use Rattle.std.proofs.lemmas.List.Elements.{All-map}
 use Rattle.tree_core.specs.Follows.{IsRaiseOrFlush}
 use Rattle.tree_core.proofs.follow.raises.Goals as goal
@@ -13,7 +13,7 @@ use Rattle.tree_core.proofs.follow.raises.Goals.{then-is_named, else-is_named}
 pub loop-domain-preserved : goal.loop-domain-preserved
 loop-domain-preserved c =
     let domain = c.loop-domain.domain in
-    let more = filter_more (λ d. Raise d) (names_domain c.args.all.now) domain in
+    let more = map-filter_suc (λ d. Raise d) (names_domain c.args.all.now) domain in
     elim c.if-is_named.branch [
       | then-is_named w ↦
           let named : names_domain c.args.all.now domain ≡ true = sym c.is_named.ensures ∙ w.if-is_named.true in
@@ -21,7 +21,7 @@ loop-domain-preserved c =
           rw pushed (record {
             raises = sym (rw named at more ∙ ap (λ (fs : List Follow). fs ++ Raise domain ∷ []) (sym c.loop-domain.invariant.raises));
             few = omega (arith, c.loop-domain.invariant.few, length-append c.loop-domain.after.items (Raise domain ∷ []));
-            domains = below_push domain c.loop-domain.after.items (Raise domain) c.loop-domain.invariant.domains refl;
+            domains = All-follow_domain_push domain c.loop-domain.after.items (Raise domain) c.loop-domain.invariant.domains refl;
           })
       | else-is_named w ↦
           let unnamed : names_domain c.args.all.now domain ≡ false = sym c.is_named.ensures ∙ w.if-is_named.false in
@@ -29,7 +29,7 @@ loop-domain-preserved c =
           rw kept (record {
             raises = sym (rw unnamed at more ∙ append-nil (map (λ d. Raise d) (filter (names_domain c.args.all.now) (range_with_len 0 domain))) ∙ sym c.loop-domain.invariant.raises);
             few = omega (arith, c.loop-domain.invariant.few);
-            domains = below_more domain c.loop-domain.after.items c.loop-domain.invariant.domains;
+            domains = All-follow_domain_suc domain c.loop-domain.after.items c.loop-domain.invariant.domains;
           })
     ]
 

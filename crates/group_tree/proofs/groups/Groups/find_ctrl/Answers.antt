@@ -1,9 +1,9 @@
 use Rattle.std.proofs.Common.{find, ap, ◌∙◌}
 use Rattle.group_tree.specs.Lists.{GroupList}
 use Rattle.group_tree.specs.Records.{is_control_named}
-use Rattle.group_tree.proofs.Lookups.{found_where_there}
+use Rattle.group_tree.proofs.Lookups.{is_some-list_any}
 use Rattle.group_tree.proofs.groups.Groups.find_ctrl.Goals as goal
 
 pub returns-clause-there : goal.returns-clause-there
 returns-clause-there c =
-    c.map.ensures.variant ∙ found_where_there c.find_control.result (is_control_named c.args.name) c.args.self.now.groups (c.find_control.ensures ∙ ap (find (is_control_named c.args.name)) (c.as_slice.ensures.value ∙ ap (λ (t : GroupList). t.groups) c.self.view_is))
+    c.map.ensures.variant ∙ is_some-list_any c.find_control.result (is_control_named c.args.name) c.args.self.now.groups (c.find_control.ensures ∙ ap (find (is_control_named c.args.name)) (c.as_slice.ensures.value ∙ ap (λ (t : GroupList). t.groups) c.self.view_is))

@@ -1,9 +1,9 @@
 use Rattle.std.proofs.Common.{find, ap, ◌∙◌}
 use Rattle.group_tree.specs.Lists.{GroupList}
 use Rattle.group_tree.specs.Records.{has_gid}
-use Rattle.group_tree.proofs.Lookups.{found_where_there}
+use Rattle.group_tree.proofs.Lookups.{is_some-list_any}
 use Rattle.group_tree.proofs.groups.Groups.get.Goals as goal
 
 pub returns-clause-there : goal.returns-clause-there
 returns-clause-there c =
-    found_where_there c.find_gid.result (has_gid c.args.gid) c.args.self.now.groups (c.find_gid.ensures ∙ ap (find (has_gid c.args.gid)) (c.as_slice.ensures.value ∙ ap (λ (t : GroupList). t.groups) c.self.view_is))
+    is_some-list_any c.find_gid.result (has_gid c.args.gid) c.args.self.now.groups (c.find_gid.ensures ∙ ap (find (has_gid c.args.gid)) (c.as_slice.ensures.value ∙ ap (λ (t : GroupList). t.groups) c.self.view_is))

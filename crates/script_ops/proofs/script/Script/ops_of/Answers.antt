@@ -1,10 +1,10 @@
 use Rattle.std.proofs.Common.{◌≡◌, ◌≤◌, List, [], length, get_or, sym, ap, subst, ◌∙◌}
 use Rattle.script_ops.specs.declared.op.Op.{Op}
-use Rattle.script_ops.specs.Canonical.{IsNamed, AreNamed}
+use Rattle.script_ops.specs.Canonical.{IsNamed, AreNamed, IsShort, AreAllShort}
 use Rattle.script_ops.specs.declared.limits.TheConstants.{MOST_WEIGHT}
 use Rattle.script_ops.specs.Fits.{Fits, AreFit}
 use Rattle.script_ops.specs.Values.{ScriptValue, PhaseValue, threads_in, threads_of, IsLawful}
-use Rattle.script_ops.proofs.Threads.{in_thread}
+use Rattle.script_ops.proofs.Threads.{All-get_or}
 use Rattle.script_ops.proofs.laws.Weights.{length-get_or}
 use Rattle.script_ops.proofs.script.Script.ops_of.Goals as goal
 
@@ -18,7 +18,8 @@ returns c =
     ∙ ap (λ (v : ScriptValue). get_or (threads_of v) thread []) c.self.view_is in
     record {
       ops = ops;
-      named = subst (λ (xs : List Op). AreNamed (length s.names) xs) (sym ops) (in_thread (IsNamed (length s.names)) (threads_of s) thread lawful.named);
-      fit = subst (λ (xs : List Op). AreFit s.machine s.tasks xs) (sym ops) (in_thread (Fits s.machine s.tasks) (threads_of s) thread lawful.fit);
+      named = subst (λ (xs : List Op). AreNamed (length s.names) xs) (sym ops) (All-get_or (IsNamed (length s.names)) (threads_of s) thread lawful.named);
+      short = subst (λ (xs : List Op). AreAllShort s.names xs) (sym ops) (All-get_or (IsShort s.names) (threads_of s) thread lawful.short);
+      fit = subst (λ (xs : List Op). AreFit s.machine s.tasks xs) (sym ops) (All-get_or (Fits s.machine s.tasks) (threads_of s) thread lawful.fit);
       few = subst (λ (xs : List Op). length xs ≤ MOST_WEIGHT) (sym ops) (length-get_or s.machine MOST_WEIGHT (threads_of s) thread lawful.light);
     }

@@ -3,13 +3,13 @@ use Rattle.std.proofs.lemmas.List.Elements.{All-push}
 use Rattle.script_ops.specs.declared.op.Op.{Op}
 use Rattle.script_ops.specs.Canonical.{AreNamed}
 use Rattle.script_ops.specs.Values.{PhaseValue, threads_in}
-use Rattle.script_text.proofs.Limits.{phase_named}
+use Rattle.script_text.proofs.Limits.{AreNamed-threads_in_push}
 use Rattle.script_text.proofs.reader.Reader.close_phase.Goals as goal
 use Rattle.script_ops.specs.declared.limits.TheConstants.{MOST_PHASES, MOST_PHASE_THREADS}
 
-none_named : (n : ℕ) (threads : List (List Op)) → threads ≡ [] → All (AreNamed n) threads
-none_named n [] e = λ k d h. absurd (omega arith)
-none_named n (t ∷ ts) e = absurd cc
+All-AreNamed_nil : (n : ℕ) (threads : List (List Op)) → threads ≡ [] → All (AreNamed n) threads
+All-AreNamed_nil n [] e = λ k d h. absurd (omega arith)
+All-AreNamed_nil n (t ∷ ts) e = absurd cc
 
 pub returns-clause-limits : goal.returns-clause-limits
 returns-clause-limits c =
@@ -33,6 +33,6 @@ returns-clause-limits c =
       threads = subst (λ (ts : List (List Op)). length ts + 1 ≤ MOST_PHASE_THREADS) (sym none) (omega arith);
       each = subst (λ (ps : List PhaseValue). All (λ (q : PhaseValue). length q.threads ≤ MOST_PHASE_THREADS) ps) (sym phases) (All-push (λ (q : PhaseValue). length q.threads ≤ MOST_PHASE_THREADS) s.phases.items p limits.each few);
       ops_named = limits.ops_named;
-      threads_named = none_named n c.replace-threads.new.dest.items none;
-      phases_named = subst (λ (ps : List PhaseValue). All (AreNamed n) (threads_in ps)) (sym phases) (phase_named n s.phases.items p limits.phases_named named);
+      threads_named = All-AreNamed_nil n c.replace-threads.new.dest.items none;
+      phases_named = subst (λ (ps : List PhaseValue). All (AreNamed n) (threads_in ps)) (sym phases) (AreNamed-threads_in_push n s.phases.items p limits.phases_named named);
     }

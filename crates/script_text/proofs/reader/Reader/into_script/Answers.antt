@@ -4,7 +4,7 @@ use Rattle.script_text.specs.Tasks.{ids_of}
 use Rattle.script_ops.specs.Values.{threads_in}
 use Rattle.script_ops.specs.Fits.{AreFit}
 use Rattle.machine.specs.Maps.{parameters_of}
-use Rattle.script_text.proofs.TaskRanges.{ids_increase}
+use Rattle.script_text.proofs.TaskRanges.{IsStrictlyIncreasing-ids_of}
 use Rattle.script_text.proofs.reader.Reader.into_script.Goals as goal
 
 pub new-requires : goal.new-requires
@@ -17,9 +17,10 @@ new-requires c =
     record {
       lawful = record {
         in_range = c.args.self.machine.in_range;
-        rising = subst IsStrictlyIncreasing (sym ids) (ids_increase ranges c.requires.limits.tasks);
+        rising = subst IsStrictlyIncreasing (sym ids) (IsStrictlyIncreasing-ids_of ranges c.requires.limits.tasks);
         few = record { few_phases = omega (arith, c.requires.limits.phases); few_threads = c.requires.limits.each };
         named = c.requires.limits.phases_named;
+        short = c.requires.fit.short_phases;
         fit = subst (λ (tasks : List ℕ). All (AreFit (parameters_of c.args.self.machine) tasks) (threads_in c.args.self.phases.items)) (sym ids) c.requires.fit.phases;
         light = omega (arith, c.requires.fit.light, c.requires.fit.counted);
       };

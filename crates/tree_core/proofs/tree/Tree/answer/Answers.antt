@@ -1,5 +1,5 @@
-use Rattle.tree_core.proofs.Kept.{answered, kept}
+use Rattle.tree_core.proofs.KeptTables.{IsKept-status, Keeps-from_IsKept}
 use Rattle.tree_core.proofs.tree.Tree.answer.Goals as goal
 
 pub invariant_of-self : goal.invariant_of-self
-invariant_of-self c = answered c.args.reply (kept c.self.invariant)
+invariant_of-self c = IsKept-status c.args.reply (Keeps-from_IsKept c.self.invariant)

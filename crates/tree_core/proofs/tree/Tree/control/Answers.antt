@@ -3,8 +3,8 @@ use Rattle.std.specs.Option.{option_copied}
 use Rattle.group_tree.specs.Records.{has_gid}
 use Rattle.machine.specs.Maps.{parameters_of}
 use Rattle.path_names.specs.declared.dirs.DirRef.TheVariants.{Ctrl}
-use Rattle.tree_core.proofs.ControlGroups.{control_found, named_there}
-use Rattle.tree_core.proofs.Kept.{found_ids, kept}
+use Rattle.tree_core.proofs.ControlGroups.{IsControl-found, has_group-named}
+use Rattle.tree_core.proofs.KeptTables.{IsSome-found_ids, Keeps-from_IsKept}
 use Rattle.tree_core.specs.Found.{IsControl}
 use Rattle.tree_core.specs.Tables.{state_of, tables}
 use Rattle.tree_core.specs.Values.{TreeValue}
@@ -12,21 +12,21 @@ use Rattle.tree_law.specs.Existing.{directory_gid}
 use Rattle.tree_core.proofs.tree.Tree.control.Goals as goal
 
 pub unwrap-group-requires : goal.unwrap-group-requires
-unwrap-group-requires c = c.get.ensures.there ∙ named_there (kept c.self.invariant) c.args.name c.in-Some.gid (sym c.in-Some.ensures.found)
+unwrap-group-requires c = c.get.ensures.there ∙ has_group-named (Keeps-from_IsKept c.self.invariant) c.args.name c.in-Some.gid (sym c.in-Some.ensures.found)
 
 pub unwrap-requires : goal.unwrap-requires
 unwrap-requires c =
     let t = c.self.inside in
     let g = c.unwrap-group.result.now in
     let found : find (has_gid c.in-Some.gid) t.groups.groups ≡ Some g = sym c.get.ensures.found ∙ ap option_copied c.unwrap-group.ensures in
-    (found_ids (kept c.self.invariant) c.in-Some.gid g found).0
+    (IsSome-found_ids (Keeps-from_IsKept c.self.invariant) c.in-Some.gid g found).0
 
 pub unwrap-requires-2 : goal.unwrap-requires-2
 unwrap-requires-2 c =
     let t = c.self.inside in
     let g = c.unwrap-group.result.now in
     let found : find (has_gid c.in-Some.gid) t.groups.groups ≡ Some g = sym c.get.ensures.found ∙ ap option_copied c.unwrap-group.ensures in
-    (found_ids (kept c.self.invariant) c.in-Some.gid g found).1
+    (IsSome-found_ids (Keeps-from_IsKept c.self.invariant) c.in-Some.gid g found).1
 
 pub returns : goal.returns
 returns c =
@@ -38,5 +38,5 @@ returns c =
     let named : directory_gid s (Ctrl c.args.name) ≡ Some c.in-Some.gid = sym c.in-Some.ensures.found in (
       ap (λ (v : TreeValue). directory_gid v.state (Ctrl c.args.name)) (sym c.self.view_is) ∙ named,
       subst (λ (v : TreeValue). IsControl v.machine v.state (record { gid = c.in-Some.gid; class = c.unwrap.result; rmid = c.unwrap-2.result })) c.self.view_is
-          (control_found (kept c.self.invariant) c.args.name c.in-Some.gid g c.unwrap.result c.unwrap-2.result named found c.unwrap.ensures c.unwrap-2.ensures),
+          (IsControl-found (Keeps-from_IsKept c.self.invariant) c.args.name c.in-Some.gid g c.unwrap.result c.unwrap-2.result named found c.unwrap.ensures c.unwrap-2.ensures),
     )

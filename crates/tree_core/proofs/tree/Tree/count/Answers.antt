@@ -1,8 +1,8 @@
-use Rattle.tree_core.proofs.Kept.{counted, kept}
+use Rattle.tree_core.proofs.KeptTables.{IsKept-suc, Keeps-from_IsKept}
 use Rattle.tree_core.proofs.tree.Tree.count.Goals as goal
 
 pub invariant_of-self : goal.invariant_of-self
-invariant_of-self c = counted (kept c.self.invariant)
+invariant_of-self c = IsKept-suc (Keeps-from_IsKept c.self.invariant)
 
 pub returns-clause-gids : goal.returns-clause-gids
-returns-clause-gids c = (kept c.self.invariant).stands.gids_left
+returns-clause-gids c = (Keeps-from_IsKept c.self.invariant).stands.gids_left

@@ -3,8 +3,8 @@ use Rattle.rc_base.specs.declared.replies.Why.TheVariants.{NoSuchPath}
 use Rattle.machine.specs.declared.parameters.Parameters.{Parameters}
 use Rattle.script_ops.specs.declared.op.Op.{Op}
 use Rattle.script_ops.specs.declared.op.Op.TheVariants as ops
-use Rattle.tree_core.proofs.BuiltPaths.{not_access, not_tick, not_touch}
-use Rattle.tree_core.proofs.Outcomes.{after_all, after_moved, after_nothing, flush_refusal, list_refusal, next_reply, quiet_state, read_refusal}
+use Rattle.tree_core.proofs.BuiltPaths.{IsBuilt-not_access, IsBuilt-not_tick, IsBuilt-not_touch}
+use Rattle.tree_core.proofs.Outcomes.{after-accepted, after-moved, after-nothing, refusal-flush, refusal-list, refusal-read, reply-next, state-quiet}
 use Rattle.tree_law.specs.Existing.{is_directory, is_file}
 use Rattle.tree_law.specs.Refusals.{plain, reply_of}
 use Rattle.tree_law.specs.State.{State}
@@ -14,27 +14,27 @@ use Rattle.tree_core.proofs.tree.Tree.take.Goals as goal
 
 pub unreachable-requires : goal.unreachable-requires
 unreachable-requires c = elim c.in-Tick.is [
-  | inl e ↦ not_tick c.args.op.now c.requires.built e
-  | inr (inl w) ↦ not_access c.args.op.now w.0 w.1 w.2 c.requires.built w.3
-  | inr (inr w) ↦ not_touch c.args.op.now w.0 w.1 w.2 w.3 c.requires.built w.4
+  | inl e ↦ IsBuilt-not_tick c.args.op.now c.requires.built e
+  | inr (inl w) ↦ IsBuilt-not_access c.args.op.now w.0 w.1 w.2 c.requires.built w.3
+  | inr (inr w) ↦ IsBuilt-not_touch c.args.op.now w.0 w.1 w.2 w.3 c.requires.built w.4
 ]
 
 pub returns-in-Mkdir-clause-after : goal.returns-in-Mkdir-clause-after
 returns-in-Mkdir-clause-after c =
     let m = c.args.self.now.machine in let s = c.args.self.now.state in let k = c.args.self.now.epoch in
-    c.new.ensures ∙ sym (ap (after m s k) c.in-Mkdir.is ∙ after_nothing m s k (ops.Mkdir c.in-Mkdir.path) refl)
+    c.new.ensures ∙ sym (ap (after m s k) c.in-Mkdir.is ∙ after-nothing m s k (ops.Mkdir c.in-Mkdir.path) refl)
 
 pub returns-in-Rmdir-clause-after : goal.returns-in-Rmdir-clause-after
 returns-in-Rmdir-clause-after c =
     let m = c.args.self.now.machine in let s = c.args.self.now.state in let k = c.args.self.now.epoch in let j = c.count.new.self.epoch in let op = ops.Rmdir c.in-Rmdir.path in
     c.rmdir.ensures.after ∙ ap₂ (λ (n : Parameters) (x : State). after n x j op) c.count.ensures.machine c.count.ensures.state
-    ∙ after_moved m s j k op refl ∙ ap (after m s k) (sym c.in-Rmdir.is)
+    ∙ after-moved m s j k op refl ∙ ap (after m s k) (sym c.in-Rmdir.is)
 
 pub returns-in-Write-clause-after : goal.returns-in-Write-clause-after
 returns-in-Write-clause-after c =
     let m = c.args.self.now.machine in let s = c.args.self.now.state in let k = c.args.self.now.epoch in let j = c.count.new.self.epoch in
     c.write.ensures.after ∙ ap₂ (λ (n : Parameters) (x : State). after n x j (ops.Write c.in-Write.path c.as_slice.result.now)) c.count.ensures.machine c.count.ensures.state
-    ∙ after_moved m s j k (ops.Write c.in-Write.path c.as_slice.result.now) refl
+    ∙ after-moved m s j k (ops.Write c.in-Write.path c.as_slice.result.now) refl
     ∙ ap (λ text. after m s k (ops.Write c.in-Write.path text)) c.as_slice.ensures ∙ ap (after m s k) (sym c.in-Write.is)
 
 pub returns-in-Read-clause-reply : goal.returns-in-Read-clause-reply
@@ -42,49 +42,49 @@ returns-in-Read-clause-reply c =
     let m = c.args.self.now.machine in let s = c.args.self.now.state in
     c.found.ensures
     ∙ ap (λ (b : Bool). reply_of (cond b None (Some (plain NoSuchPath)))) (c.is_file.ensures ∙ ap (λ (t : State). is_file t c.in-Read.path) c.count.ensures.state)
-    ∙ ap reply_of (sym (read_refusal m s c.in-Read.path)) ∙ sym (next_reply m s (ops.Read c.in-Read.path) c.args.looks.now)
+    ∙ ap reply_of (sym (refusal-read m s c.in-Read.path)) ∙ sym (reply-next m s (ops.Read c.in-Read.path) c.args.looks.now)
     ∙ ap (λ (op : Op). (next m s op c.args.looks.now).reply) (sym c.in-Read.is)
 
 pub returns-in-Read-clause-state : goal.returns-in-Read-clause-state
 returns-in-Read-clause-state c =
     let m = c.args.self.now.machine in let s = c.args.self.now.state in
-    c.count.ensures.state ∙ sym (ap (λ (op : Op). (next m s op c.args.looks.now).state) c.in-Read.is ∙ quiet_state m s (ops.Read c.in-Read.path) c.args.looks.now refl refl (λ x. refl))
+    c.count.ensures.state ∙ sym (ap (λ (op : Op). (next m s op c.args.looks.now).state) c.in-Read.is ∙ state-quiet m s (ops.Read c.in-Read.path) c.args.looks.now refl refl (λ x. refl))
 
 pub returns-in-Read-clause-after : goal.returns-in-Read-clause-after
 returns-in-Read-clause-after c =
     let m = c.args.self.now.machine in let s = c.args.self.now.state in let k = c.args.self.now.epoch in
-    c.new-in-Read.ensures ∙ sym (ap (after m s k) c.in-Read.is ∙ after_nothing m s k (ops.Read c.in-Read.path) refl)
+    c.new-in-Read.ensures ∙ sym (ap (after m s k) c.in-Read.is ∙ after-nothing m s k (ops.Read c.in-Read.path) refl)
 
 pub returns-in-List-clause-reply : goal.returns-in-List-clause-reply
 returns-in-List-clause-reply c =
     let m = c.args.self.now.machine in let s = c.args.self.now.state in
     c.found-in-List.ensures
     ∙ ap (λ (b : Bool). reply_of (cond b None (Some (plain NoSuchPath)))) (c.is_directory.ensures ∙ ap (λ (t : State). is_directory t c.in-List.path) c.count.ensures.state)
-    ∙ ap reply_of (sym (list_refusal m s c.in-List.path)) ∙ sym (next_reply m s (ops.List c.in-List.path) c.args.looks.now)
+    ∙ ap reply_of (sym (refusal-list m s c.in-List.path)) ∙ sym (reply-next m s (ops.List c.in-List.path) c.args.looks.now)
     ∙ ap (λ (op : Op). (next m s op c.args.looks.now).reply) (sym c.in-List.is)
 
 pub returns-in-List-clause-state : goal.returns-in-List-clause-state
 returns-in-List-clause-state c =
     let m = c.args.self.now.machine in let s = c.args.self.now.state in
-    c.count.ensures.state ∙ sym (ap (λ (op : Op). (next m s op c.args.looks.now).state) c.in-List.is ∙ quiet_state m s (ops.List c.in-List.path) c.args.looks.now refl refl (λ x. refl))
+    c.count.ensures.state ∙ sym (ap (λ (op : Op). (next m s op c.args.looks.now).state) c.in-List.is ∙ state-quiet m s (ops.List c.in-List.path) c.args.looks.now refl refl (λ x. refl))
 
 pub returns-in-List-clause-after : goal.returns-in-List-clause-after
 returns-in-List-clause-after c =
     let m = c.args.self.now.machine in let s = c.args.self.now.state in let k = c.args.self.now.epoch in
-    c.new-in-List.ensures ∙ sym (ap (after m s k) c.in-List.is ∙ after_nothing m s k (ops.List c.in-List.path) refl)
+    c.new-in-List.ensures ∙ sym (ap (after m s k) c.in-List.is ∙ after-nothing m s k (ops.List c.in-List.path) refl)
 
 pub returns-in-Flush-clause-reply : goal.returns-in-Flush-clause-reply
 returns-in-Flush-clause-reply c =
     let m = c.args.self.now.machine in let s = c.args.self.now.state in
-    sym (ap (λ (op : Op). (next m s op c.args.looks.now).reply) c.in-Flush.is ∙ next_reply m s (ops.Flush c.in-Flush.domain) c.args.looks.now ∙ ap reply_of (flush_refusal m s c.in-Flush.domain))
+    sym (ap (λ (op : Op). (next m s op c.args.looks.now).reply) c.in-Flush.is ∙ reply-next m s (ops.Flush c.in-Flush.domain) c.args.looks.now ∙ ap reply_of (refusal-flush m s c.in-Flush.domain))
 
 pub returns-in-Flush-clause-state : goal.returns-in-Flush-clause-state
 returns-in-Flush-clause-state c =
     let m = c.args.self.now.machine in let s = c.args.self.now.state in
-    c.count.ensures.state ∙ sym (ap (λ (op : Op). (next m s op c.args.looks.now).state) c.in-Flush.is ∙ quiet_state m s (ops.Flush c.in-Flush.domain) c.args.looks.now refl refl (λ x. refl))
+    c.count.ensures.state ∙ sym (ap (λ (op : Op). (next m s op c.args.looks.now).state) c.in-Flush.is ∙ state-quiet m s (ops.Flush c.in-Flush.domain) c.args.looks.now refl refl (λ x. refl))
 
 pub returns-in-Flush-clause-after : goal.returns-in-Flush-clause-after
 returns-in-Flush-clause-after c =
     let m = c.args.self.now.machine in let s = c.args.self.now.state in let k = c.args.self.now.epoch in let op = ops.Flush c.in-Flush.domain in
     c.flush.ensures.after ∙ ap (λ (n : Parameters). flush.after n c.in-Flush.domain) c.count.ensures.machine
-    ∙ sym (ap (after m s k) c.in-Flush.is ∙ after_all m s k op (flush_refusal m s c.in-Flush.domain))
+    ∙ sym (ap (after m s k) c.in-Flush.is ∙ after-accepted m s k op (refusal-flush m s c.in-Flush.domain))

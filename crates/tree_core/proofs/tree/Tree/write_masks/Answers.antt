@@ -3,10 +3,10 @@ use Rattle.group_tree.specs.Records.{has_gid}
 use Rattle.machine.specs.Maps.{parameters_of}
 use Rattle.rc_base.specs.declared.replies.Reply.TheVariants as replies
 use Rattle.schemata_text.specs.Reading.{AreLawful}
-use Rattle.tree_core.proofs.Assignments.{each_exists}
-use Rattle.tree_core.proofs.Found.{has_group-found}
-use Rattle.tree_core.proofs.Kept.{found_masks, is_kept, kept, state_same}
-use Rattle.tree_core.proofs.WrittenMasks.{masks_kept}
+use Rattle.tree_core.proofs.Assignments.{All-domains_of}
+use Rattle.tree_core.proofs.FoundGroups.{has_group-found}
+use Rattle.tree_core.proofs.KeptTables.{IsKept-from_Keeps, Keeps-from_IsKept, State-same, length-found_masks}
+use Rattle.tree_core.proofs.WrittenMasks.{Keeps-with_record}
 use Rattle.tree_core.specs.Tables.{state_of, tables}
 use Rattle.tree_core.specs.Values.{TreeValue}
 use Rattle.tree_law.specs.Places.{with_record}
@@ -21,9 +21,9 @@ assign-requires c =
     let g = c.args.group in
     let there : find (has_gid g.gid) t.groups.groups ≡ Some g = subst (λ (v : TreeValue). find (has_gid g.gid) v.state.groups ≡ Some g) (sym c.self.view_is) c.requires.there in
     let lawful : AreLawful (geometry_of (parameters_of t.machine)) t.machine.domains c.args.all.now = subst (λ (v : TreeValue). AreLawful (geometry_of v.machine) v.machine.domains c.args.all.now) (sym c.self.view_is) c.requires.lawful in
-    let long : length g.masks ≡ 8 = found_masks (kept c.self.invariant) g.gid g there in
+    let long : length g.masks ≡ 8 = length-found_masks (Keeps-from_IsKept c.self.invariant) g.gid g there in
     let most = t.machine.in_range.domain_limit in
-    record { exist = λ k d within. let below = each_exists t.machine.domains c.args.all.now lawful.exist k d within in omega (arith, below, long, most) }
+    record { exist = λ k d within. let below = All-domains_of t.machine.domains c.args.all.now lawful.exist k d within in omega (arith, below, long, most) }
 
 pub replace-requires : goal.replace-requires
 replace-requires c =
@@ -42,5 +42,5 @@ invariant_of-self c =
     let there : find (has_gid g.gid) t.groups.groups ≡ Some g = subst (λ (v : TreeValue). find (has_gid g.gid) v.state.groups ≡ Some g) (sym c.self.view_is) c.requires.there in
     let sound : IsSound m (record (with_record s (record g { masks = masks })) { status = replies.Ok }) = subst (λ (v : TreeValue). IsSound v.machine (record (with_record v.state (record g { masks = masks })) { status = replies.Ok })) (sym c.self.view_is) c.requires.sound in
     let groups = rw c.assign.ensures.masks at c.replace.ensures.replaced in
-    is_kept (masks_kept (kept c.self.invariant) g masks c.replace.new.self _ there groups c.replace.ensures.kept
-    (state_same (record s { status = replies.Ok }) c.replace.new.self.groups _ t.rmids.limbo t.rmids.limbo t.rmids.threshold t.rmids.threshold groups refl refl) sound)
+    IsKept-from_Keeps (Keeps-with_record (Keeps-from_IsKept c.self.invariant) g masks c.replace.new.self _ there groups c.replace.ensures.kept
+    (State-same (record s { status = replies.Ok }) c.replace.new.self.groups _ t.rmids.limbo t.rmids.limbo t.rmids.threshold t.rmids.threshold groups refl refl) sound)

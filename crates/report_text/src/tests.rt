@@ -1,0 +1,88 @@
+//! The lines that entries leave, worked out by hand.
+
+ghost use Rattle.std.specs.Prelude.{◌≡◌};
+
+use crate::occupancy::Occupancy;
+use cache_core::{SliceEntry, What};
+use machine::{Machine, Parameters};
+use rc_base::Gid;
+use std::process::Abort;
+use std::test::Fail;
+
+// One set of four ways.
+fn machine(rt: &impl Abort) -> Machine
+    ensures { result.rmids ≡ 4 }
+{
+    let parameters = Parameters {
+        domains: 1,
+        sets: 1,
+        ways: 4,
+        classes: 1,
+        rmids: 4,
+        cpus: 1,
+        min: 1,
+        shareable: 0,
+        threshold: 0,
+        sparse: false,
+        slices: 1,
+    };
+    Machine::checked(&parameters).expect(rt, "the parameters are in range")
+}
+
+fn entry(what: What) -> SliceEntry {
+    SliceEntry {
+        thread: 0,
+        op: 0,
+        epoch: 0,
+        what,
+    }
+}
+
+// A line that fills a way for an RMID.
+fn fill(rmid: u16, line: u64, way: u8) -> SliceEntry {
+    entry(What::Access {
+        owner: Gid(0),
+        rmid,
+        mask: 15,
+        line,
+        hit: false,
+        way,
+    })
+}
+
+#[test]
+fn only_the_last_fill_of_a_place_since_a_flush_counts(rt: HostRuntime) -> Result<(), Fail> {
+    let machine = machine(&rt);
+    let mut occupancy = Occupancy::create(rt.alloc(), &machine)?;
+    occupancy.clear();
+    let entries = [
+        fill(1, 10, 3),
+        entry(What::Flush),
+        fill(1, 11, 0),
+        fill(2, 12, 0),
+        fill(2, 13, 1),
+    ];
+    occupancy.count_slice(&machine, 0, &entries);
+    assert_eq!(rt; occupancy.valid(), 2);
+    assert_eq!(rt; occupancy.lines(1), 0);
+    assert_eq!(rt; occupancy.lines(2), 2);
+    Ok(())
+}
+
+#[test]
+fn a_region_keeps_the_places_that_no_later_line_took(rt: HostRuntime) -> Result<(), Fail> {
+    let machine = machine(&rt);
+    let mut occupancy = Occupancy::create(rt.alloc(), &machine)?;
+    occupancy.clear();
+    let region = What::Lock {
+        mask: 7,
+        first_line: 100,
+    };
+    let entries = [fill(3, 10, 3), entry(region), fill(1, 11, 0)];
+    occupancy.count_slice(&machine, 0, &entries);
+    assert_eq!(rt; occupancy.valid(), 3);
+    assert_eq!(rt; occupancy.lines(0), 2);
+    assert_eq!(rt; occupancy.lines(1), 1);
+    assert_eq!(rt; occupancy.lines(3), 0);
+    Ok(())
+}

@@ -1,0 +1,43 @@
+-- The names of a path that a line names.
+use Rattle.std.proofs.Common.{◌≡◌, ℕ, Bool, true, false, cond, ltb, List, length, Option, Some, None, Ok, refl}
+use Rattle.std.specs.Prelude.{option_map}
+use Rattle.path_names.specs.Interned.{Keeps}
+use Rattle.path_names.specs.Reading.{path_of}
+use Rattle.path_names.specs.ShortNames.{AreShort, component_ids}
+use Rattle.path_names.proofs.laws.ShortNames.{Keeps-path_of, AreShort-path_of}
+use Rattle.script_ops.specs.declared.limits.TheConstants.{MOST_PATH_BYTES}
+use Rattle.script_text.specs.declared.fault.LineFault.TheVariants.{BadArgument, BadPath, TooLarge}
+use Rattle.script_text.specs.Arguments.{only}
+use Rattle.script_text.specs.Lines.{words}
+use Rattle.script_text.specs.Meaning.{named_in, or_fault, path_alone, ◌>>=◌}
+use Rattle.script_text.specs.Paths.{Named, named}
+use Rattle.script_text.specs.States.{ReaderState}
+
+-- the names that were known are kept, and those of the path's components are short
+abbrev pub AddsShort : List (List ℕ) → Named → Type 0
+AddsShort names p = Keeps names p.1 × AreShort p.1 (component_ids p.0)
+
+-- a word that names a path
+pub AddsShort-named : (domains : ℕ) (names : List (List ℕ)) (word : List ℕ) (p : Named) → named domains names word ≡ Some (Some p) → AddsShort names p
+AddsShort-named domains names word p read = at (ltb MOST_PATH_BYTES (length word)) (path_of domains names word) refl read
+  where
+    at : (long : Bool) (found : Option Named) → path_of domains names word ≡ found → cond long (Some None) (option_map (λ q. Some q) found) ≡ Some (Some p) → AddsShort names p
+    at true found is e = absurd cc
+    at false None is e = absurd cc
+    at false (Some q) is e =
+        let same : path_of domains names word ≡ Some (p.0, p.1) = cc in
+        (Keeps-path_of domains names word p.0 p.1 same, AreShort-path_of domains names word p.0 p.1 same)
+
+-- the only word of a line
+pub AddsShort-path_alone : (s : ReaderState) (rest : List ℕ) (p : Named) → path_alone s rest ≡ Ok p → AddsShort s.names p
+unfolding path_alone
+AddsShort-path_alone s rest p read = at (only (words rest)) read
+  where
+    found_at : (found : Option (Option Named)) → ((q : Named) → found ≡ Some (Some q) → AddsShort s.names q) → (or_fault found BadPath >>= λ f. or_fault f TooLarge) ≡ Ok p → AddsShort s.names p
+    found_at None adds e = absurd cc
+    found_at (Some None) adds e = absurd cc
+    found_at (Some (Some q)) adds e = adds p cc
+
+    at : (word : Option (List ℕ)) → (or_fault word BadArgument >>= λ w. or_fault (named_in s w) BadPath >>= λ f. or_fault f TooLarge) ≡ Ok p → AddsShort s.names p
+    at None e = absurd cc
+    at (Some word) e = found_at (named_in s word) (λ q. AddsShort-named s.machine.domains s.names word q) e

@@ -1,0 +1,160 @@
+-- What the type of the tree keeps, by its parts.
+use Rattle.std.proofs.Common.{◌≡◌, ℕ, ◌+◌, ◌<◌, true, List, [], ◌∷◌, length, find, get_or, Option, Some, IsSome, IfSome, refl, sym, subst, ap, ◌∙◌, arith}
+use Rattle.std.specs.Prelude.{IsSomeAnd}
+use Rattle.std.specs.List.{slice_get}
+use Rattle.std.proofs.lemmas.Bool.{eq-eqb}
+use Rattle.std.proofs.lemmas.List.Folds.{list_any_at}
+use Rattle.group_tree.specs.Records.{blank, has_gid}
+use Rattle.group_tree.specs.declared.group.Group.{Group}
+use Rattle.hw_ids.specs.Ids.{contains}
+use Rattle.machine.specs.declared.parameters.Parameters.{Parameters}
+use Rattle.rc_base.specs.declared.names.Gid.{Gid}
+use Rattle.lists.proofs.Tests.{IsFound, IsFound-all, find-found}
+use Rattle.rc_base.specs.declared.replies.Reply.{Reply}
+use Rattle.tree_law.proofs.laws.Steps.{status-sound}
+use Rattle.tree_core.proofs.UnreachedParts.{NotReached-with}
+use Rattle.tree_core.specs.Kept.{IsKept, Keeps}
+use Rattle.tree_core.specs.NotReached.{IsShareableControl}
+use Rattle.tree_core.specs.Tables.{Tables}
+use Rattle.tree_core.specs.Values.{TreeValue}
+use Rattle.tree_law.specs.Existing.{group_of}
+use Rattle.tree_law.specs.Sound.{HasIds, HasIdsOf, IsDefault, IsUsed}
+use Rattle.tree_law.specs.Space.{is_id}
+use Rattle.tree_law.specs.State.{State}
+
+-- what is kept has its parts
+pub Keeps-from_IsKept : {m : Parameters} {t : Tables} {s : State} {epoch : ℕ} → IsKept m t s epoch → Keeps m t s epoch
+unfolding IsKept
+Keeps-from_IsKept k = k
+
+-- and is kept where it has these
+pub IsKept-from_Keeps : {m : Parameters} {t : Tables} {s : State} {epoch : ℕ} → Keeps m t s epoch → IsKept m t s epoch
+unfolding IsKept
+IsKept-from_Keeps k = k
+
+-- what is kept of a tree, as contracts see it
+pub Keeps-of : {u v : TreeValue} (t : Tables) → u ≡ v → IsKept u.machine t u.state u.epoch → Keeps v.machine t v.state v.epoch
+unfolding IsKept
+Keeps-of t same k = subst (λ (w : TreeValue). Keeps w.machine t w.state w.epoch) same k
+
+-- states that differ in three parts alone
+pub State-same : (s : State) (groups groups' : List Group) (limbo limbo' : List ℕ) (threshold threshold' : ℕ) → groups ≡ groups' → limbo ≡ limbo' → threshold ≡ threshold'
+    → record s { groups = groups; limbo = limbo; threshold = threshold } ≡ record s { groups = groups'; limbo = limbo'; threshold = threshold' }
+State-same s groups groups' limbo limbo' threshold threshold' e f h =
+    ap (λ (gs : List Group). record s { groups = gs; limbo = limbo; threshold = threshold }) e
+    ∙ ap (λ (ids : List ℕ). record s { groups = groups'; limbo = ids; threshold = threshold }) f
+    ∙ ap (λ (n : ℕ). record s { groups = groups'; limbo = limbo'; threshold = n }) h
+
+-- ---- the default group
+
+-- there is a first group
+pub length-positive : (groups : List Group) → IsSomeAnd (slice_get groups 0) IsDefault → 0 < length groups
+length-positive [] first = absurd first
+length-positive (g ∷ gs) first = omega arith
+
+-- which is the default group
+pub IsDefault-first : (groups : List Group) (d : Group) → IsSomeAnd (slice_get groups 0) IsDefault → IsDefault (get_or groups 0 d)
+IsDefault-first [] d first = absurd first
+IsDefault-first (g ∷ gs) d first = first
+
+-- it is found first
+pub find-first : (groups : List Group) (d : Group) → IsSomeAnd (slice_get groups 0) IsDefault → find (has_gid (record { 0 = 0 })) groups ≡ Some (get_or groups 0 d)
+find-first [] d first = absurd first
+find-first (g ∷ gs) d first = rw (eq-eqb 0 g.gid.0 (sym first.gid)) refl
+
+-- ---- a group of the tree
+
+module _ {m : Parameters} {t : Tables} {s : State} {epoch : ℕ} (keeps : Keeps m t s epoch) where
+  -- each has a class and an RMID, for it is a shareable control group
+  pub IsSome-ids : (k : ℕ) (d : Group) → k < length s.groups → IsSome (get_or s.groups k d).class × IsSome (get_or s.groups k d).rmid
+  IsSome-ids k d within =
+      let plain = keeps.not_reached.groups k d within in
+      let g = get_or s.groups k d in
+      subst (λ mode. HasIdsOf mode g) plain.shareable (subst (λ kind. HasIds s.groups kind g) plain.control (keeps.sound.numbered.ids k d within))
+
+  -- what a look-up found
+  pub IsFound-group_of : (gid : Gid) (g : Group) → group_of s gid ≡ Some g → IsFound (has_gid gid) s.groups g
+  IsFound-group_of gid g found = find-found (has_gid gid) s.groups g found
+
+  -- a group that a look-up found has a class and an RMID
+  pub IsSome-found_ids : (gid : Gid) (g : Group) → group_of s gid ≡ Some g → IsSome g.class × IsSome g.rmid
+  IsSome-found_ids gid g found =
+      let f = IsFound-group_of gid g found in
+      subst (λ (x : Group). IsSome x.class × IsSome x.rmid) (f.at g) (IsSome-ids f.place g f.within)
+
+  -- it is a shareable control group
+  pub IsShareableControl-found : (gid : Gid) (g : Group) → group_of s gid ≡ Some g → IsShareableControl g
+  IsShareableControl-found gid g found = IsFound-all IsShareableControl (has_gid gid) s.groups g (IsFound-group_of gid g found) keeps.not_reached.groups
+
+  -- it has eight masks
+  pub length-found_masks : (gid : Gid) (g : Group) → group_of s gid ≡ Some g → length g.masks ≡ 8
+  length-found_masks gid g found = IsFound-all (λ (x : Group). length x.masks ≡ 8) (has_gid gid) s.groups g (IsFound-group_of gid g found) keeps.sound.masks.places
+
+  -- its RMID is the machine's
+  pub rmid-lt : (gid : Gid) (g : Group) (rmid : ℕ) → group_of s gid ≡ Some g → g.rmid ≡ Some rmid → rmid < m.rmids
+  rmid-lt gid g rmid found has =
+      (subst (λ (r : Option ℕ). IfSome r (IsUsed m s.limbo)) has (IsFound-all (λ (x : Group). IfSome x.rmid (IsUsed m s.limbo)) (has_gid gid) s.groups g (IsFound-group_of gid g found) keeps.sound.numbered.rmids)).0
+
+  -- the class of each group is taken
+  pub contains-class : (k : ℕ) (d : Group) (id : ℕ) → k < length s.groups → (get_or s.groups k d).class ≡ Some id → contains id t.classes.taken ≡ true
+  contains-class k d id within has =
+      keeps.stands.taken.class_taken id ∙ list_any_at (λ (g : Group). is_id id g.class) s.groups k d within (ap (is_id id) has ∙ eq-eqb id id refl)
+
+  -- and so is its RMID
+  pub contains-rmid : (k : ℕ) (d : Group) (id : ℕ) → k < length s.groups → (get_or s.groups k d).rmid ≡ Some id → contains id t.rmids.taken ≡ true
+  contains-rmid k d id within has =
+      keeps.stands.taken.rmid_taken id ∙ list_any_at (λ (g : Group). is_id id g.rmid) s.groups k d within (ap (is_id id) has ∙ eq-eqb id id refl)
+
+  -- class 0 is taken, for the default group has it
+  pub contains-default_class : contains 0 t.classes.taken ≡ true
+  contains-default_class = (let d = blank in contains-class 0 d 0 (length-positive s.groups keeps.sound.named.first) (IsDefault-first s.groups d keeps.sound.named.first).class)
+
+  -- the class of a group that a look-up found is taken
+  pub contains-class_found : (gid : Gid) (g : Group) (id : ℕ) → group_of s gid ≡ Some g → g.class ≡ Some id → contains id t.classes.taken ≡ true
+  contains-class_found gid g id found has = let f = IsFound-group_of gid g found in contains-class f.place g id f.within (ap (λ (x : Group). x.class) (f.at g) ∙ has)
+
+  -- and so is its RMID
+  pub contains-rmid_found : (gid : Gid) (g : Group) (id : ℕ) → group_of s gid ≡ Some g → g.rmid ≡ Some id → contains id t.rmids.taken ≡ true
+  contains-rmid_found gid g id found has = let f = IsFound-group_of gid g found in contains-rmid f.place g id f.within (ap (λ (x : Group). x.rmid) (f.at g) ∙ has)
+
+-- ---- after a command more, and another last status
+
+-- a command more leaves what is kept
+pub IsKept-suc : {m : Parameters} {t : Tables} {s : State} {epoch : ℕ} → Keeps m t s epoch → IsKept m t s (epoch + 1)
+unfolding IsKept
+IsKept-suc keeps = record {
+  stands = record {
+    groups = keeps.stands.groups;
+    tasks = keeps.stands.tasks;
+    cpus = keeps.stands.cpus;
+    limbo = keeps.stands.limbo;
+    threshold = keeps.stands.threshold;
+    regions = keeps.stands.regions;
+    locks = keeps.stands.locks;
+    shareable = keeps.stands.shareable;
+    taken = keeps.stands.taken;
+    gids_left = let left = keeps.stands.gids_left in omega arith;
+  };
+  sound = keeps.sound;
+  not_reached = keeps.not_reached;
+}
+
+-- and so does another last status
+pub IsKept-status : {m : Parameters} {t : Tables} {s : State} {epoch : ℕ} (reply : Reply) → Keeps m t s epoch → IsKept m t (record s { status = reply }) epoch
+unfolding IsKept
+IsKept-status {m} {t} {s} reply keeps = record {
+  stands = record {
+    groups = keeps.stands.groups;
+    tasks = keeps.stands.tasks;
+    cpus = keeps.stands.cpus;
+    limbo = keeps.stands.limbo;
+    threshold = keeps.stands.threshold;
+    regions = keeps.stands.regions;
+    locks = keeps.stands.locks;
+    shareable = keeps.stands.shareable;
+    taken = keeps.stands.taken;
+    gids_left = keeps.stands.gids_left;
+  };
+  sound = status-sound m s reply keeps.sound;
+  not_reached = NotReached-with m s s.groups s.limbo reply s.next_gid keeps.not_reached keeps.not_reached.groups;
+}
