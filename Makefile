@@ -1,10 +1,11 @@
-# make demo      builds the program and plays the example of a tenant that loses lines when its mask is rewritten
-# make test      the gate: proves every crate, tries the must-fail edits, runs the tests and the program, and compares the examples
+# make demo      proves and builds the program, and plays the example of a tenant that loses lines when its mask is rewritten
+# make test      the gate: proves every crate, tries the must-fail edits, runs the tests and the program, compares the examples, and sees each exit status
 # make install   puts the program and its manual page below PREFIX (default: /usr/local)
 # make help      prints these lines
 
 PROGRAM = crates/resctrl_sim/out/resctrl_sim
 PREFIX = /usr/local
+PROCESSORS = $(shell getconf _NPROCESSORS_ONLN)
 
 demo: build
 	@cat examples/mask_rewrite.script
@@ -12,14 +13,19 @@ demo: build
 	@$(PROGRAM) step < examples/mask_rewrite.script
 
 build:
+	@echo "Proving what is not proved yet, on $(PROCESSORS) processors. From nothing this takes about ten minutes on four."
+	@sh tools/progress -q rt all check --jobs $(PROCESSORS)
+	@echo "Building $(PROGRAM)."
 	@cd crates/resctrl_sim && rt run -- step < ../../examples/four_accesses.script > out.log 2>&1 || (cat out.log; exit 1)
 	@rm -f crates/resctrl_sim/out.log
 
 test:
-	rt ci
+	@echo "The gate proves every crate with its tests, tries the must-fail edits and runs the tests."
+	sh tools/progress rt ci
 	@$(MAKE) --no-print-directory build
 	sh examples/compare $(PROGRAM)
 	sh tools/compare
+	sh tools/statuses $(PROGRAM)
 
 install: build
 	install -d $(DESTDIR)$(PREFIX)/bin $(DESTDIR)$(PREFIX)/share/man/man1
