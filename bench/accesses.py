@@ -1,5 +1,6 @@
 #!/usr/bin/env python3
-"""Times `resctrl_sim step` on 1, 2 and 4 million accesses, as sweeps and as lines (some 60 MB of text at the most).
+"""Times `resctrl_sim step` on 1, 2 and 4 million accesses: one sweep, a line for each (some 60 MB of text at the most), and short
+sweeps in turn over twelve groups, by one of 4,096 declared tasks and by all of them.
 
 usage: accesses.py PROGRAM      PROGRAM is the built program, after `make demo`: crates/resctrl_sim/out/resctrl_sim
 
@@ -11,6 +12,8 @@ import random
 from timing import table
 
 HEADS = "tasks 1\nphase\nthread\n"
+TASKS = 4096
+GROUPS = 12
 
 
 def write_sweep(script, accesses):
@@ -27,6 +30,25 @@ def write_lines(script, accesses):
         script.write("".join(f"access 1 0 {numbers.randrange(1000)}\n" for _ in range(10000)))
 
 
+def write_turns(script, accesses, used):
+    """Sweeps of 100 accesses by so many tasks in turn. All 4,096 are declared, and dealt out among twelve groups."""
+    script.write(f"machine sets=4096 ways=16 classes=16 rmids=16\ntasks 1-{TASKS}\nphase\nthread\n")
+    for group in range(GROUPS):
+        members = ",".join(str(task) for task in range(1 + group, TASKS + 1, GROUPS))
+        script.write(f"mkdir /tenant{group}\nwrite /tenant{group}/tasks {members}\n")
+    for turn in range(accesses // 100):
+        script.write(f"sweep {1 + turn % used} 0 {turn * 6400 % 2 ** 30} 100 64\n")
+
+
+def write_one_task(script, accesses):
+    write_turns(script, accesses, 1)
+
+
+def write_all_tasks(script, accesses):
+    write_turns(script, accesses, TASKS)
+
+
 if __name__ == "__main__":
     SIZES = (1_000_000, 2_000_000, 4_000_000)
-    table(__doc__, [(name, size, write) for name, write in (("sweep", write_sweep), ("lines", write_lines)) for size in SIZES])
+    KINDS = (("sweep", write_sweep), ("lines", write_lines), ("one task", write_one_task), ("all tasks", write_all_tasks))
+    table(__doc__, [(name, size, write) for name, write in KINDS for size in SIZES])

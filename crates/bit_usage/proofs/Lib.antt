@@ -1,2 +1,3 @@
 pub mod Domains
 pub mod Lengths
+pub mod laws

@@ -5,7 +5,7 @@ pub mod letters;
 pub mod printing;
 
 pub use letters::letter;
-pub use printing::print;
+pub use printing::{USAGE_MAX, print};
 
 #[cfg(test)]
 mod tests;

@@ -7,14 +7,18 @@ use mode_rules::DomainUse;
 use num_text::push_dec;
 use rc_base::TextBuf;
 
+/// Room for the text of `bit_usage`, in bytes (this project's profile).
+pub const USAGE_MAX: usize = 512;
+
 /// Adds the text of `bit_usage` for the caches in order, each of `ways` ways: `id=` and the letters from the greatest
 /// way down, separated by `;` (kernel documentation, "Info directory", on `bit_usage`).
 pub fn print(used: &[DomainUse], ways: u8, out: &mut TextBuf)
     requires domains { length used.now ≤ 8 }
     requires ways { ways ≤ 32 }
-    requires room { 512 ≤ out.old.spare }
+    requires room { USAGE_MAX ≤ out.old.spare }
     ensures bytes { out.new.bytes ≡ out.old.bytes ++ usage_text ways used.now }
     ensures spare { out.new.spare + length (usage_text ways used.now) ≡ out.old.spare }
+    ensures short { length (usage_text ways used.now) < USAGE_MAX }
 {
     for (id, domain) in used.iter().enumerate() {
         if id > 0 {

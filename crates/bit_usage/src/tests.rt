@@ -2,7 +2,7 @@
 ghost use Rattle.std.specs.Prelude.{◌≤◌, length};
 
 use crate::letters::letter;
-use crate::printing::print;
+use crate::printing::{USAGE_MAX, print};
 use mode_rules::DomainUse;
 use rc_base::{NoMemory, TextBuf};
 use std::alloc::Global;
@@ -20,7 +20,7 @@ fn prints(alloc: Global, domains: &[DomainUse], ways: u8, want: &str) -> Result<
     requires domains { length domains.now ≤ 8 }
     requires ways { ways ≤ 32 }
 {
-    let mut out = TextBuf::with_room(alloc, 512)?;
+    let mut out = TextBuf::with_room(alloc, USAGE_MAX)?;
     print(domains, ways, &mut out);
     Ok(out.bytes() == want.as_bytes())
 }

@@ -12,18 +12,18 @@ use Rattle.cache_core.specs.Fills.{Resident, IsVictim}
 use Rattle.cache_core.specs.History.{Shape, IsOwn, held, used}
 use Rattle.cache_core.specs.Places.{IsFormed, set_in, place_in, resident_in, stamp_in, CacheValue}
 use Rattle.cache_core.specs.Stands.{Adds, Accesses, Touches}
-use Rattle.cache_core.proofs.KeptPlaces.{cond_under, own_width, res, stamp, get_or-set}
-use Rattle.cache_core.proofs.Uses.{adds_use, victim_moves}
+use Rattle.cache_core.proofs.KeptPlaces.{cond-under, length-set_in_own, res, stamp, get_or-set}
+use Rattle.cache_core.proofs.Uses.{StandsFor-use, IsVictim-same_order}
 
 -- a new stamp leaves the line and the RMID
-same_resident : (o : Option Place) (stamp : ℕ) → option_map (λ (p : Place). let r : Resident = record { line = p.line; rmid = p.rmid } in r) (option_map (λ (p : Place). record p { used = stamp }) o) ≡ option_map (λ (p : Place). record { line = p.line; rmid = p.rmid }) o
-same_resident None stamp = refl
-same_resident (Some p) stamp = refl
+option_map-new_stamp : (o : Option Place) (stamp : ℕ) → option_map (λ (p : Place). let r : Resident = record { line = p.line; rmid = p.rmid } in r) (option_map (λ (p : Place). record p { used = stamp }) o) ≡ option_map (λ (p : Place). record { line = p.line; rmid = p.rmid }) o
+option_map-new_stamp None stamp = refl
+option_map-new_stamp (Some p) stamp = refl
 
 -- a full place has the new stamp
-new_stamp : (o : Option Place) (line stamp : ℕ) → option_map (λ (r : Resident). r.line) (option_map (λ (p : Place). let r : Resident = record { line = p.line; rmid = p.rmid } in r) o) ≡ Some line → option_map_or (λ (p : Place). p.used) (option_map (λ (p : Place). record p { used = stamp }) o) 0 ≡ stamp
-new_stamp None line stamp h = elim (none-some line h) [ ]
-new_stamp (Some p) line stamp h = refl
+option_map_or-new_stamp : (o : Option Place) (line stamp : ℕ) → option_map (λ (r : Resident). r.line) (option_map (λ (p : Place). let r : Resident = record { line = p.line; rmid = p.rmid } in r) o) ≡ Some line → option_map_or (λ (p : Place). p.used) (option_map (λ (p : Place). record p { used = stamp }) o) 0 ≡ stamp
+option_map_or-new_stamp None line stamp h = elim (none-some line h) [ ]
+option_map_or-new_stamp (Some p) line stamp h = refl
 
 -- the place that an access fills or looks for
 abbrev pub touching : Tag → ℕ → ℕ → Place
@@ -34,70 +34,70 @@ abbrev touched_state : CacheValue → ℕ → List (Option Place) → CacheValue
 touched_state old line changed = record { shape = old.shape; rmids = old.rmids; places = slice_set old.places (line % old.shape.sets) changed; floor = old.floor; clock = old.clock + 1 }
 
 -- a hit adds its entry
-hit_adds : (old : CacheValue) (tag : Tag) (line way : ℕ) (changed : List (Option Place))
+Adds-hit : (old : CacheValue) (tag : Tag) (line way : ℕ) (changed : List (Option Place))
     → IsFormed old.shape old.rmids old.clock old.places → IsOwn old.shape (line % old.shape.sets) → old.floor ≤ tag.epoch
     → Touches (set_in old.places (line % old.shape.sets)) changed tag.mask (touching tag line old.clock) (Hit way)
     → Adds old (touched_state old line changed) tag.epoch (Access tag.owner tag.rmid tag.mask line true way)
-hit_adds old tag line way changed formed own late touched thread op history stands =
+Adds-hit old tag line way changed formed own late touched thread op history stands =
     let s0 : ℕ = line % old.shape.sets in
     let places : List (Option Place) = set_in old.places s0 in
-    let full : length places ≡ old.shape.ways = own_width old s0 formed own in
+    let full : length places ≡ old.shape.ways = length-set_in_own old s0 formed own in
     let marked : Option Place = option_map (λ (p : Place). record p { used = old.clock }) (place_in places way) in
     let read : (w : ℕ) → place_in changed w ≡ cond (way == w) marked (place_in places w) = λ w. ap (λ ps. place_in ps w) touched.2 ∙ get_or-set places way w marked None touched.0 in
     let within : way < old.shape.ways = subst (λ n. way < n) full touched.0 in
-    adds_use old changed history thread op tag.epoch tag.owner tag.rmid tag.mask line way true formed own
+    StandsFor-use old changed history thread op tag.epoch tag.owner tag.rmid tag.mask line way true formed own
     (λ w. elim (cases_Bool (way == w)) [
-      | inl h ↦ ap res (read w ∙ cond-true (way == w) marked (place_in places w) h) ∙ (same_resident (place_in places way) old.clock ∙ ap (λ k. resident_in places k) (eqb-true way w h))
+      | inl h ↦ ap res (read w ∙ cond-true (way == w) marked (place_in places w) h) ∙ (option_map-new_stamp (place_in places way) old.clock ∙ ap (λ k. resident_in places k) (eqb-true way w h))
       | inr h ↦ ap res (read w ∙ cond-false (way == w) marked (place_in places w) h)
     ])
-    (λ w. ap stamp (read w) ∙ (cond_under stamp (way == w) marked (place_in places w) ∙ ap (λ k. cond (way == w) k (stamp_in places w)) (new_stamp (place_in places way) line old.clock touched.1)))
+    (λ w. ap stamp (read w) ∙ (cond-under stamp (way == w) marked (place_in places w) ∙ ap (λ k. cond (way == w) k (stamp_in places w)) (option_map_or-new_stamp (place_in places way) line old.clock touched.1)))
     stands
     (omega (arith, late, stands.floor), (within, subst (λ (o : Option Resident). option_map (λ (r : Resident). r.line) o ≡ Some line) (stands.holds s0 way own within) touched.1))
 
 -- a fill adds its entry
-fill_adds : (old : CacheValue) (tag : Tag) (line way : ℕ) (changed : List (Option Place))
+Adds-fill : (old : CacheValue) (tag : Tag) (line way : ℕ) (changed : List (Option Place))
     → IsFormed old.shape old.rmids old.clock old.places → IsOwn old.shape (line % old.shape.sets) → old.floor ≤ tag.epoch
     → Touches (set_in old.places (line % old.shape.sets)) changed tag.mask (touching tag line old.clock) (Filled way)
     → Adds old (touched_state old line changed) tag.epoch (Access tag.owner tag.rmid tag.mask line false way)
-fill_adds old tag line way changed formed own late touched thread op history stands =
+Adds-fill old tag line way changed formed own late touched thread op history stands =
     let s0 : ℕ = line % old.shape.sets in
     let m : Shape = old.shape in
     let places : List (Option Place) = set_in old.places s0 in
-    let full : length places ≡ m.ways = own_width old s0 formed own in
+    let full : length places ≡ m.ways = length-set_in_own old s0 formed own in
     let put : Option Place = Some (touching tag line old.clock) in
     let victim : IsVictim (length places) tag.mask (resident_in places) (stamp_in places) way = touched.1 in
     let read : (w : ℕ) → place_in changed w ≡ cond (way == w) put (place_in places w) = λ w. ap (λ ps. place_in ps w) touched.2 ∙ get_or-set places way w put None victim.within in
     let same : (w : ℕ) → w < m.ways → resident_in places w ≡ held m history s0 w = λ w l. stands.holds s0 w own l in
-    adds_use old changed history thread op tag.epoch tag.owner tag.rmid tag.mask line way false formed own
-    (λ w. ap res (read w) ∙ cond_under res (way == w) put (place_in places w))
-    (λ w. ap stamp (read w) ∙ cond_under stamp (way == w) put (place_in places w))
+    StandsFor-use old changed history thread op tag.epoch tag.owner tag.rmid tag.mask line way false formed own
+    (λ w. ap res (read w) ∙ cond-under res (way == w) put (place_in places w))
+    (λ w. ap stamp (read w) ∙ cond-under stamp (way == w) put (place_in places w))
     stands (
       omega (arith, late, stands.floor),
       (
         (λ w l h. touched.0 w (subst (λ (o : Option Resident). option_map (λ (r : Resident). r.line) o ≡ Some line) (sym (same w l)) h)),
-        victim_moves m.ways tag.mask (resident_in places) (held m history s0) (stamp_in places) (used m history s0) way same
+        IsVictim-same_order m.ways tag.mask (resident_in places) (held m history s0) (stamp_in places) (used m history s0) way same
             (λ v w lv lw fv fw. stands.ages s0 v w own lv lw fv fw)
             (subst (λ n. IsVictim n tag.mask (resident_in places) (stamp_in places) way) full victim),
       ),
     )
 
 -- what an access does to its set is one entry more
-pub touches_adds : (old : CacheValue) (tag : Tag) (line : ℕ) (changed : List (Option Place)) (answer : Touched)
+pub Accesses-touches : (old : CacheValue) (tag : Tag) (line : ℕ) (changed : List (Option Place)) (answer : Touched)
     → IsFormed old.shape old.rmids old.clock old.places → IsOwn old.shape (line % old.shape.sets) → old.floor ≤ tag.epoch
     → Touches (set_in old.places (line % old.shape.sets)) changed tag.mask (touching tag line old.clock) answer
     → Accesses old (touched_state old line changed) tag line answer
-touches_adds old tag line changed (Hit way) formed own late touched = hit_adds old tag line way changed formed own late touched
-touches_adds old tag line changed (Filled way) formed own late touched = fill_adds old tag line way changed formed own late touched
-touches_adds old tag line changed (Stale floor) formed own late touched = absurd touched
+Accesses-touches old tag line changed (Hit way) formed own late touched = Adds-hit old tag line way changed formed own late touched
+Accesses-touches old tag line changed (Filled way) formed own late touched = Adds-fill old tag line way changed formed own late touched
+Accesses-touches old tag line changed (Stale floor) formed own late touched = absurd touched
 
 -- the same, as the code reads the set
-pub access_adds : (old : CacheValue) (set : ℕ) (tag : Tag) (line : ℕ) (chosen changed : List (Option Place)) (answer : Touched)
+pub Accesses-chosen_set : (old : CacheValue) (set : ℕ) (tag : Tag) (line : ℕ) (chosen changed : List (Option Place)) (answer : Touched)
     → set ≡ line % old.shape.sets → chosen ≡ set_in old.places set
     → IsFormed old.shape old.rmids old.clock old.places → IsOwn old.shape (line % old.shape.sets) → old.floor ≤ tag.epoch
     → Touches chosen changed tag.mask (touching tag line old.clock) answer
     → Accesses old (record { shape = old.shape; rmids = old.rmids; places = slice_set old.places set changed; floor = old.floor; clock = old.clock + 1 }) tag line answer
-access_adds old set tag line chosen changed answer at is formed own late touched =
+Accesses-chosen_set old set tag line chosen changed answer at is formed own late touched =
     let P : ℕ → Type 0 = λ k. Accesses old (record { shape = old.shape; rmids = old.rmids; places = slice_set old.places k changed; floor = old.floor; clock = old.clock + 1 }) tag line answer in
     subst P (sym at)
-    (touches_adds old tag line changed answer formed own late
+    (Accesses-touches old tag line changed answer formed own late
     (subst (λ k. Touches (set_in old.places k) changed tag.mask (touching tag line old.clock) answer) at (subst (λ ps. Touches ps changed tag.mask (touching tag line old.clock) answer) is touched)))

@@ -9,14 +9,14 @@ use Rattle.cache_core.specs.Fills.{Resident}
 use Rattle.cache_core.specs.History.{lines_of, decides, uses, sets_floor, floor_of, EntryMayFollow}
 use Rattle.cache_core.specs.Places.{set_in, place_in, resident_in, CacheValue}
 use Rattle.cache_core.specs.Stands.{StandsFor, entry, Adds}
-use Rattle.cache_core.proofs.Histories.{held-push, used-push, floor_of-push, IsLegal-push}
+use Rattle.cache_core.proofs.laws.Histories.{held-push, used-push, floor_of-push, IsLegal-push}
 use Rattle.cache_core.proofs.KeptPlaces.{res}
 
 -- an entry that changes no place and uses none
-quiet_adds : (old : CacheValue) (history : List SliceEntry) (e : SliceEntry) (floor clock : ℕ) → ((set way : ℕ) → decides old.shape set way e.what ≡ false) → ((set way : ℕ) → uses old.shape set way e.what ≡ false)
+StandsFor-quiet : (old : CacheValue) (history : List SliceEntry) (e : SliceEntry) (floor clock : ℕ) → ((set way : ℕ) → decides old.shape set way e.what ≡ false) → ((set way : ℕ) → uses old.shape set way e.what ≡ false)
     → EntryMayFollow old.shape history e → floor ≡ max (floor_of history) (cond (sets_floor e.what) e.epoch 0) → clock ≤ length history + 1
     → StandsFor old history → StandsFor (record { shape = old.shape; rmids = old.rmids; places = old.places; floor = floor; clock = clock }) (history ++ e ∷ [])
-quiet_adds old history e floor clock keeps idle may is most stands = record {
+StandsFor-quiet old history e floor clock keeps idle may is most stands = record {
   legal = IsLegal-push old.shape history e stands.legal may;
   holds = λ s w ls lw. rw (held-push old.shape history e s w, keeps s w) (stands.holds s w ls lw);
   ages = λ s v w ls lv lw fv fw. rw (used-push old.shape history e s v, used-push old.shape history e s w, idle s v, idle s w) (stands.ages s v w ls lv lw fv fw);
@@ -25,19 +25,19 @@ quiet_adds old history e floor clock keeps idle may is most stands = record {
 }
 
 -- a raise sets the floor
-pub raise_adds : (old : CacheValue) (epoch : ℕ) → old.floor ≤ epoch → Adds old (record { shape = old.shape; rmids = old.rmids; places = old.places; floor = epoch; clock = old.clock + 1 }) epoch Raise
-raise_adds old epoch late thread op history stands =
-    quiet_adds old history (entry thread op epoch Raise) epoch (old.clock + 1) (λ _ _. refl) (λ _ _. refl) (omega (arith, late, stands.floor)) (omega (arith, late, stands.floor)) (omega (arith, stands.clock)) stands
+pub Adds-raise : (old : CacheValue) (epoch : ℕ) → old.floor ≤ epoch → Adds old (record { shape = old.shape; rmids = old.rmids; places = old.places; floor = epoch; clock = old.clock + 1 }) epoch Raise
+Adds-raise old epoch late thread op history stands =
+    StandsFor-quiet old history (entry thread op epoch Raise) epoch (old.clock + 1) (λ _ _. refl) (λ _ _. refl) (omega (arith, late, stands.floor)) (omega (arith, late, stands.floor)) (omega (arith, stands.clock)) stands
 
 -- a look changes nothing
-pub look_adds : (old : CacheValue) (epoch rmid lines : ℕ) → ((history : List SliceEntry) → StandsFor old history → lines ≡ lines_of old.shape history rmid) → Adds old old epoch (Look rmid lines)
-look_adds old epoch rmid lines counts thread op history stands =
-    quiet_adds old history (entry thread op epoch (Look rmid lines)) old.floor old.clock (λ _ _. refl) (λ _ _. refl) (counts history stands) (omega (arith, stands.floor)) (omega (arith, stands.clock)) stands
+pub Adds-look : (old : CacheValue) (epoch rmid lines : ℕ) → ((history : List SliceEntry) → StandsFor old history → lines ≡ lines_of old.shape history rmid) → Adds old old epoch (Look rmid lines)
+Adds-look old epoch rmid lines counts thread op history stands =
+    StandsFor-quiet old history (entry thread op epoch (Look rmid lines)) old.floor old.clock (λ _ _. refl) (λ _ _. refl) (counts history stands) (omega (arith, stands.floor)) (omega (arith, stands.clock)) stands
 
 -- a flush empties every place
-pub flush_adds : (old : CacheValue) (places : List (List (Option Place))) (epoch : ℕ) → old.floor ≤ epoch → ((s w : ℕ) → place_in (set_in places s) w ≡ None)
+pub Adds-flush : (old : CacheValue) (places : List (List (Option Place))) (epoch : ℕ) → old.floor ≤ epoch → ((s w : ℕ) → place_in (set_in places s) w ≡ None)
     → Adds old (record { shape = old.shape; rmids = old.rmids; places = places; floor = epoch; clock = old.clock + 1 }) epoch Flush
-flush_adds old places epoch late empty thread op history stands =
+Adds-flush old places epoch late empty thread op history stands =
     let e : SliceEntry = entry thread op epoch Flush in
     let none : (s w : ℕ) → resident_in (set_in places s) w ≡ None = λ s w. ap res (empty s w) in
     record {
@@ -46,4 +46,16 @@ flush_adds old places epoch late empty thread op history stands =
       ages = λ s v w ls lv lw fv fw. elim (false≢true (subst (λ (o : Option Resident). IsSome o) (none s v) fv)) [ ];
       floor = omega (arith, late, stands.floor) ∙ sym (floor_of-push history e);
       clock = rw length_push (omega (arith, stands.clock));
+    }
+
+-- an empty cache stands for no entry
+pub StandsFor-empty : (cache : CacheValue) → ((s w : ℕ) → place_in (set_in cache.places s) w ≡ None) → cache.floor ≡ 0 → cache.clock ≡ 0 → StandsFor cache []
+StandsFor-empty cache empty floor clock =
+    let none : (s w : ℕ) → resident_in (set_in cache.places s) w ≡ None = λ s w. ap res (empty s w) in
+    record {
+      legal = tt;
+      holds = λ s w ls lw. none s w;
+      ages = λ s v w ls lv lw fv fw. elim (false≢true (subst (λ (o : Option Resident). IsSome o) (none s v) fv)) [ ];
+      floor = floor;
+      clock = omega (arith, clock);
     }

@@ -19,63 +19,64 @@ abbrev AllFit : ℕ → ℕ → List (Option Place) → Type 0
 AllFit rmids clock places = (w : ℕ) → IfSome (place_in places w) (IsFit rmids clock)
 
 -- either of two that fit
-either_fits : (rmids clock : ℕ) (b : Bool) (x y : Option Place) → IfSome x (IsFit rmids clock) → IfSome y (IsFit rmids clock) → IfSome (cond b x y) (IsFit rmids clock)
-either_fits rmids clock true x y h k = h
-either_fits rmids clock false x y h k = k
+IfSome-cond : (rmids clock : ℕ) (b : Bool) (x y : Option Place) → IfSome x (IsFit rmids clock) → IfSome y (IsFit rmids clock) → IfSome (cond b x y) (IsFit rmids clock)
+IfSome-cond rmids clock true x y h k = h
+IfSome-cond rmids clock false x y h k = k
 
 -- what fits still fits later
-later_fits : (rmids clock : ℕ) (o : Option Place) → IfSome o (IsFit rmids clock) → IfSome o (IsFit rmids (clock + 1))
-later_fits rmids clock None h = tt
-later_fits rmids clock (Some p) h = (omega (arith, h.0), h.1)
+IfSome-later : (rmids clock : ℕ) (o : Option Place) → IfSome o (IsFit rmids clock) → IfSome o (IsFit rmids (clock + 1))
+IfSome-later rmids clock None h = tt
+IfSome-later rmids clock (Some p) h = (omega (arith, h.0), h.1)
 
 -- a place that is used now fits
-marked_fits : (rmids clock : ℕ) (o : Option Place) → IfSome o (IsFit rmids clock) → IfSome (option_map (λ (p : Place). record p { used = clock }) o) (IsFit rmids (clock + 1))
-marked_fits rmids clock None h = tt
-marked_fits rmids clock (Some p) h = (omega arith, h.1)
+IfSome-marked : (rmids clock : ℕ) (o : Option Place) → IfSome o (IsFit rmids clock) → IfSome (option_map (λ (p : Place). record p { used = clock }) o) (IsFit rmids (clock + 1))
+IfSome-marked rmids clock None h = tt
+IfSome-marked rmids clock (Some p) h = (omega arith, h.1)
 
 -- a stamp and an RMID that fit
-both_fit : (rmids clock : ℕ) (o : Option Place) → IfSome o (λ p. p.used < clock) → IfSome o (λ p. p.rmid < rmids) → IfSome o (IsFit rmids clock)
-both_fit rmids clock None h k = tt
-both_fit rmids clock (Some p) h k = (h, k)
+IfSome-both : (rmids clock : ℕ) (o : Option Place) → IfSome o (λ p. p.used < clock) → IfSome o (λ p. p.rmid < rmids) → IfSome o (IsFit rmids clock)
+IfSome-both rmids clock None h k = tt
+IfSome-both rmids clock (Some p) h k = (h, k)
 
-used_fits : (rmids clock : ℕ) (o : Option Place) → IfSome o (IsFit rmids clock) → IfSome o (λ p. p.used < clock)
-used_fits rmids clock None h = tt
-used_fits rmids clock (Some p) h = h.0
+-- a place that fits has a stamp below the clock
+IfSome-used : (rmids clock : ℕ) (o : Option Place) → IfSome o (IsFit rmids clock) → IfSome o (λ p. p.used < clock)
+IfSome-used rmids clock None h = tt
+IfSome-used rmids clock (Some p) h = h.0
 
 -- and its RMID
-rmid_fits : (rmids clock : ℕ) (o : Option Place) → IfSome o (IsFit rmids clock) → IfSome o (λ p. p.rmid < rmids)
-rmid_fits rmids clock None h = tt
-rmid_fits rmids clock (Some p) h = h.1
+IfSome-rmid : (rmids clock : ℕ) (o : Option Place) → IfSome o (IsFit rmids clock) → IfSome o (λ p. p.rmid < rmids)
+IfSome-rmid rmids clock None h = tt
+IfSome-rmid rmids clock (Some p) h = h.1
 
 -- a way is changed
-put_fits : (rmids clock : ℕ) (old : List (Option Place)) (way : ℕ) (o : Option Place) → way < length old → AllFit rmids clock old → IfSome o (IsFit rmids (clock + 1)) → AllFit rmids (clock + 1) (slice_set old way o)
-put_fits rmids clock old way o within fit new w =
-    subst (λ (p : Option Place). IfSome p (IsFit rmids (clock + 1))) (sym (get_or-set old way w o None within)) (either_fits rmids (clock + 1) (way == w) o (place_in old w) new (later_fits rmids clock (place_in old w) (fit w)))
+AllFit-slice_set : (rmids clock : ℕ) (old : List (Option Place)) (way : ℕ) (o : Option Place) → way < length old → AllFit rmids clock old → IfSome o (IsFit rmids (clock + 1)) → AllFit rmids (clock + 1) (slice_set old way o)
+AllFit-slice_set rmids clock old way o within fit new w =
+    subst (λ (p : Option Place). IfSome p (IsFit rmids (clock + 1))) (sym (get_or-set old way w o None within)) (IfSome-cond rmids (clock + 1) (way == w) o (place_in old w) new (IfSome-later rmids clock (place_in old w) (fit w)))
 
 -- an access leaves its set fit
-touched_fits : (rmids clock mask : ℕ) (place : Place) (old changed : List (Option Place)) (answer : Touched) → place.used ≡ clock → place.rmid < rmids
+AllFit-touches : (rmids clock mask : ℕ) (place : Place) (old changed : List (Option Place)) (answer : Touched) → place.used ≡ clock → place.rmid < rmids
     → AllFit rmids clock old → Touches old changed mask place answer → (length changed ≡ length old) × AllFit rmids (clock + 1) changed
-touched_fits rmids clock mask place old changed (Hit way) now named fit t =
+AllFit-touches rmids clock mask place old changed (Hit way) now named fit t =
     let marked : Option Place = option_map (λ (p : Place). record p { used = place.used }) (place_in old way) in
-    let is : IfSome marked (IsFit rmids (clock + 1)) = subst (λ n. IfSome (option_map (λ (p : Place). record p { used = n }) (place_in old way)) (IsFit rmids (clock + 1))) (sym now) (marked_fits rmids clock (place_in old way) (fit way)) in
-    (ap length t.2 ∙ length-set old way marked, subst (λ ps. AllFit rmids (clock + 1) ps) (sym t.2) (put_fits rmids clock old way marked t.0 fit is))
-touched_fits rmids clock mask place old changed (Filled way) now named fit t =
+    let is : IfSome marked (IsFit rmids (clock + 1)) = subst (λ n. IfSome (option_map (λ (p : Place). record p { used = n }) (place_in old way)) (IsFit rmids (clock + 1))) (sym now) (IfSome-marked rmids clock (place_in old way) (fit way)) in
+    (ap length t.2 ∙ length-set old way marked, subst (λ ps. AllFit rmids (clock + 1) ps) (sym t.2) (AllFit-slice_set rmids clock old way marked t.0 fit is))
+AllFit-touches rmids clock mask place old changed (Filled way) now named fit t =
     let is : IfSome (Some place) (IsFit rmids (clock + 1)) = (omega (arith, now), named) in
-    (ap length t.2 ∙ length-set old way (Some place), subst (λ ps. AllFit rmids (clock + 1) ps) (sym t.2) (put_fits rmids clock old way (Some place) t.1.within fit is))
-touched_fits rmids clock mask place old changed (Stale floor) now named fit t = absurd t
+    (ap length t.2 ∙ length-set old way (Some place), subst (λ ps. AllFit rmids (clock + 1) ps) (sym t.2) (AllFit-slice_set rmids clock old way (Some place) t.1.within fit is))
+AllFit-touches rmids clock mask place old changed (Stale floor) now named fit t = absurd t
 
 -- an access leaves the cache formed
-pub formed_after : (shape : Shape) (rmids clock : ℕ) (places : List (List (Option Place))) (s mask : ℕ) (place : Place) (chosen changed : List (Option Place)) (answer : Touched)
+pub IsFormed-slice_set : (shape : Shape) (rmids clock : ℕ) (places : List (List (Option Place))) (s mask : ℕ) (place : Place) (chosen changed : List (Option Place)) (answer : Touched)
     → IsFormed shape rmids clock places → s < shape.sets → chosen ≡ set_in places s → place.used ≡ clock → place.rmid < rmids → Touches chosen changed mask place answer
     → IsFormed shape rmids (clock + 1) (slice_set places s changed)
-formed_after shape rmids clock places s mask place chosen changed answer formed within is now named t =
+IsFormed-slice_set shape rmids clock places s mask place chosen changed answer formed within is now named t =
     let inside : s < length places = rw formed.count within in
-    let fit : (s : ℕ) → AllFit rmids clock (set_in places s) = λ s w. both_fit rmids clock (place_in (set_in places s) w) (formed.stamped s w) (formed.named s w) in
-    let after : (length changed ≡ length chosen) × AllFit rmids (clock + 1) changed = touched_fits rmids clock mask place chosen changed answer now named (subst (λ ps. AllFit rmids clock ps) (sym is) (fit s)) t in
+    let fit : (s : ℕ) → AllFit rmids clock (set_in places s) = λ s w. IfSome-both rmids clock (place_in (set_in places s) w) (formed.stamped s w) (formed.named s w) in
+    let after : (length changed ≡ length chosen) × AllFit rmids (clock + 1) changed = AllFit-touches rmids clock mask place chosen changed answer now named (subst (λ ps. AllFit rmids clock ps) (sym is) (fit s)) t in
     let width : length changed ≡ length (set_in places s) = after.0 ∙ ap length is in
     let read : (k : ℕ) → set_in (slice_set places s changed) k ≡ cond (s == k) changed (set_in places k) = λ k. get_or-set places s k changed [] inside in
     let all : (k : ℕ) → AllFit rmids (clock + 1) (set_in (slice_set places s changed) k) = λ k w.
-    subst (λ ps. IfSome (place_in ps w) (IsFit rmids (clock + 1))) (sym (read k)) (one (s == k) w changed (set_in places k) (after.1 w) (later_fits rmids clock (place_in (set_in places k) w) (fit k w))) in
+    subst (λ ps. IfSome (place_in ps w) (IsFit rmids (clock + 1))) (sym (read k)) (one (s == k) w changed (set_in places k) (after.1 w) (IfSome-later rmids clock (place_in (set_in places k) w) (fit k w))) in
     record {
       count = length-set places s changed ∙ formed.count;
       widths = λ k l.
@@ -84,8 +85,8 @@ formed_after shape rmids clock places s mask place chosen changed answer formed 
             | inl here ↦ rw here (width ∙ ap (λ j. length (set_in places j)) (eqb-true s k here))
             | inr there ↦ rw there refl
           ]) ∙ formed.widths k l);
-      stamped = λ k w. used_fits rmids (clock + 1) (place_in (set_in (slice_set places s changed) k) w) (all k w);
-      named = λ k w. rmid_fits rmids (clock + 1) (place_in (set_in (slice_set places s changed) k) w) (all k w);
+      stamped = λ k w. IfSome-used rmids (clock + 1) (place_in (set_in (slice_set places s changed) k) w) (all k w);
+      named = λ k w. IfSome-rmid rmids (clock + 1) (place_in (set_in (slice_set places s changed) k) w) (all k w);
     }
   where
     one : (b : Bool) (w : ℕ) (x y : List (Option Place)) → IfSome (place_in x w) (IsFit rmids (clock + 1)) → IfSome (place_in y w) (IsFit rmids (clock + 1)) → IfSome (place_in (cond b x y) w) (IsFit rmids (clock + 1))

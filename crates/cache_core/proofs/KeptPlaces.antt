@@ -19,17 +19,17 @@ get_or-set xs i j y d h =
     ]
 
 -- a function of one of two values
-pub cond_under : {X Y : Type 0} (f : X → Y) (b : Bool) (x y : X) → f (cond b x y) ≡ cond b (f x) (f y)
-cond_under f true x y = refl
-cond_under f false x y = refl
+pub cond-under : {X Y : Type 0} (f : X → Y) (b : Bool) (x y : X) → f (cond b x y) ≡ cond b (f x) (f y)
+cond-under f true x y = refl
+cond-under f false x y = refl
 
 -- an own set has every way
-pub own_width : (cache : CacheValue) (set : ℕ) → IsFormed cache.shape cache.rmids cache.clock cache.places → IsOwn cache.shape set → length (set_in cache.places set) ≡ cache.shape.ways
-own_width cache set formed own = formed.widths set own.0 ∙ cond-true (is_own cache.shape set) cache.shape.ways 0 (eq-eqb (set % cache.shape.slices) cache.shape.slice own.1)
+pub length-set_in_own : (cache : CacheValue) (set : ℕ) → IsFormed cache.shape cache.rmids cache.clock cache.places → IsOwn cache.shape set → length (set_in cache.places set) ≡ cache.shape.ways
+length-set_in_own cache set formed own = formed.widths set own.0 ∙ cond-true (is_own cache.shape set) cache.shape.ways 0 (eq-eqb (set % cache.shape.slices) cache.shape.slice own.1)
 
 -- a set of another slice has no way
-pub other_width : (cache : CacheValue) (set : ℕ) → IsFormed cache.shape cache.rmids cache.clock cache.places → set < cache.shape.sets → is_own cache.shape set ≡ false → length (set_in cache.places set) ≡ 0
-other_width cache set formed inside other = formed.widths set inside ∙ cond-false (is_own cache.shape set) cache.shape.ways 0 other
+pub length-set_in_other : (cache : CacheValue) (set : ℕ) → IsFormed cache.shape cache.rmids cache.clock cache.places → set < cache.shape.sets → is_own cache.shape set ≡ false → length (set_in cache.places set) ≡ 0
+length-set_in_other cache set formed inside other = formed.widths set inside ∙ cond-false (is_own cache.shape set) cache.shape.ways 0 other
 
 -- the line and RMID of a place
 abbrev pub res : Option Place → Option Resident

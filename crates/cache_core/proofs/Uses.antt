@@ -12,23 +12,23 @@ use Rattle.cache_core.specs.Fills.{Resident, IsVictim}
 use Rattle.cache_core.specs.History.{Shape, IsOwn, held, used, MayHappen}
 use Rattle.cache_core.specs.Places.{IsFormed, set_in, resident_in, stamp_in, CacheValue}
 use Rattle.cache_core.specs.Stands.{StandsFor, entry}
-use Rattle.cache_core.proofs.Histories.{held-push, used-push, used-le, floor_of-push, IsLegal-push}
-use Rattle.cache_core.proofs.KeptPlaces.{cond_under, get_or-set}
+use Rattle.cache_core.proofs.laws.Histories.{held-push, used-push, used-le, floor_of-push, IsLegal-push}
+use Rattle.cache_core.proofs.KeptPlaces.{cond-under, get_or-set}
 
 -- ages after a use: the used one is the youngest
-pub ages_step : (a b : Bool) (sv sw uv uw clock len : ℕ) → (a ≡ false → sv < clock) → (b ≡ false → sw < clock) → uv ≤ len → uw ≤ len
+pub le-after_use : (a b : Bool) (sv sw uv uw clock len : ℕ) → (a ≡ false → sv < clock) → (b ≡ false → sw < clock) → uv ≤ len → uw ≤ len
     → (a ≡ false → b ≡ false → (sv ≤ sw) ↔ (uv ≤ uw))
     → (cond a clock sv ≤ cond b clock sw) ↔ (cond a (len + 1) uv ≤ cond b (len + 1) uw)
-ages_step true true sv sw uv uw clock len _ _ _ _ _ = (λ _. omega arith, λ _. omega arith)
-ages_step true false sv sw uv uw clock len _ hw _ k _ = let h = hw refl in (λ l. absurd (omega arith), λ l. absurd (omega arith))
-ages_step false true sv sw uv uw clock len hv _ k _ _ = let h = hv refl in (λ _. omega arith, λ _. omega arith)
-ages_step false false sv sw uv uw clock len _ _ _ _ same = same refl refl
+le-after_use true true sv sw uv uw clock len _ _ _ _ _ = (λ _. omega arith, λ _. omega arith)
+le-after_use true false sv sw uv uw clock len _ hw _ k _ = let h = hw refl in (λ l. absurd (omega arith), λ l. absurd (omega arith))
+le-after_use false true sv sw uv uw clock len hv _ k _ _ = let h = hv refl in (λ _. omega arith, λ _. omega arith)
+le-after_use false false sv sw uv uw clock len _ _ _ _ same = same refl refl
 
 -- a victim by what the cache keeps is a victim by the history
-pub victim_moves : (n mask : ℕ) (f g : ℕ → Option Resident) (age born : ℕ → ℕ) (way : ℕ) → ((w : ℕ) → w < n → f w ≡ g w)
+pub IsVictim-same_order : (n mask : ℕ) (f g : ℕ → Option Resident) (age born : ℕ → ℕ) (way : ℕ) → ((w : ℕ) → w < n → f w ≡ g w)
     → ((v w : ℕ) → v < n → w < n → IsSome (f v) → IsSome (f w) → (age v ≤ age w) ↔ (born v ≤ born w))
     → IsVictim n mask f age way → IsVictim n mask g born way
-victim_moves n mask f g age born way same order v =
+IsVictim-same_order n mask f g age born way same order v =
     let here : f way ≡ g way = same way v.within in
     let there : (w : ℕ) → w < n → IsSome (f w) → IsSome (g w) = λ w h s. subst (λ (o : Option Resident). IsSome o) (same w h) s in
     let full : IsSome (g way) → IsSome (f way) = λ s. subst (λ (o : Option Resident). IsSome o) (sym here) s in
@@ -48,38 +48,38 @@ victim_moves n mask f g age born way same order v =
     }
 
 -- either of two that are the same
-cond_same : {X : Type 0} (b : Bool) (x : X) → cond b x x ≡ x
-cond_same true x = refl
-cond_same false x = refl
+cond-same : {X : Type 0} (b : Bool) (x : X) → cond b x x ≡ x
+cond-same true x = refl
+cond-same false x = refl
 
 -- what a place holds, where one set was changed
-holds_step : (here hit there : Bool) (new new' old : Option Resident) (r : Resident) → (here ≡ true → new ≡ cond (not hit && there) (Some r) old) → (here ≡ false → new' ≡ old)
+cond-changed_set : (here hit there : Bool) (new new' old : Option Resident) (r : Resident) → (here ≡ true → new ≡ cond (not hit && there) (Some r) old) → (here ≡ false → new' ≡ old)
     → cond here new new' ≡ cond (not hit && here && there) (Some r) old
-holds_step true true there new new' old r h _ = h refl
-holds_step true false there new new' old r h _ = h refl
-holds_step false true there new new' old r _ k = k refl
-holds_step false false there new new' old r _ k = k refl
+cond-changed_set true true there new new' old r h _ = h refl
+cond-changed_set true false there new new' old r h _ = h refl
+cond-changed_set false true there new new' old r _ k = k refl
+cond-changed_set false false there new new' old r _ k = k refl
 
 -- a place that was not used was full before
-full_before : (hit there : Bool) (new old : Option Resident) (r : Resident) → new ≡ cond (not hit && there) (Some r) old → IsSome new → there ≡ false → IsSome old
-full_before hit true new old r is some none = elim (true≢false none) [ ]
-full_before true false new old r is some none = subst (λ (o : Option Resident). IsSome o) is some
-full_before false false new old r is some none = subst (λ (o : Option Resident). IsSome o) is some
+IsSome-before : (hit there : Bool) (new old : Option Resident) (r : Resident) → new ≡ cond (not hit && there) (Some r) old → IsSome new → there ≡ false → IsSome old
+IsSome-before hit true new old r is some none = elim (true≢false none) [ ]
+IsSome-before true false new old r is some none = subst (λ (o : Option Resident). IsSome o) is some
+IsSome-before false false new old r is some none = subst (λ (o : Option Resident). IsSome o) is some
 
 -- a full place was used before now
-stamp_below : (o : Option Place) (clock : ℕ) → IsSome (option_map (λ (p : Place). let r : Resident = record { line = p.line; rmid = p.rmid } in r) o) → IfSome o (λ p. p.used < clock) → option_map_or (λ (p : Place). p.used) o 0 < clock
-stamp_below (Some p) clock some h = h
-stamp_below None clock some h = elim (false≢true some) [ ]
+option_map_or-lt_clock : (o : Option Place) (clock : ℕ) → IsSome (option_map (λ (p : Place). let r : Resident = record { line = p.line; rmid = p.rmid } in r) o) → IfSome o (λ p. p.used < clock) → option_map_or (λ (p : Place). p.used) o 0 < clock
+option_map_or-lt_clock (Some p) clock some h = h
+option_map_or-lt_clock None clock some h = elim (false≢true some) [ ]
 
 -- a use of a way of one set adds its entry
-pub adds_use : (old : CacheValue) (changed : List (Option Place)) (history : List SliceEntry) (thread op epoch : ℕ) (owner : Gid) (rmid mask line way : ℕ) (hit : Bool)
+pub StandsFor-use : (old : CacheValue) (changed : List (Option Place)) (history : List SliceEntry) (thread op epoch : ℕ) (owner : Gid) (rmid mask line way : ℕ) (hit : Bool)
     → IsFormed old.shape old.rmids old.clock old.places → IsOwn old.shape (line % old.shape.sets)
     → ((w : ℕ) → resident_in changed w ≡ cond (not hit && (way == w)) (Some (record { line = line; rmid = rmid })) (resident_in (set_in old.places (line % old.shape.sets)) w))
     → ((w : ℕ) → stamp_in changed w ≡ cond (way == w) old.clock (stamp_in (set_in old.places (line % old.shape.sets)) w))
     → StandsFor old history
     → MayHappen old.shape history epoch (Access owner rmid mask line hit way)
     → StandsFor (record { shape = old.shape; rmids = old.rmids; places = slice_set old.places (line % old.shape.sets) changed; floor = old.floor; clock = old.clock + 1 }) (history ++ entry thread op epoch (Access owner rmid mask line hit way) ∷ [])
-adds_use old changed history thread op epoch owner rmid mask line way hit formed own residents stamps stands may =
+StandsFor-use old changed history thread op epoch owner rmid mask line way hit formed own residents stamps stands may =
     let m : Shape = old.shape in
     let e : SliceEntry = entry thread op epoch (Access owner rmid mask line hit way) in
     let s0 : ℕ = line % m.sets in
@@ -91,8 +91,8 @@ adds_use old changed history thread op epoch owner rmid mask line way hit formed
       legal = IsLegal-push m history e stands.legal may;
       holds = λ s w ls lw.
           ap (λ p. resident_in p w) (now s)
-          ∙ (cond_under (λ p. resident_in p w) (s0 == s) changed (set_in old.places s)
-          ∙ (holds_step (s0 == s) hit (way == w) (resident_in changed w) (resident_in (set_in old.places s) w) (held m history s w) r
+          ∙ (cond-under (λ p. resident_in p w) (s0 == s) changed (set_in old.places s)
+          ∙ (cond-changed_set (s0 == s) hit (way == w) (resident_in changed w) (resident_in (set_in old.places s) w) (held m history s w) r
           (λ h. residents w ∙ ap (λ o. cond (not hit && (way == w)) (Some r) o) (ap (λ t. resident_in (set_in old.places t) w) (eqb-true s0 s h) ∙ stands.holds s w ls lw))
           (λ _. stands.holds s w ls lw)
           ∙ sym (held-push m history e s w)));
@@ -103,11 +103,11 @@ adds_use old changed history thread op epoch owner rmid mask line way hit formed
                 let same : s0 ≡ s = eqb-true s0 s h in
                 let here : set_in (slice_set old.places s0 changed) s ≡ changed = now s ∙ cond-true (s0 == s) changed (set_in old.places s) h in
                 let before : (k : ℕ) → IsSome (resident_in (set_in (slice_set old.places s0 changed) s) k) → (way == k) ≡ false → IsSome (resident_in (set_in old.places s0) k) =
-                λ k f none. full_before hit (way == k) (resident_in changed k) (resident_in (set_in old.places s0) k) r (residents k) (subst (λ p. IsSome (resident_in p k)) here f) none in
+                λ k f none. IsSome-before hit (way == k) (resident_in changed k) (resident_in (set_in old.places s0) k) r (residents k) (subst (λ p. IsSome (resident_in p k)) here f) none in
                 rw (h, stamps v, stamps w)
-                (ages_step (way == v) (way == w) (stamp_in (set_in old.places s0) v) (stamp_in (set_in old.places s0) w) (used m history s v) (used m history s w) old.clock (length history)
-                (λ none. stamp_below _ old.clock (before v fv none) (formed.stamped s0 v))
-                (λ none. stamp_below _ old.clock (before w fw none) (formed.stamped s0 w))
+                (le-after_use (way == v) (way == w) (stamp_in (set_in old.places s0) v) (stamp_in (set_in old.places s0) w) (used m history s v) (used m history s w) old.clock (length history)
+                (λ none. option_map_or-lt_clock _ old.clock (before v fv none) (formed.stamped s0 v))
+                (λ none. option_map_or-lt_clock _ old.clock (before w fw none) (formed.stamped s0 w))
                 (used-le m history s v)
                 (used-le m history s w)
                 (λ a b.

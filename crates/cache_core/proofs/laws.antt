@@ -1,4 +1,5 @@
 -- Lemmas that crates above cite.
+pub mod Histories
 pub mod Lines
 pub mod Places
 pub mod Suffixes

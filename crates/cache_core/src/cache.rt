@@ -1,5 +1,5 @@
 //! One slice of a cache.
-ghost use Rattle.std.specs.Prelude.{◌≡◌, ℕ, ◌+◌, ◌%◌, ◌^◌, ◌<◌, ◌≤◌, ◌↔◌, List, [], ◌∷◌, ◌++◌, length, if◌then◌else◌, IfOk, None};
+ghost use Rattle.std.specs.Prelude.{◌≡◌, ℕ, ◌+◌, ◌-◌, ◌%◌, ◌/◌, ◌^◌, ◌<◌, ◌≤◌, ◌↔◌, List, [], ◌∷◌, ◌++◌, length, if◌then◌else◌, IfOk, None};
 ghost use Rattle.machine.specs.Maps.{parameters_of};
 ghost use Rattle.cache_core.specs.declared.entry.SliceEntry.{SliceEntry};
 ghost use Rattle.cache_core.specs.declared.entry.What.TheVariants.{Raise, Flush, Look};
@@ -8,21 +8,26 @@ ghost use Rattle.cache_core.specs.Places.{set_in, place_in};
 ghost use Rattle.cache_core.specs.Stands.{Accesses, Adds, StandsFor, IsStale, Touches, clock_after, entry};
 ghost use Rattle.lists.specs.Sums.{sum_below};
 
-use crate::cache_set::CacheSet;
 use crate::place::Place;
+use crate::sets::Sets;
 use crate::touched::Touched;
+use crate::touching::touch;
 use machine::Machine;
+use occupancy::Counts;
 use rc_base::{NoMemory, Tag};
 use std::alloc::Global;
 use std::marker::Model;
 
 /// One slice of a cache. It stands for the legal lists of entries that leave what it holds: `access`, `raise` and `flush`
-/// each add the one entry that legality allows. `clock` counts these entries.
+/// each add the one entry that legality allows. `clock` counts these entries. `sets` has the slice's own sets alone, set s of
+/// the domain at s >> `shift`, and `counts` how many lines each RMID has in them.
 #[derive(Drop)]
 pub struct Cache {
     machine: Machine,
     slice: u8,
-    sets: Vec<CacheSet>,
+    shift: u32,
+    sets: Sets,
+    counts: Counts,
     floor: u64,
     clock: u64,
 }
@@ -30,13 +35,14 @@ pub struct Cache {
 impl Model for Cache {
     ghost use Rattle.machine.specs.Maps.{parameters_of};
     ghost use Rattle.cache_core.specs.History.{shape_of};
-    ghost use Rattle.cache_core.specs.Places.{IsFormed, CacheValue};
+    ghost use Rattle.cache_core.specs.Kept.{IsKept, spread};
+    ghost use Rattle.cache_core.specs.Places.{CacheValue};
 
     ghost Value = { CacheValue };
 
-    ghost view = { λ c. record { shape = shape_of (parameters_of c.machine) c.slice; rmids = c.machine.rmids; places = c.sets.items; floor = c.floor; clock = c.clock } };
+    ghost view = { λ c. record { shape = shape_of (parameters_of c.machine) c.slice; rmids = c.machine.rmids; places = spread (shape_of (parameters_of c.machine) c.slice) c.sets; floor = c.floor; clock = c.clock } };
 
-    ghost invariant = { λ c. IsFormed (shape_of (parameters_of c.machine) c.slice) c.machine.rmids c.clock c.sets.items };
+    ghost invariant = { λ c. IsKept (shape_of (parameters_of c.machine) c.slice) c.machine.rmids c.clock c.sets c.counts c.shift };
 }
 
 impl Cache {
@@ -52,14 +58,15 @@ impl Cache {
         ensures clock { IfOk result (λ c. c.clock ≡ 0) }
         ensures empty { IfOk result (λ c. StandsFor c []) }
     {
-        let mut sets = Vec::with_capacity(alloc, m.sets as usize)?;
-        for set in 0..m.sets {
-            sets.push_reserved(CacheSet::create(alloc, kept_ways(m, slice, set))?);
-        }
+        let shift = m.slices.trailing_zeros();
+        let sets = Sets::create(alloc, own_sets(m, shift), m.ways)?;
+        let counts = Counts::create(alloc, m.rmids)?;
         Ok(Cache {
             machine: *m,
             slice,
+            shift,
             sets,
+            counts,
             floor: 0,
             clock: 0,
         })
@@ -96,36 +103,27 @@ impl Cache {
         ensures clock { self.new.clock ≡ self.old.clock + 1 }
         ensures entry { Adds self.old self.new epoch Flush }
     {
-        clear_all(&mut self.sets);
+        self.sets.clear();
+        self.counts.clear();
         self.floor = epoch;
         self.clock += 1;
     }
 
     /// How many places hold a line of this RMID, one of the machine (SDM volume 3, cache monitoring: occupancy in lines).
-    #[tactic(auto, using(crate::proofs::Sums::sums))]
     pub fn look(&self, rmid: u16) -> u64
         requires rmid { rmid < self.now.rmids }
         ensures count { (history : List SliceEntry) → StandsFor self.now history → result ≡ lines_of self.now.shape history rmid }
         ensures entry { (epoch : ℕ) → Adds self.now self.now epoch (Look rmid result) }
     {
-        let mut lines = 0;
-        for set in &self.sets {
-            lines += set.lines_of(rmid);
-        }
-        lines
+        self.counts.of(rmid)
     }
 
     /// How many places hold a line, whatever its RMID.
-    #[tactic(auto, using(crate::proofs::Sums::sums))]
     pub fn valid(&self) -> u64
         ensures count { (history : List SliceEntry) → StandsFor self.now history → result ≡ valid_of self.now.shape history }
         ensures sum { (history : List SliceEntry) → StandsFor self.now history → sum_below self.now.rmids (lines_of self.now.shape history) ≡ result }
     {
-        let mut filled = 0;
-        for set in &self.sets {
-            filled += set.filled();
-        }
-        filled
+        self.counts.total()
     }
 
     /// Looks for the line in its set, and fills it into a way of the tag's mask where no way holds it. A tag that is older
@@ -151,47 +149,24 @@ impl Cache {
             used: self.clock,
         };
         self.clock += 1;
-        let set = self.machine.set_of(line) as usize;
-        touch(&mut self.sets[set], tag.mask, place)
+        let set = own_set(&self.machine, self.shift, line);
+        touch(&mut self.sets, &mut self.counts, set, tag.mask, place)
     }
 }
 
-// How many ways of a set a slice keeps: all of an own set, and none of another.
-fn kept_ways(m: &Machine, slice: u8, set: u32) -> u8
-    ensures { result ≡ (if is_own (shape_of (parameters_of m.now) slice) set then m.now.ways else 0) }
+// How many sets a slice has room for.
+fn own_sets(m: &Machine, shift: u32) -> u32
+    requires { shift < 32 }
+    ensures { result ≡ (m.now.sets - 1) / 2 ^ shift + 1 }
 {
-    if m.slice_of(u64::from(set)) == slice {
-        m.ways
-    } else {
-        0
-    }
+    ((m.sets - 1) >> shift) + 1
 }
 
-// Empties each set.
-fn clear_all(sets: &mut Vec<CacheSet>)
-    ensures count { length sets.new.items ≡ length sets.old.items }
-    ensures sizes { (s : ℕ) → length (set_in sets.new.items s) ≡ length (set_in sets.old.items s) }
-    ensures empty { (s w : ℕ) → place_in (set_in sets.new.items s) w ≡ None }
+// The number of a line's set among those of its slice. Sets and slices are powers of two, so that nothing is divided.
+fn own_set(m: &Machine, shift: u32, line: u64) -> u32
+    requires shift { shift < 32 }
+    requires slices { m.now.slices ≡ 2 ^ shift }
+    ensures { result ≡ line % m.now.sets / m.now.slices }
 {
-    for set in sets.iter_mut() {
-        set.clear();
-    }
-}
-
-// Looks for the line of a place in its set, and fills the place into a way of the mask where no way holds the line.
-fn touch(set: &mut CacheSet, mask: u32, place: Place) -> Touched
-    requires { 0 < mask % 2 ^ length set.old }
-    ensures { Touches set.old set.new mask place result }
-{
-    match set.find(place.line) {
-        Some(way) => {
-            set.mark(way, place.used);
-            Touched::Hit { way }
-        }
-        None => {
-            let way = set.victim(mask);
-            set.put(way, place);
-            Touched::Filled { way }
-        }
-    }
+    ((line & u64::from(m.sets - 1)) >> shift) as u32
 }

@@ -2,10 +2,11 @@
 #![tactic(auto)]
 
 pub mod cache;
-mod cache_set;
 pub mod entry;
 pub mod place;
+mod sets;
 pub mod touched;
+mod touching;
 
 pub use cache::Cache;
 pub use entry::{SliceEntry, What};

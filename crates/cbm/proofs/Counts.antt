@@ -9,25 +9,28 @@ use Rattle.lists.proofs.Filters.{list_any-filter, list_any-filter_none}
 use Rattle.cbm.specs.Masks.{has_way, overlaps, ways_of}
 use Rattle.cbm.proofs.laws.Ways.{has_way-bit_and, has_way-from, has_way-one, has_way-zero}
 
-counted : (mask a n : ℕ) → length (filter (has_way (mask / 2)) (range_with_len a n)) ≡ length (filter (has_way mask) (range_with_len (a + 1) n))
-counted mask a zero = refl
-counted mask a (suc n) =
+-- half of a mask has its ways one place lower
+length-filter_half : (mask a n : ℕ) → length (filter (has_way (mask / 2)) (range_with_len a n)) ≡ length (filter (has_way mask) (range_with_len (a + 1) n))
+length-filter_half mask a zero = refl
+length-filter_half mask a (suc n) =
     let same : has_way mask (a + 1) ≡ has_way (mask / 2) a = ap (λ (b : ℕ). eqb b 1) (ap (bit_at mask) (let e : a + 1 ≡ suc a = omega arith in e) ∙ bit_at-suc mask a) in
-    rw same (each (has_way (mask / 2) a) _ _ (counted mask (a + 1) n))
+    rw same (each (has_way (mask / 2) a) _ _ (length-filter_half mask (a + 1) n))
   where
     each : (b : Bool) → (xs ys : List ℕ) → length xs ≡ length ys → length (cond b (a ∷ xs) xs) ≡ length (cond b ((a + 1) ∷ ys) ys)
     each true xs ys e = ap suc e
     each false xs ys e = e
 
-ones-zero : count_ones 0 ≡ 0
+-- zero has no bit that is set
+count_ones-zero : count_ones 0 ≡ 0
 unfolding ones
-ones-zero = refl
+count_ones-zero = refl
 
-count_below : (n mask : ℕ) → mask < 2 ^ n → count_ones mask ≡ length (filter (has_way mask) (range_with_len 0 n))
-count_below zero mask small = ap count_ones (let none : mask ≡ 0 = omega arith in none) ∙ ones-zero
-count_below (suc n) mask small =
+-- a mask below a power of two has as many ways below that power as bits that are set
+count_ones-below : (n mask : ℕ) → mask < 2 ^ n → count_ones mask ≡ length (filter (has_way mask) (range_with_len 0 n))
+count_ones-below zero mask small = ap count_ones (let none : mask ≡ 0 = omega arith in none) ∙ count_ones-zero
+count_ones-below (suc n) mask small =
     let half : mask / 2 < 2 ^ n = omega (arith, pow-suc 2 n) in
-    let rest : count_ones (mask / 2) ≡ length (filter (has_way mask) (range_with_len 1 n)) = count_below n (mask / 2) half ∙ counted mask 0 n in
+    let rest : count_ones (mask / 2) ≡ length (filter (has_way mask) (range_with_len 1 n)) = count_ones-below n (mask / 2) half ∙ length-filter_half mask 0 n in
     ones_step mask ∙ ap (λ (r : ℕ). mask % 2 + r) rest ∙ lowest (mask % 2) (mod-lt mask) (bit_at_lowest mask)
   where
     mod-lt : (m : ℕ) → m % 2 < 2
@@ -41,7 +44,7 @@ count_below (suc n) mask small =
 -- a mask has as many ways as bits that are set
 pub count_ones-ways : (mask : ℕ) → mask < 2 ^ 64 → count_ones mask ≡ length (ways_of mask)
 unfolding ways_of
-count_ones-ways mask small = count_below 64 mask small
+count_ones-ways mask small = count_ones-below 64 mask small
 
 -- ---- two masks
 

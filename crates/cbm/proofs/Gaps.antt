@@ -22,9 +22,9 @@ record IsFirst (p : ℕ → Bool) (a n first : ℕ) (rest : List ℕ) : Type 0 w
   below : (k : ℕ) → a ≤ k → k < first → p k ≡ false
 
 -- either none passes, or one is the first
-none_or_first : (p : ℕ → Bool) (a n : ℕ) → (passing p a n ≡ []) ⊎ ((first : ℕ) × (rest : List ℕ) × IsFirst p a n first rest)
-none_or_first p a zero = inl refl
-none_or_first p a (suc n) = at (p a) refl (none_or_first p (a + 1) n)
+passing-none_or_first : (p : ℕ → Bool) (a n : ℕ) → (passing p a n ≡ []) ⊎ ((first : ℕ) × (rest : List ℕ) × IsFirst p a n first rest)
+passing-none_or_first p a zero = inl refl
+passing-none_or_first p a (suc n) = at (p a) refl (passing-none_or_first p (a + 1) n)
   where
     from_here : p a ≡ false → (k first : ℕ) → ((j : ℕ) → a + 1 ≤ j → j < first → p j ≡ false) → a ≤ k → k < first → p k ≡ false
     from_here fails k first below low high = elim (cases_lt a k) [
@@ -58,9 +58,9 @@ record Fails (p : ℕ → Bool) : Type 0 where
   high_passes : p high ≡ true
 
 -- where the lowest run is shorter than the list, some number fails between two that pass
-some_fails : (p : ℕ → Bool) (a n : ℕ) → length (lowest_run (passing p a n)) < length (passing p a n) → Fails p
-some_fails p a zero h = absurd (omega arith)
-some_fails p a (suc n) h = at (p a) refl h (none_or_first p (a + 1) n) (some_fails p (a + 1) n)
+Fails-shorter : (p : ℕ → Bool) (a n : ℕ) → length (lowest_run (passing p a n)) < length (passing p a n) → Fails p
+Fails-shorter p a zero h = absurd (omega arith)
+Fails-shorter p a (suc n) h = at (p a) refl h (passing-none_or_first p (a + 1) n) (Fails-shorter p (a + 1) n)
   where
     behind : p a ≡ true → (first : ℕ) (rest : List ℕ) → IsFirst p (a + 1) n first rest → length (lowest_run (a ∷ first ∷ rest)) < length (a ∷ first ∷ rest) → (length (lowest_run (first ∷ rest)) < length (first ∷ rest) → Fails p) → Fails p
     behind here first rest f h more = elim (cases_lt (a + 1) first) [
@@ -82,11 +82,11 @@ abbrev FromTheRest : (ℕ → Bool) → ℕ → ℕ → ℕ → Type 0
 FromTheRest p a n mid = lowest_run (passing p (a + 1) n) ≡ passing p (a + 1) n → (from : ℕ) → a + 1 ≤ from → from < mid → p from ≡ true → p mid ≡ true
 
 -- where the lowest run is the whole list, each number between two that pass does too
-all_pass : (p : ℕ → Bool) (a n : ℕ) → lowest_run (passing p a n) ≡ passing p a n → (low mid high : ℕ) → a ≤ low → low < mid → mid < high → high < a + n → p low ≡ true → p high ≡ true → p mid ≡ true
-all_pass p a zero whole low mid high least above under within low_passes high_passes = absurd (omega arith)
-all_pass p a (suc n) whole low mid high least above under within low_passes high_passes =
-    at (p a) refl whole (none_or_first p (a + 1) n)
-    (λ rest from least_from above_from passes. all_pass p (a + 1) n rest from mid high least_from above_from under (omega arith) passes high_passes)
+passing-between : (p : ℕ → Bool) (a n : ℕ) → lowest_run (passing p a n) ≡ passing p a n → (low mid high : ℕ) → a ≤ low → low < mid → mid < high → high < a + n → p low ≡ true → p high ≡ true → p mid ≡ true
+passing-between p a zero whole low mid high least above under within low_passes high_passes = absurd (omega arith)
+passing-between p a (suc n) whole low mid high least above under within low_passes high_passes =
+    at (p a) refl whole (passing-none_or_first p (a + 1) n)
+    (λ rest from least_from above_from passes. passing-between p (a + 1) n rest from mid high least_from above_from under (omega arith) passes high_passes)
   where
     true_false : true ≡ false → ⊥
     true_false e = cc
@@ -124,17 +124,19 @@ all_pass p a (suc n) whole low mid high least above under within low_passes high
 
 -- ---- masks
 
-pub missing : (mask : ℕ) → has_gaps (ways_of mask) ≡ true → Missing mask
+-- a mask with gaps lacks a way between two that it has
+pub Missing-has_gaps : (mask : ℕ) → has_gaps (ways_of mask) ≡ true → Missing mask
 unfolding ways_of
-missing mask h =
-    let f = some_fails (has_way mask) 0 64 (ltb-true (length (lowest_run (ways_of mask))) (length (ways_of mask)) h) in
+Missing-has_gaps mask h =
+    let f = Fails-shorter (has_way mask) 0 64 (ltb-true (length (lowest_run (ways_of mask))) (length (ways_of mask)) h) in
     record { low = f.low; way = f.mid; high = f.high; above_low = f.above; below_high = f.under; has_low = f.low_passes; lacks_way = f.mid_fails; has_high = f.high_passes }
 
-pub gapped : (mask : ℕ) → mask < 2 ^ 64 → Missing mask → has_gaps (ways_of mask) ≡ true
+-- a mask that lacks a way between two that it has has gaps
+pub has_gaps-missing : (mask : ℕ) → mask < 2 ^ 64 → Missing mask → has_gaps (ways_of mask) ≡ true
 unfolding ways_of
-gapped mask small m = elim (cases_lt (length (lowest_run (ways_of mask))) (length (ways_of mask))) [
+has_gaps-missing mask small m = elim (cases_lt (length (lowest_run (ways_of mask))) (length (ways_of mask))) [
   | inl lt ↦ lt-ltb (length (lowest_run (ways_of mask))) (length (ways_of mask)) lt
-  | inr le ↦ absurd (false_true (sym m.lacks_way ∙ all_pass (has_way mask) 0 64 (lowest_run-whole (ways_of mask) le) m.low m.way m.high (omega arith) m.above_low m.below_high (within m.high m.has_high) m.has_low m.has_high))
+  | inr le ↦ absurd (false_true (sym m.lacks_way ∙ passing-between (has_way mask) 0 64 (lowest_run-whole (ways_of mask) le) m.low m.way m.high (omega arith) m.above_low m.below_high (within m.high m.has_high) m.has_low m.has_high))
 ]
   where
     false_true : false ≡ true → ⊥

@@ -1,6 +1,11 @@
+pub mod CpuSets
+pub mod CpuTexts
 pub mod NameLines
 pub mod Masks
+pub mod Needs
 pub mod Ranges
 pub mod Readings
 pub mod Shorts
 pub mod Sizes
+pub mod TaskLines
+pub mod Uses

@@ -1,14 +1,16 @@
 -- What an accepted read or list is of.
-use Rattle.std.proofs.Common.{◌≡◌, Bool, true, false, cond, not, refl, Some, None}
-use Rattle.std.specs.Prelude.{◌&&◌, IsTrue}
+use Rattle.std.proofs.Common.{◌≡◌, ℕ, Bool, true, false, cond, refl, List, Some, None}
+use Rattle.std.specs.Prelude.{IsTrue}
 use Rattle.machine.specs.declared.parameters.Parameters.{Parameters}
 use Rattle.path_names.specs.declared.dirs.DirRef.{DirRef}
+use Rattle.path_names.specs.declared.dirs.DirRef.TheVariants.{MonDomain}
+use Rattle.path_names.specs.declared.dirs.Holder.{Holder}
 use Rattle.path_names.specs.declared.files.FileKind.{FileKind}
 use Rattle.path_names.specs.declared.path_ref.PathRef.{PathRef}
 use Rattle.path_names.specs.declared.path_ref.PathRef.TheVariants.{File}
 use Rattle.rc_base.specs.declared.replies.Why.TheVariants.{NoSuchPath}
+use Rattle.script_ops.specs.Fits.{Fits}
 use Rattle.script_ops.specs.declared.op.Op.TheVariants as ops
-use Rattle.tree_core.specs.Built.{IsBuilt, is_built, is_built_file, is_built_kind, is_of_monitor}
 use Rattle.tree_law.specs.Existing.{is_directory, is_file}
 use Rattle.tree_law.specs.Refusals.{plain}
 use Rattle.tree_law.specs.State.{State}
@@ -43,15 +45,7 @@ is_directory-accepted m s path accepted = at (is_directory s path) accepted
     at true e = refl
     at false e = absurd (let f : Some (plain NoSuchPath) ≡ None = e in cc)
 
--- a read that is built so far is of a file that is built so far
-pub is_built_file-read : (path : PathRef) → IsBuilt (ops.Read path) → IsTrue (is_built_file path)
-unfolding is_built
-is_built_file-read path built = built
-
--- such a file is of a kind that is built so far
-pub is_built_kind-file : (dir : DirRef) (kind : FileKind) → IsTrue (is_built_file (File dir kind)) → IsTrue (is_built_kind kind)
-is_built_kind-file dir kind built = first (is_built_kind kind) (not (is_of_monitor dir)) built
-  where
-    first : (a b : Bool) → IsTrue (a && b) → IsTrue a
-    first true b h = refl
-    first false b h = h
+-- a read of a file that is below no domain's directory fits any machine
+pub Fits-no_domain : (m : Parameters) (tasks : List ℕ) (dir : DirRef) (kind : FileKind) → ((holder : Holder) (domain : ℕ) → dir ≡ MonDomain holder domain → ⊥) → Fits m tasks (ops.Read (File dir kind))
+Fits-no_domain m tasks (MonDomain holder domain) kind other = absurd (other holder domain refl)
+Fits-no_domain m tasks dir kind other = tt

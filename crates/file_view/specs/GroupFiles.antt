@@ -14,7 +14,8 @@ use Rattle.pseudo_lock.specs.declared.region.Region.{Region}
 use Rattle.rc_base.specs.declared.names.Gid.{Gid}
 use Rattle.schemata_text.specs.Printed.{printed}
 use Rattle.schemata_text.specs.declared.assignment.Assignment.{Assignment}
-use Rattle.task_binding.specs.Bindings.{control_members, monitor_members}
+use Rattle.task_binding.specs.Bindings.{control_members, has_control, has_monitor, monitor_members}
+use Rattle.task_binding.specs.declared.binding.Binding.{Binding}
 use Rattle.tree_core.specs.Named.{Group, is_control, mask_in}
 use Rattle.tree_law.specs.Space.{mask_of, region_in}
 use Rattle.tree_law.specs.State.{State}
@@ -60,6 +61,14 @@ cpus_list_text m s g = on_line (cpu_texts.list_text (cpu_set m s g))
 -- the tasks of a group, rising: all that a control group has, and those that are counted in a monitor group
 abbrev pub tasks_in : State → Group → List ℕ
 tasks_in s g = if is_control g.kind then control_members g.gid s.tasks else monitor_members g.gid s.tasks
+
+-- whether a task is one of them
+abbrev pub is_task_of : Group → Binding → Bool
+is_task_of g b = if is_control g.kind then has_control g.gid b else has_monitor g.gid b
+
+-- the line of a task, and nothing where it is not the group's
+abbrev pub task_line : Group → Binding → List ℕ
+task_line g b = if is_task_of g b then on_line (decimal b.task) else []
 
 -- each on its line
 abbrev pub tasks_text : State → Group → List ℕ

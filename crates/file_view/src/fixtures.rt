@@ -1,20 +1,18 @@
 //! A tree with named groups for the tests, and the texts that it gives.
-ghost use Rattle.std.specs.Prelude.{◌≡◌, ◌<◌, ◌≤◌, IfOk, IsTrue, None, length};
+ghost use Rattle.std.specs.Prelude.{◌≡◌, ◌<◌, IfOk, IsTrue, None, length};
 ghost use Rattle.std.specs.List.{All};
-ghost use Rattle.path_names.specs.NamesIn.{AreKnown};
-ghost use Rattle.script_ops.specs.Canonical.{IsShort, op_ids};
 ghost use Rattle.script_ops.specs.Fits.{Fits};
-ghost use Rattle.script_ops.specs.declared.limits.TheConstants.{MOST_TEXT_BYTES};
 ghost use Rattle.file_view.specs.Texts.{is_reading};
-ghost use Rattle.tree_core.specs.Named.{AreNamed};
 ghost use Rattle.tree_law.specs.State.{tasks_of};
 ghost use Rattle.tree_law.specs.Steps.{refusal};
 
+mod commands;
+
 use crate::text;
-use machine::{Machine, Parameters};
-use path_names::{DirRef, FileKind, MOST_NAME_BYTES, NameId, Names, PathRef};
-use rc_base::{NoMemory, Reply, TEXT_MAX, TextBuf};
-use script_ops::{Bytes, MOST_WEIGHT, Op};
+use machine::Machine;
+use path_names::{DirRef, FileKind, NameId, Names, PathRef};
+use rc_base::{NoMemory, TEXT_MAX, TextBuf};
+use script_ops::Op;
 use std::alloc::Global;
 use std::marker::Model;
 use std::process::Abort;
@@ -22,18 +20,6 @@ use tree_core::{Tree, is_built};
 
 // What stands in front of each text.
 const BEFORE: &[u8] = b"before ";
-
-/// A machine with two caches of one set of so many ways.
-pub(crate) fn machine(rt: &impl Abort, ways: u8) -> Machine {
-    let parameters = Parameters {
-        domains: 2,
-        sets: 1,
-        ways,
-        cpus: 2,
-        ..Parameters::default()
-    };
-    Machine::checked(&parameters).expect(rt, "the parameters are in range")
-}
 
 // These names, and their numbers.
 fn three_names(alloc: Global, texts: [&[u8]; 3]) -> Result<(Names, [NameId; 3]), NoMemory>
@@ -44,21 +30,6 @@ fn three_names(alloc: Global, texts: [&[u8]; 3]) -> Result<(Names, [NameId; 3]),
     let b = names.intern(texts[1])?;
     let c = names.intern(texts[2])?;
     Ok((names, [a, b, c]))
-}
-
-// Takes a command, after the tests that `apply` leaves to its caller.
-#[tactic(auto, using(tree_core::proofs::laws::KnownNames::named_next))]
-fn take(rt: &impl Abort, tree: &mut Tree, names: &Names, op: &Op, looks: &[u64]) -> Reply
-    requires fits { Fits tree.old.machine (tasks_of tree.old.state) op.now }
-    requires known { AreKnown (length names.now) (op_ids op.now) }
-    requires short { IsShort names.now op.now }
-    requires named { AreNamed names.now tree.old.state.groups }
-    ensures { AreNamed names.now tree.new.state.groups }
-{
-    assert!(rt; tree.epoch() < MOST_WEIGHT);
-    assert!(rt; is_built(op));
-    assert!(rt; looks.len() == tree.needs(op) as usize);
-    tree.apply(op, looks).0
 }
 
 /// A tree whose groups have names of three, and room for its texts.
@@ -86,11 +57,11 @@ impl Model for Scene {
 }
 
 impl Scene {
-    /// The opening tree of a machine, with these names for its groups.
+    /// The opening tree of a machine with three tasks, with these names for its groups.
     #[tactic(auto, using(tree_core::proofs::laws::KnownNames::named_opening))]
     pub(crate) fn create(alloc: Global, m: &Machine, texts: [&[u8]; 3]) -> Result<Scene, NoMemory> {
         let (names, ids) = three_names(alloc, texts)?;
-        let tree = Tree::create(alloc, m, [].as_slice())?;
+        let tree = Tree::create(alloc, m, [3, 20, 4_294_967_295].as_slice())?;
         let out = TextBuf::with_room(alloc, TEXT_MAX + 7)?;
         Ok(Scene {
             tree,
@@ -105,65 +76,6 @@ impl Scene {
         requires { i < 3 }
     {
         self.ids[i]
-    }
-
-    /// Makes a control group with the name at this place.
-    #[tactic(auto, using(tree_core::proofs::laws::KnownNames::known_only, tree_core::proofs::laws::KnownNames::short_only))]
-    pub(crate) fn mkdir(&mut self, rt: &impl Abort, i: usize) -> Reply
-        requires { i < 3 }
-    {
-        let id = self.ids[i];
-        assert!(rt; self.names.text(id).len() <= MOST_NAME_BYTES);
-        let path = PathRef::Dir(DirRef::Ctrl(id));
-        take(
-            rt,
-            &mut self.tree,
-            &self.names,
-            &Op::Mkdir { path },
-            [].as_slice(),
-        )
-    }
-
-    /// Removes a control group that no line is counted of.
-    #[tactic(auto, using(tree_core::proofs::laws::KnownNames::known_only, tree_core::proofs::laws::KnownNames::short_only))]
-    pub(crate) fn rmdir(&mut self, rt: &impl Abort, i: usize) -> Reply
-        requires { i < 3 }
-    {
-        let id = self.ids[i];
-        assert!(rt; self.names.text(id).len() <= MOST_NAME_BYTES);
-        let path = PathRef::Dir(DirRef::Ctrl(id));
-        take(
-            rt,
-            &mut self.tree,
-            &self.names,
-            &Op::Rmdir { path },
-            [0, 0].as_slice(),
-        )
-    }
-
-    /// Writes to the `schemata` of a control group.
-    #[tactic(auto, using(tree_core::proofs::laws::KnownNames::known_only, tree_core::proofs::laws::KnownNames::short_only))]
-    pub(crate) fn write(
-        &mut self,
-        rt: &impl Abort,
-        alloc: Global,
-        i: usize,
-        text: &[u8],
-    ) -> Result<Reply, NoMemory>
-        requires place { i < 3 }
-        requires short { length text.now ≤ MOST_TEXT_BYTES }
-    {
-        let text = Bytes::copy(alloc, text)?;
-        let id = self.ids[i];
-        assert!(rt; self.names.text(id).len() <= MOST_NAME_BYTES);
-        let path = PathRef::File(DirRef::Ctrl(id), FileKind::Schemata);
-        Ok(take(
-            rt,
-            &mut self.tree,
-            &self.names,
-            &Op::Write { path, text },
-            [].as_slice(),
-        ))
     }
 
     // The text that a command gives, after what stood there.
@@ -188,11 +100,14 @@ impl Scene {
         self.show(rt, &Op::List { path })
     }
 
-    /// The text of a file that exists.
+    /// The text of a file that exists and is below no domain's directory.
     #[tactic(auto, using(crate::proofs::Readings::refusal_read))]
     pub(crate) fn read(&mut self, rt: &impl Abort, dir: DirRef, kind: FileKind) -> Option<&[u8]> {
         let path = PathRef::File(dir, kind);
         assert!(rt; self.tree.is_file(path));
-        self.show(rt, &Op::Read { path })
+        match dir {
+            DirRef::MonDomain(..) => None,
+            _ => self.show(rt, &Op::Read { path }),
+        }
     }
 }

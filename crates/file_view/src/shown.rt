@@ -17,8 +17,8 @@ fn mask_in(group: &Group, domain: u8) -> u32
     group.masks[domain as usize]
 }
 
-// Whether the region of a domain is a group's.
-fn has_region(tree: &Tree, gid: Gid, domain: u8) -> bool
+/// Whether the region of a domain is a group's.
+pub(crate) fn has_region(tree: &Tree, gid: Gid, domain: u8) -> bool
     requires { domain < tree.now.machine.domains }
     ensures { result ≡ has_region tree.now.state gid domain }
 {

@@ -1,7 +1,8 @@
 //! Texts worked out by hand.
 
-use crate::fixtures::{Scene, machine};
+use crate::fixtures::Scene;
 use crate::listing::is_listed;
+use crate::machines::machine;
 use crate::{is_reading, reason};
 use path_names::{DirRef, FileKind, Holder, NameId, Owner};
 use rc_base::{Gid, NoMemory, Reply, TextBuf, Why};
@@ -90,13 +91,36 @@ fn files_are_those_of_their_group(rt: HostRuntime) -> Result<(), Fail> {
     let mut scene = Scene::create(rt.alloc(), &machine(&rt, 20), texts)?;
     assert!(rt; scene.mkdir(&rt, 1) == Reply::Ok);
     let masks = b"L3:0=f0;1=6".as_slice();
-    assert!(rt; scene.write(&rt, rt.alloc(), 1, masks)? == Reply::Ok);
+    assert!(rt; scene.write(&rt, rt.alloc(), 1, FileKind::Schemata, masks)? == Reply::Ok);
     let b = scene.name(1);
     for (dir, kind, want) in [
         (DirRef::Root, FileKind::Schemata, "L3:0=fffff;1=fffff\n"),
         (DirRef::Root, FileKind::Size, "L3:0=1280;1=1280\n"),
         (DirRef::Ctrl(b), FileKind::Schemata, "L3:0=000f0;1=00006\n"),
         (DirRef::Ctrl(b), FileKind::Size, "L3:0=256;1=128\n"),
+    ] {
+        assert!(rt; scene.read(&rt, dir, kind) == Some(want.as_bytes()));
+    }
+    Ok(())
+}
+
+#[test]
+fn tasks_and_cpus_are_shown(rt: HostRuntime) -> Result<(), Fail> {
+    let texts = [b"a".as_slice(), b"b".as_slice(), b"c".as_slice()];
+    let mut scene = Scene::create(rt.alloc(), &machine(&rt, 4), texts)?;
+    assert!(rt; scene.mkdir(&rt, 0) == Reply::Ok);
+    let tasks = b"4294967295,3".as_slice();
+    assert!(rt; scene.write(&rt, rt.alloc(), 0, FileKind::Tasks, tasks)? == Reply::Ok);
+    let cpus = b"2".as_slice();
+    assert!(rt; scene.write(&rt, rt.alloc(), 0, FileKind::Cpus, cpus)? == Reply::Ok);
+    let a = scene.name(0);
+    for (dir, kind, want) in [
+        (DirRef::Root, FileKind::Tasks, "20\n"),
+        (DirRef::Root, FileKind::Cpus, "1\n"),
+        (DirRef::Root, FileKind::CpusList, "0\n"),
+        (DirRef::Ctrl(a), FileKind::Tasks, "3\n4294967295\n"),
+        (DirRef::Ctrl(a), FileKind::Cpus, "2\n"),
+        (DirRef::Ctrl(a), FileKind::CpusList, "1\n"),
     ] {
         assert!(rt; scene.read(&rt, dir, kind) == Some(want.as_bytes()));
     }

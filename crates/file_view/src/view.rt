@@ -1,12 +1,12 @@
 //! The text that a command gives.
 ghost use Rattle.std.specs.Prelude.{◌≡◌, ◌+◌, ◌≤◌, ◌^◌, ◌++◌, All, IsTrue, None, length};
 ghost use Rattle.file_view.specs.Texts.{is_reading, listed_text, read_text, text_of};
-ghost use Rattle.tree_core.specs.Built.{IsBuilt, is_built_file};
+ghost use Rattle.tree_core.specs.Built.{IsBuilt};
 ghost use Rattle.tree_core.specs.Named.{AreNamed};
 ghost use Rattle.tree_law.specs.Existing.{is_directory, is_file};
 ghost use Rattle.tree_law.specs.Steps.{needs, refusal};
 
-use crate::files::{FILE_MAX, push_file};
+use crate::files::push_file;
 use crate::listing::push_list;
 use path_names::{Names, PathRef};
 use rc_base::{TEXT_MAX, TextBuf};
@@ -23,8 +23,9 @@ pub fn is_reading(op: &Op) -> bool
 // Adds the text of the file at a path.
 fn push_read(tree: &Tree, path: PathRef, looks: &[u64], out: &mut TextBuf)
     requires there { IsTrue (is_file tree.now.state path) }
-    requires built { IsTrue (is_built_file path) }
-    requires room { FILE_MAX ≤ out.old.spare }
+    requires few { length looks.now ≤ length tree.now.state.groups + 1 }
+    requires counts { All (λ n. n ≤ 2 ^ 32) looks.now }
+    requires room { TEXT_MAX ≤ out.old.spare }
     ensures bytes { out.new.bytes ≡ out.old.bytes ++ read_text tree.now.machine tree.now.state looks.now path }
     ensures spare { out.new.spare + length (read_text tree.now.machine tree.now.state looks.now path) ≡ out.old.spare }
 {
@@ -48,9 +49,10 @@ fn push_listed(tree: &Tree, names: &Names, path: PathRef, out: &mut TextBuf)
     }
 }
 
-/// Adds the text that an accepted read or list gives, from the counts of lines that it needs (kernel documentation, "Resource
-/// alloc and monitor groups" and "Schemata files - general concepts"): that of a file, or the names in a directory, each on its
-/// line, the fixed entries first and then the groups in order of creation. `TEXT_MAX` bytes are room for each.
+/// Adds the text that an accepted read or list gives, from the counts of lines that it needs (kernel documentation, "Info
+/// directory", "Resource alloc and monitor groups" and "Schemata files - general concepts"): that of a file, or the names in a
+/// directory, each on its line, the fixed entries first and then the groups in order of creation. `TEXT_MAX` bytes are room
+/// for each.
 #[tactic(auto, unfolding(crate::specs::Texts::text_of))]
 pub fn text(tree: &Tree, names: &Names, op: &Op, looks: &[u64], out: &mut TextBuf)
     requires reading { IsTrue (is_reading op.now) }

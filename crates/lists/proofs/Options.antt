@@ -7,10 +7,12 @@ pub option_map-some : {X Y : Type 0} (f : X → Y) (o : Option X) (y : Y) → op
 option_map-some f None y e = absurd (let none : None ≡ Some y = e in cc)
 option_map-some f (Some x) y e = (x, refl, let some : Some (f x) ≡ Some y = e in cc)
 
+-- a bound option that is there comes of one that is there
 pub option_and_then-some : {X Y : Type 0} (f : X → Option Y) (o : Option X) (y : Y) → option_and_then f o ≡ Some y → (x : X) × (o ≡ Some x) × (f x ≡ Some y)
 option_and_then-some f None y e = absurd (let none : None ≡ Some y = e in cc)
 option_and_then-some f (Some x) y e = (x, refl, e)
 
+-- a mapped option that is not there comes of none
 pub option_map-none : {X Y : Type 0} (f : X → Y) (o : Option X) → option_map f o ≡ None → o ≡ None
 option_map-none f None e = refl
 option_map-none f (Some x) e = absurd (let g : Some (f x) ≡ None = e in cc)

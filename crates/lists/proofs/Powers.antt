@@ -5,13 +5,15 @@ use Rattle.std.proofs.lemmas.Nat.{pow-add, zero_from_ones}
 use Rattle.std.proofs.Math.Pow.{pow-lt}
 use lib.Count.{ones, ones_step}
 
-no_bit : count_ones 0 ≡ 1 → ⊥
+-- zero has no bit, so not one
+pub count_ones-zero_not_one : count_ones 0 ≡ 1 → ⊥
 unfolding ones
-no_bit e = absurd cc
+count_ones-zero_not_one e = absurd cc
 
-power_below : (d n : ℕ) → n ≤ d → count_ones n ≡ 1 → (k : ℕ) × (n ≡ 2 ^ k)
-power_below zero n le one = absurd (no_bit (let z : n ≡ 0 = omega arith in sym (ap count_ones z) ∙ one))
-power_below (suc d) n le one = lowest (n % 2) (bit n) refl (sym (ones_step n) ∙ one) (power_below d (n / 2))
+-- of the numbers up to a limit, one with one bit is a power of two
+count_ones-one_below : (d n : ℕ) → n ≤ d → count_ones n ≡ 1 → (k : ℕ) × (n ≡ 2 ^ k)
+count_ones-one_below zero n le one = absurd (count_ones-zero_not_one (let z : n ≡ 0 = omega arith in sym (ap count_ones z) ∙ one))
+count_ones-one_below (suc d) n le one = lowest (n % 2) (bit n) refl (sym (ones_step n) ∙ one) (count_ones-one_below d (n / 2))
   where
     bit : (m : ℕ) → m % 2 < 2
     bit m = omega arith
@@ -28,7 +30,7 @@ power_below (suc d) n le one = lowest (n % 2) (bit n) refl (sym (ones_step n) �
 
 -- a number with one bit is a power of two
 pub count_ones-one : (n : ℕ) → count_ones n ≡ 1 → (k : ℕ) × (n ≡ 2 ^ k)
-count_ones-one n one = power_below n n (omega arith) one
+count_ones-one n one = count_ones-one_below n n (omega arith) one
 
 -- of two powers of two the lesser divides the greater
 pub pow-divides : (a b : ℕ) → 2 ^ b ≤ 2 ^ a → 2 ^ a ≡ 2 ^ (a - b) * 2 ^ b

@@ -63,9 +63,10 @@ module _ {X : Type 0} (p : X → Bool) where
       at true e rest = e
       at false e rest = rest e
 
-  or_true : (b : Bool) → (b || true) ≡ true
-  or_true true = refl
-  or_true false = refl
+  -- a test or one that passes
+  or-true : (b : Bool) → (b || true) ≡ true
+  or-true true = refl
+  or-true false = refl
 
   -- one that passes is kept by a filter that keeps each that passes
   pub list_any-kept : (q : X → Bool) (xs : List X) → All (λ x. p x ≡ true → q x ≡ true) xs → list_any p xs ≡ true → list_any p (filter q xs) ≡ true
@@ -75,7 +76,7 @@ module _ {X : Type 0} (p : X → Bool) where
       at : (px qx : Bool) → p x ≡ px → q x ≡ qx → (p x ≡ true → q x ≡ true) → (px || list_any p xs) ≡ true → (list_any p xs ≡ true → list_any p (filter q xs) ≡ true) → list_any p (cond qx (x ∷ filter q xs) (filter q xs)) ≡ true
       at true true is isq k e rest = ap (λ (b : Bool). b || list_any p (filter q xs)) is
       at true false is isq k e rest = absurd (let t : true ≡ false = sym (k is) ∙ isq in cc)
-      at false true is isq k e rest = ap (λ (b : Bool). p x || b) (rest e) ∙ or_true (p x)
+      at false true is isq k e rest = ap (λ (b : Bool). p x || b) (rest e) ∙ or-true (p x)
       at false false is isq k e rest = rest e
 
   -- one that passes still passes where each that passes does so after a change
@@ -85,7 +86,7 @@ module _ {X : Type 0} (p : X → Bool) where
     where
       at : (px : Bool) → p x ≡ px → (p x ≡ true → p (f x) ≡ true) → (px || list_any p xs) ≡ true → (list_any p xs ≡ true → list_any p (map f xs) ≡ true) → (p (f x) || list_any p (map f xs)) ≡ true
       at true is k e rest = ap (λ (b : Bool). b || list_any p (map f xs)) (k is)
-      at false is k e rest = ap (λ (b : Bool). p (f x) || b) (rest e) ∙ or_true (p (f x))
+      at false is k e rest = ap (λ (b : Bool). p (f x) || b) (rest e) ∙ or-true (p (f x))
 
   -- one that passes is in a longer list
   pub list_any-push : (xs : List X) (y : X) → list_any p xs ≡ true → list_any p (xs ++ y ∷ []) ≡ true

@@ -9,14 +9,14 @@ use Rattle.lists.proofs.Bits.{div_pow-zero}
 use Rattle.machine.proofs.laws.EveryWay.{ways_of-ones}
 
 -- a mask of 32 bits has only ways that exist where there are 32
-pub fits_wide : (mask ways : ℕ) → mask < 2 ^ 32 → 32 ≤ ways → leb 32 ways ≡ ltb mask (2 ^ ways)
-fits_wide mask ways small wide =
+pub leb-wide : (mask ways : ℕ) → mask < 2 ^ 32 → 32 ≤ ways → leb 32 ways ≡ ltb mask (2 ^ ways)
+leb-wide mask ways small wide =
     let below : mask < 2 ^ ways = lt_of_lt_of_le small (pow-le-pow_right {n = 2} (lit< tt) wide) in
     le-leb 32 ways wide ∙ sym (lt-ltb mask (2 ^ ways) below)
 
 -- and else where nothing is left of it past them
-pub fits_shifted : (mask ways : ℕ) → eqb (mask / 2 ^ ways) 0 ≡ ltb mask (2 ^ ways)
-fits_shifted mask ways = elim (cases_lt mask (2 ^ ways)) [
+pub eqb-shifted : (mask ways : ℕ) → eqb (mask / 2 ^ ways) 0 ≡ ltb mask (2 ^ ways)
+eqb-shifted mask ways = elim (cases_lt mask (2 ^ ways)) [
   | inl lt ↦ eq-eqb (mask / 2 ^ ways) 0 (div-eq_of_lt lt) ∙ sym (lt-ltb mask (2 ^ ways) lt)
   | inr le ↦ ne_eqb (mask / 2 ^ ways) 0 (λ none. absurd (over (div_pow-zero mask ways none) le)) ∙ sym (le-ltb mask (2 ^ ways) le)
 ]

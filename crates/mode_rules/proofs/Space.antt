@@ -29,5 +29,5 @@ space_in-few g ways lt = either (eqb (length ways) 0) (is_too_few g ways) (lt-lt
     either false false e x = absurd cc
 
 -- a lowest run that is long enough
-pub space_in-some : (g : Geometry) (ways : List ℕ) → 0 < length ways → g.min ≤ length (lowest_run ways) → space_in g ways ≡ Some (cond g.sparse ways (lowest_run ways))
+pub space_in-some : (g : Geometry) (ways : List ℕ) → 0 < length ways → g.min ≤ length (lowest_run ways) → space_in g ways ≡ Some (lowest_run ways)
 space_in-some g ways some le = rw (ne_eqb (length ways) 0 (omega arith), le-ltb (length (lowest_run ways)) g.min le) refl

@@ -23,9 +23,9 @@ starting_ways len others = filter (may_start_with others) (range_with_len 0 len)
 abbrev pub has_no_space : Geometry → List ℕ → Bool
 has_no_space g ways = (length ways == 0) || is_too_few g ways
 
--- what a new group gets of these ways where there is space: all of them on a sparse cache, and else their lowest run
+-- what a new group gets of these ways where there is space: their lowest run
 abbrev pub space_in : Geometry → List ℕ → Option (List ℕ)
-space_in g ways = if has_no_space g ways then None else Some (if g.sparse then ways else lowest_run ways)
+space_in g ways = if has_no_space g ways then None else Some (lowest_run ways)
 
 -- the ways of a new group, where the cache has space for one
 unfoldable pub initial_ways : Geometry → DomainUse → Option (List ℕ)

@@ -11,9 +11,8 @@ use cbm::{Geometry, count, lowest_run};
 
 /// The mask of a new group in a cache that others use like this, and None exactly where there is no space.
 ///
-/// A new group starts with the ways that other hardware or shareable groups use, and those that nobody uses. It gets
-/// all of them on a sparse cache, and else their lowest run; there is no space where that run has fewer than `min`
-/// ways, or there is none (this project's profile).
+/// It is the lowest run of adjacent ways among those that other hardware or shareable groups use and those that nobody
+/// uses. There is no space where that run has fewer than `min` ways, or there is none (this project's profile).
 pub fn initial_mask(others: &DomainUse, g: &Geometry) -> Option<u32>
     requires { g.now.len ≤ 32 }
     ensures ways { option_map ways_of result ≡ initial_ways g.now others.now }
@@ -26,7 +25,7 @@ pub fn initial_mask(others: &DomainUse, g: &Geometry) -> Option<u32>
     if run == 0 || count(run) < u32::from(g.min) {
         return None;
     }
-    Some(if g.sparse { ways } else { run })
+    Some(run)
 }
 
 // The ways that a new group may start with.

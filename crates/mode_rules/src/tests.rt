@@ -17,10 +17,14 @@ fn used(hardware: u32, shared: u32, exclusive: u32, region: u32) -> DomainUse {
     }
 }
 
-fn geometry(len: u8, min: u8, sparse: bool) -> Geometry
+fn geometry(len: u8, min: u8) -> Geometry
     ensures { result.len ≡ len }
 {
-    Geometry { len, min, sparse }
+    Geometry {
+        len,
+        min,
+        sparse: false,
+    }
 }
 
 #[test]
@@ -74,31 +78,22 @@ fn masks_are_refused_in_order(rt: HostRuntime) {
 #[test]
 fn new_groups_get_the_lowest_run(rt: HostRuntime) {
     for (others, shape, want) in [
-        (used(0x0, 0x0, 0x0, 0x0), geometry(8, 1, false), Some(0xff)),
+        (used(0x0, 0x0, 0x0, 0x0), geometry(8, 1), Some(0xff)),
         (
             used(0x0, 0x0, 0x0, 0x0),
-            geometry(32, 32, false),
+            geometry(32, 32),
             Some(0xffff_ffff),
         ),
-        (used(0x0, 0x0, 0x0, 0x0), geometry(1, 1, false), Some(0x1)),
-        (used(0x0, 0x0, 0xf, 0x0), geometry(8, 4, false), Some(0xf0)),
-        (used(0x0, 0x0, 0xf, 0x0), geometry(8, 5, false), None),
-        (used(0x0, 0x0, 0x30, 0x0), geometry(8, 1, false), Some(0xf)),
-        (used(0x0, 0x0, 0x2, 0x0), geometry(8, 1, false), Some(0x1)),
-        (used(0x0, 0x0, 0x2, 0x0), geometry(8, 2, false), None),
-        (used(0x0, 0x0, 0x2, 0x0), geometry(8, 1, true), Some(0xfd)),
-        (used(0x0, 0x0, 0x2, 0x0), geometry(8, 2, true), None),
-        (used(0x0, 0x0, 0x5, 0x0), geometry(4, 1, true), Some(0xa)),
-        (used(0x0, 0x0, 0xf, 0x0), geometry(4, 1, false), None),
-        (
-            used(0xc0, 0x0, 0x3f, 0x0),
-            geometry(8, 1, false),
-            Some(0xc0),
-        ),
-        (used(0x0, 0x5, 0xa, 0x0), geometry(4, 1, false), Some(0x1)),
-        (used(0x0, 0x5, 0xa, 0x0), geometry(4, 1, true), Some(0x5)),
-        (used(0x0, 0x0, 0x0, 0x3), geometry(4, 1, false), Some(0xc)),
-        (used(0x0, 0x0, 0x0, 0xf), geometry(4, 1, true), None),
+        (used(0x0, 0x0, 0x0, 0x0), geometry(1, 1), Some(0x1)),
+        (used(0x0, 0x0, 0xf, 0x0), geometry(8, 4), Some(0xf0)),
+        (used(0x0, 0x0, 0xf, 0x0), geometry(8, 5), None),
+        (used(0x0, 0x0, 0x30, 0x0), geometry(8, 1), Some(0xf)),
+        (used(0x0, 0x0, 0x2, 0x0), geometry(8, 1), Some(0x1)),
+        (used(0x0, 0x0, 0x2, 0x0), geometry(8, 2), None),
+        (used(0x0, 0x0, 0xf, 0x0), geometry(4, 1), None),
+        (used(0xc0, 0x0, 0x3f, 0x0), geometry(8, 1), Some(0xc0)),
+        (used(0x0, 0x5, 0xa, 0x0), geometry(4, 1), Some(0x1)),
+        (used(0x0, 0x0, 0x0, 0x3), geometry(4, 1), Some(0xc)),
     ] {
         assert_eq!(rt; initial_mask(&others, &shape), want, "{others:?} {shape:?}");
     }

@@ -1,3 +1,4 @@
 -- Lemmas that crates above cite.
 pub mod KnownIds
+pub mod NamedDomains
 pub mod ShortNames

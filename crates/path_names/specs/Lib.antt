@@ -1,4 +1,5 @@
 pub mod Components
+pub mod Domains
 pub mod Interned
 pub mod NamesIn
 pub mod PathTable

@@ -1,6 +1,7 @@
 //! Reading a path.
 ghost use Rattle.std.specs.Prelude.{◌≡◌, ◌+◌, ◌^◌, ◌<◌, ◌≤◌, ◌↔◌, ◌-◌, ◌≢◌, length, All, Ok, None, Some, Err, IfOk, IfSome};
 ghost use Rattle.path_names.specs.Components.{components};
+ghost use Rattle.path_names.specs.Domains.{IsWithin};
 ghost use Rattle.path_names.specs.NamesIn.{dir_ids, path_ids};
 ghost use Rattle.path_names.specs.Interned.{Keeps};
 ghost use Rattle.path_names.specs.PathTable.{entry_of};
@@ -49,6 +50,9 @@ pub fn read_path(text: &[u8], domains: u8, names: &mut Names) -> Result<PathRef,
     // The names of a text that is no path are not kept, and those that were known always are.
     ensures unchanged { result ≡ Err PathFault.Bad → names.new ≡ names.old }
     ensures kept { Keeps names.old names.new }
+
+    // The domain that the path names exists.
+    ensures within { IfOk result (λ path. IsWithin domains path) }
 
     // The names in the path are known, those of its components are short, and they are few.
     ensures ids { IfOk result (λ path. All (λ id. id < length names.new) (path_ids path)) }

@@ -3,19 +3,16 @@ use Rattle.std.proofs.Common.{◌≡◌, ℕ, zero, suc, ◌+◌, ◌*◌, ◌/�
 use Rattle.std.proofs.lemmas.Bool.{eqb-true}
 use Rattle.std.proofs.lemmas.Nat.{zero_from_ones}
 use Rattle.std.proofs.Math.Nat.{mul-add, mul-mod_left, mul-one, mul_assoc}
-use lib.Count.{ones, ones_step}
+use lib.Count.{ones_step}
+use Rattle.lists.proofs.Powers.{count_ones-zero_not_one}
 use Rattle.machine.specs.Ranges.{InRange}
 use Rattle.machine.specs.declared.parameters.Parameters.{Parameters}
 use Rattle.pseudo_lock.specs.Regions.{first_line_of}
 
-no_bit : count_ones 0 ≡ 1 → ⊥
-unfolding ones
-no_bit e = absurd cc
-
 -- a number with one bit divides each greater power of two
-multiple : (k n : ℕ) → n < 2 ^ k → count_ones n ≡ 1 → (c : ℕ) × (2 ^ k ≡ c * n)
-multiple zero n lt one = absurd (no_bit (let none : n ≡ 0 = omega arith in sym (ap count_ones none) ∙ one))
-multiple (suc k) n lt one = lowest (n % 2) (bit n) refl (sym (ones_step n) ∙ one) (multiple k (n / 2))
+pow-multiple : (k n : ℕ) → n < 2 ^ k → count_ones n ≡ 1 → (c : ℕ) × (2 ^ k ≡ c * n)
+pow-multiple zero n lt one = absurd (count_ones-zero_not_one (let none : n ≡ 0 = omega arith in sym (ap count_ones none) ∙ one))
+pow-multiple (suc k) n lt one = lowest (n % 2) (bit n) refl (sym (ones_step n) ∙ one) (pow-multiple k (n / 2))
   where
     bit : (m : ℕ) → m % 2 < 2
     bit m = omega arith
@@ -44,6 +41,6 @@ pub first_line_of-whole : (p : Parameters) → InRange p → (number : ℕ) → 
 first_line_of-whole p r number =
     let rows : ℕ = 2 ^ 35 + number * 2 ^ 15 in
     let limit : p.sets ≤ 65536 = r.set_limit in
-    let m = multiple 17 p.sets (omega arith) (eqb-true (count_ones p.sets) 1 r.set_power) in
+    let m = pow-multiple 17 p.sets (omega arith) (eqb-true (count_ones p.sets) 1 r.set_power) in
     let whole : first_line_of number ≡ rows * 2 ^ 17 = omega arith in
     ap (λ (n : ℕ). n % p.sets) (whole ∙ ap (λ (n : ℕ). rows * n) m.1 ∙ sym (mul_assoc rows m.0 p.sets)) ∙ mul-mod_left (rows * m.0) p.sets

@@ -21,6 +21,7 @@ data At (places : List (Option Region)) (domain : ℕ) (new : Region) (other : �
   here : other ≡ domain → r ≡ new → At places domain new other r
   before : other ≢ domain → region_in places other ≡ Some r → At places domain new other r
 
+-- what is found after a region was placed at a domain
 region_in-set : (places : List (Option Region)) (domain : ℕ) (new : Region) (other : ℕ) (r : Region) → domain < length places
     → region_in (set places domain (Some new)) other ≡ Some r → At places domain new other r
 region_in-set places domain new other r lt e = elim (cases_eq other domain) [
@@ -32,8 +33,8 @@ region_in-set places domain new other r lt e = elim (cases_eq other domain) [
 ]
 
 -- a region more, where there was none
-pub lawful-placed : (t : RegionTable) (gid : Gid) (domain mask : ℕ) → IsLawful t → domain < 8 → t.placed < 4000000 → IsLawful (with_region (next_region t gid domain mask) t)
-lawful-placed t gid domain mask lawful lt limit = record {
+pub IsLawful-with_region : (t : RegionTable) (gid : Gid) (domain mask : ℕ) → IsLawful t → domain < 8 → t.placed < 4000000 → IsLawful (with_region (next_region t gid domain mask) t)
+IsLawful-with_region t gid domain mask lawful lt limit = record {
   each = length-set t.places domain (Some (next_region t gid domain mask)) ∙ lawful.each;
   limit = omega arith;
   own = λ other r e. elim (found other r e) [
@@ -70,9 +71,10 @@ lawful-placed t gid domain mask lawful lt limit = record {
 
 -- ---- removing
 
-without-stays : (gid : Gid) (place : Option Region) (r : Region) → without gid place ≡ Some r → place ≡ Some r
-without-stays gid None r e = e
-without-stays gid (Some s) r e = either (has_gid gid s) e
+-- a place that still has a region after a removal had this one before
+without-some : (gid : Gid) (place : Option Region) (r : Region) → without gid place ≡ Some r → place ≡ Some r
+without-some gid None r e = e
+without-some gid (Some s) r e = either (has_gid gid s) e
   where
     either : (b : Bool) → cond b None (Some s) ≡ Some r → Some s ≡ Some r
     either true e = absurd cc
@@ -81,12 +83,12 @@ without-stays gid (Some s) r e = either (has_gid gid s) e
 -- a region that is left was there before
 region_in-without : (gid : Gid) (places : List (Option Region)) (domain : ℕ) (r : Region) → region_in (map (without gid) places) domain ≡ Some r → region_in places domain ≡ Some r
 region_in-without gid [] domain r e = e
-region_in-without gid (place ∷ places) zero r e = without-stays gid place r e
+region_in-without gid (place ∷ places) zero r e = without-some gid place r e
 region_in-without gid (place ∷ places) (suc domain) r e = region_in-without gid places domain r e
 
 -- the regions of a group fewer
-pub lawful-without : (t : RegionTable) (gid : Gid) → IsLawful t → IsLawful (without_group gid t)
-lawful-without t gid lawful = record {
+pub IsLawful-without_group : (t : RegionTable) (gid : Gid) → IsLawful t → IsLawful (without_group gid t)
+IsLawful-without_group t gid lawful = record {
   each = length-map t.places (without gid) ∙ lawful.each;
   limit = lawful.limit;
   own = λ domain r e. lawful.own domain r (region_in-without gid t.places domain r e);

@@ -1,5 +1,5 @@
 //! A sink in memory, which fails where it is told to and where it is full.
-ghost use Rattle.std.specs.Prelude.{◌≡◌, ◌≤◌, ◌<◌, ◌+◌, ◌-◌, ◌^◌, ◌↔◌, ◌⊎◌, ◌||◌, nat_lt, false, min, [], length, Some, IfOk, OnOk, OnErr, IsErr, Contains, ◌++◌, vec_len, vec_capacity};
+ghost use Rattle.std.specs.Prelude.{◌≡◌, ◌≤◌, ◌<◌, ◌+◌, ◌-◌, ◌^◌, ◌↔◌, ◌⊎◌, ◌||◌, nat_lt, false, true, min, [], length, Some, IfOk, OnOk, OnErr, IsErr, Contains, ◌++◌, vec_len, vec_capacity};
 ghost use Rattle.std.specs.Io.KnownBytes.{WriteAppends, Keeps};
 ghost use Rattle.rc_stream.specs.Causes.{HasCause, TakesSome};
 
@@ -85,6 +85,7 @@ impl Sink for MemSink {
         requires { self.old.faults < 2 ^ 64 - 1 }
         ensures bound { TakesSome result piece.now }
         ensures bytes { WriteAppends (Some self.old.taken) (Some self.new.taken) result piece.now }
+        ensures holds { IfOk result (λ n. 0 < n → self.new.held ≡ true) }
         ensures cause { HasCause self.old.faults self.new.faults result }
 
         ensures one_fault { OnErr result (self.new.faults ≡ self.old.faults + 1) }

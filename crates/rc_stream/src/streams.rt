@@ -1,5 +1,5 @@
 //! The outside as the program sees it: which bytes are left, which were taken, and how often a call failed.
-ghost use Rattle.std.specs.Prelude.{◌≡◌, ◌-◌, ◌^◌, ◌<◌, Bool, List, ℕ, OnOk, false};
+ghost use Rattle.std.specs.Prelude.{◌≡◌, ◌-◌, ◌^◌, ◌<◌, Bool, List, ℕ, IfOk, OnOk, false, true};
 ghost use Rattle.std.specs.declared.option.Option.{Option};
 ghost use Rattle.std.specs.Io.{ReadsAtMost};
 ghost use Rattle.std.specs.Io.KnownBytes.{ReadConsumes, WriteAppends, Keeps};
@@ -42,6 +42,7 @@ pub trait Sink {
         requires { faults self.old < 2 ^ 64 - 1 }
         ensures bound { TakesSome result piece.now }
         ensures bytes { WriteAppends (taken self.old) (taken self.new) result piece.now }
+        ensures holds { IfOk result (λ n. 0 < n → held self.new ≡ true) }
         ensures cause { HasCause (faults self.old) (faults self.new) result };
 
     /// Hands on all that was taken.

@@ -1,12 +1,18 @@
 -- The entries of a legal history of the tree, in the states before them.
 use Rattle.std.proofs.Common.{◌≡◌, ℕ, ◌<◌, List, length, map, take, get_or, Option, None, Some, refl, sym, ap, ◌∙◌, subst, arith}
 use Rattle.std.proofs.Math.ListN.{get_or-map}
+use Rattle.std.specs.List.{All}
 use Rattle.std.proofs.lemmas.List.{length-map, take-map}
+use Rattle.std.proofs.lemmas.Option.{slice_get-get_or}
+use Rattle.machine.specs.Ranges.{InRange}
 use Rattle.machine.specs.declared.parameters.Parameters.{Parameters}
 use Rattle.rc_base.proofs.laws.Histories.{EachFollows-at}
 use Rattle.rc_base.specs.declared.replies.Reply.TheVariants as replies
-use Rattle.report_text.specs.Replayed.{IsAnswered, IsAnsweredAs, IsCounted}
+use Rattle.report_text.specs.Replayed.{HasFewLooks, IsAnswered, IsAnsweredAs, IsCounted}
+use Rattle.run_law.proofs.laws.Looks.{looks-few}
 use Rattle.run_law.specs.Entries.{entry_value}
+use Rattle.run_law.specs.Journals.{JournalsValue}
+use Rattle.run_law.specs.Runs.{IsRun}
 use Rattle.run_law.specs.TreeHistory.{CommandMayFollow, IsCommandThat, IsLegalTree, TreeEntryValue, tree_after, tree_from}
 use Rattle.run_law.specs.declared.journals.TreeEntry.{TreeEntry}
 use Rattle.script_ops.specs.Values.{ScriptValue, op_at}
@@ -59,3 +65,15 @@ refusal-ok m s op looks ok = at (refusal m s op) ok
     at : (o : Option Refusal) → replies.Ok ≡ reply_of o → o ≡ None
     at None e = refl
     at (Some r) e = absurd cc
+
+-- ---- the counts that entries were given
+
+-- the entry at a place of a list whose entries were given few
+pub HasFewLooks-at : (es : List TreeEntry) (k : ℕ) (e : TreeEntry) → All HasFewLooks (map entry_value es) → k < length es → e ≡ get_or es k e → HasFewLooks (entry_value e)
+HasFewLooks-at es k e few within is =
+    let many : k < length (map entry_value es) = omega (arith, within, length-map es entry_value) in
+    subst HasFewLooks (get_or-map entry_value es k e ∙ ap entry_value (sym is)) (few k (entry_value e) many)
+
+-- those of a run were
+pub HasFewLooks-run : (script : ScriptValue) (j : JournalsValue) → InRange script.machine → IsRun script j → All HasFewLooks j.tree
+HasFewLooks-run script j range run = λ k d within. looks-few script j range run k (get_or j.tree k d) (slice_get-get_or j.tree k d within)

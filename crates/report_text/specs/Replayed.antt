@@ -1,5 +1,5 @@
 -- What is seen of a tree that is taken through its history once more.
-use Rattle.std.specs.Prelude.{ℕ, ◌<◌, ◌≡◌, List, All, length}
+use Rattle.std.specs.Prelude.{ℕ, ◌<◌, ◌≤◌, ◌^◌, ◌≡◌, List, All, length}
 use Rattle.tree_core.specs.Named.{AreNamed}
 use Rattle.machine.specs.declared.parameters.Parameters.{Parameters}
 use Rattle.report_text.specs.declared.made.Made.{Made}
@@ -30,6 +30,10 @@ pub record IsReplay (script : ScriptValue) (r : ReplayValue) : Type 0 where
 pub record IsAnsweredAs (m : Parameters) (s : State) (e : TreeEntryValue) (op : Op) : Type 0 where
   pub looks : length e.looks ≡ length (needs m s op)
   pub reply : e.reply ≡ (next m s op e.looks).reply
+
+-- an entry has numbers of lines of one cache, each at most 2 ^ 32
+abbrev pub HasFewLooks : TreeEntryValue → Type 0
+HasFewLooks e = All (λ n. n ≤ 2 ^ 32) e.looks
 
 -- an entry's op is there, and was given as many counts as it needs in this state
 abbrev pub IsCounted : ScriptValue → State → TreeEntryValue → Type 0

@@ -1,9 +1,9 @@
 //! The lines of commands.
-ghost use Rattle.std.specs.Prelude.{◌≡◌, ◌+◌, ◌<◌, ◌≤◌, ◌∷◌, [], ◌++◌, IfOk, OnOk, codes, decimal, length, None, Some};
+ghost use Rattle.std.specs.Prelude.{◌≡◌, ◌+◌, ◌<◌, ◌≤◌, ◌^◌, ◌∷◌, [], ◌++◌, All, IfOk, OnOk, codes, decimal, length, None, Some};
 ghost use Rattle.file_view.specs.Texts.{text_of};
 ghost use Rattle.report_text.specs.Commands.{barred, command_line, command_lines, op_said, read_lines, reply_text, result_text};
 ghost use Rattle.report_text.specs.Made.{made_by, made_from};
-ghost use Rattle.report_text.specs.Replayed.{AreKnownGroups, IsAnswered, IsAnsweredAs, IsCounted, IsReplay};
+ghost use Rattle.report_text.specs.Replayed.{AreKnownGroups, HasFewLooks, IsAnswered, IsAnsweredAs, IsCounted, IsReplay};
 ghost use Rattle.run_law.specs.Entries.{entry_value};
 ghost use Rattle.run_law.specs.Ops.{EachCommand};
 ghost use Rattle.run_law.specs.TreeHistory.{IsLegalTree, state_after};
@@ -57,6 +57,7 @@ fn push_accepted(
     requires built { IsBuilt op.now }
     requires accepted { refusal script.now.machine replay.old.tree.state op.now ≡ None }
     requires looks { length looks.now ≡ length (needs script.now.machine replay.old.tree.state op.now) }
+    requires counts { All (λ n. n ≤ 2 ^ 32) looks.now }
     ensures text { OnOk result (report.new ≡ report.old ++ barred (text_of script.now.machine replay.old.tree.state script.now.names op.now looks.now)) }
     ensures kept { replay.new ≡ replay.old }
 {
@@ -78,6 +79,7 @@ fn push_read_lines(
     requires replay { IsReplay script.now replay.old }
     requires built { IsBuilt op.now }
     requires answered { IsAnsweredAs script.now.machine replay.old.tree.state (entry_value entry.now) op.now }
+    requires counts { All (λ n. n ≤ 2 ^ 32) entry.now.looks.numbers }
     ensures text { OnOk result (report.new ≡ report.old ++ read_lines script.now replay.old.tree.state op.now entry.now.looks.numbers entry.now.reply) }
     ensures kept { replay.new ≡ replay.old }
 {
@@ -112,6 +114,7 @@ fn push_op_said(
     requires built { IsBuilt op.now }
     requires named { IsNamed (length script.now.names) op.now }
     requires answered { IsAnsweredAs script.now.machine replay.old.tree.state (entry_value entry.now) op.now }
+    requires counts { All (λ n. n ≤ 2 ^ 32) entry.now.looks.numbers }
     ensures text { OnOk result (report.new ≡ report.old ++ op_said script.now journals.now replay.old.tree.state (entry_value entry.now) (Some op.now)) }
     ensures kept { replay.new ≡ replay.old }
 {
@@ -132,6 +135,7 @@ fn push_command(
     requires replay { IsReplay script.now replay.old }
     requires built { EachCommand IsBuilt script.now }
     requires answered { IsAnswered script.now replay.old.tree.state (entry_value entry.now) }
+    requires counts { All (λ n. n ≤ 2 ^ 32) entry.now.looks.numbers }
     ensures text { OnOk result (report.new ≡ report.old ++ command_line script.now journals.now replay.old.tree.state k (entry_value entry.now)) }
     ensures kept { replay.new ≡ replay.old }
 {
@@ -169,6 +173,7 @@ pub(crate) fn push_commands(
     requires built { EachCommand IsBuilt script.now }
     requires legal { IsLegalTree script.now journals.now.tree }
     requires few { length journals.now.tree ≤ MOST_WEIGHT }
+    requires counts { All HasFewLooks journals.now.tree }
     ensures text { OnOk result (report.new ≡ report.old ++ command_lines script.now journals.now (opening script.now.machine script.now.tasks) 0 journals.now.tree) }
     ensures made { IfOk result (λ made. made.items ≡ made_from script.now (opening script.now.machine script.now.tasks) journals.now.tree) }
     ensures known { IfOk result (λ made. AreKnownGroups script.now.names made.items) }

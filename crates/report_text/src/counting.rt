@@ -6,10 +6,10 @@ ghost use Rattle.cache_core.specs.History.{IsOwn, held, is_own, lines_of, valid_
 ghost use Rattle.cbm.specs.Masks.{has_way as has};
 ghost use Rattle.machine.specs.Maps.{parameters_of};
 ghost use Rattle.report_text.specs.Occupancies.{AddsPlaces, HasCounted, IsAtMost, OccupancyValue, lines_told};
-ghost use Rattle.report_text.specs.declared.occupancy.TheConstants.{MOST_COUNT};
+ghost use Rattle.report_text.specs.declared.line_counts.TheConstants.{MOST_COUNT};
 ghost use Rattle.run_law.specs.Slices.{shape_in};
 
-use crate::occupancy::{Occupancy, has_way};
+use crate::line_counts::{Occupancy, has_way};
 use cache_core::{SliceEntry, What};
 use machine::Machine;
 

@@ -7,7 +7,7 @@ ghost use Rattle.report_text.specs.Occupancies.{IsOfDomain, Suits, lines_told};
 ghost use Rattle.report_text.specs.Reporting.{domain_line, domain_told, rmid_text, rmids_told};
 
 use crate::buffer::ReportText;
-use crate::occupancy::Occupancy;
+use crate::line_counts::Occupancy;
 use machine::Machine;
 use rc_base::NoMemory;
 use run_law::Journals;

@@ -1,9 +1,9 @@
 //! The report of a run.
-ghost use Rattle.std.specs.Prelude.{◌≡◌, ◌≤◌, ◌++◌, IfOk, OnOk, count_by, length, map};
+ghost use Rattle.std.specs.Prelude.{◌≡◌, ◌≤◌, ◌++◌, All, IfOk, OnOk, count_by, length, map};
 ghost use Rattle.machine.specs.Slices.{slice_count};
 ghost use Rattle.report_text.specs.Counts.{counts_text, is_access};
 ghost use Rattle.report_text.specs.Made.{made_from};
-ghost use Rattle.report_text.specs.Replayed.{AreKnownGroups};
+ghost use Rattle.report_text.specs.Replayed.{AreKnownGroups, HasFewLooks};
 ghost use Rattle.report_text.specs.Reporting.{commands_count, commands_part, is_refusal, report_of, total_line};
 ghost use Rattle.report_text.specs.Tallies.{IsTallyOf};
 ghost use Rattle.run_law.specs.Entries.{entry_value};
@@ -96,6 +96,7 @@ fn push_commands_part(
     requires built { EachCommand IsBuilt script.now }
     requires legal { IsLegalTree script.now journals.now.tree }
     requires few { length journals.now.tree ≤ MOST_WEIGHT }
+    requires counts { All HasFewLooks journals.now.tree }
     ensures text { OnOk result (report.new ≡ report.old ++ commands_part script.now journals.now quiet) }
     ensures made { IfOk result (λ made. made.items ≡ made_from script.now (opening script.now.machine script.now.tasks) journals.now.tree) }
     ensures known { IfOk result (λ made. AreKnownGroups script.now.names made.items) }

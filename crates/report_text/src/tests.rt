@@ -2,7 +2,7 @@
 
 ghost use Rattle.std.specs.Prelude.{◌≡◌};
 
-use crate::occupancy::Occupancy;
+use crate::line_counts::Occupancy;
 use cache_core::{SliceEntry, What};
 use machine::{Machine, Parameters};
 use rc_base::Gid;

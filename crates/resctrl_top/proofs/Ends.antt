@@ -9,6 +9,7 @@ use Rattle.resctrl_top.specs.declared.input.InputError.{InputError}
 use Rattle.resctrl_top.specs.declared.input.InputError.TheVariants as inputs
 use Rattle.resctrl_top.specs.Endings.{Call, Ends, IsComplete, IsDue, ReadsWell, Reports, Says, SaysNothing, WritesWell}
 use Rattle.resctrl_top.specs.Forms.{input_of, reads_source, usage_line}
+use Rattle.resctrl_top.specs.Isolation.{HoldsRegions, IsolatesGroups}
 use Rattle.resctrl_top.specs.Meaning.{MeansAs, meaning, refusal_line}
 use Rattle.resctrl_top.specs.Outside.{HasRead, IsInput, IsMeant, IsToTheEnd}
 use Rattle.report_text.specs.Reporting.{report_of}
@@ -51,19 +52,19 @@ Ends-refused c status journals form refusal has_form read meant (none, inr faile
     (read, inr (inl (record { form = form; bytes = meant.bytes; refusal = refusal; has_form = has_form; to_the_end = meant.to_the_end; no_script = meant.meant; no_run = none; line = failed.1 })))
 
 -- with the report or a beginning of it
-Ends-reported : (c : Call) (status : Status) (journals : Option JournalsValue) (form : Form) (script : ScriptValue) (run : JournalsValue) → c.form ≡ Some form → ReadsWell c → IsMeant (input_of form c.source.left) (Ok script) → IsRun script run
+Ends-reported : (c : Call) (status : Status) (journals : Option JournalsValue) (form : Form) (script : ScriptValue) (run : JournalsValue) → c.form ≡ Some form → ReadsWell c → IsMeant (input_of form c.source.left) (Ok script) → IsRun script run → IsolatesGroups script run → HoldsRegions script run
     → Says Done (Some run) (report_of script run form.flags []) c.sink status journals → Ends c status journals
-Ends-reported c status journals form script run has_form read meant is_run (has_run, inl told) =
+Ends-reported c status journals form script run has_form read meant is_run isolates holds (has_run, inl told) =
     subst (λ s. Ends c s journals) (sym told.0)
-    (read, record { form = form; bytes = meant.bytes; script = script; run = run; has_form = has_form; to_the_end = meant.to_the_end; is_script = meant.meant; has_run = has_run; is_run = is_run; report = told.1 })
-Ends-reported c status journals form script run has_form read meant is_run (has_run, inr failed) =
+    (read, record { form = form; bytes = meant.bytes; script = script; run = run; has_form = has_form; to_the_end = meant.to_the_end; is_script = meant.meant; has_run = has_run; is_run = is_run; isolates = isolates; holds = holds; report = told.1 })
+Ends-reported c status journals form script run has_form read meant is_run isolates holds (has_run, inr failed) =
     subst (λ s. Ends c s journals) (sym failed.0)
-    (read, inl (record { form = form; bytes = meant.bytes; script = script; run = run; has_form = has_form; to_the_end = meant.to_the_end; is_script = meant.meant; has_run = has_run; is_run = is_run; report = failed.1 }))
+    (read, inl (record { form = form; bytes = meant.bytes; script = script; run = run; has_form = has_form; to_the_end = meant.to_the_end; is_script = meant.meant; has_run = has_run; is_run = is_run; isolates = isolates; holds = holds; report = failed.1 }))
 
 -- with a report
 pub Ends-played : (c : Call) (status : Status) (journals : Option JournalsValue) (form : Form) (script : ScriptValue) → c.form ≡ Some form → ReadsWell c → IsMeant (input_of form c.source.left) (Ok script)
     → Reports script form.flags c.sink status journals → Ends c status journals
-Ends-played c status journals form script has_form read meant reports = Ends-reported c status journals form script reports.run has_form read meant reports.is_run reports.report
+Ends-played c status journals form script has_form read meant reports = Ends-reported c status journals form script reports.run has_form read meant reports.is_run reports.isolates reports.holds reports.report
 
 -- ---- completeness
 

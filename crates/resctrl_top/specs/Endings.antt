@@ -4,6 +4,7 @@ use Rattle.resctrl_top.specs.declared.ended.Status.{Status}
 use Rattle.resctrl_top.specs.declared.ended.Status.TheVariants.{Done, Refused, Usage, ReadFault, WriteFault, NoMemory}
 use Rattle.resctrl_top.specs.declared.form.Form.{Form}
 use Rattle.resctrl_top.specs.Forms.{input_of, reads_source, usage_line}
+use Rattle.resctrl_top.specs.Isolation.{HoldsRegions, IsolatesGroups}
 use Rattle.resctrl_top.specs.Meaning.{meaning, refusal_line}
 use Rattle.resctrl_top.specs.Outside.{IsToTheEnd, Reading, TakesAll, TakesNone, TakesSome, Writing}
 use Rattle.resctrl_top.specs.declared.refusal.Refusal.{Refusal}
@@ -30,8 +31,8 @@ ReadsWell c = c.source.faults_now ≡ c.source.faults
 abbrev pub WritesWell : Call → Type 0
 WritesWell c = c.sink.faults_now ≡ c.sink.faults
 
--- The bytes that the form plays are a script that can be played, the journals are a run of it, and the sink took this of their
--- report.
+-- The bytes that the form plays are a script that can be played, the journals are a run of it, which isolates groups and holds
+-- regions, and the sink took this of their report.
 pub record IsPlayed (c : Call) (journals : Option JournalsValue) (Takes : Writing → List ℕ → Type 0) : Type 0 where
   pub form : Form
   pub bytes : List ℕ
@@ -42,6 +43,8 @@ pub record IsPlayed (c : Call) (journals : Option JournalsValue) (Takes : Writin
   pub is_script : meaning bytes ≡ Ok script
   pub has_run : journals ≡ Some run
   pub is_run : IsRun script run
+  pub isolates : IsolatesGroups script run
+  pub holds : HoldsRegions script run
   pub report : Takes c.sink (report_of script run form.flags [])
 
 -- The bytes that the form plays cannot be played, there are no journals, and the sink took this of the line of the refusal.
@@ -109,4 +112,6 @@ SaysNothing sink status journals = (journals ≡ None) × (status ≡ NoMemory) 
 pub record Reports (script : ScriptValue) (flags : Flags) (sink : Writing) (status : Status) (journals : Option JournalsValue) : Type 0 where
   pub run : JournalsValue
   pub is_run : IsRun script run
+  pub isolates : IsolatesGroups script run
+  pub holds : HoldsRegions script run
   pub report : Says Done (Some run) (report_of script run flags []) sink status journals

@@ -1,6 +1,6 @@
-pub mod Built
 pub mod Codes
 pub mod Endings
 pub mod Forms
+pub mod Isolation
 pub mod Meaning
 pub mod Outside

@@ -1,6 +1,5 @@
 -- What the bytes of an input mean: a script that can be played, or why there is none.
 use Rattle.std.specs.Prelude.{◌≡◌, ℕ, nat_lt, if◌then◌else◌, List, [], ◌∷◌, ◌++◌, length, codes, decimal, Result, Ok, Err}
-use Rattle.resctrl_top.specs.Built.{is_built}
 use Rattle.resctrl_top.specs.declared.input.InputError.{InputError}
 use Rattle.resctrl_top.specs.declared.input.InputError.TheVariants as inputs
 use Rattle.resctrl_top.specs.declared.refusal.Refusal.{Refusal}
@@ -11,10 +10,11 @@ use Rattle.script_ops.specs.Values.{ScriptValue}
 use Rattle.script_text.specs.declared.fault.LineFault.{LineFault}
 use Rattle.script_text.specs.declared.fault.LineFault.TheVariants as faults
 use Rattle.script_text.specs.declared.fault.ScriptFault.{ScriptFault}
+use Rattle.step_world.specs.Playable.{is_playable}
 
 -- a script that can be played; of one that cannot, and of bytes that are none, why
 abbrev pub played : Result ScriptValue ScriptFault → Result ScriptValue Refusal
-played (Ok script) = if is_built script then Ok script else Err NotBuilt
+played (Ok script) = if is_playable script then Ok script else Err NotBuilt
 played (Err fault) = Err (BadLine fault)
 
 -- What the bytes to the end mean. Too many bytes are refused before a line is looked at, and a script that holds something

@@ -3,10 +3,9 @@ ghost use Rattle.std.specs.Prelude.{◌≡◌, ◌≢◌, ◌+◌, ◌-◌, ◌<
 ghost use Rattle.std.specs.Io.KnownBytes.{Consumes, IsAtEnd};
 ghost use Rattle.resctrl_top.specs.Forms.{input_of as input_in, reads_source};
 ghost use Rattle.resctrl_top.specs.Outside.{HasRead, IsInput};
-ghost use Rattle.resctrl_top.specs.Built.{is_built as built_script};
+ghost use Rattle.step_world.specs.Playable.{is_playable as playable_script};
 ghost use Rattle.resctrl_top.specs.Meaning.{MeansAs, meaning, played};
 
-use crate::built::is_built;
 use crate::command::Command;
 use crate::form::Form;
 use crate::refusal::Refusal;
@@ -15,6 +14,7 @@ use rc_stream::{Failed, Source};
 use script_ops::{MOST_SCRIPT_BYTES, Script};
 use script_text::{ScriptError, read_script};
 use std::alloc::Global;
+use step_world::is_playable;
 
 /// Why no script was read.
 #[derive(Clone, Copy, Debug, PartialEq, Eq)]
@@ -97,24 +97,24 @@ pub(crate) fn read_all<S: Source>(alloc: Global, source: &mut S) -> Result<Vec<u
 #[tactic(auto, unfolding(crate::specs::Meaning::meaning))]
 fn script_in(alloc: Global, bytes: &[u8]) -> Result<Script, InputError>
     ensures meant { MeansAs result (meaning bytes.now) }
-    ensures built { IfOk result (λ script. built_script script ≡ true) }
+    ensures playable { IfOk result (λ script. playable_script script ≡ true) }
 {
     if bytes.len() > MOST_SCRIPT_BYTES {
         return Err(InputError::Bad(Refusal::TooLarge));
     }
     match read_script(alloc, bytes) {
-        Ok(script) => if_built(script),
+        Ok(script) => if_playable(script),
         Err(ScriptError::Bad(fault)) => Err(InputError::Bad(Refusal::BadLine(fault))),
         Err(ScriptError::NoMemory) => Err(InputError::NoMemory),
     }
 }
 
 // A script that can be played.
-fn if_built(script: Script) -> Result<Script, InputError>
+fn if_playable(script: Script) -> Result<Script, InputError>
     ensures meant { MeansAs result (played (Ok script)) }
-    ensures built { IfOk result (λ script. built_script script ≡ true) }
+    ensures playable { IfOk result (λ script. playable_script script ≡ true) }
 {
-    if is_built(&script) {
+    if is_playable(&script) {
         Ok(script)
     } else {
         Err(InputError::Bad(Refusal::NotBuilt))
@@ -125,7 +125,7 @@ fn if_built(script: Script) -> Result<Script, InputError>
 pub fn read_input<S: Source>(alloc: Global, source: &mut S) -> Result<Script, InputError>
     requires { S.faults source.old < 2 ^ 64 - 1 }
     ensures read { HasRead (S.left source.old) (S.faults source.old) (S.faults source.new) result }
-    ensures built { IfOk result (λ script. built_script script ≡ true) }
+    ensures playable { IfOk result (λ script. playable_script script ≡ true) }
 {
     match read_all(alloc, source) {
         Ok(bytes) => script_in(alloc, &bytes),
@@ -142,7 +142,7 @@ pub(crate) fn input_of<S: Source>(
 ) -> Result<Script, InputError>
     requires { S.faults source.old < 2 ^ 64 - 1 }
     ensures read { HasRead (input_in form (S.left source.old)) (S.faults source.old) (S.faults source.new) result }
-    ensures built { IfOk result (λ script. built_script script ≡ true) }
+    ensures playable { IfOk result (λ script. playable_script script ≡ true) }
     ensures failed { result ≡ Err InputError.Failed → reads_source (Some form) ≡ true }
     ensures unread { reads_source (Some form) ≡ false → source.new ≡ source.old }
 {

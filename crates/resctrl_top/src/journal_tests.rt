@@ -12,8 +12,8 @@ use std::process::Abort;
 use std::test::Fail;
 use step_world::{is_playable, play};
 
-// A script, and what happened in it.
-fn played(rt: &impl Abort, alloc: Global, text: &str) -> Result<(Script, Journals), Fail>
+/// A script, and what happened in it.
+pub(crate) fn played(rt: &impl Abort, alloc: Global, text: &str) -> Result<(Script, Journals), Fail>
     ensures { IfOk result (λ p. length p.1.slices ≡ slice_count p.0.machine) }
 {
     assert!(rt; text.len() <= 1 << 27);
@@ -23,15 +23,21 @@ fn played(rt: &impl Abort, alloc: Global, text: &str) -> Result<(Script, Journal
     Ok((script, journals))
 }
 
-// A slice's journal.
-fn journal<'p>(rt: &impl Abort, script: &Script, journals: &'p Journals, i: u8) -> &'p [SliceEntry]
+/// A slice's journal.
+pub(crate) fn journal<'p>(
+    rt: &impl Abort,
+    script: &Script,
+    journals: &'p Journals,
+    i: u8,
+) -> &'p [SliceEntry]
     requires { length journals.now.slices ≡ slice_count script.now.machine }
 {
     assert!(rt; i < script.machine().slice_count());
     journals.slice(u32::from(i))
 }
 
-fn entry(op: u32, epoch: u64, what: What) -> SliceEntry {
+/// An entry of an op of thread 0, with this epoch.
+pub(crate) fn entry(op: u32, epoch: u64, what: What) -> SliceEntry {
     SliceEntry {
         thread: 0,
         op,
@@ -40,8 +46,8 @@ fn entry(op: u32, epoch: u64, what: What) -> SliceEntry {
     }
 }
 
-// An access of the default group.
-fn access(op: u32, epoch: u64, mask: u32, line: u64, hit: bool, way: u8) -> SliceEntry {
+/// An access of the default group.
+pub(crate) fn access(op: u32, epoch: u64, mask: u32, line: u64, hit: bool, way: u8) -> SliceEntry {
     let what = What::Access {
         owner: Gid(0),
         rmid: 0,

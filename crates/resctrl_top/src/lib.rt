@@ -1,7 +1,6 @@
 //! The top call: reads a script, plays it and writes its report.
 #![tactic(auto)]
 
-pub mod built;
 pub mod command;
 pub mod ended;
 pub mod form;
@@ -11,7 +10,6 @@ pub mod refusal;
 pub mod top;
 pub mod words;
 
-pub use built::is_built;
 pub use command::Command;
 pub use ended::{Ended, Status};
 pub use form::Form;
@@ -21,6 +19,16 @@ pub use top::top_step;
 pub use words::{USAGE, form_of};
 
 #[cfg(test)]
+mod binding_tests;
+#[cfg(test)]
+mod built_tests;
+#[cfg(test)]
+mod info_tests;
+#[cfg(test)]
 mod journal_tests;
+#[cfg(test)]
+mod mode_tests;
+#[cfg(test)]
+mod monitor_tests;
 #[cfg(test)]
 mod tests;

@@ -20,7 +20,7 @@ fn step(alloc: Global) -> Result<Vec<String>, AllocError> {
 }
 
 // The status of a script and what it writes.
-fn told(alloc: Global, script: &[u8]) -> Result<(Status, Vec<u8>), Fail> {
+pub(crate) fn told(alloc: Global, script: &[u8]) -> Result<(Status, Vec<u8>), Fail> {
     let mut source = MemSource::create(alloc, script, 1 << 20, &[])?;
     let mut sink = MemSink::create(alloc, 4096, 4096, &[])?;
     let words = step(alloc)?;
@@ -111,7 +111,7 @@ fn groups_have_their_reports(rt: HostRuntime) -> Result<(), Fail> {
 
 #[test]
 fn bad_scripts_are_refused(rt: HostRuntime) -> Result<(), Fail> {
-    let rows: [(&[u8], &[u8]); 34] = [
+    let rows: [(&[u8], &[u8]); 17] = [
         (b"", b"line 1: no machine line\n"),
         (b"\n# tasks\ntasks 1\n", b"line 3: no machine line\n"),
         (
@@ -152,74 +152,6 @@ fn bad_scripts_are_refused(rt: HostRuntime) -> Result<(), Fail> {
         (
             b"machine sets=1 ways=4\ntasks 1\nphase\nthread\nmkdir /a\naccess 1 1 0\n",
             b"line 6: bad argument\n",
-        ),
-        (
-            b"machine sets=1 ways=4\ntasks 1\nphase\nthread\nread /mode\n",
-            b"line 0: not built yet\n",
-        ),
-        (
-            b"machine sets=1 ways=4\ntasks 1\nphase\nthread\nwrite /tasks 1\n",
-            b"line 0: not built yet\n",
-        ),
-        (
-            b"machine sets=1 ways=4\ntasks 1\nphase\nthread\nread /mon_groups/m/tasks\n",
-            b"line 0: not built yet\n",
-        ),
-        (
-            b"machine sets=1 ways=4\ntasks 1\nphase\nthread\nwrite /info/L3_MON/max_threshold_occupancy 0\n",
-            b"line 0: not built yet\n",
-        ),
-        (
-            b"machine sets=1 ways=4\ntasks 1\nphase\nthread\nmkdir /mon_groups/m\n",
-            b"line 0: not built yet\n",
-        ),
-        (
-            b"machine sets=1 ways=4\ntasks 1\nphase\nthread\nlist /mon_groups/m\n",
-            b"line 0: not built yet\n",
-        ),
-        (
-            b"machine sets=1 ways=4\ntasks 1\nphase\nthread\nrmdir /a/mon_groups/m\n",
-            b"line 0: not built yet\n",
-        ),
-        (
-            b"machine sets=1 ways=4\ntasks 1\nphase\nthread\nread /a/mode\n",
-            b"line 0: not built yet\n",
-        ),
-        (
-            b"machine sets=1 ways=4\ntasks 1\nphase\nthread\nread /info/last_cmd_status\n",
-            b"line 0: not built yet\n",
-        ),
-        (
-            b"machine sets=1 ways=4\ntasks 1\nphase\nthread\nread /a/mon_data/mon_L3_00/llc_occupancy\n",
-            b"line 0: not built yet\n",
-        ),
-        (
-            b"machine sets=1 ways=4\ntasks 1\nphase\nthread\nwrite /a/cpus 1\n",
-            b"line 0: not built yet\n",
-        ),
-        (
-            b"machine sets=1 ways=4\ntasks 1\nphase\nthread\nread /a/tasks\n",
-            b"line 0: not built yet\n",
-        ),
-        (
-            b"machine sets=1 ways=4\ntasks 1\nphase\nthread\nread /mon_groups/m/x/y\n",
-            b"line 0: not built yet\n",
-        ),
-        (
-            b"machine sets=1 ways=4\ntasks 1\nphase\nthread\nlist /a/mon_groups/m/tasks/x\n",
-            b"line 0: not built yet\n",
-        ),
-        (
-            b"machine sets=1 ways=4\ntasks 1\nphase\nthread\ntick\n",
-            b"line 0: not built yet\n",
-        ),
-        (
-            b"machine sets=1 ways=4\ntasks 1\nphase\nthread\ntouch / 0 1 0\n",
-            b"line 0: not built yet\n",
-        ),
-        (
-            b"machine sets=1 ways=4\ntasks 1\nphase\nthread\nthread\n",
-            b"line 0: not built yet\n",
         ),
     ];
     for (script, line) in rows {

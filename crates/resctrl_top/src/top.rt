@@ -2,11 +2,11 @@
 ghost use Rattle.std.specs.Prelude.{◌≡◌, ◌-◌, ◌<◌, ◌^◌, ◌⊎◌, false, true, IfOk};
 ghost use Rattle.resctrl_top.specs.Endings.{Ends, IsComplete, Reports, Says, SaysNothing, call_of};
 ghost use Rattle.resctrl_top.specs.Forms.{form_of as form_in, reads_source};
-ghost use Rattle.resctrl_top.specs.Built.{is_built as built_script};
 ghost use Rattle.resctrl_top.specs.Meaning.{refusal_line};
 ghost use Rattle.resctrl_top.specs.Outside.{reading_of, writing_of};
 ghost use Rattle.run_law.specs.Ops.{EachCommand};
 ghost use Rattle.run_law.specs.Runs.{IsRun};
+ghost use Rattle.step_world.specs.Playable.{is_playable as playable_script};
 ghost use Rattle.tree_core.specs.Built.{IsBuilt};
 
 use crate::ended::{Ended, Status, with_journals, without_journals};
@@ -19,6 +19,7 @@ use num_text::push_dec;
 use rc_base::{NoMemory, TextBuf};
 use rc_stream::{Failed, Sink, Source};
 use run_law::{Flags, Journals};
+use run_windows::theorems::{regions_hold, windows_are_isolated};
 use script_ops::Script;
 use std::alloc::Global;
 use step_world::play;
@@ -82,6 +83,10 @@ fn tell<K: Sink>(
     requires run { IsRun script.now journals }
     ensures { Reports script.now flags (writing_of K.taken K.held K.faults sink.old sink.new) result.status result.journals ⊎ SaysNothing (writing_of K.taken K.held K.faults sink.old sink.new) result.status result.journals }
 {
+    // What the laws of windows say of every run of a script.
+    let _threads = script.threads();
+    windows_are_isolated();
+    regions_hold();
     match report_text::text(alloc, script, &journals, flags, &[]) {
         Ok(text) => hand_over(sink, &text, journals),
         Err(NoMemory) => without_journals(Status::NoMemory),
@@ -91,7 +96,7 @@ fn tell<K: Sink>(
 // Plays a script and writes its report.
 fn perform<K: Sink>(alloc: Global, script: &Script, flags: Flags, sink: &mut K) -> Ended
     requires faults { K.faults sink.old < 2 ^ 64 - 1 }
-    requires built { built_script script.now ≡ true }
+    requires playable { playable_script script.now ≡ true }
     ensures { Reports script.now flags (writing_of K.taken K.held K.faults sink.old sink.new) result.status result.journals ⊎ SaysNothing (writing_of K.taken K.held K.faults sink.old sink.new) result.status result.journals }
 {
     match play(alloc, script) {

@@ -1,5 +1,6 @@
 -- Lemmas that crates above cite.
 pub mod Lines
+pub mod Looks
 pub mod Pairs
 pub mod Positions
 pub mod Tasks

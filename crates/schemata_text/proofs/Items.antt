@@ -13,14 +13,17 @@ use Rattle.schemata_text.specs.Reading.{line_of, entry_of, reading_from, Continu
 
 -- ---- the entries of a rest
 
-pub last_entry : (rest : List ℕ) → list_any semicolon rest ≡ false → items_of_rest rest ≡ Entry rest ∷ []
-last_entry rest h = rw (slice_split-none semicolon rest h) refl
+-- a rest with no `;` is one entry
+pub items_of_rest-last : (rest : List ℕ) → list_any semicolon rest ≡ false → items_of_rest rest ≡ Entry rest ∷ []
+items_of_rest-last rest h = rw (slice_split-none semicolon rest h) refl
 
-pub closed_entry : (rest : List ℕ) → list_any semicolon rest ≡ true → after_first semicolon rest ≡ [] → items_of_rest rest ≡ Entry (before_first semicolon rest) ∷ []
-closed_entry rest h e = rw (slice_split-some semicolon rest h, e) refl
+-- a rest that ends with its first `;` is the entry before it
+pub items_of_rest-closed : (rest : List ℕ) → list_any semicolon rest ≡ true → after_first semicolon rest ≡ [] → items_of_rest rest ≡ Entry (before_first semicolon rest) ∷ []
+items_of_rest-closed rest h e = rw (slice_split-some semicolon rest h, e) refl
 
-keeps_first : (x : List ℕ) (b : ℕ) (bs : List ℕ) → without_empty_last (x ∷ slice_split semicolon (b ∷ bs)) ≡ x ∷ without_empty_last (slice_split semicolon (b ∷ bs))
-keeps_first x b bs = step (semicolon b) (slice_split semicolon bs) (some bs)
+-- a piece before the pieces of a text that is not empty is not the last
+without_empty_last-cons : (x : List ℕ) (b : ℕ) (bs : List ℕ) → without_empty_last (x ∷ slice_split semicolon (b ∷ bs)) ≡ x ∷ without_empty_last (slice_split semicolon (b ∷ bs))
+without_empty_last-cons x b bs = step (semicolon b) (slice_split semicolon bs) (some bs)
   where
     some : (bs : List ℕ) → 0 < length (slice_split semicolon bs)
     some bs = omega (arith, length-slice_split semicolon bs)
@@ -31,68 +34,76 @@ keeps_first x b bs = step (semicolon b) (slice_split semicolon bs) (some bs)
     step false [] h = refl
     step false (y ∷ ys) h = refl
 
-pub more_entries : (rest : List ℕ) (b : ℕ) (bs : List ℕ) → list_any semicolon rest ≡ true → after_first semicolon rest ≡ b ∷ bs → items_of_rest rest ≡ Entry (before_first semicolon rest) ∷ items_of_rest (b ∷ bs)
-more_entries rest b bs h e = rw (slice_split-some semicolon rest h, e) (ap (map Entry) (keeps_first (before_first semicolon rest) b bs))
+-- another rest is its first entry and those after its `;`
+pub items_of_rest-more : (rest : List ℕ) (b : ℕ) (bs : List ℕ) → list_any semicolon rest ≡ true → after_first semicolon rest ≡ b ∷ bs → items_of_rest rest ≡ Entry (before_first semicolon rest) ∷ items_of_rest (b ∷ bs)
+items_of_rest-more rest b bs h e = rw (slice_split-some semicolon rest h, e) (ap (map Entry) (without_empty_last-cons (before_first semicolon rest) b bs))
 
 -- ---- what one entry adds
 
-pub entry_says : (g : Geometry) (domains : ℕ) (before : List Assignment) (entry : List ℕ) (a : Assignment) (items : List Item) → entry_of g domains before entry ≡ Ok a → reading_from g domains before (Entry entry ∷ items) ≡ reading_from g domains (before ++ a ∷ []) items
+-- a good entry adds its assignment
+pub reading_from-entry : (g : Geometry) (domains : ℕ) (before : List Assignment) (entry : List ℕ) (a : Assignment) (items : List Item) → entry_of g domains before entry ≡ Ok a → reading_from g domains before (Entry entry ∷ items) ≡ reading_from g domains (before ++ a ∷ []) items
 unfolding reading_from
-entry_says g domains before entry a items h = rw h refl
+reading_from-entry g domains before entry a items h = rw h refl
 
-pub entry_fails : (g : Geometry) (domains : ℕ) (before : List Assignment) (entry : List ℕ) (f : TextFault) (items : List Item) → entry_of g domains before entry ≡ Err f → reading_from g domains before (Entry entry ∷ items) ≡ Err f
+-- a bad one is the fault of the text
+pub reading_from-entry_fault : (g : Geometry) (domains : ℕ) (before : List Assignment) (entry : List ℕ) (f : TextFault) (items : List Item) → entry_of g domains before entry ≡ Err f → reading_from g domains before (Entry entry ∷ items) ≡ Err f
 unfolding reading_from
-entry_fails g domains before entry f items h = rw h refl
+reading_from-entry_fault g domains before entry f items h = rw h refl
 
 -- ---- items one after the other
 
 -- the first entry fails
-pub rest_fails : (g : Geometry) (domains : ℕ) (before after : List Assignment) (rest : List ℕ) (f : TextFault) → Continues g domains before (Entry (before_first semicolon rest) ∷ []) (Err f) after → Continues g domains before (items_of_rest rest) (Err f) after
-rest_fails g domains before after rest f said more = elim (cases_Bool (list_any semicolon rest)) [
+pub Continues-fault : (g : Geometry) (domains : ℕ) (before after : List Assignment) (rest : List ℕ) (f : TextFault) → Continues g domains before (Entry (before_first semicolon rest) ∷ []) (Err f) after → Continues g domains before (items_of_rest rest) (Err f) after
+Continues-fault g domains before after rest f said more = elim (cases_Bool (list_any semicolon rest)) [
   | inl has ↦ step (after_first semicolon rest) refl has
-  | inr hasnt ↦ ap (λ (items : List Item). reading_from g domains before (items ++ more)) (last_entry rest hasnt ∙ ap (λ (e : List ℕ). Entry e ∷ []) (sym (whole semicolon rest hasnt))) ∙ said more
+  | inr hasnt ↦ ap (λ (items : List Item). reading_from g domains before (items ++ more)) (items_of_rest-last rest hasnt ∙ ap (λ (e : List ℕ). Entry e ∷ []) (sym (whole semicolon rest hasnt))) ∙ said more
 ]
   where
     step : (tail : List ℕ) → tail ≡ after_first semicolon rest → list_any semicolon rest ≡ true → reading_from g domains before (items_of_rest rest ++ more) ≡ Err f
-    step [] e has = ap (λ (items : List Item). reading_from g domains before (items ++ more)) (closed_entry rest has (sym e)) ∙ said more
-    step (b ∷ bs) e has = ap (λ (items : List Item). reading_from g domains before (items ++ more)) (more_entries rest b bs has (sym e)) ∙ said (items_of_rest (b ∷ bs) ++ more)
+    step [] e has = ap (λ (items : List Item). reading_from g domains before (items ++ more)) (items_of_rest-closed rest has (sym e)) ∙ said more
+    step (b ∷ bs) e has = ap (λ (items : List Item). reading_from g domains before (items ++ more)) (items_of_rest-more rest b bs has (sym e)) ∙ said (items_of_rest (b ∷ bs) ++ more)
 
 -- the first entry is the last
-pub rest_ends : (g : Geometry) (domains : ℕ) (before after : List Assignment) (rest : List ℕ) (u : Unit {0}) → list_any semicolon rest ≡ false → Continues g domains before (Entry (before_first semicolon rest) ∷ []) (Ok u) after → Continues g domains before (items_of_rest rest) (Ok u) after
-rest_ends g domains before after rest u hasnt said more = ap (λ (items : List Item). reading_from g domains before (items ++ more)) (last_entry rest hasnt ∙ ap (λ (e : List ℕ). Entry e ∷ []) (sym (whole semicolon rest hasnt))) ∙ said more
+pub Continues-last : (g : Geometry) (domains : ℕ) (before after : List Assignment) (rest : List ℕ) (u : Unit {0}) → list_any semicolon rest ≡ false → Continues g domains before (Entry (before_first semicolon rest) ∷ []) (Ok u) after → Continues g domains before (items_of_rest rest) (Ok u) after
+Continues-last g domains before after rest u hasnt said more = ap (λ (items : List Item). reading_from g domains before (items ++ more)) (items_of_rest-last rest hasnt ∙ ap (λ (e : List ℕ). Entry e ∷ []) (sym (whole semicolon rest hasnt))) ∙ said more
 
 -- the first entry is the last, and has a `;`
-pub rest_closes : (g : Geometry) (domains : ℕ) (before after : List Assignment) (rest : List ℕ) (u : Unit {0}) → list_any semicolon rest ≡ true → after_first semicolon rest ≡ [] → Continues g domains before (Entry (before_first semicolon rest) ∷ []) (Ok u) after → Continues g domains before (items_of_rest rest) (Ok u) after
-rest_closes g domains before after rest u has e said more = ap (λ (items : List Item). reading_from g domains before (items ++ more)) (closed_entry rest has e) ∙ said more
+pub Continues-closed : (g : Geometry) (domains : ℕ) (before after : List Assignment) (rest : List ℕ) (u : Unit {0}) → list_any semicolon rest ≡ true → after_first semicolon rest ≡ [] → Continues g domains before (Entry (before_first semicolon rest) ∷ []) (Ok u) after → Continues g domains before (items_of_rest rest) (Ok u) after
+Continues-closed g domains before after rest u has e said more = ap (λ (items : List Item). reading_from g domains before (items ++ more)) (items_of_rest-closed rest has e) ∙ said more
 
 -- an entry has others after it
-pub rest_goes_on : (g : Geometry) (domains : ℕ) (before after : List Assignment) (rest tail : List ℕ) (u : Unit {0}) (more : List Item) → list_any semicolon rest ≡ true → tail ≡ after_first semicolon rest → 0 < length tail → Continues g domains before (Entry (before_first semicolon rest) ∷ []) (Ok u) after → reading_from g domains before (items_of_rest rest ++ more) ≡ reading_from g domains after (items_of_rest tail ++ more)
-rest_goes_on g domains before after rest [] u more has e some said = absurd (omega arith)
-rest_goes_on g domains before after rest (b ∷ bs) u more has e some said = ap (λ (items : List Item). reading_from g domains before (items ++ more)) (more_entries rest b bs has (sym e)) ∙ said (items_of_rest (b ∷ bs) ++ more)
+pub reading_from-more_entries : (g : Geometry) (domains : ℕ) (before after : List Assignment) (rest tail : List ℕ) (u : Unit {0}) (more : List Item) → list_any semicolon rest ≡ true → tail ≡ after_first semicolon rest → 0 < length tail → Continues g domains before (Entry (before_first semicolon rest) ∷ []) (Ok u) after → reading_from g domains before (items_of_rest rest ++ more) ≡ reading_from g domains after (items_of_rest tail ++ more)
+reading_from-more_entries g domains before after rest [] u more has e some said = absurd (omega arith)
+reading_from-more_entries g domains before after rest (b ∷ bs) u more has e some said = ap (λ (items : List Item). reading_from g domains before (items ++ more)) (items_of_rest-more rest b bs has (sym e)) ∙ said (items_of_rest (b ∷ bs) ++ more)
 
 -- ---- lines
 
-pub line_says : (g : Geometry) (domains : ℕ) (before : List Assignment) (line : List ℕ) (items : List Item) → line_of line ≡ Ok tt → reading_from g domains before (Line line ∷ items) ≡ reading_from g domains before items
+-- a good line adds nothing
+pub reading_from-line : (g : Geometry) (domains : ℕ) (before : List Assignment) (line : List ℕ) (items : List Item) → line_of line ≡ Ok tt → reading_from g domains before (Line line ∷ items) ≡ reading_from g domains before items
 unfolding reading_from
-line_says g domains before line items h = rw h refl
+reading_from-line g domains before line items h = rw h refl
 
-pub line_fails : (g : Geometry) (domains : ℕ) (before : List Assignment) (line : List ℕ) (f : TextFault) (items : List Item) → line_of line ≡ Err f → reading_from g domains before (Line line ∷ items) ≡ Err f
+-- a bad one is the fault of the text
+pub reading_from-line_fault : (g : Geometry) (domains : ℕ) (before : List Assignment) (line : List ℕ) (f : TextFault) (items : List Item) → line_of line ≡ Err f → reading_from g domains before (Line line ∷ items) ≡ Err f
 unfolding reading_from
-line_fails g domains before line f items h = rw h refl
+reading_from-line_fault g domains before line f items h = rw h refl
 
-pub last_line : (text : List ℕ) → list_any newline text ≡ false → items_of text ≡ items_of_line (before_first newline text) ++ []
-last_line text hasnt = rw (slice_split-none newline text hasnt, whole newline text hasnt) refl
+-- a text of one line has the items of this line
+pub items_of-last_line : (text : List ℕ) → list_any newline text ≡ false → items_of text ≡ items_of_line (before_first newline text) ++ []
+items_of-last_line text hasnt = rw (slice_split-none newline text hasnt, whole newline text hasnt) refl
 
-pub more_lines : (text : List ℕ) → list_any newline text ≡ true → items_of text ≡ items_of_line (before_first newline text) ++ items_of (after_first newline text)
-more_lines text has = ap (flat_map items_of_line) (slice_split-some newline text has) ∙ flat_map-cons items_of_line (before_first newline text) (slice_split newline (after_first newline text))
+-- another has those of its first line and those of the others
+pub items_of-more_lines : (text : List ℕ) → list_any newline text ≡ true → items_of text ≡ items_of_line (before_first newline text) ++ items_of (after_first newline text)
+items_of-more_lines text has = ap (flat_map items_of_line) (slice_split-some newline text has) ∙ flat_map-cons items_of_line (before_first newline text) (slice_split newline (after_first newline text))
 
 -- the first line of a text, and what follows it
-pub first_line : (text : List ℕ) → (items : List Item) × (items_of text ≡ items_of_line (before_first newline text) ++ items)
-first_line text = elim (cases_Bool (list_any newline text)) [
-  | inl has ↦ (items_of (after_first newline text), more_lines text has)
-  | inr hasnt ↦ ([], last_line text hasnt)
+pub items_of-first_line : (text : List ℕ) → (items : List Item) × (items_of text ≡ items_of_line (before_first newline text) ++ items)
+items_of-first_line text = elim (cases_Bool (list_any newline text)) [
+  | inl has ↦ (items_of (after_first newline text), items_of-more_lines text has)
+  | inr hasnt ↦ ([], items_of-last_line text hasnt)
 ]
 
-pub done : (g : Geometry) (domains : ℕ) (before : List Assignment) → reading_from g domains before [] ≡ Ok before
+-- where no item is left, what was read is the answer
+pub reading_from-nil : (g : Geometry) (domains : ℕ) (before : List Assignment) → reading_from g domains before [] ≡ Ok before
 unfolding reading_from
-done g domains before = refl
+reading_from-nil g domains before = refl

@@ -1,5 +1,5 @@
-pub mod Again
 pub mod Items
 pub mod Parts
 pub mod Room
+pub mod RoundTrips
 pub mod laws

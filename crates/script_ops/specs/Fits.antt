@@ -1,17 +1,20 @@
 -- What an op keeps to on a machine.
 use Rattle.std.specs.Prelude.{ℕ, ◌<◌, ◌≤◌, ◌^◌, List, length, All, Contains, Some}
 use Rattle.machine.specs.declared.parameters.Parameters.{Parameters}
+use Rattle.path_names.specs.declared.dirs.DirRef.TheVariants.{MonDomain}
+use Rattle.path_names.specs.declared.path_ref.PathRef.TheVariants.{File}
 use Rattle.script_ops.specs.declared.limits.TheConstants.{MOST_TEXT_BYTES}
 use Rattle.script_ops.specs.declared.op.Op.{Op}
 use Rattle.script_ops.specs.declared.op.Op.TheVariants as ops
 
--- An op of a machine with these tasks: its task is declared, its CPU and its domain exist, its address is below 2 ^ 48, and its
--- text is no longer than a script allows.
+-- An op of a machine with these tasks: its task is declared, its CPU and its domain exist, also that of a file which it reads,
+-- its address is below 2 ^ 48, and its text is no longer than a script allows.
 abbrev pub Fits : Parameters → List ℕ → Op → Type 0
 Fits m tasks (ops.Access task cpu addr) = Contains tasks task × (cpu < m.cpus) × (addr < 2 ^ 48)
 Fits m tasks (ops.Touch path offset task cpu) = Contains tasks task × (cpu < m.cpus)
 Fits m tasks (ops.Flush (Some domain)) = domain < m.domains
 Fits m tasks (ops.Write path text) = length text ≤ MOST_TEXT_BYTES
+Fits m tasks (ops.Read (File (MonDomain holder domain) kind)) = domain < m.domains
 Fits m tasks op = Unit {0}
 
 -- ops of a machine with these tasks

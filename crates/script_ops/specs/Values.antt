@@ -4,7 +4,7 @@ use Rattle.std.specs.List.{flat_map}
 use Rattle.std.specs.List.Sorted.{IsStrictlyIncreasing}
 use Rattle.machine.specs.Ranges.{InRange}
 use Rattle.machine.specs.declared.parameters.Parameters.{Parameters}
-use Rattle.script_ops.specs.declared.limits.TheConstants.{MOST_PHASES, MOST_PHASE_THREADS, MOST_WEIGHT}
+use Rattle.script_ops.specs.declared.limits.TheConstants.{MOST_PHASES, MOST_PHASE_THREADS, MOST_TASKS, MOST_WEIGHT}
 use Rattle.script_ops.specs.declared.op.Op.{Op}
 use Rattle.script_ops.specs.Canonical.{AreAllShort, AreNamed}
 use Rattle.script_ops.specs.Fits.{AreFit}
@@ -55,11 +55,12 @@ pub record AreFew (phases : List PhaseValue) : Type 0 where
   pub few_phases : length phases ≤ MOST_PHASES
   pub few_threads : All (λ p. length p.threads ≤ MOST_PHASE_THREADS) phases
 
--- What each script keeps to: a machine whose parameters are in range, tasks that rise, few phases of few threads, ops whose
+-- What each script keeps to: a machine whose parameters are in range, few tasks that rise, few phases of few threads, ops whose
 -- names are known, whose components are short, and that fit the machine and the tasks, and little weight.
 pub record IsLawful (script : ScriptValue) : Type 0 where
   pub in_range : InRange script.machine
   pub rising : IsStrictlyIncreasing script.tasks
+  pub few_tasks : length script.tasks ≤ MOST_TASKS
   pub few : AreFew script.phases
   pub named : All (AreNamed (length script.names)) (threads_of script)
   pub short : All (AreAllShort script.names) (threads_of script)

@@ -4,7 +4,7 @@ ghost use Rattle.machine.specs.Maps.{parameters_of};
 ghost use Rattle.std.specs.List.Sorted.{IsStrictlyIncreasing};
 ghost use Rattle.script_ops.specs.Canonical.{IsNamed, AreNamed, IsShort, AreAllShort};
 ghost use Rattle.script_ops.specs.Fits.{Fits, AreFit};
-ghost use Rattle.script_ops.specs.declared.limits.TheConstants.{MOST_PHASES, MOST_PHASE_THREADS, MOST_THREADS, MOST_WEIGHT};
+ghost use Rattle.script_ops.specs.declared.limits.TheConstants.{MOST_PHASES, MOST_PHASE_THREADS, MOST_TASKS, MOST_THREADS, MOST_WEIGHT};
 ghost use Rattle.script_ops.specs.Values.{threads_of, ops_of, op_at, phase_at, first_thread, IsLawful};
 
 use crate::numbering::{count_threads, find_ops};
@@ -56,10 +56,11 @@ impl Script {
         &self.machine
     }
 
-    /// The declared tasks, in rising order.
+    /// The declared tasks, in rising order, at most `MOST_TASKS`.
     pub fn tasks(&self) -> &[u32]
         ensures tasks { result.now ≡ self.now.tasks }
         ensures rising { IsStrictlyIncreasing result.now }
+        ensures few { length result.now ≤ MOST_TASKS }
     {
         &self.tasks
     }

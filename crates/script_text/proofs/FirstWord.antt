@@ -13,7 +13,7 @@ use Rattle.script_text.specs.Lines.{words, is_some_word}
 pub ruleset within = (prefix_len-le-length)
 
 -- a blank in front of words
-words-blank : (b : ℕ) (bs : List ℕ) → is_blank b ≡ true → words (b ∷ bs) ≡ words bs
+pub words-blank : (b : ℕ) (bs : List ℕ) → is_blank b ≡ true → words (b ∷ bs) ≡ words bs
 words-blank b bs h = rw h refl
 
 pub record Behind (text : List ℕ) (rest : List ℕ) : Type 0 where
@@ -37,7 +37,7 @@ Behind-drop_blanks (b ∷ bs) = step (is_blank b) refl (Behind-drop_blanks bs)
         head c cs h = let same : b ≡ c = cc in ap is_blank (sym same) ∙ sym e
 
 -- a word that has bytes is kept
-filter-some_word : (xs : List ℕ) (rest : List (List ℕ)) → 0 < length xs → filter is_some_word (xs ∷ rest) ≡ xs ∷ filter is_some_word rest
+pub filter-some_word : (xs : List ℕ) (rest : List (List ℕ)) → 0 < length xs → filter is_some_word (xs ∷ rest) ≡ xs ∷ filter is_some_word rest
 filter-some_word xs rest h = rw (ne_eqb (length xs) 0 (omega arith)) refl
 
 -- a word in front

@@ -11,14 +11,15 @@ use Rattle.script_text.specs.States.{ReaderState, close_thread, close_phase, is_
 use Rattle.path_names.specs.Interned.{Keeps}
 use Rattle.script_ops.specs.Canonical.{AreAllShort}
 use Rattle.script_ops.proofs.laws.ShortOps.{AreAllShort-kept, All-AreAllShort_kept}
-use Rattle.script_text.specs.Tasks.{ids_of}
+use Rattle.script_text.specs.Tasks.{count_of, ids_of}
 use Rattle.script_ops.specs.Values.{PhaseValue, threads_in}
 use Rattle.script_ops.specs.Weights.{weights_of}
-use Rattle.script_ops.specs.declared.limits.TheConstants.{MOST_WEIGHT}
+use Rattle.script_ops.specs.declared.limits.TheConstants.{MOST_TASKS, MOST_WEIGHT}
 
--- where there are no ops, any machine and any tasks will do
-pub IsFit-no_ops : (s : ReaderState) → (s.ops ≡ []) × (s.threads ≡ []) × (s.phases ≡ []) → s.weight ≤ MOST_WEIGHT → IsFit s
-IsFit-no_ops s none few = record {
+-- where there are no ops, any machine and few tasks will do
+pub IsFit-no_ops : (s : ReaderState) → (s.ops ≡ []) × (s.threads ≡ []) × (s.phases ≡ []) → count_of s.tasks ≤ MOST_TASKS → s.weight ≤ MOST_WEIGHT → IsFit s
+IsFit-no_ops s none few_tasks few = record {
+  few_tasks = few_tasks;
   ops = subst (λ (xs : List Op). AreFit s.machine (ids_of s.tasks) xs) (sym none.0) (All-nil _);
   threads = subst (λ (xs : List (List Op)). All (AreFit s.machine (ids_of s.tasks)) xs) (sym none.1) (All-nil _);
   phases = subst (λ (xs : List PhaseValue). All (AreFit s.machine (ids_of s.tasks)) (threads_in xs)) (sym none.2) (All-nil _);
@@ -32,6 +33,7 @@ IsFit-no_ops s none few = record {
 -- the open thread among the closed ones
 IsFit-thread_push : (s : ReaderState) → IsFit s → IsFit (record s { threads = s.threads ++ s.ops ∷ []; ops = [] })
 IsFit-thread_push s fit = record {
+  few_tasks = fit.few_tasks;
   ops = All-nil _;
   threads = All-push (AreFit s.machine (ids_of s.tasks)) s.threads s.ops fit.threads fit.ops;
   phases = fit.phases;
@@ -56,6 +58,7 @@ IsFit-phase_push s order fit =
     let p : PhaseValue = record { order = order; threads = s.threads } in
     let split : threads_in (s.phases ++ p ∷ []) ≡ threads_in s.phases ++ s.threads = flat_map-append (λ (q : PhaseValue). q.threads) s.phases (p ∷ []) ∙ ap (λ (ts : List (List Op)). threads_in s.phases ++ ts) (append-nil s.threads) in
     record {
+      few_tasks = fit.few_tasks;
       ops = fit.ops;
       threads = All-nil (AreFit s.machine (ids_of s.tasks));
       phases = subst (λ (ts : List (List Op)). All (AreFit s.machine (ids_of s.tasks)) ts) (sym split) (All-append (AreFit s.machine (ids_of s.tasks)) (threads_in s.phases) s.threads fit.phases fit.threads);
@@ -78,6 +81,7 @@ IsFit-close_phase s fit = at (is_head s.place) (is_thread s.place)
 -- a state of more names
 pub IsFit-with_names : (s : ReaderState) (names : List (List ℕ)) → Keeps s.names names → IsSound s → IsFit s → IsFit (with_names s names)
 IsFit-with_names s names kept sound fit = record {
+  few_tasks = fit.few_tasks;
   ops = fit.ops;
   threads = fit.threads;
   phases = fit.phases;

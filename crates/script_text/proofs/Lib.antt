@@ -1,3 +1,4 @@
+pub mod AccessLines
 pub mod EscapedBytes
 pub mod FaultOrder
 pub mod FirstWord
@@ -8,6 +9,10 @@ pub mod NextLine
 pub mod PathNames
 pub mod Places
 pub mod Readiness
+pub mod TakenLines
+pub mod TaskCounts
+pub mod TaskLists
+pub mod TaskOrder
 pub mod TaskRanges
 pub mod TaskSearch
 pub mod Uses

@@ -5,7 +5,11 @@ use Rattle.std.proofs.lemmas.List.Elements.{All-nil, All-append, All-push}
 use Rattle.std.proofs.lemmas.List.Sums.{sum_by-append}
 use Rattle.rc_base.specs.Texts.{is_text}
 use Rattle.std.specs.Prelude.{codes}
+use Rattle.path_names.specs.Domains.{IsWithin}
+use Rattle.path_names.specs.declared.dirs.DirRef.TheVariants.{MonDomain}
 use Rattle.path_names.specs.declared.path_ref.PathRef.{PathRef}
+use Rattle.path_names.specs.declared.path_ref.PathRef.TheVariants.{File}
+use Rattle.machine.specs.declared.parameters.Parameters.{Parameters}
 use Rattle.script_text.specs.declared.fault.LineFault.{LineFault}
 use Rattle.script_text.specs.declared.fault.LineFault.TheVariants.{BadByte, NoMachine, UnknownWord, OutOfPlace, BadMachine, BadTasks, BadArgument, BadPath, UnknownTask, BadEscape, TooLarge}
 use Rattle.script_ops.specs.declared.op.Op.{Op}
@@ -26,7 +30,7 @@ use Rattle.script_text.specs.Paths.{Named}
 use Rattle.script_text.specs.States.{ReaderState, close_thread, close_phase, is_start, is_thread, is_early, IsFit, IsReady, IsSound}
 use Rattle.path_names.specs.ShortNames.{AreShort, component_ids}
 use Rattle.script_ops.specs.Canonical.{AreAllShort, IsShort, op_component_ids}
-use Rattle.script_text.proofs.PathNames.{AddsShort, AddsShort-named, AddsShort-path_alone}
+use Rattle.script_text.proofs.PathNames.{AddsShort, AddsShort-named, path_of-path_alone}
 use Rattle.script_text.specs.Tasks.{declared, task_of, count_of, ids_of}
 use Rattle.script_ops.specs.Weights.{weight_of, weights_of}
 use Rattle.script_text.proofs.Guards.{IfOk-unless, IfOk-or_fault, IfOk-bind}
@@ -38,14 +42,14 @@ use Rattle.script_ops.specs.declared.limits.TheConstants.{MOST_WEIGHT, MOST_TASK
 -- ---- lines that give a script its parts
 
 -- the same before the first phase
-IsReady-no_ops : (s : ReaderState) → (s.ops ≡ []) × (s.threads ≡ []) × (s.phases ≡ []) → s.weight ≤ MOST_WEIGHT → IsReady s
-IsReady-no_ops s none few = record { bare = λ h. none; fit = IsFit-no_ops s none few }
+IsReady-no_ops : (s : ReaderState) → (s.ops ≡ []) × (s.threads ≡ []) × (s.phases ≡ []) → count_of s.tasks ≤ MOST_TASKS → s.weight ≤ MOST_WEIGHT → IsReady s
+IsReady-no_ops s none few_tasks few = record { bare = λ h. none; fit = IsFit-no_ops s none few_tasks few }
 
 -- before the first line
 pub IsReady-nothing_read : (s : ReaderState) → s ≡ nothing_read → IsReady s
 IsReady-nothing_read s e =
     let none : (s.ops ≡ []) × (s.threads ≡ []) × (s.phases ≡ []) = rw e (refl, refl, refl) in
-    IsReady-no_ops s none (rw e (omega arith))
+    IsReady-no_ops s none (rw e (omega arith)) (rw e (omega arith))
 
 -- the open phase is closed
 pub IsFit-closed : (s closed : ReaderState) → Means (Ok tt) closed (Ok (close_phase s)) → IsReady s → IsFit closed
@@ -56,6 +60,7 @@ IsReady-moved : (s : ReaderState) (place : Place) (order : List ℕ) → is_earl
 IsReady-moved s place order is_early-thread fit = record {
   bare = λ h. absurd cc;
   fit = record {
+    few_tasks = fit.few_tasks;
     ops = fit.ops;
     threads = fit.threads;
     phases = fit.phases;
@@ -80,6 +85,7 @@ IsReady-with_ops s weight new thread fit each short light = at (ltb MOST_WEIGHT 
     more_ready few = record {
       bare = λ h. absurd (is_early-thread s.place thread h);
       fit = record {
+        few_tasks = fit.few_tasks;
         ops = All-append (Fits s.machine (ids_of s.tasks)) s.ops new fit.ops each;
         threads = fit.threads;
         phases = fit.phases;
@@ -109,8 +115,15 @@ IsReady-with_path s op p thread sound fit adds fits same =
 
 -- the same of the only path of a line
 IsReady-path_alone : (s : ReaderState) (op : PathRef → Op) (rest : List ℕ) → is_thread s.place ≡ true → IsSound s → IsFit s
-    → ((path : PathRef) → Fits s.machine (ids_of s.tasks) (op path)) → ((path : PathRef) → op_component_ids (op path) ≡ component_ids path) → IfOk (path_alone s rest >>= λ p. with_op (with_names s p.1) (op p.0)) IsReady
-IsReady-path_alone s op rest thread sound fit fits same = IfOk-bind IsReady (path_alone s rest) _ (λ p e. IsReady-with_path s op p thread sound fit (AddsShort-path_alone s rest p e) (fits p.0) same)
+    → ((path : PathRef) → IsWithin s.machine.domains path → Fits s.machine (ids_of s.tasks) (op path)) → ((path : PathRef) → op_component_ids (op path) ≡ component_ids path) → IfOk (path_alone s rest >>= λ p. with_op (with_names s p.1) (op p.0)) IsReady
+IsReady-path_alone s op rest thread sound fit fits same =
+    IfOk-bind IsReady (path_alone s rest) _ (λ p e. let found = path_of-path_alone s rest p e in
+    IsReady-with_path s op p thread sound fit found.1 (fits p.0 found.0) same)
+
+-- a file that is read is of a domain that exists
+Fits-Read : (m : Parameters) (tasks : List ℕ) (path : PathRef) → IsWithin m.domains path → Fits m tasks (ops.Read path)
+Fits-Read m tasks (File (MonDomain holder domain) kind) within = within
+Fits-Read m tasks path within = tt
 
 -- ---- a line of each kind
 
@@ -119,21 +132,21 @@ IsReady-means : (k : Kind) (s : ReaderState) (rest : List ℕ) → may_stand k s
 unfolding means
 IsReady-means kinds.Machine s rest stands sound ready =
     let none = ready.bare (is_early-machine s.place stands) in
-    IfOk-or_fault IsReady (machine_of (words rest)) BadMachine _ (λ m e. IsReady-no_ops (record s { place = places.Head; machine = m }) none ready.fit.counted)
+    IfOk-or_fault IsReady (machine_of (words rest)) BadMachine _ (λ m e. IsReady-no_ops (record s { place = places.Head; machine = m }) none ready.fit.few_tasks ready.fit.counted)
 IsReady-means kinds.Tasks s rest stands sound ready =
     let none = ready.bare (is_early-tasks s.place stands) in
     IfOk-or_fault IsReady (declared s.tasks (words rest)) BadTasks _ (λ tasks e.
-    IfOk-unless IsReady (ltb MOST_TASKS (count_of tasks)) TooLarge _ (λ h. IsReady-no_ops (record s { tasks = tasks }) none ready.fit.counted))
+    IfOk-unless IsReady (ltb MOST_TASKS (count_of tasks)) TooLarge _ (λ few. IsReady-no_ops (record s { tasks = tasks }) none (ltb-false _ _ few) ready.fit.counted))
 IsReady-means kinds.Phase s rest stands sound ready =
     IfOk-unless IsReady (not (eqb (length (words rest)) 0)) BadArgument _ (λ a. IfOk-unless IsReady (leb MOST_PHASES (length (close_phase s).phases)) TooLarge _ (λ b. IsReady-moved (close_phase s) places.Opened (close_phase s).order refl (IsFit-close_phase s ready.fit)))
 IsReady-means kinds.Order s rest stands sound ready =
     IfOk-or_fault IsReady (order_of (words rest)) BadArgument _ (λ numbers e. IfOk-unless IsReady (ltb MOST_ORDER (length numbers)) TooLarge _ (λ a. IsReady-moved s places.Ordered numbers refl ready.fit))
 IsReady-means kinds.Thread s rest stands sound ready =
     IfOk-unless IsReady (not (eqb (length (words rest)) 0)) BadArgument _ (λ a. IfOk-unless IsReady (leb MOST_PHASE_THREADS (length (close_thread s).threads)) TooLarge _ (λ b. IsReady-moved (close_thread s) places.Thread (close_thread s).order refl (IsFit-close_thread s ready.fit)))
-IsReady-means kinds.Mkdir s rest stands sound ready = IsReady-path_alone s (λ path. ops.Mkdir path) rest stands sound ready.fit (λ path. tt) (λ path. refl)
-IsReady-means kinds.Rmdir s rest stands sound ready = IsReady-path_alone s (λ path. ops.Rmdir path) rest stands sound ready.fit (λ path. tt) (λ path. refl)
-IsReady-means kinds.Read s rest stands sound ready = IsReady-path_alone s (λ path. ops.Read path) rest stands sound ready.fit (λ path. tt) (λ path. refl)
-IsReady-means kinds.List s rest stands sound ready = IsReady-path_alone s (λ path. ops.List path) rest stands sound ready.fit (λ path. tt) (λ path. refl)
+IsReady-means kinds.Mkdir s rest stands sound ready = IsReady-path_alone s (λ path. ops.Mkdir path) rest stands sound ready.fit (λ path within. tt) (λ path. refl)
+IsReady-means kinds.Rmdir s rest stands sound ready = IsReady-path_alone s (λ path. ops.Rmdir path) rest stands sound ready.fit (λ path within. tt) (λ path. refl)
+IsReady-means kinds.Read s rest stands sound ready = IsReady-path_alone s (λ path. ops.Read path) rest stands sound ready.fit (Fits-Read s.machine (ids_of s.tasks)) (λ path. refl)
+IsReady-means kinds.List s rest stands sound ready = IsReady-path_alone s (λ path. ops.List path) rest stands sound ready.fit (λ path within. tt) (λ path. refl)
 IsReady-means kinds.Write s rest stands sound ready =
     IfOk-or_fault IsReady (first_of (words rest)) BadArgument _ (λ word e.
     IfOk-or_fault IsReady (named_in s word) BadPath _ (λ found h.

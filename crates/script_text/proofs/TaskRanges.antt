@@ -1,10 +1,12 @@
 -- Ranges of tasks that rise, and their ids.
-use Rattle.std.proofs.Common.{◌≡◌, ℕ, zero, suc, ◌+◌, ◌<◌, ◌≤◌, true, false, ◌++◌, List, [], ◌∷◌, length, get_or, refl, arith, inl, inr}
+use Rattle.std.proofs.Common.{◌≡◌, ℕ, zero, suc, ◌+◌, ◌<◌, ◌≤◌, true, false, ◌++◌, List, [], ◌∷◌, length, length-append, get_or, refl, sym, ◌∙◌, arith, inl, inr}
 use Rattle.std.specs.List.{list_any, position_or_len, range_with_len}
 use Rattle.std.specs.List.Sorted.{IsStrictlyIncreasing}
 use Rattle.std.proofs.lemmas.Bool.{cases_lt, or_parts, lt-ltb, le-ltb, le-leb}
+use Rattle.std.proofs.lemmas.List.FromFn.{length-range_with_len}
+use Rattle.std.proofs.lemmas.List.Sums.{sum_by-cons}
 use Rattle.script_text.specs.declared.tasks.TaskRange.{TaskRange}
-use Rattle.script_text.specs.Tasks.{RiseFrom, meets, is_behind, with_range, ids_of, ids_in, size_of}
+use Rattle.script_text.specs.Tasks.{RiseFrom, meets, is_behind, with_range, count_of, ids_of, ids_in, size_of}
 
 -- ranges that do not meet are apart
 last-lt_first : (t u : TaskRange) → meets t u ≡ false → t.first ≤ u.last → t.last < u.first
@@ -67,4 +69,7 @@ get_or-rise low (x ∷ y ∷ ys) rise (suc k) d h =
 pub IsStrictlyIncreasing-ids_of : (all : List TaskRange) → RiseFrom 0 all → IsStrictlyIncreasing (ids_of all)
 IsStrictlyIncreasing-ids_of all rise = λ k h. get_or-rise 0 (ids_of all) (Rise-ids_of 0 all rise) k 0 h
 
-pub ruleset insertions = (RiseFrom-with_range)
+-- so many ids
+pub length-ids_of : (all : List TaskRange) → length (ids_of all) ≡ count_of all
+length-ids_of [] = refl
+length-ids_of (t ∷ ts) = length-append (ids_in t) (ids_of ts) ∙ rw (length-range_with_len t.first (size_of t), length-ids_of ts) (sym (sum_by-cons size_of t ts))

@@ -1,8 +1,8 @@
 -- Where a task is in ranges that rise.
-use Rattle.std.proofs.Common.{◌≡◌, ℕ, zero, suc, ◌+◌, ◌<◌, ◌≤◌, Bool, true, false, ◌&&◌, ◌||◌, leb, ltb, List, [], ◌∷◌, length, get_or, refl, sym, ◌∙◌, arith, le-leb, leb-false, lt-ltb, le-ltb, rules}
-use Rattle.std.specs.List.{list_any, position_or_len, AllWithin}
+use Rattle.std.proofs.Common.{◌≡◌, ℕ, zero, suc, ◌+◌, ◌<◌, ◌≤◌, Bool, true, false, ◌&&◌, ◌||◌, leb, List, [], ◌∷◌, length, get_or, refl, sym, ◌∙◌, arith, le-leb, leb-false, rules}
+use Rattle.std.specs.List.{list_any, AllWithin}
 use Rattle.script_text.specs.declared.tasks.TaskRange.{TaskRange}
-use Rattle.script_text.specs.Tasks.{has_task, meets, is_behind, RiseFrom}
+use Rattle.script_text.specs.Tasks.{has_task, meets, RiseFrom}
 
 -- a number above is not at most
 leb-above : (a b : ℕ) → b < a → leb a b ≡ false
@@ -29,14 +29,6 @@ get_or-last_rises low (t ∷ ts) rise zero zero d le h = omega arith
 get_or-last_rises low (t ∷ ts) rise zero (suc j) d le h = omega (arith, get_or-first_ge (t.last + 1) ts rise.2 j d (omega arith), get_or-first_le_last (t.last + 1) ts rise.2 j d (omega arith))
 get_or-last_rises low (t ∷ ts) rise (suc i) zero d le h = absurd (omega arith)
 get_or-last_rises low (t ∷ ts) rise (suc i) (suc j) d le h = get_or-last_rises (t.last + 1) ts rise.2 i j d (omega arith) (omega arith)
-
--- the beginnings rise
-pub get_or-first_rises : (low : ℕ) (all : List TaskRange) → RiseFrom low all → (i j : ℕ) (d : TaskRange) → i ≤ j → j < length all → (get_or all i d).first ≤ (get_or all j d).first
-get_or-first_rises low [] rise i j d le h = absurd (omega arith)
-get_or-first_rises low (t ∷ ts) rise zero zero d le h = omega arith
-get_or-first_rises low (t ∷ ts) rise zero (suc j) d le h = omega (arith, rise.1, get_or-first_ge (t.last + 1) ts rise.2 j d (omega arith))
-get_or-first_rises low (t ∷ ts) rise (suc i) zero d le h = absurd (omega arith)
-get_or-first_rises low (t ∷ ts) rise (suc i) (suc j) d le h = get_or-first_rises (t.last + 1) ts rise.2 i j d (omega arith) (omega arith)
 
 -- ---- ranges that meet one
 
@@ -93,19 +85,4 @@ leb-list_any_has_task all id i d rise before h end = leb-list_any_meets 0 all (r
 pub list_any-has_task_none : (all : List TaskRange) (id : ℕ) → AllWithin (λ t. t.last < id) all 0 (length all) → list_any (has_task id) all ≡ false
 list_any-has_task_none all id before = sym (list_any-meets_one all id) ∙ list_any-meets_before all (record { first = id; last = id }) before
 
--- ---- the place of a range
-
--- a place between those that begin earlier and later is the first of the later
-pub position_or_len-is_behind : (all : List TaskRange) (t : TaskRange) (i : ℕ) → i ≤ length all → AllWithin (λ u. u.first ≤ t.first) all 0 i → AllWithin (λ u. t.first < u.first) all i (length all) → i ≡ position_or_len (is_behind t) all
-position_or_len-is_behind [] t i h before behind = omega arith
-position_or_len-is_behind (u ∷ us) t zero h before behind =
-    let late : ltb t.first u.first ≡ true = lt-ltb t.first u.first (behind 0 u (omega arith) (omega arith)) in
-    rw late refl
-position_or_len-is_behind (u ∷ us) t (suc i) h before behind =
-    let early : ltb t.first u.first ≡ false = le-ltb t.first u.first (before 0 u (omega arith) (omega arith)) in
-    let rest : i ≡ position_or_len (is_behind t) us = position_or_len-is_behind us t i (omega arith) (λ k e a b. before (suc k) e (omega arith) (omega arith)) (λ k e a b. behind (suc k) e (omega arith) (omega arith)) in
-    rw early (omega (arith, rest))
-
 pub ruleset searching = (leb-list_any_has_task, list_any-has_task_none)
-
-pub ruleset meeting = (leb-list_any_meets, list_any-meets_before)

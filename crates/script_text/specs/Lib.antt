@@ -9,3 +9,4 @@ pub mod Kinds
 pub mod Meaning
 pub mod Reading
 pub mod Table
+pub mod Usual

@@ -7,13 +7,13 @@ use Rattle.script_text.specs.declared.tasks.TaskRange.{TaskRange}
 use Rattle.script_text.specs.declared.reader.Reader.{Reader}
 use Rattle.script_text.specs.declared.kind.Place.{Place}
 use Rattle.script_text.specs.declared.kind.Place.TheVariants.{Start, Head, Thread}
-use Rattle.script_text.specs.Tasks.{RiseFrom, ids_of}
+use Rattle.script_text.specs.Tasks.{RiseFrom, count_of, ids_of}
 use Rattle.script_ops.specs.Values.{PhaseValue, threads_in}
 use Rattle.script_ops.specs.Canonical.{AreAllShort, AreNamed}
 use Rattle.script_ops.specs.Fits.{AreFit}
 use Rattle.script_ops.specs.Weights.{weights_of}
 use Rattle.path_names.specs.declared.paths.TheConstants.{MOST_PATH_NAMES}
-use Rattle.script_ops.specs.declared.limits.TheConstants.{MOST_PHASES, MOST_PHASE_THREADS, MOST_WEIGHT}
+use Rattle.script_ops.specs.declared.limits.TheConstants.{MOST_PHASES, MOST_PHASE_THREADS, MOST_TASKS, MOST_WEIGHT}
 
 -- The lines so far: the phases that are closed, the order and the closed threads of the open phase, and the ops of the open thread.
 pub record ReaderState : Type 0 where
@@ -81,8 +81,10 @@ is_early place = false
 abbrev pub BeginsBare : ReaderState → Type 0
 BeginsBare s = is_early s.place ≡ true → (s.ops ≡ []) × (s.threads ≡ []) × (s.phases ≡ [])
 
--- The ops so far are of the machine and its tasks, their components have short names, and they weigh no more than is counted.
+-- The tasks are few; the ops so far are of the machine and its tasks, their components have short names, and they weigh no more
+-- than is counted.
 pub record IsFit (s : ReaderState) : Type 0 where
+  pub few_tasks : count_of s.tasks ≤ MOST_TASKS
   pub ops : AreFit s.machine (ids_of s.tasks) s.ops
   pub threads : All (AreFit s.machine (ids_of s.tasks)) s.threads
   pub phases : All (AreFit s.machine (ids_of s.tasks)) (threads_in s.phases)

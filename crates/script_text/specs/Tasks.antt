@@ -1,5 +1,5 @@
 -- Declared tasks.
-use Rattle.std.specs.Prelude.{◌≡◌, Result, Ok, Err, ℕ, ◌+◌, ◌-◌, ◌≤◌, ◌^◌, Bool, ◌&&◌, ◌==◌, nat_lt, nat_le, List, [], ◌∷◌, Option, Some, None, if◌then◌else◌}
+use Rattle.std.specs.Prelude.{◌≡◌, Result, Ok, Err, ℕ, ◌+◌, ◌-◌, ◌≤◌, ◌^◌, Bool, ◌&&◌, ◌==◌, nat_lt, nat_le, List, [], ◌∷◌, ◌++◌, Option, Some, None, if◌then◌else◌}
 use Rattle.std.specs.Option.{option_and_then}
 use Rattle.std.specs.List.{list_any, before_first, after_first, sum_by, flat_map, position_or_len, range_with_len, insert}
 use Rattle.num_text.specs.Numbers.{dec_of, below}
@@ -48,6 +48,11 @@ declared_from all (word ∷ words) = option_and_then (λ t. if list_any (meets t
 abbrev pub declared : List TaskRange → List (List ℕ) → Option (List TaskRange)
 declared all [] = None
 declared all (word ∷ words) = declared_from all (word ∷ words)
+
+-- these and the tasks of the words, in the order of the words, where each word declares tasks
+unfoldable pub ranges_from : List TaskRange → List (List ℕ) → Option (List TaskRange)
+ranges_from all [] = Some all
+ranges_from all (word ∷ words) = option_and_then (λ t. ranges_from (all ++ t ∷ []) words) (tasks_of word)
 
 -- whether a range has this task
 abbrev pub has_task : ℕ → TaskRange → Bool

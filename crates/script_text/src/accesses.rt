@@ -2,10 +2,11 @@
 ghost use Rattle.std.specs.Prelude.{◌≡◌, ◌+◌, ◌*◌, ◌-◌, ◌<◌, ◌^◌, ◌++◌, IfErr, OnOk};
 ghost use Rattle.script_text.specs.States.{state_of, IsSound};
 ghost use Rattle.script_text.specs.Meaning.{means, sweep_ops, Means};
+ghost use Rattle.script_text.specs.Usual.{access_means};
 ghost use Rattle.script_text.specs.declared.fault.LineError.TheVariants as errors;
 ghost use Rattle.script_text.specs.declared.kind.Kind.TheVariants as kinds;
 
-use crate::arguments::{Sweep, access_args, sweep_args, touch_args};
+use crate::arguments::{Sweep, Use, access_args, sweep_args, touch_args};
 use crate::fault::{LineError, LineFault};
 use crate::paths::find_path;
 use crate::reader::Reader;
@@ -14,13 +15,24 @@ use script_ops::Op;
 
 impl Reader {
     /// `access TASK CPU ADDR`
-    #[tactic(auto, unfolding(crate::specs::Meaning::means), using(crate::proofs::Limits::keeping))]
+    #[tactic(auto, unfolding(crate::specs::Meaning::means))]
     pub fn access(&mut self, text: &[u8]) -> Result<(), LineError>
         requires { IsSound (state_of self.old) }
         ensures said { Means result (state_of self.new) (means kinds.Access (state_of self.old) text.now) }
         ensures sound { OnOk result (IsSound (state_of self.new)) }
     {
-        let Some(used) = access_args(&self.machine, text) else {
+        let used = access_args(&self.machine, text);
+        self.push_access(used)
+    }
+
+    /// Adds the access of an access line with these arguments.
+    #[tactic(auto, using(crate::proofs::Limits::keeping))]
+    pub fn push_access(&mut self, used: Option<Use>) -> Result<(), LineError>
+        requires { IsSound (state_of self.old) }
+        ensures said { Means result (state_of self.new) (access_means (state_of self.old) used) }
+        ensures sound { OnOk result (IsSound (state_of self.new)) }
+    {
+        let Some(used) = used else {
             return Err(LineError::Fault(LineFault::BadArgument));
         };
         let Some(task) = declared_task(&self.tasks, used.task) else {

@@ -16,6 +16,7 @@ mod reader;
 mod reading;
 mod structure;
 mod tasks;
+mod usual;
 mod words;
 
 pub use fault::{LineFault, ScriptError, ScriptFault};

@@ -6,7 +6,7 @@ ghost use Rattle.script_text.specs.Reading.{Reads, reading_from, script_of, loca
 
 use crate::fault::{LineError, ScriptError, ScriptFault};
 use crate::reader::Reader;
-use script_ops::{Script, next_line};
+use script_ops::Script;
 use std::alloc::Global;
 
 fn at(error: LineError, line: u32) -> ScriptError
@@ -40,14 +40,11 @@ fn read_lines(reader: Reader, text: &[u8]) -> Result<Script, ScriptError>
     let mut left = text;
     let mut number: u32 = 0;
     'lines: loop {
-        let Some((line, rest)) = next_line(left) else {
-            return reader.finish(number);
-        };
-        number += 1;
-        match reader.line(line) {
-            Ok(()) => {}
-            Err(error) => return Err(at(error, number)),
+        match reader.take_line(left) {
+            Ok(Some(rest)) => left = rest,
+            Ok(None) => return reader.finish(number),
+            Err(error) => return Err(at(error, number + 1)),
         }
-        left = rest;
+        number += 1;
     }
 }

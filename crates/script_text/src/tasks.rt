@@ -1,8 +1,9 @@
 //! Declared tasks.
 ghost use Rattle.std.specs.Prelude.{◌≡◌, ◌<◌, ◌≤◌, ◌++◌, nat_lt, length, OnOk, IfSome};
-ghost use Rattle.std.specs.List.{list_any, position_or_len, AllWithin};
+ghost use Rattle.std.specs.List.{list_any, AllWithin, IsAllAdjacentAnswer};
+ghost use Rattle.std.specs.List.Sorted.{IsPermutation, IsNonDecreasingBy};
 ghost use Rattle.script_text.specs.Lines.{words};
-ghost use Rattle.script_text.specs.Tasks.{tasks_of, id_of, range_of, declared, declared_from, meets, is_behind, has_task, task_of, count_of, ids_in, ids_of, Declares, RiseFrom};
+ghost use Rattle.script_text.specs.Tasks.{tasks_of, id_of, range_of, ranges_from, declared, has_task, task_of, count_of, ids_in, ids_of, Declares, RiseFrom};
 ghost use Rattle.script_ops.specs.declared.limits.TheConstants.{MOST_TASKS};
 
 use crate::fault::{LineError, LineFault};
@@ -66,38 +67,11 @@ fn ended(all: &[TaskRange], id: u32) -> usize
     all.partition_point(|t| t.last < id)
 }
 
-// Whether a range meets this one: if any does, the first that does not end before this one begins.
-#[tactic(auto, using(crate::proofs::TaskSearch::meeting))]
-fn meets_any(all: &[TaskRange], t: TaskRange) -> bool
-    requires rising { RiseFrom 0 all.now }
-    requires order { t.first ≤ t.last }
-    ensures { result ≡ list_any (meets t) all.now }
+// Adds the tasks of the words of a text, in the order of the words.
+#[tactic(auto, unfolding(crate::specs::Tasks::ranges_from))]
+fn collect(all: &mut Vec<TaskRange>, text: &[u8]) -> Result<(), LineError>
+    ensures { Declares result all.new.items (ranges_from all.old.items (words text.now)) }
 {
-    match all.get(ended(all, t.first)) {
-        Some(u) => u.first <= t.last,
-        None => false,
-    }
-}
-
-// How many ranges begin before this one.
-fn place(all: &[TaskRange], t: TaskRange) -> usize
-    requires { RiseFrom 0 all.now }
-    ensures within { result ≤ length all.now }
-    ensures place { result ≡ position_or_len (is_behind t) all.now }
-{
-    all.partition_point(|u| u.first <= t.first)
-}
-
-/// Adds the tasks of the words of a line.
-#[tactic(auto, unfolding(crate::specs::Tasks::declared_from), using(crate::proofs::TaskRanges::insertions))]
-pub fn declare(all: &mut Vec<TaskRange>, text: &[u8]) -> Result<(), LineError>
-    requires { RiseFrom 0 all.old.items }
-    ensures said { Declares result all.new.items (declared all.old.items (words text.now)) }
-    ensures rising { OnOk result (RiseFrom 0 all.new.items) }
-{
-    if no_word(text) {
-        return Err(LineError::Fault(LineFault::BadTasks));
-    }
     let mut left = text;
     'words: loop {
         let Some((word, rest)) = next_word(left) else {
@@ -106,14 +80,47 @@ pub fn declare(all: &mut Vec<TaskRange>, text: &[u8]) -> Result<(), LineError>
         let Some(found) = tasks_of(word) else {
             return Err(LineError::Fault(LineFault::BadTasks));
         };
-        if meets_any(all, found) {
-            return Err(LineError::Fault(LineFault::BadTasks));
-        }
-        match all.insert(place(all, found), found) {
+        match all.push(found) {
             Ok(()) => {}
             Err(_) => return Err(LineError::NoMemory),
         }
         left = rest;
+    }
+}
+
+// Sorts ranges by their first tasks.
+fn sort(all: &mut Vec<TaskRange>)
+    ensures same { IsPermutation all.old.items all.new.items }
+    ensures sorted { IsNonDecreasingBy (λ t. t.first) all.new.items }
+{
+    all.sort_unstable_by_key(|t| t.first);
+}
+
+// Whether each range ends before the next one begins.
+fn are_apart(all: &[TaskRange]) -> bool
+    ensures { IsAllAdjacentAnswer (λ t u b. b ≡ nat_lt t.last u.first) all.now result }
+{
+    all.is_sorted_by(|t, u| t.last < u.first)
+}
+
+/// Adds the tasks of the words of a line. All words are seen before they are put in order.
+pub fn declare(all: &mut Vec<TaskRange>, text: &[u8]) -> Result<(), LineError>
+    requires { RiseFrom 0 all.old.items }
+    ensures said { Declares result all.new.items (declared all.old.items (words text.now)) }
+    ensures rising { OnOk result (RiseFrom 0 all.new.items) }
+{
+    if no_word(text) {
+        return Err(LineError::Fault(LineFault::BadTasks));
+    }
+    match collect(all, text) {
+        Ok(()) => {}
+        Err(error) => return Err(error),
+    }
+    sort(all);
+    if are_apart(all) {
+        Ok(())
+    } else {
+        Err(LineError::Fault(LineFault::BadTasks))
     }
 }
 

@@ -57,10 +57,10 @@ pub(crate) fn look_all(
     ensures entries { OnOk result (AllNote (λ i. flat_map (looks_in tree.now.machine (journals_of [] slices.old.items) i n tree.now.epoch) (needs tree.now.machine tree.now.state op.now)) slices.old.items slices.new.items) }
     ensures domains { OnOk result (All (λ need. need.0 < tree.now.machine.domains) (needs tree.now.machine tree.now.state op.now)) }
 {
-    let needs = tree.needs(op);
-    let mut looks = LookList::with_room(alloc, needs)?;
-    for i in 0..needs {
-        let (domain, rmid) = tree.need(op, i);
+    let counts = tree.counts(op);
+    let mut looks = LookList::with_room(alloc, counts.len())?;
+    for i in 0..counts.len() {
+        let (domain, rmid) = counts.at(i);
         looks.push(look_one(slices, tree.machine(), n, tree.epoch(), domain, rmid)?);
     }
     Ok(looks)

@@ -38,7 +38,7 @@ fn access(
 ) -> Result<(), NoMemory>
     requires at { IsAt script.now n player.old.tree (map entry_value player.old.commands.items) player.old.slices.items }
     requires op { op_at script.now 0 n ≡ Some (Access task cpu addr) }
-    requires cpu { cpu < script.now.machine.cpus }
+    requires fits { Fits script.now.machine script.now.tasks (Access task cpu addr) }
     requires clock { n < MOST_WEIGHT }
     ensures { OnOk result (IsAt script.now (n + 1) player.new.tree (map entry_value player.new.commands.items) player.new.slices.items) }
 {

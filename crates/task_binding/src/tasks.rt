@@ -87,6 +87,13 @@ impl Tasks {
         change_monitor(&mut self.bindings, group, parent);
     }
 
+    /// All declared tasks with their groups, in the order of the ids.
+    pub fn bindings(&self) -> &[Binding]
+        ensures { result.now ≡ self.now }
+    {
+        &self.bindings
+    }
+
     /// The control group of a declared task, and the group that it is counted in.
     pub fn groups_of(&self, task: u32) -> (Gid, Gid)
         requires { IsSome (binding_of task self.now) }

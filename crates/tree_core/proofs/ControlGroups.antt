@@ -1,44 +1,27 @@
--- The control group of a name is not the default group, and no RMID but its own goes with it.
-use Rattle.std.proofs.Common.{◌≡◌, ◌≢◌, ℕ, zero, suc, ◌<◌, Bool, true, false, ◌&&◌, List, [], ◌∷◌, ◌++◌, length, filter, find, get_or, Option, None, Some, refl, sym, subst, ap, ap₂, ◌∙◌, arith}
-use Rattle.std.specs.List.{flat_map}
-use Rattle.std.specs.Option.{option_and_then, option_map, option_map_or, option_to_list}
-use Rattle.std.proofs.lemmas.Bool.{eq-eqb, eqb-true}
+-- The control group of a name is not the default group.
+use Rattle.std.proofs.Common.{◌≡◌, ◌≢◌, ℕ, zero, suc, ◌<◌, Bool, true, false, ◌&&◌, length, find, get_or, Option, None, Some, refl, sym, subst, ap, ◌∙◌, arith}
+use Rattle.std.specs.Option.{option_and_then, option_map, option_map_or}
+use Rattle.std.proofs.lemmas.Bool.{and_parts, eq-eqb, eqb-true}
 use Rattle.std.proofs.lemmas.List.Folds.{list_any_at}
 use Rattle.group_tree.specs.Lists.{has_group}
-use Rattle.group_tree.specs.Records.{has_gid, is_control, is_control_named, is_monitor_of}
+use Rattle.group_tree.specs.Records.{has_gid, has_name, is_control, is_control_named}
 use Rattle.group_tree.specs.declared.group.Group.{Group}
-use Rattle.lists.proofs.Keyed.{place-key}
+use Rattle.lists.proofs.Keyed.{get_or-key, place-key}
 use Rattle.lists.proofs.Tests.{IsFound, find-found}
 use Rattle.machine.specs.declared.parameters.Parameters.{Parameters}
 use Rattle.path_names.specs.declared.names.NameId.{NameId}
 use Rattle.rc_base.specs.declared.names.Gid.{Gid}
 use Rattle.lists.proofs.Options.{option_and_then-some, option_map-some}
-use Rattle.tree_core.proofs.KeptTables.{IsDefault-first, length-positive, rmid-lt}
+use Rattle.tree_core.proofs.KeptTables.{IsDefault-first, length-positive}
 use Rattle.tree_core.specs.Found.{IsControl}
 use Rattle.tree_core.specs.Kept.{Keeps}
 use Rattle.tree_core.specs.Tables.{Tables}
 use Rattle.tree_core.specs.declared.control.Control.{Control}
 use Rattle.tree_law.specs.Existing.{group_of}
-use Rattle.tree_law.specs.Freeing.{rmids_of, rmids_with}
 use Rattle.tree_law.specs.Sound.{Differ}
 use Rattle.tree_law.specs.State.{State}
 
--- no element is left where none passes at its place
-filter-none_at : {X : Type 0} (p : X → Bool) (xs : List X) → ((k : ℕ) (d : X) → k < length xs → p (get_or xs k d) ≡ false) → filter p xs ≡ []
-filter-none_at p [] none = refl
-filter-none_at p (x ∷ xs) none = rw (none 0 x (omega arith)) (filter-none_at p xs (λ k d within. none (suc k) d (omega arith)))
-
 module _ {m : Parameters} {t : Tables} {s : State} {epoch : ℕ} (keeps : Keeps m t s epoch) where
-  -- no group is a monitor group
-  pub is_monitor_of-none : (gid : Gid) (k : ℕ) (d : Group) → k < length s.groups → is_monitor_of gid (get_or s.groups k d).kind ≡ false
-  is_monitor_of-none gid k d within = ap (is_monitor_of gid) (keeps.not_reached.groups k d within).control
-
-  -- the RMIDs of a group are its own alone
-  pub rmids_with-one : (gid : Gid) (g : Group) (rmid : ℕ) → group_of s gid ≡ Some g → g.rmid ≡ Some rmid → rmids_with s gid ≡ rmid ∷ []
-  rmids_with-one gid g rmid found has =
-      ap₂ (λ (o : Option Group) (gs : List Group). option_map_or rmids_of o [] ++ flat_map rmids_of gs) found (filter-none_at (λ (x : Group). is_monitor_of gid x.kind) s.groups (is_monitor_of-none gid))
-      ∙ ap (λ (r : Option ℕ). option_to_list r ++ []) has
-
   abbrev NamedAs : NameId → Gid → Type 0
   NamedAs name gid = option_map (λ (g : Group). g.gid) (find (is_control_named name) s.groups) ≡ Some gid
 
@@ -82,21 +65,26 @@ module _ {m : Parameters} {t : Tables} {s : State} {epoch : ℕ} (keeps : Keeps 
           let two : Differ (Some 0) (Some id) = subst (λ (x : Option ℕ). Differ (Some 0) x) (ap of (f.at g) ∙ has) (subst (λ (x : Option ℕ). Differ x (of (get_or s.groups f.place g))) first apart) in
           two (sym zeroth))
 
-  -- the group of the name is a control group with its ids
-  pub IsControl-found : (name : NameId) (gid : Gid) (g : Group) (class rmid : ℕ) → NamedAs name gid → group_of s gid ≡ Some g → g.class ≡ Some class → g.rmid ≡ Some rmid
-      → IsControl m s (record { gid = gid; class = class; rmid = rmid })
-  IsControl-found name gid g class rmid named found is_class is_rmid =
+  -- the group with this gid is the group of the name
+  pub IsControlKind-named : (name : NameId) (gid : Gid) (g : Group) → NamedAs name gid → group_of s gid ≡ Some g → is_control g.kind ≡ true
+  IsControlKind-named name gid g named found =
+      let n = IsFound-named name gid named in
+      let key : n.0.gid.0 ≡ gid.0 = ap (λ (i : Gid). i.0) n.2 in
+      let passes : has_gid gid (get_or s.groups n.1.place g) ≡ true = ap (has_gid gid) (n.1.at g) ∙ eq-eqb gid.0 n.0.gid.0 (sym key) in
+      let same : get_or s.groups n.1.place g ≡ g = get_or-key (λ (x : Group). x.gid.0) s.groups (record g { gid = gid }) g keeps.sound.named.gids found n.1.place g n.1.within passes in
+      (and_parts (is_control g.kind) (has_name name g.name) (ap (λ (x : Group). is_control_named name x) (sym same ∙ n.1.at g) ∙ n.1.passes)).0
+
+  -- the group of the name is a control group with its class
+  pub IsControl-found : (name : NameId) (gid : Gid) (g : Group) (class : ℕ) → NamedAs name gid → group_of s gid ≡ Some g → g.class ≡ Some class → IsControl s (record { gid = gid; class = class })
+  IsControl-found name gid g class named found is_class =
       let f = find-found (has_gid gid) s.groups g found in
       let first = IsDefault-first s.groups g keeps.sound.named.first in
       let apart = keeps.sound.numbered.apart in
       record {
         has_class = ap (option_and_then (λ (x : Group). x.class)) found ∙ is_class;
-        has_rmid = ap (option_and_then (λ (x : Group). x.rmid)) found ∙ is_rmid;
-        only_rmid = rmids_with-one gid g rmid found is_rmid;
-        rmid_exists = rmid-lt keeps gid g rmid found is_rmid;
+        is_control_kind = ap (λ (o : Option Group). option_map_or (λ (x : Group). is_control x.kind) o false) found ∙ IsControlKind-named name gid g named found;
         other_gid = gid-named name gid named;
         other_class = id-not_zero g gid (λ (x : Group). x.class) class (gid-named name gid named) f (λ k d some within. (apart 0 k d some within).0) first.class is_class;
-        other_rmid = id-not_zero g gid (λ (x : Group). x.rmid) rmid (gid-named name gid named) f (λ k d some within. (apart 0 k d some within).1) first.rmid is_rmid;
       }
 
 -- the record of a control group that was found
@@ -104,15 +92,15 @@ pub record ControlAt (s : State) (found : Control) : Type 0 where
   pub group : Group
   pub there : group_of s found.gid ≡ Some group
   pub class : group.class ≡ Some found.class
-  pub rmid : group.rmid ≡ Some found.rmid
+  pub kind : is_control group.kind ≡ true
 
 -- a control group that was found has a record
-pub ControlAt-found : (m : Parameters) (s : State) (found : Control) → IsControl m s found → ControlAt s found
-ControlAt-found m s found control =
+pub ControlAt-found : (s : State) (found : Control) → IsControl s found → ControlAt s found
+ControlAt-found s found control =
     let g = option_and_then-some (λ (x : Group). x.class) (group_of s found.gid) found.class control.has_class in
     record {
       group = g.0;
       there = g.1;
       class = g.2;
-      rmid = ap (option_and_then (λ (x : Group). x.rmid)) (sym g.1) ∙ control.has_rmid;
+      kind = ap (λ (o : Option Group). option_map_or (λ (x : Group). is_control x.kind) o false) (sym g.1) ∙ control.is_control_kind;
     }

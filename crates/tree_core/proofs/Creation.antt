@@ -1,13 +1,6 @@
 -- What making a control group answers and leaves.
-use Rattle.std.proofs.Common.{◌≡◌, ℕ, ◌+◌, ◌<◌, ◌≤◌, true, false, cond, eqb, List, [], ◌∷◌, ◌++◌, length, map, find, get_or, Option, None, Some, IsSome, IfSome, unwrap_or, inl, inr, refl, sym, subst, ap, ap₂, ◌∙◌, arith}
-use Rattle.std.specs.List.{IsDistinct, list_any}
-use Rattle.std.proofs.lemmas.Bool.{eqb-true, ne_eqb}
-use Rattle.std.proofs.lemmas.List.{get_or-map, length-map}
-use Rattle.std.proofs.lemmas.List.Folds.{Any-from_list_any, list_any_none}
-use Rattle.std.proofs.lemmas.Map.Keys.{IsDistinct-from_apart}
-use Rattle.std.proofs.lemmas.Map.Steps.{length-le_from_distinct_below}
-use Rattle.group_tree.specs.Lists.{GroupList, has_group}
-use Rattle.group_tree.specs.Records.{blank, has_gid}
+use Rattle.std.proofs.Common.{◌≡◌, ℕ, ◌+◌, ◌≤◌, cond, eqb, List, [], ◌∷◌, ◌++◌, length, find, Option, None, Some, inl, inr, refl, sym, subst, ap, ◌∙◌, arith}
+use Rattle.group_tree.specs.Lists.{GroupList}
 use Rattle.group_tree.specs.declared.group.Group.{Group}
 use Rattle.hw_ids.specs.Classes.{Classes}
 use Rattle.hw_ids.specs.MonitoringIds.{MonitoringIds}
@@ -22,19 +15,18 @@ use Rattle.rc_base.specs.declared.replies.Reply.TheVariants as replies
 use Rattle.rc_base.specs.declared.replies.Why.TheVariants.{OutOfRmids, RmidsBusy}
 use Rattle.script_ops.specs.declared.op.Op.TheVariants.{Mkdir}
 use Rattle.tree_core.proofs.FreeIds.{free_class-lowest, free_class-none, free_rmid-lowest, free_rmid-none}
-use Rattle.tree_core.proofs.KeptTables.{IsSome-ids}
 use Rattle.tree_core.proofs.Outcomes.{needs-nothing, next-accepted}
 use Rattle.tree_core.proofs.Refusals.{IsRefused, IsRefused-no_class, IsRefused-no_rmid, IsRefused-no_space, refusal-no_lack}
 use Rattle.tree_core.proofs.Returns.{AreTaken-same_members}
 use Rattle.tree_core.proofs.Soundness.{IsSound-from_status}
 use Rattle.tree_law.proofs.laws.Steps.{next-sound}
 use Rattle.tree_core.proofs.TakenIds.{AreTaken-push}
-use Rattle.tree_core.proofs.UnreachedParts.{All-shareable_push, NotReached-with}
+use Rattle.tree_core.proofs.UnreachedParts.{All-open_push}
 use Rattle.tree_core.specs.Kept.{Keeps}
 use Rattle.tree_core.specs.Places.{place_reasons}
 use Rattle.tree_core.specs.Tables.{Tables}
 use Rattle.tree_core.specs.Taking.{ClassTaken, ClassesStay, NoIds, NoneTaken, RmidTaken, RmidsStay}
-use Rattle.tree_law.specs.Sound.{Differ, IsSound}
+use Rattle.tree_law.specs.Sound.{IsSound}
 use Rattle.tree_law.specs.Space.{free_class, free_rmid, full_domain}
 use Rattle.tree_law.specs.State.{Outcome, State}
 use Rattle.tree_law.specs.Steps.{accepted, refusal}
@@ -45,55 +37,7 @@ use Rattle.tree_law.specs.commands.Mkdir as mkdir
 abbrev lack_reply : List ℕ → Reply
 lack_reply limbo = cond (eqb (length limbo) 0) (refused OutOfRmids 0) (refused RmidsBusy 0)
 
--- ---- how many groups there are
-
-abbrev class_number : Group → ℕ
-class_number g = unwrap_or g.class 0
-
--- two groups have different classes
-eqb-differ : (a b : Option ℕ) → IsSome a → IsSome b → Differ a b → eqb (unwrap_or a 0) (unwrap_or b 0) ≡ false
-eqb-differ (Some x) (Some y) some some' differ = ne_eqb x y differ
-eqb-differ None b some some' differ = absurd (let e : false ≡ true = some in cc)
-eqb-differ (Some x) None some some' differ = absurd (let e : false ≡ true = some' in cc)
-
--- the number of a class that is there is below that of classes
-unwrap_or-lt : (m : Parameters) (class : Option ℕ) → IsSome class → IfSome class (λ id. id < m.classes) → unwrap_or class 0 < m.classes
-unwrap_or-lt m (Some id) some below = below
-unwrap_or-lt m None some below = absurd (let e : false ≡ true = some in cc)
-
 module _ {m : Parameters} {t : Tables} {s : State} {epoch : ℕ} (keeps : Keeps m t s epoch) where
-  -- there are no more groups than classes
-  pub length-groups_le : length s.groups ≤ m.classes
-  length-groups_le = omega (arith, length-le_from_distinct_below (map class_number s.groups) m.classes distinct below, length-map s.groups class_number)
-    where
-      apart : (i j : ℕ) (d : ℕ) → i < j → j < length (map class_number s.groups) → eqb (get_or (map class_number s.groups) i d) (get_or (map class_number s.groups) j d) ≡ false
-      apart i j d lt within = (let long = length-map s.groups class_number in
-          let later : j < length s.groups = omega arith in
-          let earlier : i < length s.groups = omega arith in
-          let at_i = get_or-map class_number s.groups i blank d earlier in
-          let at_j = get_or-map class_number s.groups j blank d later in
-          ap₂ eqb at_i at_j ∙ eqb-differ (get_or s.groups i blank).class (get_or s.groups j blank).class (IsSome-ids keeps i blank earlier).0 (IsSome-ids keeps j blank later).0 (keeps.sound.numbered.apart i j blank lt later).0)
-
-      distinct : IsDistinct eqb (map class_number s.groups)
-      distinct = IsDistinct-from_apart eqb (map class_number s.groups) apart
-
-      below : (q : ℕ) → list_any (eqb q) (map class_number s.groups) ≡ true → q < m.classes
-      below q there = (let some = Any-from_list_any (eqb q) (map class_number s.groups) there in
-          let long = length-map s.groups class_number in
-          let within : some.0 < length s.groups = omega (arith, some.2) in
-          let is : q ≡ some.1 = eqb-true q some.1 some.4 in
-          let at : some.1 ≡ class_number (get_or s.groups some.0 blank) = sym some.3 ∙ get_or-map class_number s.groups some.0 blank some.1 within in
-          let least = unwrap_or-lt m (get_or s.groups some.0 blank).class (IsSome-ids keeps some.0 blank within).0 (keeps.sound.numbered.classes some.0 blank within) in
-          omega (arith, is, at, least))
-
-  -- the next gid is fresh
-  pub has_group-next_gid : has_group (record { 0 = s.next_gid }) s.groups ≡ false
-  has_group-next_gid = list_any_none (has_gid (record { 0 = s.next_gid })) s.groups (λ k d within. let below = keeps.sound.named.serial k d within in ne_eqb s.next_gid (get_or s.groups k d).gid.0 (λ e. absurd (omega (arith, below, e))))
-
-  -- where there are at most 64 classes, one more group has a place
-  pub length-groups_lt : m.classes ≤ 64 → length s.groups < 328
-  length-groups_lt few = omega (arith, length-groups_le)
-
   -- ---- a control group that is refused
 
   -- where no ids are taken, the reason is the reply
@@ -124,6 +68,7 @@ module _ {m : Parameters} {t : Tables} {s : State} {epoch : ℕ} (keeps : Keeps 
       gids_left = keeps.stands.gids_left;
     };
     sound = keeps.sound;
+    few_tasks = keeps.few_tasks;
     not_reached = keeps.not_reached;
   }
 
@@ -187,5 +132,6 @@ module _ {m : Parameters} {t : Tables} {s : State} {epoch : ℕ} (keeps : Keeps 
         gids_left = omega (arith, gids);
       };
       sound = IsSound-with_control masks range is_masks;
-      not_reached = NotReached-with m s (s.groups ++ control_record masks ∷ []) s.limbo s.status (s.next_gid + 1) keeps.not_reached (All-shareable_push s.groups (control_record masks) keeps.not_reached.groups (record { control = refl; shareable = refl }));
+      few_tasks = keeps.few_tasks;
+      not_reached = record { groups = All-open_push s.groups (control_record masks) keeps.not_reached.groups refl; regions = keeps.not_reached.regions; locks = keeps.not_reached.locks };
     })

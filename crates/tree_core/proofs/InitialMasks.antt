@@ -1,42 +1,21 @@
 -- The initial mask of a new group, by the uses that the groups tell.
-use Rattle.std.proofs.Common.{◌≡◌, ℕ, ◌-◌, ◌^◌, ◌<◌, ◌≤◌, Bool, true, false, ◌||◌, List, [], ◌∷◌, ◌++◌, length, map, find, get_or, replicate, Option, Some, None, IfSome, inl, inr, refl, sym, ap, ◌∙◌, arith, zero-add}
-use Rattle.std.specs.List.{list_any, range_with_len}
+use Rattle.std.proofs.Common.{◌≡◌, ℕ, ◌-◌, ◌^◌, ◌<◌, ◌≤◌, Bool, true, false, List, ◌++◌, length, map, find, get_or, replicate, Option, Some, None, IfSome, inl, inr, refl, sym, ap, ◌∙◌, arith, zero-add}
+use Rattle.std.specs.List.{range_with_len}
 use Rattle.std.specs.Option.{option_map}
 use Rattle.std.proofs.lemmas.Bool.{cases_lt}
 use Rattle.std.proofs.lemmas.List.{ext_get_or, get_or-append_right, get_or-replicate, get_or_append_left, length-append, length-replicate}
 use Rattle.std.proofs.lemmas.List.FromFn.{get_or-map-range_with_len, get_or-range_with_len, length-map-range_with_len, length-range_with_len}
 use Rattle.std.proofs.lemmas.List.Recursion.{found_at, found_nowhere}
-use Rattle.std.proofs.lemmas.Nat.Bits.{bit_at-zero}
 use Rattle.lists.proofs.Filters.{filter-same}
-use Rattle.cbm.proofs.laws.Ways.{has_way-bit_or, has_way-zero}
-use Rattle.cbm.specs.Masks.{IsUnion, has_way, ways_of}
+use Rattle.cbm.specs.Masks.{ways_of}
 use Rattle.cbm.specs.declared.geometry.Geometry.{Geometry}
 use Rattle.mode_rules.specs.Space.{initial_ways, may_start_with, space_in, starting_ways}
 use Rattle.mode_rules.specs.declared.domain_use.DomainUse.{DomainUse}
-use Rattle.group_tree.specs.Others.{IsUseByOthers, masks_of_others}
 use Rattle.machine.specs.declared.parameters.Parameters.{Parameters}
-use Rattle.rc_base.specs.declared.names.Mode.TheVariants.{Exclusive, Shareable}
-use Rattle.tree_law.proofs.laws.Regions.{region_mask-union}
+use Rattle.tree_core.proofs.Uses.{SameUse}
 use Rattle.tree_law.proofs.laws.WayMasks.{mask_of-ways_of}
-use Rattle.tree_law.specs.Sound.{IsSound}
-use Rattle.tree_law.specs.Space.{geometry_of, initial_mask, mask_of, union_of, used_in}
+use Rattle.tree_law.specs.Space.{geometry_of, initial_mask, mask_of, used_in}
 use Rattle.tree_law.specs.State.{State}
-
--- the ways of a union
-pub has_way-union_of : (masks : List ℕ) (way : ℕ) → has_way (union_of masks) way ≡ list_any (λ (mask : ℕ). has_way mask way) masks
-has_way-union_of [] way = has_way-zero 0 way (bit_at-zero way)
-has_way-union_of (mask ∷ masks) way = has_way-bit_or mask (union_of masks) way ∙ ap (λ (b : Bool). has_way mask way || b) (has_way-union_of masks way)
-
--- a mask with just the ways of these has each way as their union has it
-pub has_way-union : (union : ℕ) (masks : List ℕ) (way : ℕ) → IsUnion union masks → has_way union way ≡ has_way (union_of masks) way
-has_way-union union masks way is = is way ∙ sym (has_way-union_of masks way)
-
--- two uses with the same ways
-pub record SameUse (a b : DomainUse) : Type 0 where
-  pub hardware : (way : ℕ) → has_way a.hardware way ≡ has_way b.hardware way
-  pub shared : (way : ℕ) → has_way a.shared way ≡ has_way b.shared way
-  pub exclusive : (way : ℕ) → has_way a.exclusive way ≡ has_way b.exclusive way
-  pub region : (way : ℕ) → has_way a.region way ≡ has_way b.region way
 
 -- they let a new group start with the same ways
 may_start_with-same : (a b : DomainUse) (way : ℕ) → SameUse a b → may_start_with a way ≡ may_start_with b way
@@ -57,21 +36,12 @@ geometry_of-parts : (m : Parameters) (g : Geometry) → g.len ≡ m.ways → g.m
 geometry_of-parts m g len least sparse =
     ap (λ (n : ℕ). record g { len = n }) len ∙ ap (λ (n : ℕ). record g { len = m.ways; min = n }) least ∙ ap (λ (b : Bool). record (geometry_of m) { sparse = b }) sparse
 
--- what the groups tell of a domain is what the state has there
-SameUse-told : (m : Parameters) (s : State) (domain : ℕ) (used : DomainUse) → IsSound m s → domain < m.domains → IsUseByOthers (record { groups = s.groups; shareable = m.shareable }) None domain used → SameUse used (used_in m s None domain)
-SameUse-told m s domain used sound below told = record {
-  hardware = λ way. ap (λ (mask : ℕ). has_way mask way) told.hardware;
-  shared = λ way. has_way-union used.shared (masks_of_others None Shareable domain s.groups) way told.shared;
-  exclusive = λ way. has_way-union used.exclusive (masks_of_others None Exclusive domain s.groups) way told.exclusive;
-  region = λ way. told.region way ∙ sym (region_mask-union m s None domain sound tt below way);
-}
-
--- what was found, where the groups tell such a use
-pub initial_mask-found : (m : Parameters) (s : State) (domain : ℕ) (g : Geometry) (used : DomainUse) (found : Option ℕ) → IsSound m s → domain < m.domains → g.len ≡ m.ways → g.min ≡ m.min → g.sparse ≡ m.sparse
-    → IsUseByOthers (record { groups = s.groups; shareable = m.shareable }) None domain used → IfSome found (λ mask. mask < 2 ^ 32) → option_map ways_of found ≡ initial_ways g used → found ≡ initial_mask m s domain
-initial_mask-found m s domain g used found sound below len least sparse told small is =
+-- what was found, where the use has the same ways as the state's
+pub initial_mask-found : (m : Parameters) (s : State) (domain : ℕ) (g : Geometry) (used : DomainUse) (found : Option ℕ) → g.len ≡ m.ways → g.min ≡ m.min → g.sparse ≡ m.sparse
+    → SameUse used (used_in m s None domain) → IfSome found (λ mask. mask < 2 ^ 32) → option_map ways_of found ≡ initial_ways g used → found ≡ initial_mask m s domain
+initial_mask-found m s domain g used found len least sparse same small is =
     option_map-mask_of found (initial_ways (geometry_of m) (used_in m s None domain)) small
-    (is ∙ ap (λ (shape : Geometry). initial_ways shape used) (geometry_of-parts m g len least sparse) ∙ initial_ways-same (geometry_of m) used (used_in m s None domain) (SameUse-told m s domain used sound below told))
+    (is ∙ ap (λ (shape : Geometry). initial_ways shape used) (geometry_of-parts m g len least sparse) ∙ initial_ways-same (geometry_of m) used (used_in m s None domain) same)
 
 -- ---- the first that passes, in a range
 

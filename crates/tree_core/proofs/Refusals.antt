@@ -45,7 +45,7 @@ refusal-place m s path why found = at (against m s path NoSuchPath) (against m s
     at false false false rest e = absurd (let none : None ≡ Some why = e in cc)
 
 -- where nothing is against the place, some lack may be
-refusal-in_place : (m : Parameters) (s : State) (path : PathRef) → find (against m s path) place_reasons ≡ None → refusal m s (Mkdir path) ≡ option_map (with_argument m s) (find (against m s path) lack_reasons)
+pub refusal-in_place : (m : Parameters) (s : State) (path : PathRef) → find (against m s path) place_reasons ≡ None → refusal m s (Mkdir path) ≡ option_map (with_argument m s) (find (against m s path) lack_reasons)
 unfolding refusal mkdir.refusal
 refusal-in_place m s path none = at (against m s path NoSuchPath) (against m s path Exists) (against m s path NotAPlace) (find (against m s path) lack_reasons) none
   where

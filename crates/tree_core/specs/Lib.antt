@@ -1,10 +1,17 @@
 pub mod Built
+pub mod CpuFiles
+pub mod Directories
 pub mod Follows
 pub mod Found
 pub mod Kept
+pub mod Modes
 pub mod Named
 pub mod NotReached
+pub mod Overlaps
 pub mod Places
+pub mod Removals
+pub mod RmidLists
 pub mod Tables
 pub mod Taking
+pub mod TaskMoves
 pub mod Values

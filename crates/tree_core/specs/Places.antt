@@ -1,6 +1,7 @@
 -- Paths by what is made or written there, and what is against the place of a new group.
 use Rattle.std.specs.Prelude.{Bool, true, false, List, [], ◌∷◌}
-use Rattle.path_names.specs.declared.files.FileKind.TheVariants.{Schemata}
+use Rattle.path_names.specs.declared.dirs.DirRef.TheVariants.{MonDomain}
+use Rattle.path_names.specs.declared.files.FileKind.TheVariants.{Occupancy}
 use Rattle.path_names.specs.declared.path_ref.PathRef.{PathRef}
 use Rattle.path_names.specs.declared.path_ref.PathRef.TheVariants.{File}
 use Rattle.rc_base.specs.declared.replies.Why.{Why}
@@ -10,7 +11,12 @@ use Rattle.rc_base.specs.declared.replies.Why.TheVariants.{NoSuchPath, NotAPlace
 abbrev pub place_reasons : List Why
 place_reasons = NoSuchPath ∷ Exists ∷ NotAPlace ∷ []
 
--- whether a path is the file `schemata` of some directory
-abbrev pub is_schemata : PathRef → Bool
-is_schemata (File dir Schemata) = true
-is_schemata path = false
+-- whether a path is a file of some directory
+abbrev pub is_some_file : PathRef → Bool
+is_some_file (File dir kind) = true
+is_some_file path = false
+
+-- whether a path is the file `llc_occupancy` of a group in some domain
+abbrev pub is_occupancy : PathRef → Bool
+is_occupancy (File (MonDomain holder domain) Occupancy) = true
+is_occupancy path = false

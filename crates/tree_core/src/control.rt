@@ -2,10 +2,9 @@
 
 use rc_base::Gid;
 
-/// A control group other than the default group, and its ids.
+/// A control group other than the default group, and its class.
 #[derive(Clone, Copy, Debug)]
 pub(crate) struct Control {
     pub(crate) gid: Gid,
     pub(crate) class: u8,
-    pub(crate) rmid: u16,
 }

@@ -3,17 +3,28 @@
 
 pub mod built;
 mod control;
+pub mod counts;
+mod cpu_sets;
 pub mod follow;
+mod freeing;
+mod group_dir;
 mod looks;
 mod masks;
+pub mod mode_names;
+mod mode_text;
 mod places;
+mod removal;
+mod rmid_list;
 mod schemata;
 mod taking;
+mod task_moves;
 #[cfg(test)]
 mod tests;
 pub mod tree;
 
 pub use built::is_built;
+pub use counts::Counts;
 pub use follow::{After, Follow};
 pub use group_tree::{Group, GroupKind, Groups};
+pub use mode_names::mode_name;
 pub use tree::Tree;

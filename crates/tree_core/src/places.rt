@@ -1,14 +1,13 @@
 //! Where a path stands in the tree, whether its groups exist or not.
 ghost use Rattle.std.specs.Prelude.{◌≡◌, Some, MatchOption, false};
-ghost use Rattle.path_names.specs.declared.dirs.DirRef.TheVariants.{Ctrl};
-ghost use Rattle.path_names.specs.declared.files.FileKind.TheVariants.{Schemata};
+ghost use Rattle.path_names.specs.declared.dirs.DirRef.TheVariants.{MonDomain};
+ghost use Rattle.path_names.specs.declared.files.FileKind.TheVariants.{Occupancy};
 ghost use Rattle.path_names.specs.declared.path_ref.PathRef.TheVariants.{Dir, File};
 ghost use Rattle.tree_law.specs.Existing.{holder_dir, holding, holds_groups, is_group_directory, is_in_place, owner_dir};
-ghost use Rattle.tree_core.specs.Places.{is_schemata};
-ghost use Rattle.tree_law.specs.commands.Mkdir.{makes_control};
+ghost use Rattle.tree_core.specs.Places.{is_occupancy, is_some_file};
 ghost use Rattle.tree_law.specs.commands.Write.{is_only_read, is_written};
 
-use path_names::{DirRef, FileKind, Holder, NameId, Owner, PathRef};
+use path_names::{DirRef, FileKind, Holder, Owner, PathRef};
 
 // The directory of a control group.
 fn owner_dir(owner: Owner) -> DirRef
@@ -108,22 +107,24 @@ pub(crate) fn is_only_read(path: PathRef) -> bool
     }
 }
 
-/// The name of the control group whose directory a path is, for any but the default group.
-pub(crate) fn control_name(path: PathRef) -> Option<NameId>
-    ensures { MatchOption result (makes_control path ≡ false) (λ name. path ≡ Dir (Ctrl name)) }
+/// The directory and the kind of the file that a path is.
+pub(crate) fn file_at(path: PathRef) -> Option<(DirRef, FileKind)>
+    ensures { MatchOption result (is_some_file path ≡ false) (λ file. path ≡ File file.0 file.1) }
 {
     match path {
-        PathRef::Dir(DirRef::Ctrl(name)) => Some(name),
+        PathRef::File(dir, kind) => Some((dir, kind)),
         _ => None,
     }
 }
 
-/// The directory whose file `schemata` a path is.
-pub(crate) fn schemata_directory(path: PathRef) -> Option<DirRef>
-    ensures { MatchOption result (is_schemata path ≡ false) (λ dir. path ≡ File dir Schemata) }
+/// The group and the domain whose file `llc_occupancy` a path is.
+pub(crate) fn counted_at(path: PathRef) -> Option<(Holder, u8)>
+    ensures { MatchOption result (is_occupancy path ≡ false) (λ of. path ≡ File (MonDomain of.0 of.1) Occupancy) }
 {
     match path {
-        PathRef::File(dir, FileKind::Schemata) => Some(dir),
+        PathRef::File(DirRef::MonDomain(holder, domain), FileKind::Occupancy) => Some((
+            holder, domain,
+        )),
         _ => None,
     }
 }

@@ -2,12 +2,13 @@
 ghost use Rattle.std.specs.Prelude.{◌≡◌, IfOk};
 ghost use Rattle.machine.specs.Maps.{parameters_of};
 ghost use Rattle.schemata_text.specs.Reading.{AreLawful, Gives};
-ghost use Rattle.tree_law.specs.commands.Schemata.{mask_reason, schemata_read, text_refusal};
+ghost use Rattle.tree_law.specs.commands.Schemata.{mask_reason, overlap_refusal, schemata_read, text_refusal};
 ghost use Rattle.tree_law.specs.Space.{geometry_of};
 ghost use Rattle.tree_law.specs.Refusals.{reply_of};
 
 use cbm::CbmFault;
 use machine::Machine;
+use mode_rules::Overlap;
 use num_text::trim;
 use rc_base::{Reply, Why};
 use schemata_text::{Assignments, TextFault, read};
@@ -45,5 +46,18 @@ pub(crate) fn refusal(fault: TextFault) -> Reply
         TextFault::Twice { domain } => Reply::refused(Why::DomainTwice, u64::from(domain)),
         TextFault::NotHex => Reply::refused(Why::NotHex, 0),
         TextFault::Mask { bits, fault } => Reply::refused(mask_reason(fault), bits),
+    }
+}
+
+/// The refusal that goes with what stands against a mask in a domain.
+pub(crate) fn overlap_refusal(domain: u8, overlap: Overlap) -> Reply
+    ensures { result ≡ reply_of (Some (overlap_refusal domain overlap)) }
+{
+    match overlap {
+        Overlap::Exclusive => Reply::refused(Why::OverlapExclusive, 0),
+        Overlap::Region => Reply::refused(Why::OverlapRegion, 0),
+        Overlap::Other => Reply::refused(Why::OverlapOther, 0),
+        Overlap::Hardware => Reply::refused(Why::OverlapShareable, 0),
+        Overlap::HasRegion => Reply::refused(Why::HasRegion, u64::from(domain)),
     }
 }

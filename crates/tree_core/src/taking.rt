@@ -35,8 +35,8 @@ pub(crate) fn take_ids(
     }
 }
 
-// Takes the lowest free RMID, where no domain lacks space.
-fn take_rmid(rmids: &mut Rmids, full: Option<u8>) -> Result<u16, Reply>
+/// Takes the lowest free RMID, where no domain lacks space.
+pub(crate) fn take_rmid(rmids: &mut Rmids, full: Option<u8>) -> Result<u16, Reply>
     ensures { TakesRmid rmids.old rmids.new full result }
 {
     if let Some(domain) = full {

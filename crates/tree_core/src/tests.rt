@@ -2,5 +2,8 @@
 
 mod fixtures;
 mod groups;
+mod joining;
 mod masks;
+mod modes;
+mod monitors;
 mod readers;

@@ -1,20 +1,31 @@
 //! The tree of groups of a machine.
-ghost use Rattle.std.specs.Prelude.{◌≡◌, IfOk};
+ghost use Rattle.std.specs.Prelude.{◌≡◌, ◌≤◌, IfOk, length};
 ghost use Rattle.std.specs.List.Sorted.{IsStrictlyIncreasing};
 ghost use Rattle.machine.specs.Maps.{parameters_of};
+ghost use Rattle.script_ops.specs.declared.limits.TheConstants.{MOST_TASKS};
 ghost use Rattle.tree_law.specs.State.{opening};
 ghost use Rattle.tree_law.specs.Sound.{IsSound};
 
 mod apply;
+mod control;
+mod cpus;
 mod existing;
 mod flush;
+mod freed;
+mod joining;
 mod mkdir;
+mod mkdir_monitor;
+mod mode;
 mod needs;
+mod overlaps;
 mod readers;
 mod resolve;
 mod rmdir;
 mod schemata;
 mod space;
+mod tasks;
+mod threshold;
+mod tick;
 mod write;
 
 use cpu_binding::Cpus;
@@ -28,7 +39,7 @@ use std::marker::Model;
 use task_binding::Tasks;
 
 /// The tree of groups on a machine. Contracts see its machine, its state, and as `epoch` how many commands it has taken.
-/// So far every group is a shareable control group, and every task and every CPU is the default group's.
+/// So far no group is in pseudo-locksetup or pseudo-locked.
 #[derive(Drop)]
 pub struct Tree {
     machine: Machine,
@@ -64,11 +75,12 @@ impl Model for Tree {
 }
 
 impl Tree {
-    /// The opening tree of a machine with these declared tasks, which rise: the default group alone, which
-    /// owns every task and CPU and has every way of each cache (kernel documentation, "Resource alloc and monitor groups").
+    /// The opening tree of a machine with these declared tasks, which rise and are at most `MOST_TASKS`: the default group alone,
+    /// which owns every task and CPU and has every way of each cache (kernel documentation, "Resource alloc and monitor groups").
     /// NoMemory where there is no room for the tasks.
     pub fn create(alloc: Global, m: &Machine, tasks: &[u32]) -> Result<Tree, NoMemory>
-        requires { IsStrictlyIncreasing tasks.now }
+        requires rising { IsStrictlyIncreasing tasks.now }
+        requires few { length tasks.now ≤ MOST_TASKS }
         ensures machine { IfOk result (λ t. t.machine ≡ parameters_of m.now) }
         ensures state { IfOk result (λ t. t.state ≡ opening (parameters_of m.now) tasks.now) }
         ensures epoch { IfOk result (λ t. t.epoch ≡ 0) }

@@ -12,7 +12,7 @@ use Rattle.cbm.proofs.laws.Ways.{ways_of-zero}
 use Rattle.cbm.specs.Masks.{has_way, lowest_run, ways_of}
 use Rattle.cbm.specs.Validity.{checked, is_too_few}
 use Rattle.cbm.specs.declared.geometry.Geometry.{Geometry}
-use Rattle.mode_rules.proofs.laws.StartingMasks.{checked-run, checked-every, may_start_with-run, may_start_with-every}
+use Rattle.mode_rules.proofs.laws.StartingMasks.{checked-run, may_start_with-run}
 use Rattle.mode_rules.proofs.laws.StartingWays.{filter-starting_ways, union, ways_of-union}
 use Rattle.mode_rules.specs.Space.{has_no_space, initial_ways, may_start_with, starting_ways}
 use Rattle.mode_rules.specs.declared.domain_use.DomainUse.{DomainUse}
@@ -76,26 +76,11 @@ has_no_space-false g ways none = at (eqb (length ways) 0) (is_too_few g ways) re
 -- the mask of the first ways is one that a group may start with
 pub IsStartMask-mask_of : (g : Geometry) (u : DomainUse) (ways : List ℕ) → g.len ≤ 32 → initial_ways g u ≡ Some ways → IsStartMask g u (mask_of ways)
 unfolding initial_ways
-IsStartMask-mask_of g u ways le is = at (has_no_space g (starting_ways g.len u)) g.sparse refl refl is
+IsStartMask-mask_of g u ways le is = at (has_no_space g (starting_ways g.len u)) refl is
   where
-    all : List ℕ
-    all = starting_ways g.len u
-
-    at : (a b : Bool) → has_no_space g (starting_ways g.len u) ≡ a → g.sparse ≡ b → cond a None (Some (cond b (starting_ways g.len u) (lowest_run (starting_ways g.len u)))) ≡ Some ways → IsStartMask g u (mask_of ways)
-    at true b space sparse e = absurd (let f : ◌≡◌ {A = Option (List ℕ)} None (Some ways) = e in cc)
-    at false true space sparse e =
-        (let mask = start_mask u g.len in
-        let are = ways_of-start_mask u g.len le in
-        let small = start_mask-below u g.len le in
-        let has = has_no_space-false g (starting_ways g.len u) space in
-        let same : starting_ways g.len u ≡ ways = (let f : Some (starting_ways g.len u) ≡ Some ways = e in cc) in
-        let is_mask : mask_of ways ≡ mask = ap mask_of (sym same ∙ sym are) ∙ mask_of-ways_of mask (omega arith) in
-        subst (IsStartMask g u) (sym is_mask) (record {
-          valid = checked-every g u mask sparse are (omega (arith, ap length are, has.0)) (omega (arith, ap (λ (xs : List ℕ). length (lowest_run xs)) are, has.1));
-          within = λ way h. may_start_with-every u g.len mask way small are h;
-          small = small;
-        }))
-    at false false space sparse e =
+    at : (b : Bool) → has_no_space g (starting_ways g.len u) ≡ b → cond b None (Some (lowest_run (starting_ways g.len u))) ≡ Some ways → IsStartMask g u (mask_of ways)
+    at true space e = absurd (let f : ◌≡◌ {A = Option (List ℕ)} None (Some ways) = e in cc)
+    at false space e =
         (let mask = start_mask u g.len in
         let are = ways_of-start_mask u g.len le in
         let small = start_mask-below u g.len le in

@@ -1,5 +1,5 @@
 -- How many places of a slice pass a test, by what each holds.
-use Rattle.std.proofs.Common.{◌≡◌, ℕ, zero, suc, ◌+◌, ◌*◌, ◌%◌, ◌<◌, ◌≤◌, Bool, true, false, cond, List, Option, Some, None, refl, sym, ap, ◌∙◌, arith, inl, inr}
+use Rattle.std.proofs.Common.{◌≡◌, ℕ, zero, suc, ◌+◌, ◌*◌, ◌%◌, ◌<◌, ◌≤◌, Bool, true, cond, Option, refl, ap, arith, inl, inr}
 use Rattle.std.specs.Prelude.{if◌then◌else◌}
 use Rattle.std.proofs.lemmas.Bool.{cases_Bool, eq-eqb, eqb-true, cases_lt}
 use Rattle.cache_core.specs.Filled.{AreAlike, places_with}
@@ -11,7 +11,7 @@ use Rattle.lists.proofs.Sums.{cond-le, one_if-le, sum_below-le, sum_below-same}
 -- ---- sums
 
 -- a sum of which one number is greater
-sum_below-greater : (n k more : ℕ) (f g : ℕ → ℕ) → k < n → ((i : ℕ) → i < n → (i ≡ k → ⊥) → g i ≡ f i) → g k ≡ f k + more → sum_below n g ≡ sum_below n f + more
+pub sum_below-greater : (n k more : ℕ) (f g : ℕ → ℕ) → k < n → ((i : ℕ) → i < n → (i ≡ k → ⊥) → g i ≡ f i) → g k ≡ f k + more → sum_below n g ≡ sum_below n f + more
 sum_below-greater zero k more f g within same here = absurd (omega arith)
 sum_below-greater (suc n) k more f g within same here = elim (cases_lt k n) [
   | inl less ↦

@@ -41,20 +41,23 @@ pub record IsLowestRun (mask low run : ℕ) : Type 0 where
   pub ways : ways_of mask ≡ range_with_len low run ++ ways_from mask (low + run)
   pub run_is : lowest_run (ways_of mask) ≡ range_with_len low run
 
-some_run : (mask low run : ℕ) → bit_at mask low ≡ 1 → bit_at mask (low + run) ≡ 0 → 0 < run
-some_run mask low zero one end = let at : low + 0 ≡ low = omega arith in let none : bit_at mask low ≡ 0 = rw at at end in absurd (omega (arith, none, one))
-some_run mask low (suc run) one end = omega arith
+-- a run from a bit that is set up to one that is not has a way
+lt-run : (mask low run : ℕ) → bit_at mask low ≡ 1 → bit_at mask (low + run) ≡ 0 → 0 < run
+lt-run mask low zero one end = let at : low + 0 ≡ low = omega arith in let none : bit_at mask low ≡ 0 = rw at at end in absurd (omega (arith, none, one))
+lt-run mask low (suc run) one end = omega arith
 
-last_fits : (mask n : ℕ) → bit_at mask (n - 1) ≡ 1 → 0 < n → mask < 2 ^ 32 → n ≤ 32
-last_fits mask n one pos small =
+-- a bit that is set is one of the 32 of its mask
+le-last_bit : (mask n : ℕ) → bit_at mask (n - 1) ≡ 1 → 0 < n → mask < 2 ^ 32 → n ≤ 32
+le-last_bit mask n one pos small =
     elim (cases_lt n 33) [
       | inl lt ↦ omega arith
       | inr le ↦ (let none : bit_at mask (n - 1) ≡ 0 = bit_at_above mask 32 (n - 1) small (omega arith) in absurd (omega (arith, none, one)))
     ]
 
-split_ways : (mask low run : ℕ) → low + run ≤ 32 → ((k : ℕ) → k < low → bit_at mask k ≡ 0) → ((k : ℕ) → low ≤ k → k < low + run → bit_at mask k ≡ 1) → ways_of mask ≡ range_with_len low run ++ ways_from mask (low + run)
+-- a mask with no way below a run has the run, and then the ways past it
+ways_of-split : (mask low run : ℕ) → low + run ≤ 32 → ((k : ℕ) → k < low → bit_at mask k ≡ 0) → ((k : ℕ) → low ≤ k → k < low + run → bit_at mask k ≡ 1) → ways_of mask ≡ range_with_len low run ++ ways_from mask (low + run)
 unfolding ways_of
-split_ways mask low run fits below inside =
+ways_of-split mask low run fits below inside =
     let rest : 64 - low - run ≡ 64 - (low + run) = omega arith in
     filter-fails (has_way mask) 0 low 64 (omega arith) (λ k a b. has_way-zero mask k (below k (omega arith)))
     ∙ ap (λ (a : ℕ). filter (has_way mask) (range_with_len a (64 - low))) (zero-add low)
@@ -69,10 +72,10 @@ trailing_zeros-lowest_run mask low run pos small low_is run_is =
     let le : rest ≤ mask = div-le_self mask (2 ^ low) in
     let o : (run < 64) × (bit_at rest run ≡ 0) × ((i : ℕ) → i < run → bit_at rest i ≡ 1) = subst (λ (k : ℕ). (k < 64) × (bit_at rest k ≡ 0) × ((i : ℕ) → i < k → bit_at rest i ≡ 1)) (sym run_is) (bit_at-trailing_ones w64 rest (omega arith)) in
     let end : bit_at mask (low + run) ≡ 0 = sym (bit_at-div_pow mask low run) ∙ o.1 in
-    let some : 0 < run = some_run mask low run t.1 end in
+    let some : 0 < run = lt-run mask low run t.1 end in
     let inside : (k : ℕ) → low ≤ k → k < low + run → bit_at mask k ≡ 1 = λ k a b. (let at : low + (k - low) ≡ k = omega arith in ap (bit_at mask) (sym at) ∙ sym (bit_at-div_pow mask low (k - low)) ∙ o.2 (k - low) (omega arith)) in
-    let fits : low + run ≤ 32 = last_fits mask (low + run) (inside (low + run - 1) (omega arith) (omega arith)) (omega arith) small in
-    let ways : ways_of mask ≡ range_with_len low run ++ ways_from mask (low + run) = split_ways mask low run fits t.2 inside in
+    let fits : low + run ≤ 32 = le-last_bit mask (low + run) (inside (low + run - 1) (omega arith) (omega arith)) (omega arith) small in
+    let ways : ways_of mask ≡ range_with_len low run ++ ways_from mask (low + run) = ways_of-split mask low run fits t.2 inside in
     let stops : list_any (λ x. eqb x (low + run)) (ways_from mask (low + run)) ≡ false = list_any-filter_none (has_way mask) (λ x. eqb x (low + run)) (low + run) (64 - (low + run)) (λ k a b yes_k. not_there k yes_k end) in
     record {
       some = some;
@@ -92,7 +95,7 @@ pub ways_of-mod_pow : (mask low run : ℕ) → IsLowestRun mask low run → ways
 ways_of-mod_pow mask low run f =
     let part = mask % 2 ^ (low + run) in
     let small : part < 2 ^ (low + run) = omega (arith, pow_pos (low + run)) in
-    split_ways part low run f.within
+    ways_of-split part low run f.within
     (λ k lt. bit_at-mod_pow mask (low + run) k (omega arith) ∙ f.below k lt)
     (λ k a b. bit_at-mod_pow mask (low + run) k b ∙ f.inside k a b)
     ∙ ap (λ (xs : List ℕ). range_with_len low run ++ xs) (filter-none (has_way part) (low + run) (64 - (low + run)) (λ k a b. has_way-zero part k (bit_at_above part (low + run) k small a)))

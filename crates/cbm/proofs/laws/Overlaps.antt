@@ -36,26 +36,30 @@ overlaps-true a b h = let s = list_any-filter_true (has_way a) (has_way b) 0 64 
 
 -- ---- in either order
 
-both_ways : (x y : Bool) → (x ≡ true → y ≡ true) → (y ≡ true → x ≡ true) → x ≡ y
-both_ways true y f g = sym (f refl)
-both_ways false true f g = g refl
-both_ways false false f g = refl
+-- two tests are the same where each passes if the other does
+eq-iff_true : (x y : Bool) → (x ≡ true → y ≡ true) → (y ≡ true → x ≡ true) → x ≡ y
+eq-iff_true true y f g = sym (f refl)
+eq-iff_true false true f g = g refl
+eq-iff_true false false f g = refl
 
+-- masks overlap in either order
 pub overlaps-comm : (a b : ℕ) → overlaps a b ≡ overlaps b a
-overlaps-comm a b = both_ways (overlaps a b) (overlaps b a) (turned a b) (turned b a)
+overlaps-comm a b = eq-iff_true (overlaps a b) (overlaps b a) (turned a b) (turned b a)
   where
     turned : (m n : ℕ) → overlaps m n ≡ true → overlaps n m ≡ true
     turned m n h = let s = overlaps-true m n h in overlaps-way n m s.0 s.1 s.3 s.2
 
 -- ---- with a union
 
-any-same : (p q : ℕ → Bool) (xs : List ℕ) → ((k : ℕ) → p k ≡ q k) → list_any p xs ≡ list_any q xs
-any-same p q [] same = refl
-any-same p q (x ∷ xs) same = ap₂ (λ (a b : Bool). a || b) (same x) (any-same p q xs same)
+-- tests that pass for the same numbers
+list_any-same : (p q : ℕ → Bool) (xs : List ℕ) → ((k : ℕ) → p k ≡ q k) → list_any p xs ≡ list_any q xs
+list_any-same p q [] same = refl
+list_any-same p q (x ∷ xs) same = ap₂ (λ (a b : Bool). a || b) (same x) (list_any-same p q xs same)
 
-any-or : (p q : ℕ → Bool) (xs : List ℕ) → list_any (λ k. p k || q k) xs ≡ (list_any p xs || list_any q xs)
-any-or p q [] = refl
-any-or p q (x ∷ xs) = ap (λ (b : Bool). p x || q x || b) (any-or p q xs) ∙ regroup (p x) (q x) (list_any p xs) (list_any q xs)
+-- one passes either of two tests where one passes the first or one the second
+list_any-or : (p q : ℕ → Bool) (xs : List ℕ) → list_any (λ k. p k || q k) xs ≡ (list_any p xs || list_any q xs)
+list_any-or p q [] = refl
+list_any-or p q (x ∷ xs) = ap (λ (b : Bool). p x || q x || b) (list_any-or p q xs) ∙ regroup (p x) (q x) (list_any p xs) (list_any q xs)
   where
     regroup : (a b c d : Bool) → (a || b || (c || d)) ≡ (a || c || (b || d))
     regroup true b c d = refl
@@ -64,31 +68,34 @@ any-or p q (x ∷ xs) = ap (λ (b : Bool). p x || q x || b) (any-or p q xs) ∙ 
     regroup false false true d = refl
     regroup false false false d = refl
 
-any-none : (xs : List ℕ) → list_any (λ k. false) xs ≡ false
-any-none [] = refl
-any-none (x ∷ xs) = any-none xs
+-- nothing passes a test that always fails
+list_any-false : (xs : List ℕ) → list_any (λ k. false) xs ≡ false
+list_any-false [] = refl
+list_any-false (x ∷ xs) = list_any-false xs
 
 -- a mask overlaps the union of two where it overlaps one of them
 pub overlaps-bit_or : (mask a b : ℕ) → overlaps mask (bit_or a b) ≡ (overlaps mask a || overlaps mask b)
 unfolding overlaps
 overlaps-bit_or mask a b =
-    any-same (has_way (bit_or a b)) (λ k. has_way a k || has_way b k) (ways_of mask) (λ k. has_way-bit_or a b k)
-    ∙ any-or (has_way a) (has_way b) (ways_of mask)
+    list_any-same (has_way (bit_or a b)) (λ k. has_way a k || has_way b k) (ways_of mask) (λ k. has_way-bit_or a b k)
+    ∙ list_any-or (has_way a) (has_way b) (ways_of mask)
 
-any-swap : (masks ways : List ℕ) → list_any (λ w. list_any (λ m. has_way m w) masks) ways ≡ list_any (λ m. list_any (has_way m) ways) masks
-any-swap [] ways = any-none ways
-any-swap (m ∷ masks) ways =
-    any-or (has_way m) (λ w. list_any (λ n. has_way n w) masks) ways ∙ ap (λ (b : Bool). list_any (has_way m) ways || b) (any-swap masks ways)
+-- some way is in some mask, seen from the ways and from the masks
+list_any-swap : (masks ways : List ℕ) → list_any (λ w. list_any (λ m. has_way m w) masks) ways ≡ list_any (λ m. list_any (has_way m) ways) masks
+list_any-swap [] ways = list_any-false ways
+list_any-swap (m ∷ masks) ways =
+    list_any-or (has_way m) (λ w. list_any (λ n. has_way n w) masks) ways ∙ ap (λ (b : Bool). list_any (has_way m) ways || b) (list_any-swap masks ways)
 
 -- a mask overlaps a union of masks where it overlaps one of them
 pub overlaps-union : (mask union : ℕ) (masks : List ℕ) → IsUnion union masks → overlaps mask union ≡ list_any (overlaps mask) masks
 unfolding overlaps
 overlaps-union mask union masks is_union =
-    any-same (has_way union) (λ w. list_any (λ m. has_way m w) masks) (ways_of mask) is_union ∙ any-swap masks (ways_of mask)
+    list_any-same (has_way union) (λ w. list_any (λ m. has_way m w) masks) (ways_of mask) is_union ∙ list_any-swap masks (ways_of mask)
 
--- no mask has the union 0, and one more mask is joined by `|`
-pub union-none : IsUnion 0 []
-union-none = λ way. has_way-zero 0 way (bit_at-zero way)
+-- the union of no masks is 0
+pub IsUnion-nil : IsUnion 0 []
+IsUnion-nil = λ way. has_way-zero 0 way (bit_at-zero way)
 
-pub union-more : (union : ℕ) (masks : List ℕ) (mask : ℕ) → IsUnion union masks → IsUnion (bit_or mask union) (mask ∷ masks)
-union-more union masks mask is_union = λ way. has_way-bit_or mask union way ∙ ap (λ (b : Bool). has_way mask way || b) (is_union way)
+-- one more mask is joined to a union by `|`
+pub IsUnion-cons : (union : ℕ) (masks : List ℕ) (mask : ℕ) → IsUnion union masks → IsUnion (bit_or mask union) (mask ∷ masks)
+IsUnion-cons union masks mask is_union = λ way. has_way-bit_or mask union way ∙ ap (λ (b : Bool). has_way mask way || b) (is_union way)

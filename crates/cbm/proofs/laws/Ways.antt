@@ -32,6 +32,7 @@ has_way-from mask at small ne =
       | inr le ↦ (let none : bit_at mask k ≡ 0 = bit_at_above mask 64 k small le in absurd (omega arith))
     ]
 
+-- the mask 0 has no way
 pub ways_of-zero : (mask : ℕ) → mask ≡ 0 → ways_of mask ≡ []
 unfolding ways_of
 ways_of-zero mask e = filter-none (has_way mask) 0 64 (λ k low high. has_way-zero mask k (ap (λ (n : ℕ). bit_at n k) e ∙ bit_at-zero k))

@@ -77,34 +77,34 @@ digits_value-filled base zero cs = refl
 digits_value-filled base (suc zeros) cs = ap (λ (n : ℕ). digits_value_after base n (replicate zeros 48 ++ cs)) (omega arith) ∙ digits_value-filled base zeros cs
 
 -- a number in hexadecimal
-hex_numeral : (n : ℕ) → n < 2 ^ 64 → IsNumeral 16 (digits 16 false n) × (digits_value 16 (digits 16 false n) ≡ n)
-hex_numeral n small = digits_is_IsNumeral 16 false (omega arith) (omega arith) n (lt_of_lt_of_le small (omega arith))
+IsNumeral-hexadecimal : (n : ℕ) → n < 2 ^ 64 → IsNumeral 16 (digits 16 false n) × (digits_value 16 (digits 16 false n) ≡ n)
+IsNumeral-hexadecimal n small = digits_is_IsNumeral 16 false (omega arith) (omega arith) n (lt_of_lt_of_le small (omega arith))
 
 -- it has hexadecimal digits alone
 pub AllDigits-hexadecimal : (width n : ℕ) → n < 2 ^ 64 → AllDigits 16 (hexadecimal width n)
 unfolding filled
-AllDigits-hexadecimal width n small = AllDigits-filled 16 (width - length (digits 16 false n)) (digits 16 false n) (omega arith) (hex_numeral n small).0.1
+AllDigits-hexadecimal width n small = AllDigits-filled 16 (width - length (digits 16 false n)) (digits 16 false n) (omega arith) (IsNumeral-hexadecimal n small).0.1
 
 -- spells the number
 pub digits_value-hexadecimal : (width n : ℕ) → n < 2 ^ 64 → digits_value 16 (hexadecimal width n) ≡ n
 unfolding filled
-digits_value-hexadecimal width n small = digits_value-filled 16 (width - length (digits 16 false n)) (digits 16 false n) ∙ (hex_numeral n small).1
+digits_value-hexadecimal width n small = digits_value-filled 16 (width - length (digits 16 false n)) (digits 16 false n) ∙ (IsNumeral-hexadecimal n small).1
 
 -- and has some digit
 pub length-hexadecimal_some : (width n : ℕ) → n < 2 ^ 64 → 0 < length (hexadecimal width n)
 unfolding filled
-length-hexadecimal_some width n small = omega (arith, length-append (replicate (width - length (digits 16 false n)) 48) (digits 16 false n), (hex_numeral n small).0.0)
+length-hexadecimal_some width n small = omega (arith, length-append (replicate (width - length (digits 16 false n)) 48) (digits 16 false n), (IsNumeral-hexadecimal n small).0.0)
 
 -- ---- a text without blanks is trimmed
 
 -- no element of a list where none passes does
-at_none : (p : ℕ → Bool) (xs : List ℕ) (i d : ℕ) → list_any p xs ≡ false → i < length xs → p (get_or xs i d) ≡ true → ⊥
-at_none p xs i d h lt e = let yes_any = list_any_at p xs i d lt e in absurd cc
+list_any-none_at : (p : ℕ → Bool) (xs : List ℕ) (i d : ℕ) → list_any p xs ≡ false → i < length xs → p (get_or xs i d) ≡ true → ⊥
+list_any-none_at p xs i d h lt e = let yes_any = list_any_at p xs i d lt e in absurd cc
 
 -- it begins with none
 prefix_len-none : (p : ℕ → Bool) (xs : List ℕ) → list_any p xs ≡ false → prefix_len p xs ≡ 0
 prefix_len-none p xs h = elim (cases_lt 0 (prefix_len p xs)) [
-  | inl lt ↦ absurd (at_none p xs 0 0 h (omega (arith, prefix_len-le-length p xs)) (prefix_len_passes p xs 0 0 lt))
+  | inl lt ↦ absurd (list_any-none_at p xs 0 0 h (omega (arith, prefix_len-le-length p xs)) (prefix_len_passes p xs 0 0 lt))
   | inr le ↦ omega arith
 ]
 
@@ -113,7 +113,7 @@ suffix_len-none : (p : ℕ → Bool) (xs : List ℕ) → list_any p xs ≡ false
 suffix_len-none p xs h = elim (cases_lt 0 (suffix_len p xs)) [
   | inl lt ↦ (let some : 0 < length xs = omega (arith, prefix_len-le-length p (reverse xs), length-reverse xs) in
       let passes = prefix_len_passes p (reverse xs) 0 0 lt in
-      absurd (at_none p xs (length xs - 1 - 0) 0 h (omega arith) (ap p (sym (get_or-reverse xs 0 0 some)) ∙ passes)))
+      absurd (list_any-none_at p xs (length xs - 1 - 0) 0 h (omega arith) (ap p (sym (get_or-reverse xs 0 0 some)) ∙ passes)))
   | inr le ↦ omega arith
 ]
 

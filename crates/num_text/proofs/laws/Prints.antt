@@ -101,9 +101,11 @@ filled-zero base width n low h wide =
 pub length-filled_last : (base width n : ℕ) → 2 ≤ base → n < base → width ≤ 1 → length (filled base width n) ≡ 1
 length-filled_last base width n low h narrow = ap length (filled-last base width n low h narrow)
 
+-- with a digit more of the number
 pub length-filled_more : (base width n : ℕ) → 2 ≤ base → base ≤ n → n < 2 ^ 64 → length (filled base width n) ≡ length (filled base (width - 1) (n / base)) + 1
 length-filled_more base width n low h small = ap length (filled-more base width n low h small) ∙ length-append (filled base (width - 1) (n / base)) (last_glyph base n ∷ [])
 
+-- with a zero more
 pub length-filled_zero : (base width n : ℕ) → 2 ≤ base → n < base → 1 < width → length (filled base width n) ≡ length (filled base (width - 1) 0) + 1
 length-filled_zero base width n low h wide = ap length (filled-zero base width n low h wide) ∙ length-append (filled base (width - 1) 0) (digit_glyph false n ∷ [])
 

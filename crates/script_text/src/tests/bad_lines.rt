@@ -5,7 +5,7 @@ use crate::tests::{bad, told};
 
 #[test]
 fn lines_that_may_not_stand(rt: HostRuntime) {
-    let rows: [(&[u8], u32, LineFault); 44] = [
+    let rows: [(&[u8], u32, LineFault); 45] = [
         (b"", 1, LineFault::NoMachine),
         (b"\n", 2, LineFault::NoMachine),
         (b"# nothing\r\n \t\n", 3, LineFault::NoMachine),
@@ -49,6 +49,11 @@ fn lines_that_may_not_stand(rt: HostRuntime) {
             LineFault::BadTasks,
         ),
         (b"machine\ntasks 1-4294967295 9\n", 2, LineFault::BadTasks),
+        (
+            b"machine\ntasks 9000 1-4096 8000 4096\n",
+            2,
+            LineFault::BadTasks,
+        ),
         (b"machine\ntasks 1-4294967295\n", 2, LineFault::TooLarge),
         (
             b"machine\ntasks 1-4096\ntasks 4097\n",

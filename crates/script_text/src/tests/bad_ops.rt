@@ -5,15 +5,15 @@ use crate::tests::{bad, repeated, told};
 use std::alloc::{AllocError, Global};
 use std::test::Fail;
 
-// What follows a machine, a task, a phase and a thread.
-fn in_thread(alloc: Global, line: &[u8]) -> Result<Vec<u8>, AllocError> {
-    repeated(alloc, b"machine\ntasks 1\nphase\nthread\n", line, 1, b"")
+// A line after a machine, a task, a phase and a thread, and what ends it.
+fn in_thread(alloc: Global, line: &[u8], end: &[u8]) -> Result<Vec<u8>, AllocError> {
+    repeated(alloc, b"machine\ntasks 1\nphase\nthread\n", line, 1, end)
 }
 
 #[test]
 fn ops_that_are_none(rt: HostRuntime) -> Result<(), Fail> {
     let alloc = rt.alloc();
-    let rows: [(&[u8], LineFault); 54] = [
+    let rows: [(&[u8], LineFault); 57] = [
         (b"mkdir", LineFault::BadArgument),
         (b"mkdir /a /b", LineFault::BadArgument),
         (b"rmdir", LineFault::BadArgument),
@@ -41,6 +41,9 @@ fn ops_that_are_none(rt: HostRuntime) -> Result<(), Fail> {
         (b"access 1 0 0x1000000000000", LineFault::BadArgument),
         (b"access 1 0 0x", LineFault::BadArgument),
         (b"access 1 0 x", LineFault::BadArgument),
+        (b"access 1 0 18446744073709551616", LineFault::BadArgument),
+        (b"access 1 0 0\r\r", LineFault::BadByte),
+        (b"access 1 0 0\x0b", LineFault::BadByte),
         (b"access 0x1 0 0", LineFault::BadArgument),
         (b"access 1 18446744073709551616 0", LineFault::BadArgument),
         (b"access -1 0 0", LineFault::BadArgument),
@@ -79,8 +82,10 @@ fn ops_that_are_none(rt: HostRuntime) -> Result<(), Fail> {
         (b"touch /g 0 0 0", LineFault::UnknownTask),
     ];
     for (line, what) in rows {
-        let text = in_thread(alloc, line)?;
-        assert_eq!(rt; told(alloc, &text), bad(5, what), "{line:?}");
+        for end in [b"".as_slice(), b"\n", b"\r\n"] {
+            let text = in_thread(alloc, line, end)?;
+            assert_eq!(rt; told(alloc, &text), bad(5, what), "{line:?}");
+        }
     }
     Ok(())
 }

@@ -1,13 +1,13 @@
 //! Small trees, and commands that they take.
-ghost use Rattle.std.specs.Prelude.{IsTrue};
+ghost use Rattle.std.specs.Prelude.{Contains, IsTrue};
 ghost use Rattle.script_ops.specs.Fits.{Fits};
 ghost use Rattle.tree_law.specs.State.{tasks_of};
 
 use crate::{After, Tree, is_built};
 use machine::{Machine, Parameters};
-use path_names::{DirRef, NameId, PathRef};
-use rc_base::{Errno, NoMemory, Reply, Why};
-use script_ops::{MOST_WEIGHT, Op};
+use path_names::{DirRef, FileKind, NameId, PathRef};
+use rc_base::{Errno, Gid, NoMemory, Reply, Tag, Why};
+use script_ops::{Bytes, MOST_WEIGHT, Op};
 use std::alloc::Global;
 use std::process::Abort;
 
@@ -29,14 +29,14 @@ pub(crate) fn small() -> Parameters {
     }
 }
 
-/// The opening tree of a machine, with one declared task.
+/// The opening tree of a machine with task 1.
 pub(crate) fn opening(
     rt: &impl Abort,
     alloc: Global,
     parameters: &Parameters,
 ) -> Result<Tree, NoMemory> {
     let machine = Machine::checked(parameters).expect(rt, "the parameters are in range");
-    Tree::create(alloc, &machine, &[])
+    Tree::create(alloc, &machine, &[1])
 }
 
 /// The opening tree of two caches, of which other hardware shares the last way.
@@ -59,6 +59,9 @@ pub(crate) fn fits(tree: &Tree, op: &Op) -> bool
             domain: Some(domain),
         } => *domain < tree.machine().domains,
         Op::Write { text, .. } => text.as_slice().len() <= 4096,
+        Op::Read {
+            path: PathRef::File(DirRef::MonDomain(_, domain), _),
+        } => { *domain < tree.machine().domains }
         Op::Access { .. } | Op::Touch { .. } => false,
         _ => true,
     }
@@ -73,6 +76,20 @@ pub(crate) fn take(rt: &impl Abort, tree: &mut Tree, op: &Op, looks: &[u64]) -> 
     tree.apply(op, looks)
 }
 
+/// Whether a task is declared.
+fn declares(tree: &Tree, task: u32) -> bool
+    ensures { IsTrue result → Contains (tasks_of tree.now.state) task }
+{
+    tree.tasks().bindings().iter().any(|b| b.task == task)
+}
+
+/// The tag of an access, after the tests that `resolve` leaves to its caller.
+pub(crate) fn resolve(rt: &impl Abort, tree: &Tree, task: u32, cpu: u8) -> Tag {
+    assert!(rt; declares(tree, task));
+    assert!(rt; cpu < tree.machine().cpus);
+    tree.resolve(task, cpu)
+}
+
 /// Makes a group.
 pub(crate) fn mkdir(rt: &impl Abort, tree: &mut Tree, path: PathRef) -> Reply {
     take(rt, tree, &Op::Mkdir { path }, &[]).0
@@ -81,4 +98,26 @@ pub(crate) fn mkdir(rt: &impl Abort, tree: &mut Tree, path: PathRef) -> Reply {
 /// A refusal whose reason has no argument.
 pub(crate) fn refused(errno: Errno, why: Why) -> Reply {
     Reply::Refused { errno, why, arg: 0 }
+}
+
+/// Writes a text to a file of a directory.
+pub(crate) fn write(
+    rt: &impl Abort,
+    alloc: Global,
+    tree: &mut Tree,
+    dir: DirRef,
+    file: FileKind,
+    text: &[u8],
+) -> Result<(Reply, After), NoMemory> {
+    let path = PathRef::File(dir, file);
+    let text = Bytes::copy(alloc, text)?;
+    Ok(take(rt, tree, &Op::Write { path, text }, &[]))
+}
+
+/// The masks of a group in the first two domains.
+pub(crate) fn masks(rt: &impl Abort, tree: &Tree, gid: u32) -> (u32, u32) {
+    let group = tree.groups().get(Gid(gid)).expect(rt, "the group is there");
+    match group.masks {
+        [first, second, ..] => (first, second),
+    }
 }

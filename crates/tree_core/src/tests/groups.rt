@@ -141,14 +141,20 @@ fn a_removal_needs_counts(rt: HostRuntime) -> Result<(), Fail> {
 fn commands_that_are_built(rt: HostRuntime) -> Result<(), Fail> {
     let monitor = PathRef::Dir(DirRef::Mon(Owner::Default, NameId(0)));
     let tasks = PathRef::File(DirRef::Root, FileKind::Tasks);
+    let count = PathRef::File(DirRef::Root, FileKind::Occupancy);
     let schemata = PathRef::File(DirRef::Ctrl(NameId(0)), FileKind::Schemata);
+    let usage = PathRef::File(DirRef::InfoL3, FileKind::BitUsage);
+    let threshold = PathRef::File(DirRef::InfoL3Mon, FileKind::MaxThreshold);
     for (op, want) in [
         (Op::Mkdir { path: A }, true),
-        (Op::Mkdir { path: monitor }, false),
-        (Op::Rmdir { path: monitor }, false),
-        (Op::List { path: monitor }, false),
+        (Op::Mkdir { path: monitor }, true),
+        (Op::Rmdir { path: monitor }, true),
+        (Op::List { path: monitor }, true),
         (Op::Read { path: schemata }, true),
-        (Op::Read { path: tasks }, false),
+        (Op::Read { path: tasks }, true),
+        (Op::Read { path: count }, true),
+        (Op::Read { path: usage }, true),
+        (Op::Read { path: threshold }, true),
         (
             Op::Read {
                 path: PathRef::Nowhere(NameId(1)),
@@ -156,7 +162,7 @@ fn commands_that_are_built(rt: HostRuntime) -> Result<(), Fail> {
             true,
         ),
         (Op::Flush { domain: None }, true),
-        (Op::Tick, false),
+        (Op::Tick, true),
     ] {
         assert_eq!(rt; is_built(&op), want);
     }

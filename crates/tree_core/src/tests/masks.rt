@@ -1,35 +1,10 @@
 //! Masks that are written.
 
-use crate::tests::fixtures::{A, mkdir, refused, take, two_domains};
-use crate::{After, Follow, Tree};
+use crate::Follow;
+use crate::tests::fixtures::{A, masks, mkdir, refused, resolve, two_domains, write};
 use path_names::{DirRef, FileKind, NameId, PathRef};
-use rc_base::{Errno, Gid, NoMemory, Reply, Why};
-use script_ops::{Bytes, Op};
-use std::alloc::Global;
-use std::process::Abort;
+use rc_base::{Errno, Gid, Reply, Why};
 use std::test::Fail;
-
-// Writes a text to a file of a directory.
-fn write(
-    rt: &impl Abort,
-    alloc: Global,
-    tree: &mut Tree,
-    dir: DirRef,
-    file: FileKind,
-    text: &[u8],
-) -> Result<(Reply, After), NoMemory> {
-    let path = PathRef::File(dir, file);
-    let text = Bytes::copy(alloc, text)?;
-    Ok(take(rt, tree, &Op::Write { path, text }, &[]))
-}
-
-// The masks of a group in the first two domains.
-fn masks(rt: &impl Abort, tree: &Tree, gid: u32) -> (u32, u32) {
-    let group = tree.groups().get(Gid(gid)).expect(rt, "the group is there");
-    match group.masks {
-        [first, second, ..] => (first, second),
-    }
-}
 
 #[test]
 fn new_groups_get_every_way(rt: HostRuntime) -> Result<(), Fail> {
@@ -44,8 +19,7 @@ fn new_groups_get_every_way(rt: HostRuntime) -> Result<(), Fail> {
     assert_eq!(rt; mkdir(&rt, &mut tree, A), Reply::Ok);
     assert_eq!(rt; masks(&rt, &tree, 1), (15, 15));
     assert_eq!(rt; masks(&rt, &tree, 0), (3, 15));
-    assert!(rt; 0 < tree.machine().cpus);
-    let tag = tree.resolve(1, 0);
+    let tag = resolve(&rt, &tree, 1, 0);
     assert_eq!(rt;
         (tag.owner, tag.class, tag.rmid, tag.mask, tag.epoch),
         (Gid(0), 0, 0, 3, 2)

@@ -20,8 +20,9 @@ use script_ops::Op;
 
 impl Tree {
     /// Takes a command that fits and is built, with the counts of lines that it needs: its reply, and what follows it in the
-    /// slices. A refused command leaves the tree as it was but for the last status, which mkdir and write set (kernel documentation,
-    /// "Resource alloc and monitor groups"; this project's profile says which error answers which case).
+    /// slices. A refused command leaves the tree as it was but for the last status, which mkdir and write set; only a refused write
+    /// of `tasks` keeps the tasks that it had moved (kernel documentation, "Resource alloc and monitor groups"; this project's
+    /// profile says which error answers which case).
     pub fn apply(&mut self, op: &Op, looks: &[u64]) -> (Reply, After)
         requires fits { Fits self.old.machine (tasks_of self.old.state) op.now }
         requires built { IsBuilt op.now }
@@ -67,7 +68,8 @@ impl Tree {
             Op::Read { path } => (found(self.is_file(*path)), After::new()),
             Op::List { path } => (found(self.is_directory(*path)), After::new()),
             Op::Flush { domain } => (Reply::Ok, self.flush(*domain)),
-            Op::Tick | Op::Access { .. } | Op::Touch { .. } => unreachable!(),
+            Op::Tick => self.tick(looks),
+            Op::Access { .. } | Op::Touch { .. } => unreachable!(),
         }
     }
 

@@ -1,16 +1,18 @@
-//! mkdir: making a control group.
+//! mkdir: making a group.
 ghost use Rattle.std.specs.Prelude.{◌≡◌, ◌≤◌, ◌<◌, ◌^◌, ◌-◌, ℕ, List, None, Some, find};
 ghost use Rattle.path_names.specs.declared.dirs.DirRef.TheVariants.{Ctrl};
 ghost use Rattle.path_names.specs.declared.path_ref.PathRef.TheVariants.{Dir};
 ghost use Rattle.script_ops.specs.declared.op.Op.TheVariants.{Mkdir};
 ghost use Rattle.tree_core.specs.Built.{IsBuilt};
+ghost use Rattle.tree_core.specs.Directories.{path_of};
 ghost use Rattle.tree_core.specs.Places.{place_reasons};
 ghost use Rattle.tree_law.specs.Refusals.{reply_of};
 ghost use Rattle.tree_law.specs.Steps.{next, next_if, refusal};
 ghost use Rattle.tree_law.specs.commands.Mkdir.{against};
 
 use super::Tree;
-use crate::places::{control_name, is_in_place};
+use crate::group_dir::{GroupDir, group_dir};
+use crate::places::is_in_place;
 use crate::taking::{NewIds, take_ids};
 use group_tree::{Group, GroupKind};
 use path_names::{NameId, PathRef};
@@ -49,10 +51,28 @@ impl Tree {
     {
         match self.against_place(path) {
             Some(why) => Reply::refused(why, 0),
-            None => match control_name(path) {
-                Some(name) => self.make_control(name),
+            None => match group_dir(path) {
+                Some(dir) => self.make_group(dir),
                 None => unreachable!(),
             },
+        }
+    }
+
+    // Makes a group with this directory, against whose place nothing is.
+    fn make_group(&mut self, dir: GroupDir) -> Reply
+        requires place { find (against self.old.machine self.old.state (path_of dir)) place_reasons ≡ None }
+        requires gids { self.old.state.next_gid ≤ self.old.epoch }
+        requires epoch { self.old.epoch < 2 ^ 32 - 1 }
+        ensures machine { self.new.machine ≡ self.old.machine }
+        ensures reply { result ≡ reply_of (refusal self.old.machine self.old.state (Mkdir (path_of dir))) }
+        ensures state { (looks : List ℕ) → self.new.state
+            ≡ next_if self.old.machine self.old.state (Mkdir (path_of dir)) looks
+            (refusal self.old.machine self.old.state (Mkdir (path_of dir))) }
+        ensures epoch { self.new.epoch ≡ self.old.epoch }
+    {
+        match dir {
+            GroupDir::Control(name) => self.make_control(name),
+            GroupDir::Monitor(owner, name) => self.make_monitor(owner, name),
         }
     }
 

@@ -1,33 +1,28 @@
 //! The counts of lines that a command needs.
-ghost use Rattle.std.specs.Prelude.{◌≡◌, ◌<◌, None, Some, IfSome, length, slice_get};
-ghost use Rattle.std.specs.Option.{option_to_list};
-ghost use Rattle.path_names.specs.declared.dirs.DirRef.TheVariants.{Ctrl};
-ghost use Rattle.path_names.specs.declared.path_ref.PathRef.TheVariants.{Dir};
+ghost use Rattle.std.specs.Prelude.{◌≡◌, ◌<◌, All, Some, length, slice_get};
 ghost use Rattle.script_ops.specs.Fits.{Fits};
-ghost use Rattle.script_ops.specs.declared.op.Op.TheVariants.{Rmdir};
+ghost use Rattle.script_ops.specs.declared.op.Op.TheVariants as ops;
 ghost use Rattle.tree_core.specs.Built.{IsBuilt};
-ghost use Rattle.tree_core.specs.Found.{FindsControl};
 ghost use Rattle.tree_law.specs.Freeing.{counts_of};
+ghost use Rattle.tree_law.specs.LawsCounts.{CanLook};
 ghost use Rattle.tree_law.specs.State.{tasks_of};
-ghost use Rattle.tree_law.specs.Steps.{needs, refusal};
+ghost use Rattle.tree_law.specs.Steps.{needs};
 
 use super::Tree;
-use crate::control::Control;
-use crate::places::control_name;
-use path_names::{NameId, PathRef};
+use crate::counts::Counts;
+use crate::places::counted_at;
+use crate::rmid_list::RmidList;
+use path_names::PathRef;
 use script_ops::Op;
 
 impl Tree {
-    /// How many counts a command needs: one for each domain, of each RMID that it frees.
+    /// How many counts a command needs.
     pub fn needs(&self, op: &Op) -> u32
         requires fits { Fits self.now.machine (tasks_of self.now.state) op.now }
         requires built { IsBuilt op.now }
         ensures { result ≡ length (needs self.now.machine self.now.state op.now) }
     {
-        match self.freed(op) {
-            Some(_) => u32::from(self.machine.domains),
-            None => 0,
-        }
+        self.counts(op).len()
     }
 
     /// The domain and the RMID of the i-th count that a command needs, from 0.
@@ -39,67 +34,49 @@ impl Tree {
         ensures domain { result.0 < self.now.machine.domains }
         ensures rmid { result.1 < self.now.machine.rmids }
     {
-        let _ = &self.machine;
-        match self.freed(op) {
-            Some(rmid) => (i as u8, rmid),
-            None => unreachable!(),
-        }
+        self.counts(op).at(i)
     }
 
-    // The RMID that a command frees.
-    fn freed(&self, op: &Op) -> Option<u16>
+    /// The counts that a command needs, in order: where it frees RMIDs or tests those in limbo, each of them in each domain; where
+    /// it reads `llc_occupancy`, those of a group and of its monitor groups in one domain (this project's profile).
+    pub fn counts(&self, op: &Op) -> Counts
+        requires fits { Fits self.now.machine (tasks_of self.now.state) op.now }
         requires built { IsBuilt op.now }
-        ensures needs { needs self.now.machine self.now.state op.now
-            ≡ counts_of self.now.machine (option_to_list result) }
-        ensures exists { IfSome result (λ rmid. rmid < self.now.machine.rmids) }
+        ensures needs { result ≡ needs self.now.machine self.now.state op.now }
+        ensures exist { All (CanLook self.now.machine) result }
+    {
+        // What the type keeps makes these domains and RMIDs of the machine.
+        let _ = &self.machine;
+        self.needed(op)
+    }
+
+    // The counts that a command needs.
+    fn needed(&self, op: &Op) -> Counts
+        requires built { IsBuilt op.now }
+        ensures { result ≡ needs self.now.machine self.now.state op.now }
     {
         match op {
-            Op::Rmdir { path } => self.freed_at(*path),
-            _ => None,
+            Op::Rmdir { path } => self.in_each_domain(self.freed_at(*path)),
+            Op::Tick => self.in_each_domain(self.limbo()),
+            Op::Read { path } => self.read_counts(*path),
+            _ => Counts::none(),
         }
     }
 
-    // The RMID that is freed where what is at this path is removed.
-    fn freed_at(&self, path: PathRef) -> Option<u16>
-        requires built { IsBuilt (Rmdir path) }
-        ensures needs { needs self.now.machine self.now.state (Rmdir path)
-            ≡ counts_of self.now.machine (option_to_list result) }
-        ensures exists { IfSome result (λ rmid. rmid < self.now.machine.rmids) }
+    // The counts of each of these RMIDs in each domain.
+    fn in_each_domain(&self, rmids: RmidList) -> Counts
+        ensures { result ≡ counts_of self.now.machine rmids.items }
     {
-        match self.against_rmdir(path) {
-            Some(_) => None,
-            None => match control_name(path) {
-                Some(name) => self.freed_named(name),
-                None => unreachable!(),
-            },
-        }
+        Counts::of(rmids, 0, self.machine.domains)
     }
 
-    // The RMID of the control group of a name, which may be removed.
-    fn freed_named(&self, name: NameId) -> Option<u16>
-        requires accepted { refusal self.now.machine self.now.state (Rmdir (Dir (Ctrl name))) ≡ None }
-        ensures needs { needs self.now.machine self.now.state (Rmdir (Dir (Ctrl name)))
-            ≡ counts_of self.now.machine (option_to_list result) }
-        ensures exists { IfSome result (λ rmid. rmid < self.now.machine.rmids) }
+    // The counts that a read needs.
+    fn read_counts(&self, path: PathRef) -> Counts
+        ensures { result ≡ needs self.now.machine self.now.state (ops.Read path) }
     {
-        match self.control(name) {
-            Some(found) => Some(found.rmid),
-            None => None,
+        match counted_at(path) {
+            Some((holder, domain)) => Counts::of(self.held_rmids(holder), domain, 1),
+            None => Counts::none(),
         }
-    }
-
-    /// The control group of this name.
-    pub(crate) fn control(&self, name: NameId) -> Option<Control>
-        ensures { FindsControl self.now.machine self.now.state name result }
-    {
-        let Some(gid) = self.groups.find_ctrl(name) else {
-            return None;
-        };
-        let group = self.groups.get(gid).unwrap();
-        Some(Control {
-            gid,
-            class: group.class.unwrap(),
-            rmid: group.rmid.unwrap(),
-        })
     }
 }

@@ -1,6 +1,7 @@
 //! What can be read of the tree's tables.
-ghost use Rattle.std.specs.Prelude.{◌≡◌, ◌<◌, IfSome};
+ghost use Rattle.std.specs.Prelude.{◌≡◌, ◌<◌, ◌≤◌, IfSome, length};
 ghost use Rattle.machine.specs.Maps.{parameters_of};
+ghost use Rattle.script_ops.specs.declared.limits.TheConstants.{MOST_TASKS};
 ghost use Rattle.tree_law.specs.Space.{region_in};
 
 use super::Tree;
@@ -35,9 +36,10 @@ impl Tree {
         &self.groups
     }
 
-    /// The declared tasks with their groups.
+    /// The declared tasks with their groups, at most `MOST_TASKS`.
     pub fn tasks(&self) -> &Tasks
-        ensures { result.now ≡ self.now.state.tasks }
+        ensures tasks { result.now ≡ self.now.state.tasks }
+        ensures few { length result.now ≤ MOST_TASKS }
     {
         &self.tasks
     }

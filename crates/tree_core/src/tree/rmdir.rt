@@ -1,26 +1,27 @@
-//! rmdir: removing a control group.
+//! rmdir: removing a group.
 ghost use Rattle.std.specs.Prelude.{◌≡◌, ◌<◌, None, find, length};
 ghost use Rattle.std.specs.List.{All};
-ghost use Rattle.path_names.specs.declared.dirs.DirRef.TheVariants.{Ctrl};
+ghost use Rattle.path_names.specs.declared.dirs.DirRef.TheVariants.{Ctrl, Mon};
 ghost use Rattle.path_names.specs.declared.path_ref.PathRef.TheVariants.{Dir};
 ghost use Rattle.script_ops.specs.declared.op.Op.TheVariants.{Rmdir};
-ghost use Rattle.tree_core.specs.Built.{IsBuilt};
+ghost use Rattle.tree_core.specs.Directories.{path_of};
 ghost use Rattle.tree_core.specs.Follows.{IsRaiseOrFlush};
-ghost use Rattle.tree_law.specs.Steps.{follow_domain};
-ghost use Rattle.tree_law.specs.Steps.{accepted, after, needs, next, refusal};
+ghost use Rattle.tree_law.specs.Steps.{accepted, after, follow_domain, needs, next, refusal};
 ghost use Rattle.tree_law.specs.commands.Rmdir.{against, reasons};
+ghost use Rattle.tree_law.specs.commands.Rmdir as rmdir;
 
 use super::Tree;
 use crate::follow::{After, raise_all};
-use crate::looks::greatest;
-use crate::places::{control_name, is_group_directory};
-use path_names::{NameId, PathRef};
+use crate::freeing::free_all;
+use crate::group_dir::{GroupDir, group_dir};
+use crate::places::is_group_directory;
+use crate::removal::remove_monitors;
+use path_names::{NameId, Owner, PathRef};
 use rc_base::{Reply, Why};
 
 impl Tree {
     /// Removes the group at this path, with the counts of its RMIDs.
     pub(crate) fn rmdir(&mut self, path: PathRef, looks: &[u64]) -> (Reply, After)
-        requires built { IsBuilt (Rmdir path) }
         requires looks { length looks.now ≡ length (needs self.old.machine self.old.state (Rmdir path)) }
         ensures machine { self.new.machine ≡ self.old.machine }
         ensures reply { result.0 ≡ (next self.old.machine self.old.state (Rmdir path) looks.now).reply }
@@ -52,7 +53,6 @@ impl Tree {
     // Removes what may be removed.
     fn remove(&mut self, path: PathRef, looks: &[u64]) -> (Reply, After)
         requires accepted { refusal self.old.machine self.old.state (Rmdir path) ≡ None }
-        requires built { IsBuilt (Rmdir path) }
         requires looks { length looks.now ≡ length (needs self.old.machine self.old.state (Rmdir path)) }
         ensures machine { self.new.machine ≡ self.old.machine }
         ensures reply { result.0 ≡ (next self.old.machine self.old.state (Rmdir path) looks.now).reply }
@@ -63,29 +63,71 @@ impl Tree {
         ensures plain { All IsRaiseOrFlush result.1.items }
     {
         let after = raise_all(self.machine.domains);
-        match control_name(path) {
-            Some(name) => self.remove_named(name, looks),
+        match group_dir(path) {
+            Some(dir) => self.remove_group(dir, looks),
             None => unreachable!(),
         }
         (Reply::Ok, after)
     }
 
-    // Removes the control group of a name, which is there, and gives its class and its RMID back.
-    fn remove_named(&mut self, name: NameId, looks: &[u64])
-        requires accepted { refusal self.old.machine self.old.state (Rmdir (Dir (Ctrl name))) ≡ None }
-        requires looks { length looks.now
-            ≡ length (needs self.old.machine self.old.state (Rmdir (Dir (Ctrl name)))) }
+    // Removes the group of a directory, which is there, and frees the RMIDs that go with it.
+    fn remove_group(&mut self, dir: GroupDir, looks: &[u64])
+        requires accepted { refusal self.old.machine self.old.state (Rmdir (path_of dir)) ≡ None }
+        requires looks { length looks.now ≡ length (needs self.old.machine self.old.state (Rmdir (path_of dir))) }
         ensures machine { self.new.machine ≡ self.old.machine }
-        ensures state { self.new.state
-            ≡ accepted self.old.machine self.old.state (Rmdir (Dir (Ctrl name))) looks.now }
+        ensures state { self.new.state ≡ accepted self.old.machine self.old.state (Rmdir (path_of dir)) looks.now }
+        ensures epoch { self.new.epoch ≡ self.old.epoch }
+    {
+        let freed = self.freed(dir);
+        match dir {
+            GroupDir::Control(name) => self.remove_control(name, freed.as_slice(), looks),
+            GroupDir::Monitor(owner, name) => self.remove_monitor(
+                owner,
+                name,
+                freed.as_slice(),
+                looks,
+            ),
+        }
+    }
+
+    // Removes a control group with its monitor groups. Its tasks and CPUs go to the default group.
+    fn remove_control(&mut self, name: NameId, freed: &[u16], looks: &[u64])
+        requires accepted { refusal self.old.machine self.old.state (Rmdir (Dir (Ctrl name))) ≡ None }
+        requires freed { freed.now ≡ rmdir.freed self.old.state (Dir (Ctrl name)) }
+        requires looks { length looks.now ≡ length (needs self.old.machine self.old.state (Rmdir (Dir (Ctrl name)))) }
+        ensures machine { self.new.machine ≡ self.old.machine }
+        ensures state { self.new.state ≡ accepted self.old.machine self.old.state (Rmdir (Dir (Ctrl name))) looks.now }
         ensures epoch { self.new.epoch ≡ self.old.epoch }
     {
         let Some(found) = self.control(name) else {
             unreachable!()
         };
+        remove_monitors(&mut self.groups, found.gid);
         self.groups.remove(found.gid);
         self.classes.give(found.class);
-        let bytes = greatest(looks).saturating_mul(64);
-        self.rmids.free(found.rmid, bytes);
+        self.tasks.unbind_ctrl(found.gid);
+        self.cpus.remove_ctrl(found.gid);
+        free_all(&self.machine, &mut self.rmids, freed, looks);
+    }
+
+    // Removes a monitor group. Its tasks and CPUs count at its parent.
+    fn remove_monitor(&mut self, owner: Owner, name: NameId, freed: &[u16], looks: &[u64])
+        requires accepted { refusal self.old.machine self.old.state (Rmdir (Dir (Mon owner name))) ≡ None }
+        requires freed { freed.now ≡ rmdir.freed self.old.state (Dir (Mon owner name)) }
+        requires looks { length looks.now ≡ length (needs self.old.machine self.old.state (Rmdir (Dir (Mon owner name)))) }
+        ensures machine { self.new.machine ≡ self.old.machine }
+        ensures state { self.new.state ≡ accepted self.old.machine self.old.state (Rmdir (Dir (Mon owner name))) looks.now }
+        ensures epoch { self.new.epoch ≡ self.old.epoch }
+    {
+        let Some(parent) = self.owner_gid(owner) else {
+            unreachable!()
+        };
+        let Some(gid) = self.groups.find_mon(parent, name) else {
+            unreachable!()
+        };
+        self.groups.remove(gid);
+        self.tasks.unbind_mon(gid, parent);
+        self.cpus.remove_mon(gid, parent);
+        free_all(&self.machine, &mut self.rmids, freed, looks);
     }
 }

@@ -1,5 +1,5 @@
 //! A write of `schemata`: the masks of a control group.
-ghost use Rattle.std.specs.Prelude.{◌≡◌, ◌<◌, ◌≤◌, ℕ, List, None, Some, find, length};
+ghost use Rattle.std.specs.Prelude.{◌≡◌, ◌<◌, ◌≤◌, ℕ, List, None, Some, find, length, true};
 ghost use Rattle.std.specs.List.{All};
 ghost use Rattle.group_tree.specs.Records.{has_gid};
 ghost use Rattle.path_names.specs.declared.files.FileKind.TheVariants.{Schemata};
@@ -8,6 +8,7 @@ ghost use Rattle.rc_base.specs.declared.replies.Reply.TheVariants as replies;
 ghost use Rattle.schemata_text.specs.Reading.{AreLawful};
 ghost use Rattle.script_ops.specs.declared.op.Op.TheVariants.{Write};
 ghost use Rattle.tree_core.specs.Follows.{IsRaiseOrFlush};
+ghost use Rattle.tree_law.specs.Counted.{is_counted_mode};
 ghost use Rattle.tree_law.specs.Steps.{follow_domain};
 ghost use Rattle.tree_law.specs.Places.{control_at, with_record};
 ghost use Rattle.tree_law.specs.Sound.{IsSound};
@@ -45,13 +46,16 @@ impl Tree {
             return self.answer(Reply::Ok);
         };
         match read_schemata(&self.machine, text) {
-            Ok(all) => self.write_masks(group, all.as_slice()),
+            Ok(all) => match self.against_masks(&group, all.as_slice()) {
+                Some(reply) => self.answer(reply),
+                None => self.write_masks(group, all.as_slice()),
+            },
             Err(fault) => self.answer(refusal(fault)),
         }
     }
 
-    // The group of a directory, where it is a control group.
-    fn control_at(&self, dir: DirRef) -> Option<Group>
+    /// The group of a directory, where it is a control group.
+    pub(crate) fn control_at(&self, dir: DirRef) -> Option<Group>
         ensures { result ≡ control_at self.now.state dir }
     {
         let group = self.groups.get(self.directory_gid(dir)?)?;
@@ -61,9 +65,10 @@ impl Tree {
         }
     }
 
-    // Takes the assignments of an accepted text for a group, which leave a sound tree.
+    // Takes the assignments of an accepted text for a counted group, which leave a sound tree.
     fn write_masks(&mut self, group: Group, all: &[Assignment]) -> (Reply, After)
         requires there { find (has_gid group.gid) self.old.state.groups ≡ Some group }
+        requires counted { is_counted_mode group.mode ≡ true }
         requires lawful { AreLawful (geometry_of self.old.machine) self.old.machine.domains all.now }
         requires sound { IsSound self.old.machine
             (record (with_record self.old.state (record group { masks = assigned group.masks all.now })) { status = replies.Ok }) }
@@ -77,10 +82,9 @@ impl Tree {
         ensures plain { All IsRaiseOrFlush result.1.items }
     {
         let after = raises(self.machine.domains, all);
-        let mut group = group;
-        assign(&mut group.masks, all);
-        self.groups.replace(group);
-        self.status = Reply::Ok;
+        let mut masks = group.masks;
+        assign(&mut masks, all);
+        self.put(group, group.mode, masks);
         (Reply::Ok, after)
     }
 }

@@ -1,18 +1,25 @@
 //! write: by the file.
-ghost use Rattle.std.specs.Prelude.{◌≡◌, ◌<◌, ◌≤◌, ℕ, List, [], find, length};
+ghost use Rattle.std.specs.Prelude.{◌≡◌, ◌<◌, ◌≤◌, ℕ, List, [], None, Some, find, length, true};
 ghost use Rattle.std.specs.List.{All};
+ghost use Rattle.group_tree.specs.Records.{has_gid};
+ghost use Rattle.path_names.specs.declared.path_ref.PathRef.TheVariants.{File};
+ghost use Rattle.rc_base.specs.declared.replies.Reply.TheVariants as replies;
 ghost use Rattle.script_ops.specs.declared.op.Op.TheVariants.{Write};
 ghost use Rattle.tree_core.specs.Built.{IsBuilt};
 ghost use Rattle.tree_core.specs.Follows.{IsRaiseOrFlush};
+ghost use Rattle.tree_law.specs.Counted.{is_counted_mode};
+ghost use Rattle.tree_law.specs.Places.{with_record};
+ghost use Rattle.tree_law.specs.Sound.{IsSound};
 ghost use Rattle.tree_law.specs.Steps.{follow_domain};
 ghost use Rattle.tree_law.specs.Steps.{after, next};
 ghost use Rattle.tree_law.specs.commands.Write.{against, reasons};
 
 use super::Tree;
 use crate::follow::After;
-use crate::places::{is_only_read, schemata_directory};
-use path_names::PathRef;
-use rc_base::{Reply, Why};
+use crate::places::{file_at, is_only_read};
+use group_tree::Group;
+use path_names::{DirRef, FileKind, PathRef};
+use rc_base::{Mode, Reply, Why};
 
 impl Tree {
     /// Writes a text to a file, and sets the last status.
@@ -31,10 +38,36 @@ impl Tree {
     {
         match self.against_write(path) {
             Some(why) => self.answer(Reply::refused(why, 0)),
-            None => match schemata_directory(path) {
-                Some(dir) => self.write_schemata(dir, text),
+            None => match file_at(path) {
+                Some((dir, kind)) => self.write_file(dir, kind, text),
                 None => unreachable!(),
             },
+        }
+    }
+
+    // Writes a text to a file that can be written.
+    fn write_file(&mut self, dir: DirRef, kind: FileKind, text: &[u8]) -> (Reply, After)
+        requires built { IsBuilt (Write (File dir kind) text.now) }
+        requires writable { find (against self.old.state (File dir kind)) reasons ≡ None }
+        requires short { length text.now ≤ 4096 }
+        ensures machine { self.new.machine ≡ self.old.machine }
+        ensures reply { (looks : List ℕ)
+            → result.0 ≡ (next self.old.machine self.old.state (Write (File dir kind) text.now) looks).reply }
+        ensures state { (looks : List ℕ)
+            → self.new.state ≡ (next self.old.machine self.old.state (Write (File dir kind) text.now) looks).state }
+        ensures epoch { self.new.epoch ≡ self.old.epoch }
+        ensures after { result.1.items
+            ≡ after self.old.machine self.old.state self.old.epoch (Write (File dir kind) text.now) }
+        ensures domains { All (λ f. follow_domain f < self.old.machine.domains) result.1.items }
+        ensures plain { All IsRaiseOrFlush result.1.items }
+    {
+        match kind {
+            FileKind::Schemata => self.write_schemata(dir, text),
+            FileKind::Mode => self.write_mode(dir, text),
+            FileKind::Tasks => self.write_tasks(dir, text),
+            FileKind::Cpus | FileKind::CpusList => self.write_cpus(dir, kind, text),
+            FileKind::MaxThreshold => self.write_threshold(dir, text),
+            _ => unreachable!(),
         }
     }
 
@@ -49,6 +82,24 @@ impl Tree {
         } else {
             None
         }
+    }
+
+    /// Gives a group this mode, which is shareable or exclusive, and these masks, which leave a sound tree. The command is accepted.
+    pub(crate) fn put(&mut self, group: Group, mode: Mode, masks: [u32; 8])
+        requires there { find (has_gid group.gid) self.old.state.groups ≡ Some group }
+        requires counted { is_counted_mode mode ≡ true }
+        requires sound { IsSound self.old.machine
+            (record (with_record self.old.state (record group { mode = mode; masks = masks })) { status = replies.Ok }) }
+        ensures machine { self.new.machine ≡ self.old.machine }
+        ensures state { self.new.state
+            ≡ record (with_record self.old.state (record group { mode = mode; masks = masks })) { status = replies.Ok } }
+        ensures epoch { self.new.epoch ≡ self.old.epoch }
+    {
+        let mut new = group;
+        new.mode = mode;
+        new.masks = masks;
+        self.groups.replace(new);
+        self.status = Reply::Ok;
     }
 
     /// Sets the last status, and nothing follows.

@@ -1,10 +1,10 @@
 use Rattle.std.proofs.Common.{arith}
-use Rattle.bit_usage.proofs.Lengths.{decimal_digit, domain_len}
+use Rattle.bit_usage.proofs.Lengths.{length-decimal_digit, length-domain_text}
 use Rattle.bit_usage.proofs.printing.print_domain.Goals as goal
 
 pub returns-clause-spare : goal.returns-clause-spare
 returns-clause-spare c =
-    omega (arith, decimal_digit c.args.id c.requires.id, domain_len c.args.id c.args.ways c.args.used.now c.requires.id)
+    omega (arith, length-decimal_digit c.args.id c.requires.id, length-domain_text c.args.id c.args.ways c.args.used.now c.requires.id)
 
 pub returns-clause-len : goal.returns-clause-len
-returns-clause-len c = domain_len c.args.id c.args.ways c.args.used.now c.requires.id
+returns-clause-len c = length-domain_text c.args.id c.args.ways c.args.used.now c.requires.id

@@ -1,6 +1,7 @@
 use Rattle.std.proofs.Common.{refl, sym, ◌∙◌}
 use Rattle.std.proofs.lemmas.Option.{none-some}
 use Rattle.path_names.proofs.NamedPaths.{path_of-bad, path_of-root, path_of-components}
+use Rattle.path_names.proofs.laws.NamedDomains.{IsWithin-path_of}
 use Rattle.path_names.proofs.laws.ShortNames.{AreShort-path_of}
 use Rattle.path_names.proofs.paths.read_path.Goals as goal
 
@@ -15,6 +16,11 @@ returns-then-not-is_well_formed-clause-bad c = (λ _. path_of-bad c.args.domains
 
 pub returns-in-Ok-clause-path : goal.returns-in-Ok-clause-path
 returns-in-Ok-clause-path c = path_of-components c.args.domains c.args.names.now c.args.text.now _ (sym c.if-is_text.ensures) (sym c.if-not-is_well_formed.ensures) c.in-Ok.ensures.path
+
+pub returns-in-Ok-clause-within : goal.returns-in-Ok-clause-within
+returns-in-Ok-clause-within c =
+    IsWithin-path_of c.args.domains c.args.names.now c.args.text.now c.in-Ok.path _
+    (path_of-components c.args.domains c.args.names.now c.args.text.now _ (sym c.if-is_text.ensures) (sym c.if-not-is_well_formed.ensures) c.in-Ok.ensures.path)
 
 pub returns-in-Ok-clause-short : goal.returns-in-Ok-clause-short
 returns-in-Ok-clause-short c =

@@ -1,12 +1,13 @@
 use Rattle.std.proofs.Common.{◌++◌, sym, ap, ◌∙◌, subst, arith}
 use Rattle.std.proofs.lemmas.List.{append-nil}
+use Rattle.std.specs.List.{All}
 use Rattle.run_law.specs.Entries.{entry_value}
 use Rattle.run_law.specs.TreeHistory.{IsLegalTree, state_after}
 use Rattle.script_ops.specs.Values.{op_at}
 use Rattle.tree_law.specs.State.{opening}
 use Rattle.report_text.specs.Made.{made_by}
-use Rattle.report_text.specs.Replayed.{IsCounted, ReplayValue}
-use Rattle.report_text.proofs.Entries.{IsAnswered-at, IsCounted-answered}
+use Rattle.report_text.specs.Replayed.{HasFewLooks, IsCounted, ReplayValue}
+use Rattle.report_text.proofs.Entries.{HasFewLooks-at, IsAnswered-at, IsCounted-answered}
 use Rattle.report_text.proofs.Pieces.{command_lines-take_suc, made_from-take_suc, tree_from-take_suc}
 use Rattle.report_text.proofs.Replays.{IsReplay-opening}
 use Rattle.report_text.proofs.commands.push_commands.Goals as goal
@@ -15,6 +16,9 @@ pub push_command-requires-clause-answered : goal.push_command-requires-clause-an
 push_command-requires-clause-answered c =
     let legal = subst (IsLegalTree c.args.script.now) (sym c.tree-tree.ensures) c.requires.legal in
     IsAnswered-at c.args.script.now c.tree-tree.result.now c.loop-k.k c.index-tree-k.result c.loop-k.replay.tree.state legal c.loop-k-test.true c.index-tree-k.is c.loop-k.invariant.state
+
+pub push_command-requires-clause-counts : goal.push_command-requires-clause-counts
+push_command-requires-clause-counts c = HasFewLooks-at c.tree-tree.result.now c.loop-k.k c.index-tree-k.result (subst (All HasFewLooks) (sym c.tree-tree.ensures) c.requires.counts) c.loop-k-test.true c.index-tree-k.is
 
 pub take-requires-clause-counted : goal.take-requires-clause-counted
 take-requires-clause-counted c =

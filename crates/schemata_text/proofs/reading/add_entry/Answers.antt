@@ -3,7 +3,7 @@ use Rattle.std.specs.List.{list_any}
 use Rattle.schemata_text.specs.Reading.{is_of}
 use Rattle.schemata_text.proofs.laws.Lawful.{AreLawful-push}
 use Rattle.schemata_text.proofs.Room.{length-lawful}
-use Rattle.schemata_text.proofs.Items.{entry_says, entry_fails}
+use Rattle.schemata_text.proofs.Items.{reading_from-entry, reading_from-entry_fault}
 use Rattle.schemata_text.proofs.reading.add_entry.Goals as goal
 
 pub push-requires : goal.push-requires
@@ -20,9 +20,9 @@ returns-in-Ok-clause-lawful c =
 pub returns-in-Ok-clause-said : goal.returns-in-Ok-clause-said
 returns-in-Ok-clause-said c more =
     let said = rw c.as_slice.ensures.value at c.in-Ok.ensures.said in
-    rw c.push.ensures.items (entry_says c.args.g.now c.args.domains c.args.all.now.items c.args.text.now c.in-Ok.found more (sym said))
+    rw c.push.ensures.items (reading_from-entry c.args.g.now c.args.domains c.args.all.now.items c.args.text.now c.in-Ok.found more (sym said))
 
 pub returns-in-Err-clause-said : goal.returns-in-Err-clause-said
 returns-in-Err-clause-said c more =
     let said = rw c.as_slice.ensures.value at c.in-Err.ensures.said in
-    entry_fails c.args.g.now c.args.domains c.args.all.now.items c.args.text.now c.in-Err.fault more (sym said)
+    reading_from-entry_fault c.args.g.now c.args.domains c.args.all.now.items c.args.text.now c.in-Err.fault more (sym said)

@@ -2,7 +2,7 @@ use Rattle.std.proofs.Common.{◌≡◌, ◌<◌, ℕ, true, false, List, [], �
 use Rattle.std.specs.List.{list_any, after_first, before_first}
 use Rattle.schemata_text.specs.Items.{Item, newline, colon, items_of, items_of_rest}
 use Rattle.schemata_text.specs.Reading.{reading_from, line_of}
-use Rattle.schemata_text.proofs.Items.{line_says, line_fails, first_line, last_line, more_lines, done}
+use Rattle.schemata_text.proofs.Items.{reading_from-line, reading_from-line_fault, items_of-first_line, items_of-last_line, items_of-more_lines, reading_from-nil}
 use Rattle.schemata_text.proofs.laws.Lawful.{AreLawful-none}
 use Rattle.schemata_text.proofs.reading.read.Goals as goal
 
@@ -11,22 +11,22 @@ lines-init c = rw c.new-all.ensures (record { lawful = AreLawful-none c.args.g.n
 
 pub returns-in-Err-clause-exact : goal.returns-in-Err-clause-exact
 returns-in-Err-clause-exact c =
-    let first = first_line c.lines.left.now in
+    let first = items_of-first_line c.lines.left.now in
     let bad : line_of (before_first newline c.lines.left.now) ≡ Err c.in-Err.fault = rw c.cut.ensures.front at c.in-Err.ensures in
     c.lines.invariant.said
     ∙ ap (λ (items : List Item). reading_from c.args.g.now c.args.domains c.lines.all.items items) first.1
-    ∙ line_fails c.args.g.now c.args.domains c.lines.all.items (before_first newline c.lines.left.now) c.in-Err.fault (items_of_rest (after_first colon (before_first newline c.lines.left.now)) ++ first.0) bad
+    ∙ reading_from-line_fault c.args.g.now c.args.domains c.lines.all.items (before_first newline c.lines.left.now) c.in-Err.fault (items_of_rest (after_first colon (before_first newline c.lines.left.now)) ++ first.0) bad
 
 pub returns-in-Err-entries-clause-exact : goal.returns-in-Err-entries-clause-exact
 returns-in-Err-entries-clause-exact c =
     let line = before_first newline c.lines.left.now in
-    let first = first_line c.lines.left.now in
+    let first = items_of-first_line c.lines.left.now in
     let good : line_of line ≡ Ok tt = rw c.cut.ensures.front at c.in-Ok.ensures.0 in
     let rest : c.in-Ok.rest.now ≡ after_first colon line = rw c.cut.ensures.front at c.in-Ok.ensures.1 in
     let said = rw rest at c.in-Err-entries.ensures.said in
     c.lines.invariant.said
     ∙ ap (λ (items : List Item). reading_from c.args.g.now c.args.domains c.lines.all.items items) first.1
-    ∙ line_says c.args.g.now c.args.domains c.lines.all.items line (items_of_rest (after_first colon line) ++ first.0) good
+    ∙ reading_from-line c.args.g.now c.args.domains c.lines.all.items line (items_of_rest (after_first colon line) ++ first.0) good
     ∙ said first.0
 
 pub returns-in-None-clause-exact : goal.returns-in-None-clause-exact
@@ -37,10 +37,10 @@ returns-in-None-clause-exact c =
     let rest : c.in-Ok.rest.now ≡ after_first colon line = rw c.cut.ensures.front at c.in-Ok.ensures.1 in
     let said = rw rest at c.in-Ok-entries.ensures.said in
     c.lines.invariant.said
-    ∙ ap (λ (items : List Item). reading_from c.args.g.now c.args.domains c.lines.all.items items) (last_line c.lines.left.now hasnt)
-    ∙ line_says c.args.g.now c.args.domains c.lines.all.items line (items_of_rest (after_first colon line) ++ []) good
+    ∙ ap (λ (items : List Item). reading_from c.args.g.now c.args.domains c.lines.all.items items) (items_of-last_line c.lines.left.now hasnt)
+    ∙ reading_from-line c.args.g.now c.args.domains c.lines.all.items line (items_of_rest (after_first colon line) ++ []) good
     ∙ said []
-    ∙ done c.args.g.now c.args.domains c.entries.new.all.items
+    ∙ reading_from-nil c.args.g.now c.args.domains c.entries.new.all.items
 
 pub lines-preserved : goal.lines-preserved
 lines-preserved c =
@@ -52,8 +52,8 @@ lines-preserved c =
     record {
       lawful = c.entries.ensures.lawful;
       said = c.lines.invariant.said
-          ∙ ap (λ (items : List Item). reading_from c.args.g.now c.args.domains c.lines.all.items items) (more_lines c.lines.left.now back.0)
-          ∙ line_says c.args.g.now c.args.domains c.lines.all.items line (items_of_rest (after_first colon line) ++ items_of (after_first newline c.lines.left.now)) good
+          ∙ ap (λ (items : List Item). reading_from c.args.g.now c.args.domains c.lines.all.items items) (items_of-more_lines c.lines.left.now back.0)
+          ∙ reading_from-line c.args.g.now c.args.domains c.lines.all.items line (items_of_rest (after_first colon line) ++ items_of (after_first newline c.lines.left.now)) good
           ∙ said (items_of (after_first newline c.lines.left.now))
           ∙ ap (λ (t : List ℕ). reading_from c.args.g.now c.args.domains c.entries.new.all.items (items_of t)) (sym back.1);
     }

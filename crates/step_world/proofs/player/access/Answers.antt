@@ -8,14 +8,20 @@ use Rattle.machine.specs.Slices.{slice_count, slice_of_line}
 use Rattle.step_world.specs.Playing.{IsInPlay}
 use Rattle.machine.proofs.laws.Domains.{domain_of-lt}
 use Rattle.step_world.proofs.SliceNumbers.{mod-some_way}
-use Rattle.step_world.proofs.Steps.{IsAt-set, IsOwn-line}
+use Rattle.script_ops.specs.declared.op.Op.TheVariants as ops
+use Rattle.step_world.proofs.Steps.{Fits-tree, IsAt-set, IsOwn-line}
 use Rattle.step_world.proofs.player.access.Goals as goal
+
+pub resolve-tag-requires-clause-task : goal.resolve-tag-requires-clause-task
+resolve-tag-requires-clause-task c =
+    let player = c.args.player.now in
+    (Fits-tree c.args.script.now c.args.n player.tree (map entry_value player.commands.items) player.slices.items (ops.Access c.args.task c.args.cpu c.args.addr) c.requires.at c.requires.fits).0
 
 pub line_slice-slice-requires : goal.line_slice-slice-requires
 line_slice-slice-requires c =
     let m = c.args.script.now.machine in
     let is : c.resolve-tag.result.domain ≡ domain_of m c.args.cpu = c.resolve-tag.ensures.domain ∙ ap (λ p. domain_of p c.args.cpu) c.requires.at.machine in
-    omega (arith, is, domain_of-lt m c.args.cpu c.requires.at.in_range c.requires.cpu, ap (λ (p : Parameters). p.domains) c.machine.ensures)
+    omega (arith, is, domain_of-lt m c.args.cpu c.requires.at.in_range c.requires.fits.1, ap (λ (p : Parameters). p.domains) c.machine.ensures)
 
 pub access-requires-clause-own : goal.access-requires-clause-own
 access-requires-clause-own c =

@@ -1,10 +1,10 @@
-use Rattle.std.proofs.Common.{◌≡◌, ℕ, List, ◌++◌, All, sym, ap, subst, ◌∙◌, arith}
+use Rattle.std.proofs.Common.{◌≡◌, ℕ, List, ◌++◌, All, length, sym, ap, subst, ◌∙◌, arith}
 use Rattle.std.specs.List.Sorted.{IsStrictlyIncreasing}
 use Rattle.script_text.specs.Tasks.{ids_of}
 use Rattle.script_ops.specs.Values.{threads_in}
 use Rattle.script_ops.specs.Fits.{AreFit}
 use Rattle.machine.specs.Maps.{parameters_of}
-use Rattle.script_text.proofs.TaskRanges.{IsStrictlyIncreasing-ids_of}
+use Rattle.script_text.proofs.TaskRanges.{IsStrictlyIncreasing-ids_of, length-ids_of}
 use Rattle.script_text.proofs.reader.Reader.into_script.Goals as goal
 
 pub new-requires : goal.new-requires
@@ -18,6 +18,7 @@ new-requires c =
       lawful = record {
         in_range = c.args.self.machine.in_range;
         rising = subst IsStrictlyIncreasing (sym ids) (IsStrictlyIncreasing-ids_of ranges c.requires.limits.tasks);
+        few_tasks = omega (arith, ap length ids, length-ids_of ranges, c.requires.fit.few_tasks);
         few = record { few_phases = omega (arith, c.requires.limits.phases); few_threads = c.requires.limits.each };
         named = c.requires.limits.phases_named;
         short = c.requires.fit.short_phases;

@@ -11,6 +11,7 @@ use Rattle.tree_core.proofs.Creation as creation
 use Rattle.tree_core.proofs.KeptTables.{IsKept-from_Keeps, Keeps-from_IsKept, State-same, contains-default_class}
 use Rattle.tree_core.proofs.Refusals.{IsRefused}
 use Rattle.tree_core.proofs.Returns.{RmidsStay-same}
+use Rattle.tree_core.proofs.Room.{has_group-next_gid, length-groups_lt}
 use Rattle.tree_core.specs.Kept.{IsKept}
 use Rattle.tree_core.specs.Places.{place_reasons}
 use Rattle.tree_core.specs.Tables.{state_of, tables}
@@ -27,10 +28,10 @@ take_ids-requires c = record { default_class = contains-default_class (Keeps-fro
 
 pub insert-requires-clause-fresh : goal.insert-requires-clause-fresh
 insert-requires-clause-fresh c =
-    ap (λ (g : Group). has_group g.gid c.self.inside.groups.groups) c.control_group-group.ensures ∙ creation.has_group-next_gid (Keeps-from_IsKept c.self.invariant)
+    ap (λ (g : Group). has_group g.gid c.self.inside.groups.groups) c.control_group-group.ensures ∙ has_group-next_gid (Keeps-from_IsKept c.self.invariant)
 
 pub insert-requires-clause-place : goal.insert-requires-clause-place
-insert-requires-clause-place c = creation.length-groups_lt (Keeps-from_IsKept c.self.invariant) c.self.inside.machine.in_range.class_limit
+insert-requires-clause-place c = length-groups_lt (Keeps-from_IsKept c.self.invariant) c.self.inside.machine.in_range.rmid_limit
 
 pub invariant_of-self : goal.invariant_of-self
 invariant_of-self c =

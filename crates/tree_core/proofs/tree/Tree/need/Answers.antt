@@ -1,22 +1,16 @@
-use Rattle.std.proofs.Common.{◌<◌, ℕ, List, length, ap, ◌∙◌, subst, arith}
-use Rattle.std.specs.List.{slice_get}
-use Rattle.tree_core.proofs.Counts.{length-counts_of, slice_get-counts_of}
-use Rattle.tree_core.specs.Values.{TreeValue}
+use Rattle.std.proofs.Common.{ℕ, List, subst}
+use Rattle.std.proofs.lemmas.Option.{get_or_from_slice_get, slice_get_within}
+use Rattle.tree_law.specs.LawsCounts.{CanLook}
 use Rattle.tree_core.proofs.tree.Tree.need.Goals as goal
 
-pub overflow_cast-result : goal.overflow_cast-result
-overflow_cast-result c =
-    let m = c.args.self.now.machine in
-    let below : c.args.i < m.domains = subst (λ (n : ℕ). c.args.i < n) (ap length c.in-Some.ensures.needs ∙ length-counts_of m c.in-Some.rmid) c.requires.within in
-    let same = ap (λ (v : TreeValue). v.machine.domains) c.self.view_is in
-    let most = c.self.inside.machine.in_range.domain_limit in
-    record { fits = omega arith }
-
-pub returns-clause-need : goal.returns-clause-need
-returns-clause-need c =
-    let m = c.args.self.now.machine in
-    let below : c.args.i < m.domains = subst (λ (n : ℕ). c.args.i < n) (ap length c.in-Some.ensures.needs ∙ length-counts_of m c.in-Some.rmid) c.requires.within in
-    ap (λ (xs : List (ℕ × ℕ)). slice_get xs c.args.i) c.in-Some.ensures.needs ∙ slice_get-counts_of m c.in-Some.rmid c.args.i below
-
 pub returns-clause-domain : goal.returns-clause-domain
-returns-clause-domain c = subst (λ (n : ℕ). c.args.i < n) (ap length c.in-Some.ensures.needs ∙ length-counts_of c.args.self.now.machine c.in-Some.rmid) c.requires.within
+returns-clause-domain c =
+    let all : List (ℕ × ℕ) = c.counts.result in
+    let pair : ℕ × ℕ = c.at.result in
+    (subst (CanLook c.args.self.now.machine) (get_or_from_slice_get all c.args.i pair pair c.at.ensures) (c.counts.ensures.exist c.args.i pair (slice_get_within all c.args.i pair c.at.ensures))).0
+
+pub returns-clause-rmid : goal.returns-clause-rmid
+returns-clause-rmid c =
+    let all : List (ℕ × ℕ) = c.counts.result in
+    let pair : ℕ × ℕ = c.at.result in
+    (subst (CanLook c.args.self.now.machine) (get_or_from_slice_get all c.args.i pair pair c.at.ensures) (c.counts.ensures.exist c.args.i pair (slice_get_within all c.args.i pair c.at.ensures))).1

@@ -1,72 +1,166 @@
-use Rattle.std.proofs.Common.{◌≡◌, ◌<◌, ◌^◌, ℕ, Some, find, get_or, sym, subst, ap, ◌∙◌}
+use Rattle.std.proofs.Common.{◌≡◌, ◌<◌, ℕ, List, Some, IsSome, get_or, sym, subst, ap, ◌∙◌}
 use Rattle.std.specs.Option.{option_copied}
-use Rattle.group_tree.specs.Records.{has_gid}
-use Rattle.machine.specs.Maps.{parameters_of}
+use Rattle.group_tree.specs.declared.group.Group.{Group}
+use Rattle.machine.specs.Maps.{domain_of}
+use Rattle.task_binding.specs.Bindings.{binding_of}
+use Rattle.task_binding.specs.declared.binding.Binding.{Binding}
 use Rattle.tree_core.proofs.Assignments.{mask-valid}
-use Rattle.tree_core.proofs.FoundGroups.{has_group-found}
-use Rattle.tree_core.proofs.KeptTables.{IsSome-found_ids, Keeps-from_IsKept, rmid-lt}
-use Rattle.tree_core.proofs.Owners.{IsResolved-default, IsValid-default, find-default}
+use Rattle.tree_core.proofs.KeptTables.{Keeps-of}
+use Rattle.tree_core.proofs.Owners as owners
+use Rattle.tree_core.specs.Tables.{tables}
 use Rattle.tree_core.specs.Values.{TreeValue}
+use Rattle.tree_law.proofs.laws.Access.{resolve-good}
 use Rattle.tree_law.specs.Masks.{IsValid}
 use Rattle.tree_law.specs.Resolving.{resolve}
-use Rattle.group_tree.specs.Records.{blank}
 use Rattle.tree_core.proofs.tree.Tree.resolve.Goals as goal
 
+pub groups_of-requires : goal.groups_of-requires
+groups_of-requires c =
+    let t = c.self.inside in let s = c.args.self.now.state in
+    let keeps = Keeps-of (tables t.groups t.tasks t.cpus t.classes t.rmids t.regions) c.self.view_is c.self.invariant in
+    subst (λ (tasks : List Binding). IsSome (binding_of c.args.task tasks)) (sym keeps.stands.tasks) (owners.IsSome-binding_of s c.args.task c.requires.task)
+
 pub unwrap-group-requires : goal.unwrap-group-requires
-unwrap-group-requires c = c.get.ensures.there ∙ has_group-found c.self.inside.groups.groups (record { 0 = 0 }) (get_or c.self.inside.groups.groups 0 blank) (find-default (Keeps-from_IsKept c.self.invariant) blank)
+unwrap-group-requires c =
+    let t = c.self.inside in let m = c.args.self.now.machine in let s = c.args.self.now.state in
+    let keeps = Keeps-of (tables t.groups t.tasks t.cpus t.classes t.rmids t.regions) c.self.view_is c.self.invariant in
+    let b : Binding = record { task = c.args.task; control = c.groups_of.result.0; monitor = c.groups_of.result.1 } in
+    let bound : binding_of c.args.task s.tasks ≡ Some b = ap (binding_of c.args.task) (sym keeps.stands.tasks) ∙ c.groups_of.ensures in
+    let owner = owners.IsOwner-owner m s keeps.sound c.args.task c.args.cpu b c.requires.cpu bound in
+    c.get.ensures.there ∙ owners.has_group-there s t.groups.groups c.owner-owner.result _ owner.group keeps.stands.groups c.owner-owner.ensures owner.there
+
+pub unwrap-counted-requires : goal.unwrap-counted-requires
+unwrap-counted-requires c =
+    let t = c.self.inside in let m = c.args.self.now.machine in let s = c.args.self.now.state in
+    let keeps = Keeps-of (tables t.groups t.tasks t.cpus t.classes t.rmids t.regions) c.self.view_is c.self.invariant in
+    let b : Binding = record { task = c.args.task; control = c.groups_of.result.0; monitor = c.groups_of.result.1 } in
+    let bound : binding_of c.args.task s.tasks ≡ Some b = ap (binding_of c.args.task) (sym keeps.stands.tasks) ∙ c.groups_of.ensures in
+    let counter = owners.IsCounter-counted m s keeps.sound c.args.task c.args.cpu b c.requires.cpu bound in
+    c.get-2.ensures.there ∙ owners.has_group-there s t.groups.groups c.counted.result _ counter.group keeps.stands.groups c.counted.ensures counter.there
 
 pub unwrap-requires : goal.unwrap-requires
 unwrap-requires c =
-    let g = c.unwrap-group.result.now in
-    let found : find (has_gid (record { 0 = 0 })) c.self.inside.groups.groups ≡ Some g = sym c.get.ensures.found ∙ ap option_copied c.unwrap-group.ensures in
-    (IsSome-found_ids (Keeps-from_IsKept c.self.invariant) (record { 0 = 0 }) g found).0
+    let t = c.self.inside in let m = c.args.self.now.machine in let s = c.args.self.now.state in
+    let keeps = Keeps-of (tables t.groups t.tasks t.cpus t.classes t.rmids t.regions) c.self.view_is c.self.invariant in
+    let b : Binding = record { task = c.args.task; control = c.groups_of.result.0; monitor = c.groups_of.result.1 } in
+    let bound : binding_of c.args.task s.tasks ≡ Some b = ap (binding_of c.args.task) (sym keeps.stands.tasks) ∙ c.groups_of.ensures in
+    let owner = owners.IsOwner-owner m s keeps.sound c.args.task c.args.cpu b c.requires.cpu bound in
+    let found = sym c.get.ensures.found ∙ ap option_copied c.unwrap-group.ensures in
+    let group : owner.group ≡ c.unwrap-group.result.now = owners.group-there s t.groups.groups c.owner-owner.result _ owner.group c.unwrap-group.result.now keeps.stands.groups c.owner-owner.ensures found owner.there in
+    subst (λ (x : Group). IsSome x.class) group owner.class
 
 pub unwrap-requires-2 : goal.unwrap-requires-2
 unwrap-requires-2 c =
-    let g = c.unwrap-group.result.now in
-    let found : find (has_gid (record { 0 = 0 })) c.self.inside.groups.groups ≡ Some g = sym c.get.ensures.found ∙ ap option_copied c.unwrap-group.ensures in
-    (IsSome-found_ids (Keeps-from_IsKept c.self.invariant) (record { 0 = 0 }) g found).1
+    let t = c.self.inside in let m = c.args.self.now.machine in let s = c.args.self.now.state in
+    let keeps = Keeps-of (tables t.groups t.tasks t.cpus t.classes t.rmids t.regions) c.self.view_is c.self.invariant in
+    let b : Binding = record { task = c.args.task; control = c.groups_of.result.0; monitor = c.groups_of.result.1 } in
+    let bound : binding_of c.args.task s.tasks ≡ Some b = ap (binding_of c.args.task) (sym keeps.stands.tasks) ∙ c.groups_of.ensures in
+    let counter = owners.IsCounter-counted m s keeps.sound c.args.task c.args.cpu b c.requires.cpu bound in
+    let found' = sym c.get-2.ensures.found ∙ ap option_copied c.unwrap-counted.ensures in
+    let group' : counter.group ≡ c.unwrap-counted.result.now = owners.group-there s t.groups.groups c.counted.result _ counter.group c.unwrap-counted.result.now keeps.stands.groups c.counted.ensures found' counter.there in
+    subst (λ (x : Group). IsSome x.rmid) group' counter.rmid
 
 pub returns-clause-owner : goal.returns-clause-owner
 returns-clause-owner c =
-    let g = c.unwrap-group.result.now in
-    let found : find (has_gid (record { 0 = 0 })) c.self.inside.groups.groups ≡ Some g = sym c.get.ensures.found ∙ ap option_copied c.unwrap-group.ensures in
-    subst (λ (v : TreeValue). record { 0 = 0 } ≡ (resolve v.machine v.state c.args.task c.args.cpu).owner) c.self.view_is
-    (IsResolved-default (Keeps-from_IsKept c.self.invariant) c.args.task c.args.cpu g c.unwrap.result c.unwrap-2.result found c.unwrap.ensures c.unwrap-2.ensures).owner
+    let t = c.self.inside in let m = c.args.self.now.machine in let s = c.args.self.now.state in
+    let keeps = Keeps-of (tables t.groups t.tasks t.cpus t.classes t.rmids t.regions) c.self.view_is c.self.invariant in
+    let b : Binding = record { task = c.args.task; control = c.groups_of.result.0; monitor = c.groups_of.result.1 } in
+    let bound : binding_of c.args.task s.tasks ≡ Some b = ap (binding_of c.args.task) (sym keeps.stands.tasks) ∙ c.groups_of.ensures in
+    let owner = owners.IsOwner-owner m s keeps.sound c.args.task c.args.cpu b c.requires.cpu bound in
+    let counter = owners.IsCounter-counted m s keeps.sound c.args.task c.args.cpu b c.requires.cpu bound in
+    let found = sym c.get.ensures.found ∙ ap option_copied c.unwrap-group.ensures in
+    let group : owner.group ≡ c.unwrap-group.result.now = owners.group-there s t.groups.groups c.owner-owner.result _ owner.group c.unwrap-group.result.now keeps.stands.groups c.owner-owner.ensures found owner.there in
+    let found' = sym c.get-2.ensures.found ∙ ap option_copied c.unwrap-counted.ensures in
+    let group' : counter.group ≡ c.unwrap-counted.result.now = owners.group-there s t.groups.groups c.counted.result _ counter.group c.unwrap-counted.result.now keeps.stands.groups c.counted.ensures found' counter.there in
+    let resolved = owners.IsResolved-found m s keeps.sound c.args.task c.args.cpu b c.requires.cpu bound c.unwrap-group.result.now c.unwrap-counted.result.now c.unwrap.result c.unwrap-2.result
+    (owner.there ∙ ap Some group) (counter.there ∙ ap Some group') c.unwrap.ensures c.unwrap-2.ensures in
+    c.owner-owner.ensures ∙ resolved.owner_is
 
 pub returns-clause-class : goal.returns-clause-class
 returns-clause-class c =
-    let g = c.unwrap-group.result.now in
-    let found : find (has_gid (record { 0 = 0 })) c.self.inside.groups.groups ≡ Some g = sym c.get.ensures.found ∙ ap option_copied c.unwrap-group.ensures in
-    subst (λ (v : TreeValue). c.unwrap.result ≡ (resolve v.machine v.state c.args.task c.args.cpu).class) c.self.view_is
-    (IsResolved-default (Keeps-from_IsKept c.self.invariant) c.args.task c.args.cpu g c.unwrap.result c.unwrap-2.result found c.unwrap.ensures c.unwrap-2.ensures).is_class
+    let t = c.self.inside in let m = c.args.self.now.machine in let s = c.args.self.now.state in
+    let keeps = Keeps-of (tables t.groups t.tasks t.cpus t.classes t.rmids t.regions) c.self.view_is c.self.invariant in
+    let b : Binding = record { task = c.args.task; control = c.groups_of.result.0; monitor = c.groups_of.result.1 } in
+    let bound : binding_of c.args.task s.tasks ≡ Some b = ap (binding_of c.args.task) (sym keeps.stands.tasks) ∙ c.groups_of.ensures in
+    let owner = owners.IsOwner-owner m s keeps.sound c.args.task c.args.cpu b c.requires.cpu bound in
+    let counter = owners.IsCounter-counted m s keeps.sound c.args.task c.args.cpu b c.requires.cpu bound in
+    let found = sym c.get.ensures.found ∙ ap option_copied c.unwrap-group.ensures in
+    let group : owner.group ≡ c.unwrap-group.result.now = owners.group-there s t.groups.groups c.owner-owner.result _ owner.group c.unwrap-group.result.now keeps.stands.groups c.owner-owner.ensures found owner.there in
+    let found' = sym c.get-2.ensures.found ∙ ap option_copied c.unwrap-counted.ensures in
+    let group' : counter.group ≡ c.unwrap-counted.result.now = owners.group-there s t.groups.groups c.counted.result _ counter.group c.unwrap-counted.result.now keeps.stands.groups c.counted.ensures found' counter.there in
+    let resolved = owners.IsResolved-found m s keeps.sound c.args.task c.args.cpu b c.requires.cpu bound c.unwrap-group.result.now c.unwrap-counted.result.now c.unwrap.result c.unwrap-2.result
+    (owner.there ∙ ap Some group) (counter.there ∙ ap Some group') c.unwrap.ensures c.unwrap-2.ensures in
+    resolved.class_is
 
 pub returns-clause-rmid : goal.returns-clause-rmid
 returns-clause-rmid c =
-    let g = c.unwrap-group.result.now in
-    let found : find (has_gid (record { 0 = 0 })) c.self.inside.groups.groups ≡ Some g = sym c.get.ensures.found ∙ ap option_copied c.unwrap-group.ensures in
-    subst (λ (v : TreeValue). c.unwrap-2.result ≡ (resolve v.machine v.state c.args.task c.args.cpu).rmid) c.self.view_is
-    (IsResolved-default (Keeps-from_IsKept c.self.invariant) c.args.task c.args.cpu g c.unwrap.result c.unwrap-2.result found c.unwrap.ensures c.unwrap-2.ensures).is_rmid
+    let t = c.self.inside in let m = c.args.self.now.machine in let s = c.args.self.now.state in
+    let keeps = Keeps-of (tables t.groups t.tasks t.cpus t.classes t.rmids t.regions) c.self.view_is c.self.invariant in
+    let b : Binding = record { task = c.args.task; control = c.groups_of.result.0; monitor = c.groups_of.result.1 } in
+    let bound : binding_of c.args.task s.tasks ≡ Some b = ap (binding_of c.args.task) (sym keeps.stands.tasks) ∙ c.groups_of.ensures in
+    let owner = owners.IsOwner-owner m s keeps.sound c.args.task c.args.cpu b c.requires.cpu bound in
+    let counter = owners.IsCounter-counted m s keeps.sound c.args.task c.args.cpu b c.requires.cpu bound in
+    let found = sym c.get.ensures.found ∙ ap option_copied c.unwrap-group.ensures in
+    let group : owner.group ≡ c.unwrap-group.result.now = owners.group-there s t.groups.groups c.owner-owner.result _ owner.group c.unwrap-group.result.now keeps.stands.groups c.owner-owner.ensures found owner.there in
+    let found' = sym c.get-2.ensures.found ∙ ap option_copied c.unwrap-counted.ensures in
+    let group' : counter.group ≡ c.unwrap-counted.result.now = owners.group-there s t.groups.groups c.counted.result _ counter.group c.unwrap-counted.result.now keeps.stands.groups c.counted.ensures found' counter.there in
+    let resolved = owners.IsResolved-found m s keeps.sound c.args.task c.args.cpu b c.requires.cpu bound c.unwrap-group.result.now c.unwrap-counted.result.now c.unwrap.result c.unwrap-2.result
+    (owner.there ∙ ap Some group) (counter.there ∙ ap Some group') c.unwrap.ensures c.unwrap-2.ensures in
+    resolved.rmid_is
 
 pub returns-clause-mask : goal.returns-clause-mask
 returns-clause-mask c =
-    let g = c.unwrap-group.result.now in
-    let found : find (has_gid (record { 0 = 0 })) c.self.inside.groups.groups ≡ Some g = sym c.get.ensures.found ∙ ap option_copied c.unwrap-group.ensures in
-    c.mask_in.ensures.mask ∙ subst (λ (v : TreeValue). get_or g.masks c.domain_of-domain.result 0 ≡ (resolve v.machine v.state c.args.task c.args.cpu).mask) c.self.view_is
-    (ap (λ (d : ℕ). get_or g.masks d 0) c.domain_of-domain.ensures.domain
-    ∙ (IsResolved-default (Keeps-from_IsKept c.self.invariant) c.args.task c.args.cpu g c.unwrap.result c.unwrap-2.result found c.unwrap.ensures c.unwrap-2.ensures).mask)
+    let t = c.self.inside in let m = c.args.self.now.machine in let s = c.args.self.now.state in
+    let keeps = Keeps-of (tables t.groups t.tasks t.cpus t.classes t.rmids t.regions) c.self.view_is c.self.invariant in
+    let b : Binding = record { task = c.args.task; control = c.groups_of.result.0; monitor = c.groups_of.result.1 } in
+    let bound : binding_of c.args.task s.tasks ≡ Some b = ap (binding_of c.args.task) (sym keeps.stands.tasks) ∙ c.groups_of.ensures in
+    let owner = owners.IsOwner-owner m s keeps.sound c.args.task c.args.cpu b c.requires.cpu bound in
+    let counter = owners.IsCounter-counted m s keeps.sound c.args.task c.args.cpu b c.requires.cpu bound in
+    let found = sym c.get.ensures.found ∙ ap option_copied c.unwrap-group.ensures in
+    let group : owner.group ≡ c.unwrap-group.result.now = owners.group-there s t.groups.groups c.owner-owner.result _ owner.group c.unwrap-group.result.now keeps.stands.groups c.owner-owner.ensures found owner.there in
+    let found' = sym c.get-2.ensures.found ∙ ap option_copied c.unwrap-counted.ensures in
+    let group' : counter.group ≡ c.unwrap-counted.result.now = owners.group-there s t.groups.groups c.counted.result _ counter.group c.unwrap-counted.result.now keeps.stands.groups c.counted.ensures found' counter.there in
+    let resolved = owners.IsResolved-found m s keeps.sound c.args.task c.args.cpu b c.requires.cpu bound c.unwrap-group.result.now c.unwrap-counted.result.now c.unwrap.result c.unwrap-2.result
+    (owner.there ∙ ap Some group) (counter.there ∙ ap Some group') c.unwrap.ensures c.unwrap-2.ensures in
+    let domain : c.domain_of-domain.result ≡ domain_of m c.args.cpu = c.domain_of-domain.ensures.domain ∙ ap (λ (v : TreeValue). domain_of v.machine c.args.cpu) c.self.view_is in
+    let mask_is : c.mask_in.result ≡ (resolve m s c.args.task c.args.cpu).mask = c.mask_in.ensures.mask ∙ ap (λ (d : ℕ). get_or c.unwrap-group.result.now.masks d 0) domain ∙ resolved.mask_is in
+    mask_is
 
 pub returns-clause-known : goal.returns-clause-known
 returns-clause-known c =
-    let g = c.unwrap-group.result.now in
-    let found : find (has_gid (record { 0 = 0 })) c.self.inside.groups.groups ≡ Some g = sym c.get.ensures.found ∙ ap option_copied c.unwrap-group.ensures in
-    subst (λ (v : TreeValue). c.unwrap-2.result < v.machine.rmids) c.self.view_is (rmid-lt (Keeps-from_IsKept c.self.invariant) (record { 0 = 0 }) g c.unwrap-2.result found c.unwrap-2.ensures)
+    let t = c.self.inside in let m = c.args.self.now.machine in let s = c.args.self.now.state in
+    let keeps = Keeps-of (tables t.groups t.tasks t.cpus t.classes t.rmids t.regions) c.self.view_is c.self.invariant in
+    let b : Binding = record { task = c.args.task; control = c.groups_of.result.0; monitor = c.groups_of.result.1 } in
+    let bound : binding_of c.args.task s.tasks ≡ Some b = ap (binding_of c.args.task) (sym keeps.stands.tasks) ∙ c.groups_of.ensures in
+    let owner = owners.IsOwner-owner m s keeps.sound c.args.task c.args.cpu b c.requires.cpu bound in
+    let counter = owners.IsCounter-counted m s keeps.sound c.args.task c.args.cpu b c.requires.cpu bound in
+    let found = sym c.get.ensures.found ∙ ap option_copied c.unwrap-group.ensures in
+    let group : owner.group ≡ c.unwrap-group.result.now = owners.group-there s t.groups.groups c.owner-owner.result _ owner.group c.unwrap-group.result.now keeps.stands.groups c.owner-owner.ensures found owner.there in
+    let found' = sym c.get-2.ensures.found ∙ ap option_copied c.unwrap-counted.ensures in
+    let group' : counter.group ≡ c.unwrap-counted.result.now = owners.group-there s t.groups.groups c.counted.result _ counter.group c.unwrap-counted.result.now keeps.stands.groups c.counted.ensures found' counter.there in
+    let resolved = owners.IsResolved-found m s keeps.sound c.args.task c.args.cpu b c.requires.cpu bound c.unwrap-group.result.now c.unwrap-counted.result.now c.unwrap.result c.unwrap-2.result
+    (owner.there ∙ ap Some group) (counter.there ∙ ap Some group') c.unwrap.ensures c.unwrap-2.ensures in
+    let domain : c.domain_of-domain.result ≡ domain_of m c.args.cpu = c.domain_of-domain.ensures.domain ∙ ap (λ (v : TreeValue). domain_of v.machine c.args.cpu) c.self.view_is in
+    let exists : domain_of m c.args.cpu < m.domains = subst (λ (d : ℕ). d < m.domains) domain (subst (λ (v : TreeValue). c.domain_of-domain.result < v.machine.domains) c.self.view_is c.domain_of-domain.ensures.below) in
+    let good = resolve-good m s c.args.task c.args.cpu keeps.sound c.requires.cpu exists in
+    subst (λ (n : ℕ). n < m.rmids) (sym resolved.rmid_is) good.rmid
 
 pub returns-clause-valid : goal.returns-clause-valid
 returns-clause-valid c =
-    let m = parameters_of c.self.inside.machine in
-    let g = c.unwrap-group.result.now in
-    let found : find (has_gid (record { 0 = 0 })) c.self.inside.groups.groups ≡ Some g = sym c.get.ensures.found ∙ ap option_copied c.unwrap-group.ensures in
-    let mask = c.mask_in.result in
-    let valid : IsValid m mask = subst (IsValid m) (sym c.mask_in.ensures.mask) (IsValid-default (Keeps-from_IsKept c.self.invariant) g c.domain_of-domain.result found c.domain_of-domain.ensures.below) in
-    subst (λ (v : TreeValue). (0 < mask) × (mask < 2 ^ v.machine.ways)) c.self.view_is (mask-valid m mask valid)
+    let t = c.self.inside in let m = c.args.self.now.machine in let s = c.args.self.now.state in
+    let keeps = Keeps-of (tables t.groups t.tasks t.cpus t.classes t.rmids t.regions) c.self.view_is c.self.invariant in
+    let b : Binding = record { task = c.args.task; control = c.groups_of.result.0; monitor = c.groups_of.result.1 } in
+    let bound : binding_of c.args.task s.tasks ≡ Some b = ap (binding_of c.args.task) (sym keeps.stands.tasks) ∙ c.groups_of.ensures in
+    let owner = owners.IsOwner-owner m s keeps.sound c.args.task c.args.cpu b c.requires.cpu bound in
+    let counter = owners.IsCounter-counted m s keeps.sound c.args.task c.args.cpu b c.requires.cpu bound in
+    let found = sym c.get.ensures.found ∙ ap option_copied c.unwrap-group.ensures in
+    let group : owner.group ≡ c.unwrap-group.result.now = owners.group-there s t.groups.groups c.owner-owner.result _ owner.group c.unwrap-group.result.now keeps.stands.groups c.owner-owner.ensures found owner.there in
+    let found' = sym c.get-2.ensures.found ∙ ap option_copied c.unwrap-counted.ensures in
+    let group' : counter.group ≡ c.unwrap-counted.result.now = owners.group-there s t.groups.groups c.counted.result _ counter.group c.unwrap-counted.result.now keeps.stands.groups c.counted.ensures found' counter.there in
+    let resolved = owners.IsResolved-found m s keeps.sound c.args.task c.args.cpu b c.requires.cpu bound c.unwrap-group.result.now c.unwrap-counted.result.now c.unwrap.result c.unwrap-2.result
+    (owner.there ∙ ap Some group) (counter.there ∙ ap Some group') c.unwrap.ensures c.unwrap-2.ensures in
+    let domain : c.domain_of-domain.result ≡ domain_of m c.args.cpu = c.domain_of-domain.ensures.domain ∙ ap (λ (v : TreeValue). domain_of v.machine c.args.cpu) c.self.view_is in
+    let mask_is : c.mask_in.result ≡ (resolve m s c.args.task c.args.cpu).mask = c.mask_in.ensures.mask ∙ ap (λ (d : ℕ). get_or c.unwrap-group.result.now.masks d 0) domain ∙ resolved.mask_is in
+    let exists : domain_of m c.args.cpu < m.domains = subst (λ (d : ℕ). d < m.domains) domain (subst (λ (v : TreeValue). c.domain_of-domain.result < v.machine.domains) c.self.view_is c.domain_of-domain.ensures.below) in
+    let good = resolve-good m s c.args.task c.args.cpu keeps.sound c.requires.cpu exists in
+    mask-valid m c.mask_in.result (subst (IsValid m) (sym mask_is) good.mask)

@@ -3,8 +3,9 @@ use Rattle.rc_base.specs.declared.replies.Why.TheVariants.{NoSuchPath}
 use Rattle.machine.specs.declared.parameters.Parameters.{Parameters}
 use Rattle.script_ops.specs.declared.op.Op.{Op}
 use Rattle.script_ops.specs.declared.op.Op.TheVariants as ops
-use Rattle.tree_core.proofs.BuiltPaths.{IsBuilt-not_access, IsBuilt-not_tick, IsBuilt-not_touch}
+use Rattle.tree_core.proofs.BuiltPaths.{IsBuilt-not_access, IsBuilt-not_touch}
 use Rattle.tree_core.proofs.Outcomes.{after-accepted, after-moved, after-nothing, refusal-flush, refusal-list, refusal-read, reply-next, state-quiet}
+use Rattle.tree_core.proofs.ReadCounts.{refusal-tick}
 use Rattle.tree_law.specs.Existing.{is_directory, is_file}
 use Rattle.tree_law.specs.Refusals.{plain, reply_of}
 use Rattle.tree_law.specs.State.{State}
@@ -13,10 +14,9 @@ use Rattle.tree_law.specs.commands.Flush as flush
 use Rattle.tree_core.proofs.tree.Tree.take.Goals as goal
 
 pub unreachable-requires : goal.unreachable-requires
-unreachable-requires c = elim c.in-Tick.is [
-  | inl e ↦ IsBuilt-not_tick c.args.op.now c.requires.built e
-  | inr (inl w) ↦ IsBuilt-not_access c.args.op.now w.0 w.1 w.2 c.requires.built w.3
-  | inr (inr w) ↦ IsBuilt-not_touch c.args.op.now w.0 w.1 w.2 w.3 c.requires.built w.4
+unreachable-requires c = elim c.in-Access.is [
+  | inl w ↦ IsBuilt-not_access c.args.op.now w.0 w.1 w.2 c.requires.built w.3
+  | inr w ↦ IsBuilt-not_touch c.args.op.now w.0 w.1 w.2 w.3 c.requires.built w.4
 ]
 
 pub returns-in-Mkdir-clause-after : goal.returns-in-Mkdir-clause-after
@@ -88,3 +88,13 @@ returns-in-Flush-clause-after c =
     let m = c.args.self.now.machine in let s = c.args.self.now.state in let k = c.args.self.now.epoch in let op = ops.Flush c.in-Flush.domain in
     c.flush.ensures.after ∙ ap (λ (n : Parameters). flush.after n c.in-Flush.domain) c.count.ensures.machine
     ∙ sym (ap (after m s k) c.in-Flush.is ∙ after-accepted m s k op (refusal-flush m s c.in-Flush.domain))
+
+pub returns-in-Tick-clause-reply : goal.returns-in-Tick-clause-reply
+returns-in-Tick-clause-reply c =
+    let m = c.args.self.now.machine in let s = c.args.self.now.state in
+    c.tick.ensures.reply ∙ sym (ap (λ (op : Op). (next m s op c.args.looks.now).reply) c.in-Tick.is ∙ reply-next m s ops.Tick c.args.looks.now ∙ ap reply_of (refusal-tick m s))
+
+pub returns-in-Tick-clause-after : goal.returns-in-Tick-clause-after
+returns-in-Tick-clause-after c =
+    let m = c.args.self.now.machine in let s = c.args.self.now.state in let k = c.args.self.now.epoch in
+    c.tick.ensures.after ∙ sym (ap (after m s k) c.in-Tick.is ∙ after-nothing m s k ops.Tick refl)

@@ -1,6 +1,6 @@
 use Rattle.std.proofs.Common.{sym, ap, ◌∙◌}
 use Rattle.script_ops.specs.declared.op.Op.TheVariants.{Write}
-use Rattle.tree_core.proofs.BuiltPaths.{is_schemata-write, with_status-write}
+use Rattle.tree_core.proofs.WrittenPaths.{is_some_file-written, with_status-path}
 use Rattle.tree_core.proofs.Outcomes.{after-refused, next-refused}
 use Rattle.tree_core.proofs.WrittenMasks.{refusal-write_path}
 use Rattle.tree_law.specs.Refusals.{plain}
@@ -8,7 +8,7 @@ use Rattle.tree_law.specs.State.{Outcome}
 use Rattle.tree_core.proofs.tree.Tree.write.Goals as goal
 
 pub unreachable-requires : goal.unreachable-requires
-unreachable-requires c = is_schemata-write c.args.self.now.state c.args.path c.args.text.now c.requires.built (sym c.in-None.ensures) c.in-None-schemata_directory.ensures
+unreachable-requires c = is_some_file-written c.args.self.now.state c.args.path (sym c.in-None.ensures) c.in-None-file_at.ensures
 
 pub returns-in-Some-clause-reply : goal.returns-in-Some-clause-reply
 returns-in-Some-clause-reply c = λ looks.
@@ -18,7 +18,7 @@ returns-in-Some-clause-reply c = λ looks.
 pub returns-in-Some-clause-state : goal.returns-in-Some-clause-state
 returns-in-Some-clause-state c = λ looks.
     let m = c.args.self.now.machine in let s = c.args.self.now.state in
-    c.answer.ensures.state ∙ ap (λ r. record s { status = r }) c.refused.ensures ∙ sym (with_status-write s c.args.path c.args.text.now _ c.requires.built)
+    c.answer.ensures.state ∙ ap (λ r. record s { status = r }) c.refused.ensures ∙ sym (with_status-path s c.args.path c.args.text.now _ c.in-Some.why (sym c.in-Some.ensures))
     ∙ ap (λ (o : Outcome). o.state) (sym (next-refused m s (Write c.args.path c.args.text.now) (plain c.in-Some.why) looks (refusal-write_path m s c.args.path c.args.text.now c.in-Some.why (sym c.in-Some.ensures))))
 
 pub returns-in-Some-clause-after : goal.returns-in-Some-clause-after

@@ -1,0 +1,167 @@
+-- What each call leaves of the places and the counts of a slice.
+use Rattle.std.proofs.Common.{◌≡◌, ℕ, ◌+◌, ◌/◌, ◌%◌, ◌^◌, ◌<◌, ◌==◌, Bool, true, false, cond, List, [], length, Option, Some, None, option_map, slice_set, refl, sym, ◌∙◌, ap, subst, arith, inl, inr}
+use Rattle.std.specs.Prelude.{IfSome, slice_index}
+use Rattle.std.proofs.lemmas.Bool.{cases_Bool, cases_lt, cond-true, eq-eqb, eqb-true}
+use Rattle.std.proofs.Math.ListN.{get_or-eq_default}
+use Rattle.cache_core.specs.declared.place.Place.{Place}
+use Rattle.cache_core.specs.declared.touched.Touched.{Touched}
+use Rattle.cache_core.specs.declared.touched.Touched.TheVariants.{Hit, Filled, Stale}
+use Rattle.cache_core.specs.Counted.{Recounts, is_rmid}
+use Rattle.cache_core.specs.Filled.{places_with}
+use Rattle.cache_core.specs.History.{Shape, IsOwn, is_own, is_of}
+use Rattle.cache_core.specs.Kept.{IsKept, residents, spread}
+use Rattle.cache_core.specs.Places.{IsFormed, set_in, place_in, resident_in}
+use Rattle.cache_core.specs.Stands.{Touches}
+use Rattle.lists.specs.Sums.{one_if}
+use Rattle.cache_core.proofs.Counts.{places_with-exchanged, places_with-none}
+use Rattle.cache_core.proofs.Formed.{IsFormed-slice_set}
+use Rattle.cache_core.proofs.KeptPlaces.{res, get_or-set}
+use Rattle.cache_core.proofs.Spread.{length-spread, set_in-spread, set_in-spread_own, place_in-spread_empty, spread-slice_set}
+use Rattle.cache_core.proofs.laws.Places.{places_with-same}
+
+-- an own set has every way
+pub length-kept_set : (m : Shape) (rmids clock : ℕ) (own : List (List (Option Place))) (counts : List ℕ) (shift set : ℕ) → IsKept m rmids clock own counts shift → IsOwn m set → length (set_in own (set / m.slices)) ≡ m.ways
+length-kept_set m rmids clock own counts shift set kept is =
+    ap length (sym (set_in-spread_own m own set is)) ∙ (kept.formed.widths set is.0 ∙ cond-true (is_own m set) m.ways 0 (eq-eqb (set % m.slices) m.slice is.1))
+
+-- and is kept
+pub lt-kept_set : (m : Shape) (rmids clock : ℕ) (own : List (List (Option Place))) (counts : List ℕ) (shift set : ℕ) → IsKept m rmids clock own counts shift → IsOwn m set → 0 < m.ways → set / m.slices < length own
+lt-kept_set m rmids clock own counts shift set kept is some = elim (cases_lt (set / m.slices) (length own)) [
+  | inl less ↦ less
+  | inr past ↦ absurd (let none : length (set_in own (set / m.slices)) ≡ 0 = ap length (get_or-eq_default own [] past) in omega (arith, none, some, length-kept_set m rmids clock own counts shift set kept is))
+]
+
+-- a place after a change of one set
+residents-slice_set : (places : List (List (Option Place))) (s : ℕ) (changed : List (Option Place)) (t w : ℕ) → s < length places → residents (slice_set places s changed) t w ≡ cond (s == t) (resident_in changed w) (residents places t w)
+residents-slice_set places s changed t w within = ap (λ ps. resident_in ps w) (get_or-set places s t changed [] within) ∙ go (s == t)
+  where
+    go : (b : Bool) → resident_in (cond b changed (set_in places t)) w ≡ cond b (resident_in changed w) (residents places t w)
+    go true = refl
+    go false = refl
+
+-- a new stamp leaves what a place holds
+res-marked : (o : Option Place) (stamp : ℕ) → res (option_map (λ (p : Place). record p { used = stamp }) o) ≡ res o
+res-marked None stamp = refl
+res-marked (Some p) stamp = refl
+
+-- a way after a change of one way
+resident_in-slice_set : (row : List (Option Place)) (way w : ℕ) (o : Option Place) → way < length row → resident_in (slice_set row way o) w ≡ cond (way == w) (res o) (resident_in row w)
+resident_in-slice_set row way w o within = ap res (get_or-set row way w o None within) ∙ go (way == w)
+  where
+    go : (b : Bool) → res (cond b o (place_in row w)) ≡ cond b (res o) (resident_in row w)
+    go true = refl
+    go false = refl
+
+-- whether what a place held has the RMID
+is_of-res : (rmid : ℕ) (o : Option Place) → is_of rmid (res o) ≡ is_rmid (option_map (λ (p : Place). p.rmid) o) rmid
+is_of-res rmid None = refl
+is_of-res rmid (Some p) = refl
+
+-- the counts after an access to a set
+counts-touched : (m : Shape) (places : List (List (Option Place))) (counts new : List ℕ) (s mask : ℕ) (place : Place) (changed : List (Option Place)) (answer : Touched) (rmid : ℕ)
+    → IsOwn m s → s < length places → length (set_in places s) ≡ m.ways
+    → Touches (set_in places s) changed mask place answer → Recounts counts new (set_in places s) place answer
+    → slice_index counts rmid ≡ places_with m (is_of rmid) (residents places) → slice_index new rmid ≡ places_with m (is_of rmid) (residents (slice_set places s changed))
+counts-touched m places counts new s mask place changed (Hit way) rmid own within width t recounts was =
+    let row : List (Option Place) = set_in places s in
+    let same : (w : ℕ) → resident_in changed w ≡ resident_in row w = λ w.
+    ap (λ ps. resident_in ps w) t.2
+    ∙ (resident_in-slice_set row way w (option_map (λ (p : Place). record p { used = place.used }) (place_in row way)) t.0
+    ∙ (elim (cases_Bool (way == w)) [
+      | inl e ↦ rw e (res-marked (place_in row way) place.used ∙ ap (resident_in row) (eqb-true way w e))
+      | inr e ↦ rw e refl
+    ])) in
+    ap (λ cs. slice_index cs rmid) recounts
+    ∙ (was
+    ∙ places_with-same m (is_of rmid) (residents places) (residents (slice_set places s changed))
+    (λ k w _ _. sym (residents-slice_set places s changed k w within
+    ∙ (elim (cases_Bool (s == k)) [
+      | inl e ↦ rw e (same w ∙ ap (λ j. residents places j w) (eqb-true s k e))
+      | inr e ↦ rw e refl
+    ]))))
+counts-touched m places counts new s mask place changed (Filled way) rmid own within width t recounts was =
+    let row : List (Option Place) = set_in places s in
+    let inside : way < length row = t.1.within in
+    let read : (k w : ℕ) → residents (slice_set places s changed) k w ≡ cond (s == k) (cond (way == w) (res (Some place)) (resident_in row w)) (residents places k w) = λ k w.
+    residents-slice_set places s changed k w within ∙ ap (λ o. cond (s == k) o (residents places k w)) (ap (λ ps. resident_in ps w) t.2 ∙ resident_in-slice_set row way w (Some place) inside) in
+    let here : residents (slice_set places s changed) s way ≡ res (Some place) = read s way ∙ (ap (λ b. cond b (cond (way == way) (res (Some place)) (resident_in row way)) (residents places s way)) (eq-eqb s s refl) ∙ ap (λ b. cond b (res (Some place)) (resident_in row way)) (eq-eqb way way refl)) in
+    let same : (k w : ℕ) → ((k ≡ s) × (w ≡ way) → ⊥) → residents (slice_set places s changed) k w ≡ residents places k w = λ k w apart. read k w
+    ∙ (elim (cases_Bool (s == k)) [
+      | inl e ↦ elim (cases_Bool (way == w)) [
+        | inl e' ↦ absurd (apart (sym (eqb-true s k e), sym (eqb-true way w e')))
+        | inr e' ↦ rw (e, e') (ap (λ j. residents places j w) (eqb-true s k e))
+      ]
+      | inr e ↦ rw e refl
+    ]) in
+    let counted : places_with m (is_of rmid) (residents (slice_set places s changed)) + one_if (is_of rmid (residents places s way)) ≡ places_with m (is_of rmid) (residents places) + one_if (is_of rmid (residents (slice_set places s changed) s way)) =
+    places_with-exchanged m (is_of rmid) (residents places) (residents (slice_set places s changed)) s way own (omega (arith, inside, width)) same in
+    let left : one_if (is_of rmid (residents places s way)) ≡ one_if (is_rmid (option_map (λ (p : Place). p.rmid) (place_in row way)) rmid) = ap one_if (is_of-res rmid (place_in row way)) in
+    let put : one_if (is_of rmid (residents (slice_set places s changed) s way)) ≡ one_if (place.rmid == rmid) = ap (λ o. one_if (is_of rmid o)) here in
+    omega (arith, recounts rmid, counted, left, put, was)
+counts-touched m places counts new s mask place changed (Stale floor) rmid own within width t recounts was = absurd t
+
+-- the domain's sets after a change of a kept one
+pub spread-touched : (m : Shape) (rmids clock : ℕ) (own now : List (List (Option Place))) (counts : List ℕ) (shift s : ℕ) → IsKept m rmids clock own counts shift → IsOwn m s → 0 < m.ways
+    → now ≡ slice_set own (s / m.slices) (set_in now (s / m.slices)) → spread m now ≡ slice_set (spread m own) s (set_in now (s / m.slices))
+spread-touched m rmids clock own now counts shift s kept is some set = ap (spread m) set ∙ spread-slice_set m own s (set_in now (s / m.slices)) is (lt-kept_set m rmids clock own counts shift s kept is some)
+
+-- an access leaves the places in order, and the counts theirs
+pub IsKept-touched : (m : Shape) (rmids clock : ℕ) (own now : List (List (Option Place))) (counts new : List ℕ) (shift s mask : ℕ) (place : Place) (answer : Touched)
+    → IsKept m rmids clock own counts shift → IsOwn m s → 0 < m.ways → place.used ≡ clock → place.rmid < rmids → now ≡ slice_set own (s / m.slices) (set_in now (s / m.slices))
+    → Touches (set_in own (s / m.slices)) (set_in now (s / m.slices)) mask place answer → length new ≡ length counts → Recounts counts new (set_in own (s / m.slices)) place answer
+    → IsKept m rmids (clock + 1) now new shift
+IsKept-touched m rmids clock own now counts new shift s mask place answer kept is some used named set t size recounts =
+    let places : List (List (Option Place)) = spread m own in
+    let changed : List (Option Place) = set_in now (s / m.slices) in
+    let row : set_in places s ≡ set_in own (s / m.slices) = set_in-spread_own m own s is in
+    let all : spread m now ≡ slice_set places s changed = spread-touched m rmids clock own now counts shift s kept is some set in
+    let within : s < length places = omega (arith, is.0, length-spread m own) in
+    let touched : Touches (set_in places s) changed mask place answer = subst (λ ps. Touches ps changed mask place answer) (sym row) t in
+    let counted : Recounts counts new (set_in places s) place answer = subst (λ ps. Recounts counts new ps place answer) (sym row) recounts in
+    record {
+      formed = subst (IsFormed m rmids (clock + 1)) (sym all) (IsFormed-slice_set m rmids clock places s mask place (set_in places s) changed answer kept.formed is.0 refl used named touched);
+      narrow = kept.narrow;
+      power = kept.power;
+      known = size ∙ kept.known;
+      counted = λ rmid l. counts-touched m places counts new s mask place changed answer rmid is within (ap length row ∙ length-kept_set m rmids clock own counts shift s kept is) touched counted (kept.counted rmid l) ∙ ap (λ ps. places_with m (is_of rmid) (residents ps)) (sym all);
+    }
+
+-- places and counts that are empty
+pub IsKept-empty : (m : Shape) (rmids clock : ℕ) (own : List (List (Option Place))) (counts : List ℕ) (shift : ℕ) → shift < 32 → m.slices ≡ 2 ^ shift → length counts ≡ rmids → ((r : ℕ) → slice_index counts r ≡ 0)
+    → ((set : ℕ) → set < m.sets → length (set_in (spread m own) set) ≡ cond (is_own m set) m.ways 0) → ((s w : ℕ) → place_in (set_in own s) w ≡ None) → IsKept m rmids clock own counts shift
+IsKept-empty m rmids clock own counts shift narrow power known zeros widths none =
+    let empty : (s w : ℕ) → place_in (set_in (spread m own) s) w ≡ None = place_in-spread_empty m own none in
+    record {
+      formed = record {
+        count = length-spread m own;
+        widths = widths;
+        stamped = λ s w. subst (λ (o : Option Place). IfSome o (λ p. p.used < clock)) (sym (empty s w)) tt;
+        named = λ s w. subst (λ (o : Option Place). IfSome o (λ p. p.rmid < rmids)) (sym (empty s w)) tt;
+      };
+      narrow = narrow;
+      power = power;
+      known = known;
+      counted = λ rmid l. zeros rmid ∙ sym (places_with-none m (is_of rmid) (residents (spread m own)) refl (λ s w. ap res (empty s w)));
+    }
+
+-- the width of each set of the domain, by that of the kept ones
+pub length-set_in_spread : (m : Shape) (own : List (List (Option Place))) → ((set : ℕ) → set < m.sets → length (set_in own (set / m.slices)) ≡ m.ways)
+    → (set : ℕ) → set < m.sets → length (set_in (spread m own) set) ≡ cond (is_own m set) m.ways 0
+length-set_in_spread m own widths set l = ap length (set_in-spread m own set l) ∙ go (is_own m set)
+  where
+    go : (b : Bool) → length (cond b (set_in own (set / m.slices)) []) ≡ cond b m.ways 0
+    go true = widths set l
+    go false = refl
+
+-- a flush leaves them so
+pub IsKept-emptied : (m : Shape) (rmids clock : ℕ) (own now : List (List (Option Place))) (counts new : List ℕ) (shift : ℕ) → IsKept m rmids clock own counts shift
+    → ((set : ℕ) → length (set_in now set) ≡ length (set_in own set)) → ((s w : ℕ) → place_in (set_in now s) w ≡ None) → length new ≡ length counts → ((r : ℕ) → slice_index new r ≡ 0)
+    → IsKept m rmids (clock + 1) now new shift
+IsKept-emptied m rmids clock own now counts new shift kept widths none size zeros =
+    IsKept-empty m rmids (clock + 1) now new shift kept.narrow kept.power (size ∙ kept.known) zeros
+    (λ set l. ap length (set_in-spread m now set l) ∙ (go (is_own m set) set ∙ (sym (ap length (set_in-spread m own set l)) ∙ kept.formed.widths set l)))
+    none
+  where
+    go : (b : Bool) (set : ℕ) → length (cond b (set_in now (set / m.slices)) []) ≡ length (cond b (set_in own (set / m.slices)) [])
+    go true set = widths (set / m.slices)
+    go false set = refl

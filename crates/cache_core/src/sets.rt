@@ -1,0 +1,171 @@
+//! The sets of a slice, all in flat vectors.
+ghost use Rattle.std.specs.Prelude.{◌≡◌, ℕ, ◌%◌, ◌^◌, ◌<◌, ◌≤◌, length, MatchOption, IfOk, Some, None, replicate, slice_set, option_map, slice_index, ◌≢◌, ◌+◌, ◌*◌, ◌==◌, ◌++◌, ◌∷◌, [], if◌then◌else◌, vec_len, vec_capacity, true};
+ghost use Rattle.cbm.specs.Masks.{has_way};
+ghost use Rattle.cache_core.specs.Fills.{Holds, IsVictim};
+ghost use Rattle.cache_core.specs.Places.{resident_in, stamp_in, place_in, set_in};
+
+use crate::place::Place;
+use rc_base::NoMemory;
+use std::alloc::Global;
+use std::marker::Model;
+
+/// Sets of so many ways each, counted from 0. Contracts see for each set the list of its places.
+///
+/// The line of way w of set s stands at s * ways + w of `lines`, its stamp and its RMID there too. Bit w of word s of
+/// `valid` says whether the way holds a line. `filled` lists the sets that hold any, so that only these are cleared.
+#[derive(Drop)]
+pub struct Sets {
+    ways: u8,
+    valid: Vec<u32>,
+    lines: Vec<u64>,
+    used: Vec<u64>,
+    rmids: Vec<u16>,
+    filled: Vec<u32>,
+}
+
+impl Model for Sets {
+    ghost use Rattle.std.specs.Prelude.{List, Option, vec_capacity};
+    ghost use Rattle.cache_core.specs.declared.place.Place.{Place};
+    ghost use Rattle.cache_core.specs.Flat.{IsFlat, flat_sets};
+
+    ghost Value = { List (List (Option Place)) };
+
+    ghost view = { λ s. flat_sets (record { ways = s.ways; valid = s.valid.items; lines = s.lines.items; used = s.used.items; rmids = s.rmids.items }) };
+
+    ghost invariant = { λ s. IsFlat (record { ways = s.ways; valid = s.valid.items; lines = s.lines.items; used = s.used.items; rmids = s.rmids.items }) s.filled.items (vec_capacity s.filled) };
+}
+
+impl Sets {
+    /// So many sets of empty ways. NoMemory where the allocator gives no room for them.
+    pub fn create(alloc: Global, count: u32, ways: u8) -> Result<Sets, NoMemory>
+        requires { ways ≤ 32 }
+        ensures count { IfOk result (λ s. length s ≡ count) }
+        ensures widths { IfOk result (λ s. (set : ℕ) → set < count → length (set_in s set) ≡ ways) }
+        ensures empty { IfOk result (λ s. (set way : ℕ) → place_in (set_in s set) way ≡ None) }
+    {
+        let places = count as usize * ways as usize;
+        let valid = vec![in alloc; 0; count as usize]?;
+        let lines = vec![in alloc; 0; places]?;
+        let used = vec![in alloc; 0; places]?;
+        let rmids = vec![in alloc; 0; places]?;
+        let filled = Vec::with_capacity(alloc, count as usize)?;
+        Ok(Sets {
+            ways,
+            valid,
+            lines,
+            used,
+            rmids,
+            filled,
+        })
+    }
+
+    /// The way of a set that holds the line.
+    pub fn find(&self, set: u32, line: u64) -> Option<u8>
+        requires { set < length self.now }
+        ensures { MatchOption result ((way : ℕ) → Holds (resident_in (set_in self.now set)) line way → ⊥) (λ way. (way < length (set_in self.now set)) × Holds (resident_in (set_in self.now set)) line way) }
+    {
+        let lines = part(&self.lines, set, self.ways);
+        way_fill::find(lines, self.valid[set as usize], line)
+    }
+
+    /// The way of a set that a fill takes: the lowest empty one of the mask, or else the one that was used longest ago.
+    pub fn victim(&self, set: u32, mask: u32) -> u8
+        requires set { set < length self.now }
+        requires mask { 0 < mask % 2 ^ length (set_in self.now set) }
+        ensures { IsVictim (length (set_in self.now set)) mask (resident_in (set_in self.now set)) (stamp_in (set_in self.now set)) result }
+    {
+        let used = part(&self.used, set, self.ways);
+        way_fill::victim(used, self.valid[set as usize], mask)
+    }
+
+    /// Notes that a way is used, which holds a line.
+    pub fn mark(&mut self, set: u32, way: u8, stamp: u64)
+        requires set { set < length self.old }
+        requires way { way < length (set_in self.old set) }
+        ensures { self.new ≡ slice_set self.old set (slice_set (set_in self.old set) way (option_map (λ (p : Place). record p { used = stamp }) (place_in (set_in self.old set) way))) }
+    {
+        self.used[set as usize * self.ways as usize + way as usize] = stamp;
+    }
+
+    /// Puts a line in a way, and gives the RMID of the line that leaves it.
+    pub fn put(&mut self, set: u32, way: u8, place: Place) -> Option<u16>
+        requires set { set < length self.old }
+        requires way { way < length (set_in self.old set) }
+        ensures left { result ≡ option_map (λ (p : Place). p.rmid) (place_in (set_in self.old set) way) }
+        ensures put { self.new ≡ slice_set self.old set (slice_set (set_in self.old set) way (Some place)) }
+    {
+        let at = set as usize * self.ways as usize + way as usize;
+        let valid = self.valid[set as usize];
+        list_set(&mut self.filled, valid, set);
+        let left = rmid_at(valid, way, self.rmids[at]);
+        self.valid[set as usize] = with_way(valid, way);
+        self.lines[at] = place.line;
+        self.used[at] = place.used;
+        self.rmids[at] = place.rmid;
+        left
+    }
+
+    /// Empties every way, in the time of the sets that hold a line.
+    pub fn clear(&mut self)
+        ensures count { length self.new ≡ length self.old }
+        ensures widths { (set : ℕ) → length (set_in self.new set) ≡ length (set_in self.old set) }
+        ensures empty { (set way : ℕ) → place_in (set_in self.new set) way ≡ None }
+    {
+        clear_listed(&mut self.valid, &self.filled);
+        self.filled.clear();
+    }
+}
+
+// The numbers of a set's ways.
+fn part(all: &[u64], set: u32, ways: u8) -> &[u64]
+    requires { set * ways + ways ≤ length all.now }
+    ensures count { length result.now ≡ ways }
+    ensures items { (way : ℕ) → way < ways → slice_index result.now way ≡ slice_index all.now (set * ways + way) }
+{
+    let start = set as usize * ways as usize;
+    &all[start..start + ways as usize]
+}
+
+// Lists a set that held no line.
+fn list_set(filled: &mut Vec<u32>, valid: u32, set: u32)
+    requires { valid ≡ 0 → vec_len filled.old < vec_capacity filled.old }
+    ensures listed { filled.new.items ≡ (if valid == 0 then filled.old.items ++ set ∷ [] else filled.old.items) }
+    ensures room { vec_capacity filled.new ≡ vec_capacity filled.old }
+{
+    if valid == 0 {
+        filled.push_reserved(set);
+    }
+}
+
+// The RMID of a way, where it holds a line.
+fn rmid_at(valid: u32, way: u8, rmid: u16) -> Option<u16>
+    requires { way < 32 }
+    ensures { result ≡ (if has_way valid way then Some rmid else None) }
+{
+    if (valid >> way) & 1 == 1 {
+        Some(rmid)
+    } else {
+        None
+    }
+}
+
+// A word of ways with one way more.
+fn with_way(valid: u32, way: u8) -> u32
+    requires { way < 32 }
+    ensures way { has_way result way ≡ true }
+    ensures others { (w : ℕ) → w ≢ way → has_way result w ≡ has_way valid w }
+{
+    valid | (1 << way)
+}
+
+// Makes the words of the listed sets 0.
+fn clear_listed(valid: &mut Vec<u32>, filled: &[u32])
+    requires { (i : ℕ) → i < length filled.now → slice_index filled.now i < length valid.old.items }
+    ensures size { length valid.new.items ≡ length valid.old.items }
+    ensures listed { (i : ℕ) → i < length filled.now → slice_index valid.new.items (slice_index filled.now i) ≡ 0 }
+    ensures empty { (s : ℕ) → slice_index valid.old.items s ≡ 0 → slice_index valid.new.items s ≡ 0 }
+{
+    for set in filled {
+        valid[*set as usize] = 0;
+    }
+}

@@ -1,0 +1,51 @@
+//! What an access does to its set, and to the counts.
+ghost use Rattle.std.specs.Prelude.{◌≡◌, ℕ, ◌-◌, ◌+◌, ◌==◌, ◌%◌, ◌^◌, ◌<◌, length, IfSome, slice_set, slice_index};
+ghost use Rattle.lists.specs.Sums.{one_if, sum_below};
+ghost use Rattle.cache_core.specs.Counted.{IsCounted, Recounts, is_rmid};
+ghost use Rattle.cache_core.specs.Places.{set_in, place_in};
+ghost use Rattle.cache_core.specs.Stands.{Touches};
+
+use crate::place::Place;
+use crate::sets::Sets;
+use crate::touched::Touched;
+use occupancy::Counts;
+
+/// Looks for the line of a place in its set, and fills the place into a way of the mask where no way holds the line.
+pub fn touch(sets: &mut Sets, counts: &mut Counts, set: u32, mask: u32, place: Place) -> Touched
+    requires set { set < length sets.old }
+    requires mask { 0 < mask % 2 ^ length (set_in sets.old set) }
+    requires rmid { place.rmid < length counts.old }
+    requires room { sum_below (length counts.old) (slice_index counts.old) < 2 ^ 64 - 1 }
+    requires counted { (way : ℕ) → IfSome (place_in (set_in sets.old set) way) (λ p. IsCounted counts.old p.rmid) }
+    ensures sets { sets.new ≡ slice_set sets.old set (set_in sets.new set) }
+    ensures touched { Touches (set_in sets.old set) (set_in sets.new set) mask place result }
+    ensures size { length counts.new ≡ length counts.old }
+    ensures counts { Recounts counts.old counts.new (set_in sets.old set) place result }
+{
+    match sets.find(set, place.line) {
+        Some(way) => {
+            sets.mark(set, way, place.used);
+            Touched::Hit { way }
+        }
+        None => {
+            let way = sets.victim(set, mask);
+            let left = sets.put(set, way, place);
+            recount(counts, left, place.rmid);
+            Touched::Filled { way }
+        }
+    }
+}
+
+// One line more of an RMID, and one less of that whose line left.
+fn recount(counts: &mut Counts, left: Option<u16>, rmid: u16)
+    requires rmid { rmid < length counts.old }
+    requires room { sum_below (length counts.old) (slice_index counts.old) < 2 ^ 64 - 1 }
+    requires left { IfSome left (λ r. IsCounted counts.old r) }
+    ensures size { length counts.new ≡ length counts.old }
+    ensures counts { (r : ℕ) → slice_index counts.new r + one_if (is_rmid left r) ≡ slice_index counts.old r + one_if (rmid == r) }
+{
+    counts.add(rmid);
+    if let Some(left) = left {
+        counts.sub(left);
+    }
+}

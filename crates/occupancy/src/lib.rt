@@ -1,0 +1,9 @@
+//! How many lines of a slice each RMID has.
+#![tactic(auto)]
+
+pub mod counts;
+
+pub use counts::Counts;
+
+#[cfg(test)]
+mod tests;

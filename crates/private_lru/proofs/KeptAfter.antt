@@ -1,0 +1,191 @@
+-- What the ways of the mask keep after each entry of a window.
+use Rattle.std.proofs.Common.{◌≡◌, ℕ, ◌+◌, ◌%◌, ◌*◌, ◌<◌, ◌≤◌, Bool, true, false, not, ◌&&◌, ◌==◌, List, [], ◌∷◌, ◌++◌, length, reverse, Option, Some, None, IsSome, arith, refl, sym, ◌∙◌, ap, subst, inl, inr}
+use Rattle.std.specs.Prelude.{MatchBool}
+use Rattle.std.proofs.Math.Path.{fun_ext}
+use Rattle.std.proofs.lemmas.Bool.{cases_Bool, eqb-true, eq-eqb, true≢false, false≢true, cond-false}
+use Rattle.std.proofs.lemmas.Option.{none-some}
+use Rattle.std.proofs.lemmas.List.{append_assoc, append-nil, reverse-append}
+use Rattle.rc_base.specs.declared.names.Gid.{Gid}
+use Rattle.cache_core.specs.declared.entry.What.{What}
+use Rattle.cache_core.specs.declared.entry.What.TheVariants.{Access, Raise, Flush, Lock, Look}
+use Rattle.cache_core.specs.declared.entry.SliceEntry.{SliceEntry}
+use Rattle.rc_base.specs.Follows.{GoesOn}
+use Rattle.cbm.specs.Masks.{has_way, overlaps}
+use Rattle.cbm.proofs.laws.Overlaps.{has_way-apart}
+use Rattle.cache_core.specs.Fills.{Resident, IsOutcome}
+use Rattle.cache_core.specs.History.{Shape, ways_below, held, used, decides, left_by, uses, EntryMayFollow, MayHappen}
+use Rattle.cache_core.specs.Stands.{entry}
+use Rattle.cache_core.proofs.laws.Histories.{held-push, used-push, used-le}
+use Rattle.private_lru.specs.Private.{without}
+use Rattle.private_lru.specs.Covered.{item_of, items}
+use Rattle.private_lru.specs.Isolation.{Opens}
+use Rattle.private_lru.proofs.OtherUsers.{Loads}
+use Rattle.private_lru.proofs.Recency.{kept}
+use Rattle.private_lru.proofs.KeptWays.{Keeps, Keeps-used, Keeps-passed, Keeps-emptied, has_way-other}
+use Rattle.private_lru.proofs.WayLines.{line_in, Some-same}
+
+-- an entry of the window before which no other user was seen
+abbrev pub Fits : ℕ → ℕ → (ℕ → Type 0) → What → Type 0
+Fits group mask Own (Access owner rmid its line hit way) = MatchBool (owner.0 == group) ((its ≡ mask) × Own line) (overlaps its mask ≡ false × (Own line → ⊥))
+Fits group mask Own Raise = Unit {0}
+Fits group mask Own Flush = ⊥
+Fits group mask Own (Lock others first_line) = ⊥
+Fits group mask Own (Look rmid lines) = Unit {0}
+
+-- entries of which each fits
+abbrev pub AllFit : ℕ → ℕ → (ℕ → Type 0) → List SliceEntry → Type 0
+AllFit group mask Own [] = Unit {0}
+AllFit group mask Own (e ∷ es) = Fits group mask Own e.what × AllFit group mask Own es
+
+-- the places of a set after a history keep these lines
+abbrev pub KeepsAfter : Shape → ℕ → (ℕ → Type 0) → ℕ → List SliceEntry → List ℕ → Type 0
+KeepsAfter m mask Own set history back = (order : List ℕ) × Keeps m.ways mask Own (held m history set) (used m history set) order (kept (ways_below mask m.ways) back)
+
+-- of three tests the third fails
+pub and-third_false : (a b c : Bool) → c ≡ false → (a && b && c) ≡ false
+and-third_false true true c h = h
+and-third_false true false c h = refl
+and-third_false false true c h = refl
+and-third_false false false c h = refl
+
+-- of three tests the second fails
+and-second_false : (a b c : Bool) → b ≡ false → (a && b && c) ≡ false
+and-second_false true true c h = absurd (true≢false h)
+and-second_false true false c h = refl
+and-second_false false true c h = refl
+and-second_false false false c h = refl
+
+-- of two tests the second fails
+and-right_false : (a b : Bool) → b ≡ false → (a && b) ≡ false
+and-right_false true b h = h
+and-right_false false b h = refl
+
+-- of two tests the first fails
+and-left_false : (a b : Bool) → a ≡ false → (a && b) ≡ false
+and-left_false true b h = absurd (true≢false h)
+and-left_false false b h = refl
+
+-- an entry that touches no place of the set
+KeepsAfter-unchanged : (m : Shape) (mask set : ℕ) (Own : ℕ → Type 0) (history : List SliceEntry) (e : SliceEntry) (back : List ℕ)
+    → ((w : ℕ) → decides m set w e.what ≡ false) → ((w : ℕ) → uses m set w e.what ≡ false)
+    → KeepsAfter m mask Own set history back → KeepsAfter m mask Own set (history ++ e ∷ []) back
+KeepsAfter-unchanged m mask set Own history e back keep idle keeps =
+    let same : held m history set ≡ held m (history ++ e ∷ []) set = fun_ext (λ w. sym (held-push m history e set w ∙ cond-false (decides m set w e.what) _ _ (keep w))) in
+    let old : used m history set ≡ used m (history ++ e ∷ []) set = fun_ext (λ w. sym (used-push m history e set w ∙ cond-false (uses m set w e.what) _ _ (idle w))) in
+    let lines : List ℕ = kept (ways_below mask m.ways) back in (
+      keeps.0,
+      subst (λ (a : ℕ → ℕ). Keeps m.ways mask Own (held m (history ++ e ∷ []) set) a keeps.0 lines) old
+          (subst (λ (r : ℕ → Option Resident). Keeps m.ways mask Own r (used m history set) keeps.0 lines) same keeps.1),
+    )
+
+-- an access uses its way and leaves its line there
+held-access : (m : Shape) (history : List SliceEntry) (thread op epoch : ℕ) (owner : Gid) (rmid its line way set : ℕ) (hit : Bool) → (line % m.sets == set) ≡ true
+    → IsOutcome m.ways its (held m history set) (used m history set) line hit way
+    → line_in (held m (history ++ entry thread op epoch (Access owner rmid its line hit way) ∷ []) set way) ≡ Some line
+held-access m history thread op epoch owner rmid its line way set true at outcome =
+    ap line_in (held-push m history (entry thread op epoch (Access owner rmid its line true way)) set way) ∙ outcome.1
+held-access m history thread op epoch owner rmid its line way set false at outcome =
+    let there : (way == way) ≡ true = eq-eqb way way refl in
+    ap line_in (held-push m history (entry thread op epoch (Access owner rmid its line false way)) set way) ∙ rw (at, there) refl
+
+-- an access more
+KeepsAfter-access : (m : Shape) (narrow : m.ways ≤ 64) (group mask set : ℕ) (Own : ℕ → Type 0) (history : List SliceEntry) (thread op epoch : ℕ) (owner : Gid) (rmid its line way : ℕ) (hit : Bool) (back : List ℕ)
+    → MayHappen m history epoch (Access owner rmid its line hit way) → Fits group mask Own (Access owner rmid its line hit way)
+    → KeepsAfter m mask Own set history back
+    → KeepsAfter m mask Own set (history ++ entry thread op epoch (Access owner rmid its line hit way) ∷ []) (reverse (item_of m.sets group set (Access owner rmid its line hit way)) ++ back)
+KeepsAfter-access m narrow group mask set Own history thread op epoch owner rmid its line way hit back may fits keeps =
+    let e : SliceEntry = entry thread op epoch (Access owner rmid its line hit way) in
+    elim (cases_Bool (line % m.sets == set)) [
+      | inr c ↦
+          let none : ((owner.0 == group) && (line % m.sets == set)) ≡ false = and-right_false (owner.0 == group) _ c in
+          rw none
+          (KeepsAfter-unchanged m mask set Own history e back (λ w. and-second_false (not hit) (line % m.sets == set) (way == w) c) (λ w. and-left_false (line % m.sets == set) (way == w) c) keeps)
+      | inl c ↦
+          let outcome : IsOutcome m.ways its (held m history set) (used m history set) line hit way =
+          subst (λ s. IsOutcome m.ways its (held m history s) (used m history s) line hit way) (eqb-true (line % m.sets) set c) may.1 in
+          let same : (u : ℕ) → (way == u) ≡ false → held m (history ++ e ∷ []) set u ≡ held m history set u =
+          λ u k. held-push m history e set u ∙ cond-false (decides m set u e.what) _ _ (and-third_false (not hit) (line % m.sets == set) (way == u) k) in
+          let same_age : (u : ℕ) → (way == u) ≡ false → used m (history ++ e ∷ []) set u ≡ used m history set u =
+          λ u k. used-push m history e set u ∙ cond-false (uses m set u e.what) _ _ (and-right_false (line % m.sets == set) (way == u) k) in
+          let now : line_in (held m (history ++ e ∷ []) set way) ≡ Some line = held-access m history thread op epoch owner rmid its line way set hit c outcome in
+          let there : (way == way) ≡ true = eq-eqb way way refl in
+          elim (cases_Bool (owner.0 == group)) [
+            | inl o ↦
+                let own : (its ≡ mask) × Own line = rw o at fits in
+                let outcome' : IsOutcome m.ways mask (held m history set) (used m history set) line hit way =
+                subst (λ k. IsOutcome m.ways k (held m history set) (used m history set) line hit way) own.0 outcome in
+                let age_now : used m (history ++ e ∷ []) set way ≡ length history + 1 = used-push m history e set way ∙ rw (c, there) refl in
+                rw (o, c) (
+                  way ∷ without way keeps.0,
+                  Keeps-used m.ways mask line way (length history + 1) hit Own (held m history set) (held m (history ++ e ∷ []) set) (used m history set) (used m (history ++ e ∷ []) set) keeps.0 _ own.1 outcome'
+                      same now same_age age_now (λ u. let l : used m history set u ≤ length history = used-le m history set u in omega arith) keeps.1,
+                )
+            | inr o ↦
+                let other : overlaps its mask ≡ false × (Own line → ⊥) = rw o at fits in
+                let none : ((owner.0 == group) && (line % m.sets == set)) ≡ false = and-left_false (owner.0 == group) _ o in
+                rw none (
+                  keeps.0,
+                  Keeps-passed m.ways mask way Own (held m history set) (held m (history ++ e ∷ []) set) (used m history set) (used m (history ++ e ∷ []) set) keeps.0 _
+                      (has_way-other m.ways mask its line way hit Own (held m history set) (used m history set) keeps.0 _ narrow other.0 other.1 outcome keeps.1)
+                      same (λ y h f. other.1 (subst Own (Some-same (sym h ∙ now)) f)) same_age keeps.1,
+                )
+          ]
+    ]
+
+-- one entry more
+KeepsAfter-push : (m : Shape) (narrow : m.ways ≤ 64) (group mask set : ℕ) (Own : ℕ → Type 0) (history : List SliceEntry) (thread op epoch : ℕ) (what : What) (back : List ℕ)
+    → MayHappen m history epoch what → Fits group mask Own what
+    → KeepsAfter m mask Own set history back
+    → KeepsAfter m mask Own set (history ++ entry thread op epoch what ∷ []) (reverse (item_of m.sets group set what) ++ back)
+KeepsAfter-push m narrow group mask set Own history thread op epoch (Access owner rmid its line hit way) back may fits keeps = KeepsAfter-access m narrow group mask set Own history thread op epoch owner rmid its line way hit back may fits keeps
+KeepsAfter-push m narrow group mask set Own history thread op epoch Raise back may fits keeps = KeepsAfter-unchanged m mask set Own history (entry thread op epoch Raise) back (λ _. refl) (λ _. refl) keeps
+KeepsAfter-push m narrow group mask set Own history thread op epoch Flush back may fits keeps = absurd fits
+KeepsAfter-push m narrow group mask set Own history thread op epoch (Lock others first_line) back may fits keeps = absurd fits
+KeepsAfter-push m narrow group mask set Own history thread op epoch (Look rmid lines) back may fits keeps = KeepsAfter-unchanged m mask set Own history (entry thread op epoch (Look rmid lines)) back (λ _. refl) (λ _. refl) keeps
+
+-- all the entries
+pub KeepsAfter-append : (m : Shape) (narrow : m.ways ≤ 64) (group mask set : ℕ) (Own : ℕ → Type 0) (history entries : List SliceEntry) (back : List ℕ)
+    → GoesOn (EntryMayFollow m) history entries → AllFit group mask Own entries
+    → KeepsAfter m mask Own set history back
+    → KeepsAfter m mask Own set (history ++ entries) (reverse (items m.sets group set entries) ++ back)
+KeepsAfter-append m narrow group mask set Own history [] back goes fits keeps = subst (λ h. KeepsAfter m mask Own set h back) (sym (append-nil history)) keeps
+KeepsAfter-append m narrow group mask set Own history (e ∷ es) back goes fits keeps =
+    let first : List ℕ = item_of m.sets group set e.what in
+    let rest : List ℕ = items m.sets group set es in
+    let one : KeepsAfter m mask Own set (history ++ e ∷ []) (reverse first ++ back) = KeepsAfter-push m narrow group mask set Own history e.thread e.op e.epoch e.what back goes.0 fits.0 keeps in
+    let all : KeepsAfter m mask Own set ((history ++ e ∷ []) ++ es) (reverse rest ++ (reverse first ++ back)) = KeepsAfter-append m narrow group mask set Own (history ++ e ∷ []) es (reverse first ++ back) goes.1 fits.1 one in
+    let lines : reverse rest ++ (reverse first ++ back) ≡ reverse (first ++ rest) ++ back = sym (append_assoc (reverse rest) (reverse first) back) ∙ ap (λ l. l ++ back) (sym (reverse-append first rest)) in
+    subst (λ l. KeepsAfter m mask Own set (history ++ e ∷ es) l) lines (subst (λ h. KeepsAfter m mask Own set h (reverse rest ++ (reverse first ++ back))) (append_assoc history (e ∷ []) es) all)
+
+-- what a window's opening leaves in a set
+pub KeepsAfter-opening : (m : Shape) (narrow : m.ways ≤ 64) (group mask set : ℕ) (Own : ℕ → Type 0) (history : List SliceEntry) (thread op epoch : ℕ) (what : What)
+    → set < m.sets → Opens mask what → ((x : ℕ) → Own x → Loads m what x → ⊥)
+    → KeepsAfter m mask Own set (history ++ entry thread op epoch what ∷ []) []
+KeepsAfter-opening m narrow group mask set Own history thread op epoch (Access owner rmid its line hit way) inside opens free = absurd opens
+KeepsAfter-opening m narrow group mask set Own history thread op epoch Raise inside opens free = absurd opens
+KeepsAfter-opening m narrow group mask set Own history thread op epoch Flush inside opens free =
+    let e : SliceEntry = entry thread op epoch Flush in
+    let none : (w : ℕ) → held m (history ++ e ∷ []) set w ≡ None = λ w. held-push m history e set w in (
+      [],
+      Keeps-emptied m.ways mask Own (held m (history ++ e ∷ []) set) (used m (history ++ e ∷ []) set)
+          (λ v l k s. false≢true (subst (λ (o : Option Resident). IsSome o) (none v) s))
+          (λ v y l k h o. none-some y (sym (ap line_in (none v)) ∙ h)),
+    )
+KeepsAfter-opening m narrow group mask set Own history thread op epoch (Lock others first_line) inside opens free =
+    let e : SliceEntry = entry thread op epoch (Lock others first_line) in
+    let is : (w : ℕ) → held m (history ++ e ∷ []) set w ≡ left_by m set w (Lock others first_line) = λ w. held-push m history e set w in
+    let locked : (w : ℕ) → IsSome (held m (history ++ e ∷ []) set w) → has_way others w ≡ true = λ w s. elim (cases_Bool (has_way others w)) [
+      | inl k ↦ k
+      | inr k ↦ absurd (false≢true (rw k at (subst (λ (o : Option Resident). IsSome o) (is w) s)))
+    ] in (
+      [],
+      Keeps-emptied m.ways mask Own (held m (history ++ e ∷ []) set) (used m (history ++ e ∷ []) set)
+          (λ v l k s. true≢false (sym k ∙ has_way-apart others mask v opens (omega arith) (locked v s)))
+          (λ v y l k h o. elim (cases_Bool (has_way others v)) [
+            | inl b ↦
+                let line : first_line + set + ways_below others v * m.sets ≡ y = Some-same (rw b at (sym (ap line_in (is v)) ∙ h)) in
+                free y o (set, v, inside, l, b, sym line)
+            | inr b ↦ let no : None ≡ Some y = rw b at (sym (ap line_in (is v)) ∙ h) in none-some y no
+          ]),
+    )
+KeepsAfter-opening m narrow group mask set Own history thread op epoch (Look rmid lines) inside opens free = absurd opens

@@ -1,0 +1,10 @@
+mod AloneEntries
+mod KeptAfter
+mod KeptWays
+mod MissingWays
+mod OtherUsers
+mod PrivateHits
+mod Recency
+mod WayLines
+mod Ways
+pub mod laws

@@ -1,0 +1,79 @@
+-- Who uses which lines in a window of a slice, and which accesses of a group are covered: nobody else has used its lines.
+use Rattle.std.specs.Prelude.{ℕ, ◌+◌, ◌*◌, ◌%◌, Bool, false, not, ◌&&◌, ◌==◌, nat_le, nat_lt, if◌then◌else◌, List, [], ◌∷◌, ◌++◌, length}
+use Rattle.std.specs.List.{list_any, flat_map}
+use Rattle.cache_core.specs.declared.entry.What.{What}
+use Rattle.cache_core.specs.declared.entry.What.TheVariants.{Access, Lock}
+use Rattle.cache_core.specs.declared.entry.SliceEntry.{SliceEntry}
+use Rattle.cbm.specs.Masks.{ways_of}
+
+-- ---- users of lines
+
+-- an access of the group
+abbrev pub is_own : ℕ → What → Bool
+is_own group (Access owner rmid mask line hit way) = owner.0 == group
+is_own group what = false
+
+-- an access of the group to this line
+abbrev pub is_use : ℕ → ℕ → What → Bool
+is_use group x (Access owner rmid mask line hit way) = (owner.0 == group) && (line == x)
+is_use group x what = false
+
+-- whether the group accesses the line somewhere in these entries
+abbrev pub uses_line : ℕ → List SliceEntry → ℕ → Bool
+uses_line group entries x = list_any (λ (e : SliceEntry). is_use group x e.what) entries
+
+-- the lock of a region loads this line: the lines of a region stand one after the other from its first, a line of each set for each way
+abbrev pub loads : ℕ → What → ℕ → Bool
+loads sets (Lock mask first_line) x = nat_le first_line x && nat_lt x (first_line + sets * length (ways_of mask))
+loads sets what x = false
+
+-- ---- covered accesses
+
+-- an access of the group to a line that the opening of the window loaded
+abbrev pub is_loaded_use : ℕ → ℕ → What → What → Bool
+is_loaded_use sets group opening (Access owner rmid mask line hit way) = (owner.0 == group) && loads sets opening line
+is_loaded_use sets group opening what = false
+
+-- an access of another owner to a line that the group accesses somewhere in the window
+abbrev pub is_other_use : ℕ → List SliceEntry → What → Bool
+is_other_use group window (Access owner rmid mask line hit way) = not (owner.0 == group) && uses_line group window line
+is_other_use group window what = false
+
+-- An access that stands after these entries of the window is covered where no other user of a line of the group's stands at
+-- the window's opening or among them.
+abbrev pub is_covered : ℕ → ℕ → What → List SliceEntry → List SliceEntry → Bool
+is_covered sets group opening window earlier =
+    not (list_any (λ (e : SliceEntry). is_loaded_use sets group opening e.what) window)
+    && not (list_any (λ (e : SliceEntry). is_other_use group window e.what) earlier)
+
+-- the covered accesses of the group among these entries of the window, which stand after some earlier ones
+abbrev pub covered_after : ℕ → ℕ → What → List SliceEntry → List SliceEntry → List SliceEntry → List SliceEntry
+covered_after sets group opening window earlier [] = []
+covered_after sets group opening window earlier (e ∷ es) =
+    if is_own group e.what && is_covered sets group opening window earlier
+    then e ∷ covered_after sets group opening window (earlier ++ e ∷ []) es
+    else covered_after sets group opening window (earlier ++ e ∷ []) es
+
+-- the covered accesses of the group in the window
+abbrev pub covered : ℕ → ℕ → What → List SliceEntry → List SliceEntry
+covered sets group opening window = covered_after sets group opening window [] window
+
+-- ---- a set's lines and hits
+
+-- the line of an access of the group to this set
+abbrev pub item_of : ℕ → ℕ → ℕ → What → List ℕ
+item_of sets group set (Access owner rmid mask line hit way) = if (owner.0 == group) && (line % sets == set) then line ∷ [] else []
+item_of sets group set what = []
+
+-- the lines that the group accesses in this set, in order
+abbrev pub items : ℕ → ℕ → ℕ → List SliceEntry → List ℕ
+items sets group set entries = flat_map (λ (e : SliceEntry). item_of sets group set e.what) entries
+
+-- whether an access of the group to this set hit
+abbrev pub hit_of : ℕ → ℕ → ℕ → What → List Bool
+hit_of sets group set (Access owner rmid mask line hit way) = if (owner.0 == group) && (line % sets == set) then hit ∷ [] else []
+hit_of sets group set what = []
+
+-- whether each access of the group to this set hit, in order
+abbrev pub hits_in : ℕ → ℕ → ℕ → List SliceEntry → List Bool
+hits_in sets group set entries = flat_map (λ (e : SliceEntry). hit_of sets group set e.what) entries

@@ -1,0 +1,38 @@
+-- A group that has its ways for itself, and what it then notices of others: nothing.
+use Rattle.std.specs.Prelude.{◌≡◌, ℕ, ◌+◌, ◌-◌, ◌%◌, ◌<◌, true, false, ◌==◌, MatchBool, List, length, take, drop, slice_index_or}
+use Rattle.cache_core.specs.declared.entry.What.{What}
+use Rattle.cache_core.specs.declared.entry.What.TheVariants.{Access, Raise, Flush, Lock, Look}
+use Rattle.cache_core.specs.declared.entry.SliceEntry.{SliceEntry}
+use Rattle.cbm.specs.Masks.{overlaps}
+use Rattle.private_lru.specs.Covered.{is_covered, items}
+use Rattle.private_lru.specs.Private.{private_hit}
+
+-- the entries after the first place, up to and without the second
+abbrev pub between : List SliceEntry → ℕ → ℕ → List SliceEntry
+between entries from to = take (to - (from + 1)) (drop (from + 1) entries)
+
+-- an entry that may open a window of this mask: a flush, or a lock of other ways
+abbrev pub Opens : ℕ → What → Type 0
+Opens mask Flush = Unit {0}
+Opens mask (Lock others first_line) = overlaps others mask ≡ false
+Opens mask what = ⊥
+
+-- an entry that leaves the ways of the mask to the group: it empties nothing, the group's accesses have the mask, and another
+-- owner's have masks with no way of it
+abbrev pub Respects : ℕ → ℕ → What → Type 0
+Respects group mask (Access owner rmid its line hit way) = MatchBool (owner.0 == group) (its ≡ mask) (overlaps its mask ≡ false)
+Respects group mask Raise = Unit {0}
+Respects group mask (Look rmid lines) = Unit {0}
+Respects group mask what = ⊥
+
+-- an access of the group hits just where it does in a private cache that has seen the group's earlier accesses to the set
+abbrev pub HitsAsPrivate : ℕ → ℕ → ℕ → List SliceEntry → What → Type 0
+HitsAsPrivate sets group ways earlier (Access owner rmid mask line hit way) =
+    (owner.0 == group) ≡ true → hit ≡ private_hit ways (items sets group (line % sets) earlier) line
+HitsAsPrivate sets group ways earlier what = Unit {0}
+
+-- The group is isolated in the window: each covered access hits just where it does in a private cache of this many ways.
+abbrev pub IsIsolated : ℕ → ℕ → ℕ → What → List SliceEntry → Type 0
+IsIsolated sets group ways opening window =
+    (at : ℕ) (e : SliceEntry) → at < length window → is_covered sets group opening window (take at window) ≡ true
+    → HitsAsPrivate sets group ways (take at window) (slice_index_or window at e).what

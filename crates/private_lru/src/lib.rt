@@ -1,0 +1,13 @@
+//! What a group's accesses would do in a private cache, and the law that a slice does the same.
+#![tactic(auto)]
+
+pub mod counts;
+pub mod private;
+pub mod theorems;
+pub mod users;
+
+pub use counts::{WindowCounts, count_window};
+pub use private::private_hits;
+
+#[cfg(test)]
+mod tests;

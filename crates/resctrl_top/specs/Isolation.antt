@@ -1,0 +1,25 @@
+-- What a run promises to a group that has ways for itself, and to a locked region.
+use Rattle.std.specs.Prelude.{ℕ, All, length}
+use Rattle.cache_core.specs.declared.entry.SliceEntry.{SliceEntry}
+use Rattle.cbm.specs.Masks.{ways_of}
+use Rattle.private_lru.specs.Isolation.{IsIsolated, between}
+use Rattle.private_lru.specs.Locked.{HitsLoaded}
+use Rattle.pseudo_lock.specs.declared.region.Region.{Region}
+use Rattle.rc_base.specs.declared.names.Gid.{Gid}
+use Rattle.run_law.specs.Journals.{JournalsValue, slice_at}
+use Rattle.run_windows.specs.Regions.{IsLockWindow}
+use Rattle.run_windows.specs.Windows.{IsWindow}
+use Rattle.script_ops.specs.Values.{ScriptValue}
+
+-- In each window of the run, from a flush or a lock on and while a group stays exclusive on one mask, its covered accesses hit
+-- just where they would in a private cache of as many ways as the mask has.
+abbrev pub IsolatesGroups : ScriptValue → JournalsValue → Type 0
+IsolatesGroups script run =
+    (i from to : ℕ) (opening : SliceEntry) (group : Gid) (mask last : ℕ) → IsWindow script run i from to opening group mask last
+    → IsIsolated script.machine.sets group.0 (length (ways_of mask)) opening.what (between (slice_at run i) from to)
+
+-- From the lock of a region on, each access to a line that it loaded hits, until the slice is emptied or the region is gone.
+abbrev pub HoldsRegions : ScriptValue → JournalsValue → Type 0
+HoldsRegions script run =
+    (i from to : ℕ) (opening : SliceEntry) (r : Region) → IsLockWindow script run i from to opening r
+    → All (λ (e : SliceEntry). HitsLoaded script.machine.sets opening.what e.what) (between (slice_at run i) from to)

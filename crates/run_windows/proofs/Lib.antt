@@ -1,0 +1,12 @@
+mod CountedWindows
+mod Entries
+mod Epochs
+mod Floors
+mod IsolatedWindows
+mod LockWindows
+mod OneWindow
+mod Owners
+mod StepFollows
+mod WindowEnds
+mod WindowEntries
+mod WindowLengths

@@ -1,0 +1,84 @@
+-- Laws of the windows of a run.
+use Rattle.std.specs.Prelude.{◌≡◌, ℕ, ◌<◌, true, All, List, length}
+use Rattle.cache_core.specs.Filled.{empties}
+use Rattle.cache_core.specs.declared.entry.SliceEntry.{SliceEntry}
+use Rattle.cbm.specs.Masks.{ways_of}
+use Rattle.machine.specs.Slices.{domain_in, slice_count}
+use Rattle.private_lru.specs.Covered.{covered, hits_in, items}
+use Rattle.private_lru.specs.Isolation.{IsIsolated, between}
+use Rattle.private_lru.specs.Locked.{HitsLoaded}
+use Rattle.pseudo_lock.specs.declared.region.Region.{Region}
+use Rattle.rc_base.specs.declared.names.Gid.{Gid}
+use Rattle.run_law.specs.Journals.{At, JournalsValue, slice_at}
+use Rattle.run_law.specs.Runs.{IsRun}
+use Rattle.run_windows.specs.Epochs.{AreSound, state_at}
+use Rattle.run_windows.specs.Regions.{IsLockWindow}
+use Rattle.run_windows.specs.Windows.{IsExclusive, IsWindow}
+use Rattle.script_ops.specs.Values.{IsLawful, ScriptValue}
+
+-- ---- isolation
+
+-- In every window of a run the group is isolated, in a private cache of as many ways as its mask has.
+abbrev pub WindowsAreIsolated : Type 0
+WindowsAreIsolated =
+    (script : ScriptValue) (j : JournalsValue) (i from to : ℕ) (opening : SliceEntry) (group : Gid) (mask last : ℕ)
+    → IsLawful script → IsRun script j → IsWindow script j i from to opening group mask last
+    → IsIsolated script.machine.sets group.0 (length (ways_of mask)) opening.what (between (slice_at j i) from to)
+
+-- A window by its place: the entries after its opening, and the opening.
+pub record IsWindowOf (script : ScriptValue) (j : JournalsValue) (i : ℕ) (group : Gid) (ways : ℕ) (opening : SliceEntry) (window : List SliceEntry) : Type 0 where
+  pub from : ℕ
+  pub to : ℕ
+  pub mask : ℕ
+  pub last : ℕ
+  pub is : IsWindow script j i from to opening group mask last
+  pub holds : window ≡ between (slice_at j i) from to
+  pub wide : length (ways_of mask) ≡ ways
+
+-- Two windows of two runs, or of one, on machines with as many sets, of groups with as many ways: where their covered accesses
+-- have the same lines in a set, in order, they have the same hits there, whatever the others did.
+abbrev pub WorldsAgree : Type 0
+WorldsAgree =
+    (script other : ScriptValue) (j k : JournalsValue) (i x : ℕ) (group its_group : Gid) (sets ways set : ℕ) (opening its_opening : SliceEntry) (window its_window : List SliceEntry)
+    → IsLawful script → IsRun script j → IsLawful other → IsRun other k → script.machine.sets ≡ sets → other.machine.sets ≡ sets
+    → IsWindowOf script j i group ways opening window → IsWindowOf other k x its_group ways its_opening its_window
+    → items sets group.0 set (covered sets group.0 opening.what window) ≡ items sets its_group.0 set (covered sets its_group.0 its_opening.what its_window)
+    → hits_in sets group.0 set (covered sets group.0 opening.what window) ≡ hits_in sets its_group.0 set (covered sets its_group.0 its_opening.what its_window)
+
+-- ---- windows
+
+-- Each flush or lock begins a window of each group that is exclusive in the state of its epoch.
+abbrev pub WindowsExist : Type 0
+WindowsExist =
+    (script : ScriptValue) (j : JournalsValue) (i from : ℕ) (opening : SliceEntry) (group : Gid) (mask : ℕ)
+    → IsLawful script → IsRun script j → i < slice_count script.machine → At (slice_at j i) from opening → empties opening.what ≡ true
+    → IsExclusive (domain_in script.machine i) group mask (state_at script j opening.epoch)
+    → (to last : ℕ) × IsWindow script j i from to opening group mask last
+
+-- the same end, last epoch and mask
+pub record IsSameWindow (to last mask other_to other_last other_mask : ℕ) : Type 0 where
+  pub same_end : to ≡ other_to
+  pub same_last : last ≡ other_last
+  pub same_mask : mask ≡ other_mask
+
+-- A flush or a lock begins at most one window of a group.
+abbrev pub WindowsAreUnique : Type 0
+WindowsAreUnique =
+    (script : ScriptValue) (j : JournalsValue) (i from to other_to : ℕ) (opening other : SliceEntry) (group : Gid) (mask other_mask last other_last : ℕ)
+    → IsWindow script j i from to opening group mask last → IsWindow script j i from other_to other group other_mask other_last
+    → IsSameWindow to last mask other_to other_last other_mask
+
+-- ---- regions
+
+-- From the lock of a region on, each access to a line that the lock loaded hits, until the slice is emptied or the region is gone.
+abbrev pub RegionsHold : Type 0
+RegionsHold =
+    (script : ScriptValue) (j : JournalsValue) (i from to : ℕ) (opening : SliceEntry) (r : Region)
+    → IsLawful script → IsRun script j → IsLockWindow script j i from to opening r
+    → All (λ (e : SliceEntry). HitsLoaded script.machine.sets opening.what e.what) (between (slice_at j i) from to)
+
+-- ---- states
+
+-- The state of every epoch of a run is sound.
+abbrev pub EpochsAreSound : Type 0
+EpochsAreSound = (script : ScriptValue) (j : JournalsValue) → IsLawful script → IsRun script j → AreSound script j

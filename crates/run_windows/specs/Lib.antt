@@ -1,0 +1,5 @@
+pub mod Counted
+pub mod Epochs
+pub mod Laws
+pub mod Regions
+pub mod Windows

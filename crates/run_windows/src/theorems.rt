@@ -1,0 +1,29 @@
+//! The laws of the windows of a run, each proved with an empty body.
+
+ghost use Rattle.run_windows.specs.Laws.{EpochsAreSound, RegionsHold, WindowsAreIsolated, WindowsAreUnique, WindowsExist, WorldsAgree};
+
+/// The tree of a run is sound at every epoch.
+pub fn epochs_are_sound()
+    ensures { EpochsAreSound }
+{}
+
+/// In every window of every run the covered accesses of the group hit just where they would in a private cache of as many ways.
+pub fn windows_are_isolated()
+    ensures { WindowsAreIsolated }
+{}
+
+/// What others do in two worlds makes no difference to the covered accesses of two windows.
+pub fn worlds_agree()
+    ensures { WorldsAgree }
+{}
+
+/// A flush or a lock begins just one window of each group that is exclusive then.
+pub fn windows_are_one()
+    ensures exist { WindowsExist }
+    ensures unique { WindowsAreUnique }
+{}
+
+/// A locked region holds its lines until its slice is emptied or the region is gone.
+pub fn regions_hold()
+    ensures { RegionsHold }
+{}

@@ -1,0 +1,60 @@
+//! Access lines in their usual form, read in one pass over their bytes.
+ghost use Rattle.std.specs.Prelude.{◌≡◌, ◌+◌, ◌*◌, ◌<◌, IfSome, false};
+ghost use Rattle.std.specs.Char.{is_digit};
+ghost use Rattle.machine.specs.Maps.{parameters_of};
+ghost use Rattle.script_text.specs.Usual.{BeginsWithNumber, BeginsWithAccess, use_by};
+
+use crate::arguments::Use;
+use machine::Machine;
+
+// A number with one digit more.
+fn with_digit(n: u64, digit: u32) -> Option<u64>
+    ensures { IfSome result (λ m. m ≡ n * 10 + digit) }
+{
+    n.checked_mul(10)?.checked_add(u64::from(digit))
+}
+
+// The number that a text begins with, and what stands after the byte that ends it.
+fn number_before(text: &[u8], end: u8) -> Option<(u64, &[u8])>
+    ensures { IfSome result (λ p. BeginsWithNumber text.now end p.0 p.1.now) }
+{
+    let mut n: u64 = 0;
+    for (i, b) in text.iter().enumerate() {
+        let Some(digit) = char::from(*b).to_digit(10) else {
+            if i == 0 || *b != end {
+                return None;
+            }
+            return Some((n, &text[i + 1..]));
+        };
+        let Some(more) = with_digit(n, digit) else {
+            return None;
+        };
+        n = more;
+    }
+    None
+}
+
+/// The task, the CPU and the address of an access line that a text begins with, and what stands after the line. None says
+/// nothing of the text.
+pub fn usual_access(text: &[u8]) -> Option<(u64, u64, u64, &[u8])>
+    ensures { IfSome result (λ p. BeginsWithAccess text.now p.0 p.1 p.2 p.3.now) }
+{
+    let rest = text.strip_prefix(b"access ")?;
+    let (task, rest) = number_before(rest, b' ')?;
+    let (cpu, rest) = number_before(rest, b' ')?;
+    let (addr, rest) = number_before(rest, b'\n')?;
+    Some((task, cpu, addr, rest))
+}
+
+/// The use of an access line of these numbers, where the machine has the CPU and the address is below 2^48.
+pub fn usual_use(m: &Machine, task: u64, cpu: u64, addr: u64) -> Option<Use>
+    ensures { result ≡ use_by (parameters_of m.now) task cpu addr }
+{
+    if cpu < u64::from(m.cpus) && addr < 1 << 48 {
+        let cpu = cpu as u8;
+        let at = addr;
+        Some(Use { task, cpu, at })
+    } else {
+        None
+    }
+}

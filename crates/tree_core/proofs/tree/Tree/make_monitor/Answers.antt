@@ -1,0 +1,129 @@
+use Rattle.std.proofs.Common.{◌≡◌, ◌+◌, ◌≤◌, [], ◌∷◌, ◌++◌, Option, None, Some, false, find, refl, sym, subst, ap, ◌∙◌}
+use Rattle.group_tree.specs.Lists.{has_group}
+use Rattle.group_tree.specs.declared.group.Group.{Group}
+use Rattle.hw_ids.specs.MonitoringIds.{MonitoringIds}
+use Rattle.machine.specs.Maps.{parameters_of}
+use Rattle.path_names.specs.declared.dirs.DirRef.TheVariants.{Mon}
+use Rattle.path_names.specs.declared.path_ref.PathRef.TheVariants.{Dir}
+use Rattle.rc_base.specs.declared.replies.Reply.TheVariants as replies
+use Rattle.script_ops.specs.declared.op.Op.TheVariants.{Mkdir}
+use Rattle.tree_core.proofs.KeptTables.{IsKept-from_Keeps, Keeps-from_IsKept, Keeps-of, State-same}
+use Rattle.tree_core.proofs.MonitorCreation as creation
+use Rattle.tree_core.proofs.Room.{has_group-next_gid, length-groups_lt}
+use Rattle.tree_core.specs.Places.{place_reasons}
+use Rattle.tree_core.specs.Tables.{state_of, tables}
+use Rattle.tree_core.specs.Values.{TreeValue}
+use Rattle.tree_law.specs.Existing.{owner_gid}
+use Rattle.tree_law.specs.Places.{is_closed}
+use Rattle.tree_law.specs.Refusals.{Refusal, reply_of}
+use Rattle.tree_law.specs.Steps.{next_if, refusal}
+use Rattle.tree_law.specs.commands.Mkdir.{against}
+use Rattle.tree_core.proofs.tree.Tree.make_monitor.Goals as goal
+
+pub unreachable-requires : goal.unreachable-requires
+unreachable-requires c = creation.owner_gid-place c.args.self.now.machine c.args.self.now.state c.args.owner c.args.name c.requires.place (sym c.in_default.ensures)
+
+pub returns-then-is_closed_control-clause-reply : goal.returns-then-is_closed_control-clause-reply
+returns-then-is_closed_control-clause-reply c =
+    let t = c.self.inside in let m = c.args.self.now.machine in let s = c.args.self.now.state in
+    let keeps = Keeps-of (tables t.groups t.tasks t.cpus t.classes t.rmids t.regions) c.self.view_is c.self.invariant in
+    c.refused.ensures ∙ (creation.IsRefused-closed keeps c.args.owner c.args.name c.in-Some.parent c.requires.place (sym c.in-Some.ensures) (sym c.is_closed_control.ensures ∙ c.if-is_closed_control.true)).reply
+
+pub returns-then-is_closed_control-clause-state : goal.returns-then-is_closed_control-clause-state
+returns-then-is_closed_control-clause-state c = λ looks.
+    let t = c.self.inside in let m = c.args.self.now.machine in let s = c.args.self.now.state in
+    let keeps = Keeps-of (tables t.groups t.tasks t.cpus t.classes t.rmids t.regions) c.self.view_is c.self.invariant in
+    sym ((creation.IsRefused-closed keeps c.args.owner c.args.name c.in-Some.parent c.requires.place (sym c.in-Some.ensures) (sym c.is_closed_control.ensures ∙ c.if-is_closed_control.true)).kept looks)
+
+pub insert-requires-clause-fresh : goal.insert-requires-clause-fresh
+insert-requires-clause-fresh c = ap (λ (g : Group). has_group g.gid c.self.inside.groups.groups) c.monitor_group-group.ensures ∙ has_group-next_gid (Keeps-from_IsKept c.self.invariant)
+
+pub insert-requires-clause-place : goal.insert-requires-clause-place
+insert-requires-clause-place c = length-groups_lt (Keeps-from_IsKept c.self.invariant) c.self.inside.machine.in_range.rmid_limit
+
+pub invariant_of-self : goal.invariant_of-self
+invariant_of-self c =
+    let t = c.self.inside in
+    let m = parameters_of t.machine in
+    let s = state_of m (tables t.groups t.tasks t.cpus t.classes t.rmids t.regions) t.status t.next_gid in
+    let keeps = Keeps-from_IsKept c.self.invariant in
+    let path = Dir (Mon c.args.owner c.args.name) in
+    let parent = c.in-Some.parent in
+    let place : find (against m s path) place_reasons ≡ None = subst (λ (v : TreeValue). find (against v.machine v.state path) place_reasons ≡ None) (sym c.self.view_is) c.requires.place in
+    let is_owner : owner_gid s c.args.owner ≡ Some parent = subst (λ (v : TreeValue). owner_gid v.state c.args.owner ≡ Some parent) (sym c.self.view_is) (sym c.in-Some.ensures) in
+    let not_closed : is_closed s parent ≡ false = subst (λ (v : TreeValue). is_closed v.state parent ≡ false) (sym c.self.view_is) (sym c.is_closed_control.ensures ∙ c.if-is_closed_control.false) in
+    let rmid = c.in-Ok.rmid in
+    let rmids = c.take_rmid.new.rmids in
+    let new = creation.monitor_record keeps c.args.owner c.args.name parent place is_owner not_closed rmid rmids c.in-Ok.ensures.1 in
+    let after : c.insert.new.self.groups ≡ t.groups.groups ++ new ∷ [] = c.insert.ensures.last ∙ ap (λ (g : Group). t.groups.groups ++ g ∷ []) c.monitor_group-group.ensures in
+    let same = State-same (record s { next_gid = s.next_gid + 1 }) c.insert.new.self.groups (t.groups.groups ++ new ∷ []) rmids.limbo t.rmids.limbo rmids.threshold t.rmids.threshold after (ap (λ (r : MonitoringIds). r.limbo) c.in-Ok.ensures.1.taken) (ap (λ (r : MonitoringIds). r.threshold) c.in-Ok.ensures.1.taken) in
+    let gids : t.next_gid ≤ t.epoch = subst (λ (v : TreeValue). v.state.next_gid ≤ v.epoch) (sym c.self.view_is) c.requires.gids in
+    IsKept-from_Keeps (creation.Keeps-with_monitor keeps c.args.owner c.args.name parent place is_owner not_closed rmid rmids c.in-Ok.ensures.1 c.insert.new.self _ t.machine.in_range after c.insert.ensures.kept gids same)
+
+pub returns-in-Ok-clause-reply : goal.returns-in-Ok-clause-reply
+returns-in-Ok-clause-reply c =
+    let t = c.self.inside in
+    let m = parameters_of t.machine in
+    let s = state_of m (tables t.groups t.tasks t.cpus t.classes t.rmids t.regions) t.status t.next_gid in
+    let keeps = Keeps-from_IsKept c.self.invariant in
+    let path = Dir (Mon c.args.owner c.args.name) in
+    let parent = c.in-Some.parent in
+    let place : find (against m s path) place_reasons ≡ None = subst (λ (v : TreeValue). find (against v.machine v.state path) place_reasons ≡ None) (sym c.self.view_is) c.requires.place in
+    let is_owner : owner_gid s c.args.owner ≡ Some parent = subst (λ (v : TreeValue). owner_gid v.state c.args.owner ≡ Some parent) (sym c.self.view_is) (sym c.in-Some.ensures) in
+    let not_closed : is_closed s parent ≡ false = subst (λ (v : TreeValue). is_closed v.state parent ≡ false) (sym c.self.view_is) (sym c.is_closed_control.ensures ∙ c.if-is_closed_control.false) in
+    let rmid = c.in-Ok.rmid in
+    let rmids = c.take_rmid.new.rmids in
+    let accepted = creation.refusal-none keeps c.args.owner c.args.name parent place is_owner not_closed rmid rmids c.in-Ok.ensures.1 in
+    subst (λ (v : TreeValue). replies.Ok ≡ reply_of (refusal v.machine v.state (Mkdir path))) c.self.view_is (ap reply_of (sym accepted))
+
+pub returns-in-Ok-clause-state : goal.returns-in-Ok-clause-state
+returns-in-Ok-clause-state c = λ looks.
+    let t = c.self.inside in
+    let m = parameters_of t.machine in
+    let s = state_of m (tables t.groups t.tasks t.cpus t.classes t.rmids t.regions) t.status t.next_gid in
+    let keeps = Keeps-from_IsKept c.self.invariant in
+    let path = Dir (Mon c.args.owner c.args.name) in
+    let parent = c.in-Some.parent in
+    let place : find (against m s path) place_reasons ≡ None = subst (λ (v : TreeValue). find (against v.machine v.state path) place_reasons ≡ None) (sym c.self.view_is) c.requires.place in
+    let is_owner : owner_gid s c.args.owner ≡ Some parent = subst (λ (v : TreeValue). owner_gid v.state c.args.owner ≡ Some parent) (sym c.self.view_is) (sym c.in-Some.ensures) in
+    let not_closed : is_closed s parent ≡ false = subst (λ (v : TreeValue). is_closed v.state parent ≡ false) (sym c.self.view_is) (sym c.is_closed_control.ensures ∙ c.if-is_closed_control.false) in
+    let rmid = c.in-Ok.rmid in
+    let rmids = c.take_rmid.new.rmids in
+    let accepted = creation.refusal-none keeps c.args.owner c.args.name parent place is_owner not_closed rmid rmids c.in-Ok.ensures.1 in
+    let new = creation.monitor_record keeps c.args.owner c.args.name parent place is_owner not_closed rmid rmids c.in-Ok.ensures.1 in
+    let after : c.insert.new.self.groups ≡ t.groups.groups ++ new ∷ [] = c.insert.ensures.last ∙ ap (λ (g : Group). t.groups.groups ++ g ∷ []) c.monitor_group-group.ensures in
+    let same = State-same (record s { next_gid = s.next_gid + 1 }) c.insert.new.self.groups (t.groups.groups ++ new ∷ []) rmids.limbo t.rmids.limbo rmids.threshold t.rmids.threshold after (ap (λ (r : MonitoringIds). r.limbo) c.in-Ok.ensures.1.taken) (ap (λ (r : MonitoringIds). r.threshold) c.in-Ok.ensures.1.taken) in
+    subst (λ (v : TreeValue). state_of m (tables c.insert.new.self t.tasks t.cpus t.classes rmids t.regions) t.status (t.next_gid + 1) ≡ next_if v.machine v.state (Mkdir path) looks (refusal v.machine v.state (Mkdir path))) c.self.view_is
+    (same ∙ creation.with_monitor-accepted keeps c.args.owner c.args.name parent place is_owner not_closed rmid rmids c.in-Ok.ensures.1 looks
+    ∙ ap (λ (against : Option Refusal). next_if m s (Mkdir path) looks against) (sym accepted))
+
+pub returns-in-Err-clause-reply : goal.returns-in-Err-clause-reply
+returns-in-Err-clause-reply c =
+    let t = c.self.inside in
+    let m = parameters_of t.machine in
+    let s = state_of m (tables t.groups t.tasks t.cpus t.classes t.rmids t.regions) t.status t.next_gid in
+    let keeps = Keeps-from_IsKept c.self.invariant in
+    let path = Dir (Mon c.args.owner c.args.name) in
+    let parent = c.in-Some.parent in
+    let place : find (against m s path) place_reasons ≡ None = subst (λ (v : TreeValue). find (against v.machine v.state path) place_reasons ≡ None) (sym c.self.view_is) c.requires.place in
+    let is_owner : owner_gid s c.args.owner ≡ Some parent = subst (λ (v : TreeValue). owner_gid v.state c.args.owner ≡ Some parent) (sym c.self.view_is) (sym c.in-Some.ensures) in
+    let not_closed : is_closed s parent ≡ false = subst (λ (v : TreeValue). is_closed v.state parent ≡ false) (sym c.self.view_is) (sym c.is_closed_control.ensures ∙ c.if-is_closed_control.false) in
+    let refused = creation.IsRefused-no_rmid keeps c.args.owner c.args.name parent place is_owner not_closed c.take_rmid.new.rmids c.in-Err.reply c.in-Err.ensures in
+    subst (λ (v : TreeValue). c.in-Err.reply ≡ reply_of (refusal v.machine v.state (Mkdir path))) c.self.view_is refused.reply
+
+pub returns-in-Err-clause-state : goal.returns-in-Err-clause-state
+returns-in-Err-clause-state c = λ looks.
+    let t = c.self.inside in
+    let m = parameters_of t.machine in
+    let s = state_of m (tables t.groups t.tasks t.cpus t.classes t.rmids t.regions) t.status t.next_gid in
+    let keeps = Keeps-from_IsKept c.self.invariant in
+    let path = Dir (Mon c.args.owner c.args.name) in
+    let parent = c.in-Some.parent in
+    let place : find (against m s path) place_reasons ≡ None = subst (λ (v : TreeValue). find (against v.machine v.state path) place_reasons ≡ None) (sym c.self.view_is) c.requires.place in
+    let is_owner : owner_gid s c.args.owner ≡ Some parent = subst (λ (v : TreeValue). owner_gid v.state c.args.owner ≡ Some parent) (sym c.self.view_is) (sym c.in-Some.ensures) in
+    let not_closed : is_closed s parent ≡ false = subst (λ (v : TreeValue). is_closed v.state parent ≡ false) (sym c.self.view_is) (sym c.is_closed_control.ensures ∙ c.if-is_closed_control.false) in
+    let rmids = c.take_rmid.new.rmids in
+    let refused = creation.IsRefused-no_rmid keeps c.args.owner c.args.name parent place is_owner not_closed rmids c.in-Err.reply c.in-Err.ensures in
+    subst (λ (v : TreeValue). state_of m (tables t.groups t.tasks t.cpus t.classes rmids t.regions) t.status t.next_gid ≡ next_if v.machine v.state (Mkdir path) looks (refusal v.machine v.state (Mkdir path))) c.self.view_is
+    (State-same s t.groups.groups t.groups.groups rmids.limbo t.rmids.limbo rmids.threshold t.rmids.threshold refl (ap (λ (r : MonitoringIds). r.limbo) c.in-Err.ensures.0) (ap (λ (r : MonitoringIds). r.threshold) c.in-Err.ensures.0)
+    ∙ sym (refused.kept looks))

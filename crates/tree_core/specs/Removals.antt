@@ -1,0 +1,23 @@
+-- Groups that are taken out of the tree.
+use Rattle.std.specs.Prelude.{ℕ, not, if◌then◌else◌, List, Option, Some, None, filter, slice_index_or}
+use Rattle.group_tree.specs.Lists.{without}
+use Rattle.group_tree.specs.Records.{blank, is_monitor_of}
+use Rattle.group_tree.specs.declared.group.Group.{Group}
+use Rattle.rc_base.specs.declared.names.Gid.{Gid}
+
+-- the groups but the monitor groups of a control group
+abbrev pub off_monitors : Gid → List Group → List Group
+off_monitors control groups = filter (λ (g : Group). not (is_monitor_of control g.kind)) groups
+
+-- the gid of a group, where it is a monitor group of this control group
+abbrev pub monitor_gid : Gid → Group → Option Gid
+monitor_gid control g = if is_monitor_of control g.kind then Some g.gid else None
+
+-- the groups without this one
+abbrev pub without_some : Option Gid → List Group → List Group
+without_some None groups = groups
+without_some (Some gid) groups = without gid groups
+
+-- the groups without that at a place, where it is a monitor group of this control group
+abbrev pub without_if_monitor : Gid → ℕ → List Group → List Group
+without_if_monitor control i groups = without_some (monitor_gid control (slice_index_or groups i blank)) groups

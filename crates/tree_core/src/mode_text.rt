@@ -1,0 +1,31 @@
+//! What a written mode says.
+ghost use Rattle.std.specs.Prelude.{◌≡◌};
+ghost use Rattle.num_text.specs.Blanks.{trim};
+ghost use Rattle.tree_law.specs.commands.Mode.{is_named, mode_in};
+
+use crate::mode_names::mode_name;
+use num_text::trim;
+use rc_base::{Mode, is_text};
+
+/// Whether a text is the name of this mode, but for blanks at both ends.
+pub(crate) fn is_named(text: &[u8], mode: Mode) -> bool
+    ensures { result ≡ is_named (trim text.now) mode }
+{
+    is_text(trim(text), mode_name(mode).as_bytes())
+}
+
+/// The mode that a text asks for, and None where it is the name of none that may be written.
+#[tactic(auto, unfolding(tree_law::specs::commands::Mode::mode_in))]
+pub(crate) fn mode_in(text: &[u8]) -> Option<Mode>
+    ensures { result ≡ mode_in text.now }
+{
+    if is_named(text, Mode::Shareable) {
+        Some(Mode::Shareable)
+    } else if is_named(text, Mode::Exclusive) {
+        Some(Mode::Exclusive)
+    } else if is_named(text, Mode::LockSetup) {
+        Some(Mode::LockSetup)
+    } else {
+        None
+    }
+}

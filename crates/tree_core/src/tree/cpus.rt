@@ -1,0 +1,82 @@
+//! A write of `cpus` or `cpus_list`: the CPUs of a group.
+ghost use Rattle.std.specs.Prelude.{◌≡◌, ◌<◌, ◌≤◌, ℕ, List, None, find, length, true};
+ghost use Rattle.std.specs.List.{All};
+ghost use Rattle.path_names.specs.declared.path_ref.PathRef.TheVariants.{File};
+ghost use Rattle.script_ops.specs.declared.op.Op.TheVariants.{Write};
+ghost use Rattle.tree_core.specs.CpuFiles.{StaysSound, is_cpus, named_by, unless};
+ghost use Rattle.tree_core.specs.Follows.{IsRaiseOrFlush};
+ghost use Rattle.tree_law.specs.Refusals.{reply_of};
+ghost use Rattle.tree_law.specs.Sound.{IsSound};
+ghost use Rattle.tree_law.specs.Steps.{after, follow_domain, next};
+ghost use Rattle.tree_law.specs.commands.Cpus.{accepted, against_set, cpus_after, refusal};
+ghost use Rattle.tree_law.specs.commands.Write.{against, reasons};
+
+use super::Tree;
+use crate::cpu_sets::{give, read_cpus, refusal};
+use crate::follow::After;
+use group_tree::Group;
+use path_names::{DirRef, FileKind};
+use rc_base::{Reply, Why};
+
+impl Tree {
+    /// Writes the `cpus` or the `cpus_list` of a directory.
+    pub(crate) fn write_cpus(&mut self, dir: DirRef, kind: FileKind, text: &[u8]) -> (Reply, After)
+        requires kind { is_cpus kind ≡ true }
+        requires writable { find (against self.old.state (File dir kind)) reasons ≡ None }
+        requires short { length text.now ≤ 4096 }
+        ensures machine { self.new.machine ≡ self.old.machine }
+        ensures reply { (looks : List ℕ)
+            → result.0 ≡ (next self.old.machine self.old.state (Write (File dir kind) text.now) looks).reply }
+        ensures state { (looks : List ℕ)
+            → self.new.state ≡ (next self.old.machine self.old.state (Write (File dir kind) text.now) looks).state }
+        ensures epoch { self.new.epoch ≡ self.old.epoch }
+        ensures after { result.1.items
+            ≡ after self.old.machine self.old.state self.old.epoch (Write (File dir kind) text.now) }
+        ensures domains { All (λ f. follow_domain f < self.old.machine.domains) result.1.items }
+        ensures plain { All IsRaiseOrFlush result.1.items }
+    {
+        // What the type keeps makes the next state a sound one.
+        let _ = &self.machine;
+        let Some(group) = self.group_at(dir) else {
+            return self.answer(Reply::Ok);
+        };
+        let reply = self.join_cpus(&group, kind, text);
+        self.answer(reply)
+    }
+
+    // Gives a group the CPUs that a text names, where nothing is against it.
+    fn join_cpus(&mut self, group: &Group, kind: FileKind, text: &[u8]) -> Reply
+        requires sound { StaysSound self.old.machine self.old.state group.now (named_by self.old.machine kind text.now) }
+        ensures machine { self.new.machine ≡ self.old.machine }
+        ensures reply { result
+            ≡ reply_of (refusal self.old.state group.now (named_by self.old.machine kind text.now)) }
+        ensures state { self.new.state
+            ≡ unless (refusal self.old.state group.now (named_by self.old.machine kind text.now)) self.old.state
+            (accepted self.old.state group.now (named_by self.old.machine kind text.now)) }
+        ensures epoch { self.new.epoch ≡ self.old.epoch }
+    {
+        if self.is_closed(group) {
+            return Reply::refused(Why::Locking, 0);
+        }
+        match read_cpus(&self.machine, kind, text) {
+            Ok(set) => self.take_cpus(group, set),
+            Err(fault) => refusal(fault, group.gid, group.kind, &self.cpus),
+        }
+    }
+
+    // Gives a group a set of CPUs, where nothing is against it.
+    fn take_cpus(&mut self, group: &Group, set: u64) -> Reply
+        requires sound { against_set group.now.gid group.now.kind self.old.state.cpus set ≡ None → IsSound self.old.machine
+            (record self.old.state { cpus = cpus_after group.now.gid group.now.kind set self.old.state.cpus }) }
+        ensures machine { self.new.machine ≡ self.old.machine }
+        ensures reply { result ≡ reply_of (against_set group.now.gid group.now.kind self.old.state.cpus set) }
+        ensures state { self.new.state ≡ record self.old.state {
+          cpus
+              = unless (against_set group.now.gid group.now.kind self.old.state.cpus set) self.old.state.cpus
+              (cpus_after group.now.gid group.now.kind set self.old.state.cpus);
+        } }
+        ensures epoch { self.new.epoch ≡ self.old.epoch }
+    {
+        give(&mut self.cpus, group.gid, group.kind, set)
+    }
+}

@@ -1,0 +1,56 @@
+//! Groups that tasks, CPUs and monitor groups join.
+ghost use Rattle.std.specs.Prelude.{◌≡◌};
+ghost use Rattle.tree_law.specs.Counted.{is_counted};
+ghost use Rattle.tree_law.specs.Places.{controlling, group_at, is_closed};
+
+use super::Tree;
+use group_tree::{Group, GroupKind};
+use path_names::DirRef;
+use rc_base::{Gid, Mode};
+
+impl Tree {
+    /// The group of a directory.
+    pub(crate) fn group_at(&self, dir: DirRef) -> Option<Group>
+        ensures { result ≡ group_at self.now.state dir }
+    {
+        let group = self.groups.get(self.directory_gid(dir)?)?;
+        Some(*group)
+    }
+
+    /// Whether the control group that a group belongs to is in pseudo-locksetup or pseudo-locked.
+    pub(crate) fn is_closed(&self, group: &Group) -> bool
+        ensures { result ≡ is_closed self.now.state (controlling group.now.gid group.now.kind) }
+    {
+        self.is_closed_control(controlling(group))
+    }
+
+    /// Whether a control group is in pseudo-locksetup or pseudo-locked.
+    pub(crate) fn is_closed_control(&self, control: Gid) -> bool
+        ensures { result ≡ is_closed self.now.state control }
+    {
+        match self.groups.get(control) {
+            Some(group) => !is_counted(group),
+            None => false,
+        }
+    }
+}
+
+// The control group that a group belongs to.
+fn controlling(group: &Group) -> Gid
+    ensures { result ≡ controlling group.now.gid group.now.kind }
+{
+    match group.kind {
+        GroupKind::Control => group.gid,
+        GroupKind::Monitor { parent } => parent,
+    }
+}
+
+// Whether a group is a shareable or exclusive control group.
+fn is_counted(group: &Group) -> bool
+    ensures { result ≡ is_counted group.now }
+{
+    match group.kind {
+        GroupKind::Control => matches!(group.mode, Mode::Shareable | Mode::Exclusive),
+        GroupKind::Monitor { .. } => false,
+    }
+}

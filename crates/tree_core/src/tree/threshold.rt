@@ -1,0 +1,66 @@
+//! A write of `max_threshold_occupancy`.
+ghost use Rattle.std.specs.Prelude.{◌≡◌, ◌≤◌, ◌<◌, ℕ, List, [], None, find, length};
+ghost use Rattle.machine.specs.Maps.{cache_bytes, parameters_of};
+ghost use Rattle.path_names.specs.declared.files.FileKind.TheVariants.{MaxThreshold};
+ghost use Rattle.path_names.specs.declared.path_ref.PathRef.TheVariants.{File};
+ghost use Rattle.rc_base.specs.declared.replies.Reply.TheVariants as replies;
+ghost use Rattle.script_ops.specs.declared.op.Op.TheVariants.{Write};
+ghost use Rattle.tree_law.specs.Steps.{next};
+ghost use Rattle.tree_law.specs.commands.Threshold.{threshold_in};
+ghost use Rattle.tree_law.specs.commands.Write.{against, reasons};
+
+use super::Tree;
+use crate::follow::After;
+use machine::Machine;
+use num_text::{read_dec, trim};
+use path_names::DirRef;
+use rc_base::{Reply, Why};
+
+impl Tree {
+    /// Writes `max_threshold_occupancy`: the bytes of its lines that each cache may hold of an RMID that is freed (kernel
+    /// documentation, "max_threshold_occupancy"). Nothing follows.
+    pub(crate) fn write_threshold(&mut self, dir: DirRef, text: &[u8]) -> (Reply, After)
+        requires writable { find (against self.old.state (File dir MaxThreshold)) reasons ≡ None }
+        requires short { length text.now ≤ 4096 }
+        ensures machine { self.new.machine ≡ self.old.machine }
+        ensures reply { (looks : List ℕ)
+            → result.0 ≡ (next self.old.machine self.old.state (Write (File dir MaxThreshold) text.now) looks).reply }
+        ensures state { (looks : List ℕ)
+            → self.new.state ≡ (next self.old.machine self.old.state (Write (File dir MaxThreshold) text.now) looks).state }
+        ensures epoch { self.new.epoch ≡ self.old.epoch }
+        ensures after { result.1.items ≡ [] }
+    {
+        let _ = dir;
+        match read_threshold(&self.machine, text) {
+            Some(bytes) => self.put_threshold(bytes),
+            None => self.answer(Reply::refused(Why::BadThreshold, 0)),
+        }
+    }
+
+    // Takes a threshold of at most the bytes of one cache. The command is accepted.
+    fn put_threshold(&mut self, bytes: u64) -> (Reply, After)
+        requires few { bytes ≤ cache_bytes self.old.machine }
+        ensures machine { self.new.machine ≡ self.old.machine }
+        ensures reply { result.0 ≡ replies.Ok }
+        ensures state { self.new.state ≡ record self.old.state { threshold = bytes; status = replies.Ok } }
+        ensures epoch { self.new.epoch ≡ self.old.epoch }
+        ensures after { result.1.items ≡ [] }
+    {
+        self.rmids.set_threshold(bytes);
+        self.status = Reply::Ok;
+        (Reply::Ok, After::new())
+    }
+}
+
+// The number of bytes that a text names: a decimal number of at most the bytes of one cache.
+#[tactic(auto, unfolding(tree_law::specs::commands::Threshold::threshold_in))]
+fn read_threshold(m: &Machine, text: &[u8]) -> Option<u64>
+    ensures { result ≡ threshold_in (parameters_of m.now) text.now }
+{
+    let bytes = read_dec(trim(text))?;
+    if bytes <= m.cache_bytes() {
+        Some(bytes)
+    } else {
+        None
+    }
+}

@@ -1,0 +1,2 @@
+pub mod LowestEmpty
+pub mod LowestWay

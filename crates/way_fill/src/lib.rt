@@ -1,0 +1,11 @@
+//! The search in one set of a cache: the way that holds a line, and the way that a fill takes.
+#![tactic(auto)]
+
+pub mod finding;
+pub mod victims;
+
+pub use finding::find;
+pub use victims::victim;
+
+#[cfg(test)]
+mod tests;
