@@ -31,12 +31,14 @@ def write_lines(script, accesses):
 
 
 def write_turns(script, accesses, used):
-    """Sweeps of 100 accesses by so many tasks in turn. All 4,096 are declared, and dealt out among twelve groups."""
+    """Sweeps of 100 accesses by so many tasks in turn, one fewer than fit: the commands before them count too. All 4,096 are
+    declared, and dealt out among twelve groups.
+    """
     script.write(f"machine sets=4096 ways=16 classes=16 rmids=16\ntasks 1-{TASKS}\nphase\nthread\n")
     for group in range(GROUPS):
         members = ",".join(str(task) for task in range(1 + group, TASKS + 1, GROUPS))
         script.write(f"mkdir /tenant{group}\nwrite /tenant{group}/tasks {members}\n")
-    for turn in range(accesses // 100):
+    for turn in range(accesses // 100 - 1):
         script.write(f"sweep {1 + turn % used} 0 {turn * 6400 % 2 ** 30} 100 64\n")
 
 
