@@ -1,5 +1,6 @@
 # make demo      proves and builds the program, and plays the example of a tenant that loses lines when its mask is rewritten
 # make test      the gate: proves every crate, tries the must-fail edits, runs the tests and the program, compares the examples, and sees each exit status
+# make clients   runs real clients on the mounted tree: a shell, pqos and goresctrl (needs root, FUSE and Debian packages, and is no part of the gate)
 # make install   puts the program and its manual page below PREFIX (default: /usr/local)
 # make help      prints these lines
 
@@ -13,7 +14,7 @@ demo: build
 	@$(PROGRAM) step < examples/mask_rewrite.script
 
 build:
-	@echo "Proving what is not proved yet, on $(PROCESSORS) processors. From nothing this takes some twenty minutes on four."
+	@echo "Proving what is not proved yet, on $(PROCESSORS) processors. From nothing this takes some twenty-five minutes on four."
 	@sh tools/progress -q rt all check --jobs $(PROCESSORS)
 	@echo "Building $(PROGRAM)."
 	@cd crates/resctrl_sim && rt run -- step < ../../examples/four_accesses.script > out.log 2>&1 || (cat out.log; exit 1)
@@ -25,7 +26,11 @@ test:
 	@$(MAKE) --no-print-directory build
 	sh examples/compare $(PROGRAM)
 	sh tools/compare
+	sh tools/compare_sweep $(PROGRAM)
 	sh tools/statuses $(PROGRAM)
+
+clients: build
+	sh tools/clients $(PROGRAM)
 
 install: build
 	install -d $(DESTDIR)$(PREFIX)/bin $(DESTDIR)$(PREFIX)/share/man/man1
@@ -35,4 +40,4 @@ install: build
 help:
 	@sed -n 's/^# //p' Makefile
 
-.PHONY: demo build test install help
+.PHONY: demo build test clients install help

@@ -1,5 +1,5 @@
 -- An access leaves each set with its ways, each stamp below the clock, and each RMID below the machine's number.
-use Rattle.std.proofs.Common.{◌≡◌, ℕ, ◌+◌, ◌<◌, Bool, true, false, cond, ◌==◌, List, [], length, Option, Some, None, option_map, arith, refl, sym, ◌∙◌, ap, subst, slice_set, length-set, inl, inr}
+use Rattle.std.proofs.Common.{◌≡◌, ℕ, ◌+◌, ◌<◌, ◌≤◌, Bool, true, false, cond, ◌==◌, List, [], length, Option, Some, None, option_map, arith, refl, sym, ◌∙◌, ap, subst, slice_set, length-set, inl, inr}
 use Rattle.std.specs.Prelude.{IfSome}
 use Rattle.std.proofs.lemmas.Bool.{cases_Bool, eqb-true}
 use Rattle.cache_core.specs.declared.place.Place.{Place}
@@ -24,9 +24,9 @@ IfSome-cond rmids clock true x y h k = h
 IfSome-cond rmids clock false x y h k = k
 
 -- what fits still fits later
-IfSome-later : (rmids clock : ℕ) (o : Option Place) → IfSome o (IsFit rmids clock) → IfSome o (IsFit rmids (clock + 1))
-IfSome-later rmids clock None h = tt
-IfSome-later rmids clock (Some p) h = (omega (arith, h.0), h.1)
+IfSome-later : (rmids clock later : ℕ) (o : Option Place) → clock ≤ later → IfSome o (IsFit rmids clock) → IfSome o (IsFit rmids later)
+IfSome-later rmids clock later None le h = tt
+IfSome-later rmids clock later (Some p) le h = (omega (arith, h.0), h.1)
 
 -- a place that is used now fits
 IfSome-marked : (rmids clock : ℕ) (o : Option Place) → IfSome o (IsFit rmids clock) → IfSome (option_map (λ (p : Place). record p { used = clock }) o) (IsFit rmids (clock + 1))
@@ -49,9 +49,9 @@ IfSome-rmid rmids clock None h = tt
 IfSome-rmid rmids clock (Some p) h = h.1
 
 -- a way is changed
-AllFit-slice_set : (rmids clock : ℕ) (old : List (Option Place)) (way : ℕ) (o : Option Place) → way < length old → AllFit rmids clock old → IfSome o (IsFit rmids (clock + 1)) → AllFit rmids (clock + 1) (slice_set old way o)
-AllFit-slice_set rmids clock old way o within fit new w =
-    subst (λ (p : Option Place). IfSome p (IsFit rmids (clock + 1))) (sym (get_or-set old way w o None within)) (IfSome-cond rmids (clock + 1) (way == w) o (place_in old w) new (IfSome-later rmids clock (place_in old w) (fit w)))
+AllFit-slice_set : (rmids clock later : ℕ) (old : List (Option Place)) (way : ℕ) (o : Option Place) → clock ≤ later → way < length old → AllFit rmids clock old → IfSome o (IsFit rmids later) → AllFit rmids later (slice_set old way o)
+AllFit-slice_set rmids clock later old way o le within fit new w =
+    subst (λ (p : Option Place). IfSome p (IsFit rmids later)) (sym (get_or-set old way w o None within)) (IfSome-cond rmids later (way == w) o (place_in old w) new (IfSome-later rmids clock later (place_in old w) le (fit w)))
 
 -- an access leaves its set fit
 AllFit-touches : (rmids clock mask : ℕ) (place : Place) (old changed : List (Option Place)) (answer : Touched) → place.used ≡ clock → place.rmid < rmids
@@ -59,24 +59,24 @@ AllFit-touches : (rmids clock mask : ℕ) (place : Place) (old changed : List (O
 AllFit-touches rmids clock mask place old changed (Hit way) now named fit t =
     let marked : Option Place = option_map (λ (p : Place). record p { used = place.used }) (place_in old way) in
     let is : IfSome marked (IsFit rmids (clock + 1)) = subst (λ n. IfSome (option_map (λ (p : Place). record p { used = n }) (place_in old way)) (IsFit rmids (clock + 1))) (sym now) (IfSome-marked rmids clock (place_in old way) (fit way)) in
-    (ap length t.2 ∙ length-set old way marked, subst (λ ps. AllFit rmids (clock + 1) ps) (sym t.2) (AllFit-slice_set rmids clock old way marked t.0 fit is))
+    (ap length t.2 ∙ length-set old way marked, subst (λ ps. AllFit rmids (clock + 1) ps) (sym t.2) (AllFit-slice_set rmids clock (clock + 1) old way marked (omega arith) t.0 fit is))
 AllFit-touches rmids clock mask place old changed (Filled way) now named fit t =
     let is : IfSome (Some place) (IsFit rmids (clock + 1)) = (omega (arith, now), named) in
-    (ap length t.2 ∙ length-set old way (Some place), subst (λ ps. AllFit rmids (clock + 1) ps) (sym t.2) (AllFit-slice_set rmids clock old way (Some place) t.1.within fit is))
+    (ap length t.2 ∙ length-set old way (Some place), subst (λ ps. AllFit rmids (clock + 1) ps) (sym t.2) (AllFit-slice_set rmids clock (clock + 1) old way (Some place) (omega arith) t.1.within fit is))
 AllFit-touches rmids clock mask place old changed (Stale floor) now named fit t = absurd t
 
--- an access leaves the cache formed
-pub IsFormed-slice_set : (shape : Shape) (rmids clock : ℕ) (places : List (List (Option Place))) (s mask : ℕ) (place : Place) (chosen changed : List (Option Place)) (answer : Touched)
-    → IsFormed shape rmids clock places → s < shape.sets → chosen ≡ set_in places s → place.used ≡ clock → place.rmid < rmids → Touches chosen changed mask place answer
-    → IsFormed shape rmids (clock + 1) (slice_set places s changed)
-IsFormed-slice_set shape rmids clock places s mask place chosen changed answer formed within is now named t =
+-- the sets of a formed cache are fit
+AllFit-set_in : (shape : Shape) (rmids clock : ℕ) (places : List (List (Option Place))) (s : ℕ) → IsFormed shape rmids clock places → AllFit rmids clock (set_in places s)
+AllFit-set_in shape rmids clock places s formed w = IfSome-both rmids clock (place_in (set_in places s) w) (formed.stamped s w) (formed.named s w)
+
+-- a set is changed that stays as wide, and fit
+IsFormed-changed : (shape : Shape) (rmids clock later : ℕ) (places : List (List (Option Place))) (s : ℕ) (changed : List (Option Place))
+    → IsFormed shape rmids clock places → clock ≤ later → s < shape.sets → length changed ≡ length (set_in places s) → AllFit rmids later changed → IsFormed shape rmids later (slice_set places s changed)
+IsFormed-changed shape rmids clock later places s changed formed le within width new =
     let inside : s < length places = rw formed.count within in
-    let fit : (s : ℕ) → AllFit rmids clock (set_in places s) = λ s w. IfSome-both rmids clock (place_in (set_in places s) w) (formed.stamped s w) (formed.named s w) in
-    let after : (length changed ≡ length chosen) × AllFit rmids (clock + 1) changed = AllFit-touches rmids clock mask place chosen changed answer now named (subst (λ ps. AllFit rmids clock ps) (sym is) (fit s)) t in
-    let width : length changed ≡ length (set_in places s) = after.0 ∙ ap length is in
     let read : (k : ℕ) → set_in (slice_set places s changed) k ≡ cond (s == k) changed (set_in places k) = λ k. get_or-set places s k changed [] inside in
-    let all : (k : ℕ) → AllFit rmids (clock + 1) (set_in (slice_set places s changed) k) = λ k w.
-    subst (λ ps. IfSome (place_in ps w) (IsFit rmids (clock + 1))) (sym (read k)) (one (s == k) w changed (set_in places k) (after.1 w) (IfSome-later rmids clock (place_in (set_in places k) w) (fit k w))) in
+    let all : (k : ℕ) → AllFit rmids later (set_in (slice_set places s changed) k) = λ k w.
+    subst (λ ps. IfSome (place_in ps w) (IsFit rmids later)) (sym (read k)) (one (s == k) w changed (set_in places k) (new w) (IfSome-later rmids clock later (place_in (set_in places k) w) le (AllFit-set_in shape rmids clock places k formed w))) in
     record {
       count = length-set places s changed ∙ formed.count;
       widths = λ k l.
@@ -85,10 +85,27 @@ IsFormed-slice_set shape rmids clock places s mask place chosen changed answer f
             | inl here ↦ rw here (width ∙ ap (λ j. length (set_in places j)) (eqb-true s k here))
             | inr there ↦ rw there refl
           ]) ∙ formed.widths k l);
-      stamped = λ k w. IfSome-used rmids (clock + 1) (place_in (set_in (slice_set places s changed) k) w) (all k w);
-      named = λ k w. IfSome-rmid rmids (clock + 1) (place_in (set_in (slice_set places s changed) k) w) (all k w);
+      stamped = λ k w. IfSome-used rmids later (place_in (set_in (slice_set places s changed) k) w) (all k w);
+      named = λ k w. IfSome-rmid rmids later (place_in (set_in (slice_set places s changed) k) w) (all k w);
     }
   where
-    one : (b : Bool) (w : ℕ) (x y : List (Option Place)) → IfSome (place_in x w) (IsFit rmids (clock + 1)) → IfSome (place_in y w) (IsFit rmids (clock + 1)) → IfSome (place_in (cond b x y) w) (IsFit rmids (clock + 1))
+    one : (b : Bool) (w : ℕ) (x y : List (Option Place)) → IfSome (place_in x w) (IsFit rmids later) → IfSome (place_in y w) (IsFit rmids later) → IfSome (place_in (cond b x y) w) (IsFit rmids later)
     one true w x y h k = h
     one false w x y h k = k
+
+-- an access leaves the cache formed
+pub IsFormed-slice_set : (shape : Shape) (rmids clock : ℕ) (places : List (List (Option Place))) (s mask : ℕ) (place : Place) (chosen changed : List (Option Place)) (answer : Touched)
+    → IsFormed shape rmids clock places → s < shape.sets → chosen ≡ set_in places s → place.used ≡ clock → place.rmid < rmids → Touches chosen changed mask place answer
+    → IsFormed shape rmids (clock + 1) (slice_set places s changed)
+IsFormed-slice_set shape rmids clock places s mask place chosen changed answer formed within is now named t =
+    let fit : AllFit rmids clock chosen = subst (λ ps. AllFit rmids clock ps) (sym is) (AllFit-set_in shape rmids clock places s formed) in
+    let after : (length changed ≡ length chosen) × AllFit rmids (clock + 1) changed = AllFit-touches rmids clock mask place chosen changed answer now named fit t in
+    IsFormed-changed shape rmids clock (clock + 1) places s changed formed (omega arith) within (after.0 ∙ ap length is) after.1
+
+-- a way of a set is filled
+pub IsFormed-filled : (shape : Shape) (rmids clock : ℕ) (places : List (List (Option Place))) (s way : ℕ) (place : Place)
+    → IsFormed shape rmids clock places → s < shape.sets → way < length (set_in places s) → place.used < clock → place.rmid < rmids
+    → IsFormed shape rmids clock (slice_set places s (slice_set (set_in places s) way (Some place)))
+IsFormed-filled shape rmids clock places s way place formed within inside used named =
+    IsFormed-changed shape rmids clock clock places s (slice_set (set_in places s) way (Some place)) formed (omega arith) within (length-set (set_in places s) way (Some place))
+    (AllFit-slice_set rmids clock clock (set_in places s) way (Some place) (omega arith) inside (AllFit-set_in shape rmids clock places s formed) (used, named))

@@ -14,7 +14,7 @@ use Rattle.cache_core.specs.Places.{IsFormed, set_in, place_in, resident_in}
 use Rattle.cache_core.specs.Stands.{Touches}
 use Rattle.lists.specs.Sums.{one_if}
 use Rattle.cache_core.proofs.Counts.{places_with-exchanged, places_with-none}
-use Rattle.cache_core.proofs.Formed.{IsFormed-slice_set}
+use Rattle.cache_core.proofs.Formed.{IsFormed-filled, IsFormed-slice_set}
 use Rattle.cache_core.proofs.KeptPlaces.{res, get_or-set}
 use Rattle.cache_core.proofs.Spread.{length-spread, set_in-spread, set_in-spread_own, place_in-spread_empty, spread-slice_set}
 use Rattle.cache_core.proofs.laws.Places.{places_with-same}
@@ -57,6 +57,29 @@ is_of-res : (rmid : ℕ) (o : Option Place) → is_of rmid (res o) ≡ is_rmid (
 is_of-res rmid None = refl
 is_of-res rmid (Some p) = refl
 
+-- the counts after a fill of a way of a set
+counts-filled : (m : Shape) (places : List (List (Option Place))) (counts new : List ℕ) (s way : ℕ) (place : Place) (changed : List (Option Place)) (rmid : ℕ)
+    → IsOwn m s → s < length places → length (set_in places s) ≡ m.ways → way < length (set_in places s) → changed ≡ slice_set (set_in places s) way (Some place) → Recounts counts new (set_in places s) place (Filled way)
+    → slice_index counts rmid ≡ places_with m (is_of rmid) (residents places) → slice_index new rmid ≡ places_with m (is_of rmid) (residents (slice_set places s changed))
+counts-filled m places counts new s way place changed rmid own within width inside is recounts was =
+    let row : List (Option Place) = set_in places s in
+    let read : (k w : ℕ) → residents (slice_set places s changed) k w ≡ cond (s == k) (cond (way == w) (res (Some place)) (resident_in row w)) (residents places k w) = λ k w.
+    residents-slice_set places s changed k w within ∙ ap (λ o. cond (s == k) o (residents places k w)) (ap (λ ps. resident_in ps w) is ∙ resident_in-slice_set row way w (Some place) inside) in
+    let here : residents (slice_set places s changed) s way ≡ res (Some place) = read s way ∙ (ap (λ b. cond b (cond (way == way) (res (Some place)) (resident_in row way)) (residents places s way)) (eq-eqb s s refl) ∙ ap (λ b. cond b (res (Some place)) (resident_in row way)) (eq-eqb way way refl)) in
+    let same : (k w : ℕ) → ((k ≡ s) × (w ≡ way) → ⊥) → residents (slice_set places s changed) k w ≡ residents places k w = λ k w apart. read k w
+    ∙ (elim (cases_Bool (s == k)) [
+      | inl e ↦ elim (cases_Bool (way == w)) [
+        | inl e' ↦ absurd (apart (sym (eqb-true s k e), sym (eqb-true way w e')))
+        | inr e' ↦ rw (e, e') (ap (λ j. residents places j w) (eqb-true s k e))
+      ]
+      | inr e ↦ rw e refl
+    ]) in
+    let counted : places_with m (is_of rmid) (residents (slice_set places s changed)) + one_if (is_of rmid (residents places s way)) ≡ places_with m (is_of rmid) (residents places) + one_if (is_of rmid (residents (slice_set places s changed) s way)) =
+    places_with-exchanged m (is_of rmid) (residents places) (residents (slice_set places s changed)) s way own (omega (arith, inside, width)) same in
+    let left : one_if (is_of rmid (residents places s way)) ≡ one_if (is_rmid (option_map (λ (p : Place). p.rmid) (place_in row way)) rmid) = ap one_if (is_of-res rmid (place_in row way)) in
+    let put : one_if (is_of rmid (residents (slice_set places s changed) s way)) ≡ one_if (place.rmid == rmid) = ap (λ o. one_if (is_of rmid o)) here in
+    omega (arith, recounts rmid, counted, left, put, was)
+
 -- the counts after an access to a set
 counts-touched : (m : Shape) (places : List (List (Option Place))) (counts new : List ℕ) (s mask : ℕ) (place : Place) (changed : List (Option Place)) (answer : Touched) (rmid : ℕ)
     → IsOwn m s → s < length places → length (set_in places s) ≡ m.ways
@@ -79,25 +102,7 @@ counts-touched m places counts new s mask place changed (Hit way) rmid own withi
       | inl e ↦ rw e (same w ∙ ap (λ j. residents places j w) (eqb-true s k e))
       | inr e ↦ rw e refl
     ]))))
-counts-touched m places counts new s mask place changed (Filled way) rmid own within width t recounts was =
-    let row : List (Option Place) = set_in places s in
-    let inside : way < length row = t.1.within in
-    let read : (k w : ℕ) → residents (slice_set places s changed) k w ≡ cond (s == k) (cond (way == w) (res (Some place)) (resident_in row w)) (residents places k w) = λ k w.
-    residents-slice_set places s changed k w within ∙ ap (λ o. cond (s == k) o (residents places k w)) (ap (λ ps. resident_in ps w) t.2 ∙ resident_in-slice_set row way w (Some place) inside) in
-    let here : residents (slice_set places s changed) s way ≡ res (Some place) = read s way ∙ (ap (λ b. cond b (cond (way == way) (res (Some place)) (resident_in row way)) (residents places s way)) (eq-eqb s s refl) ∙ ap (λ b. cond b (res (Some place)) (resident_in row way)) (eq-eqb way way refl)) in
-    let same : (k w : ℕ) → ((k ≡ s) × (w ≡ way) → ⊥) → residents (slice_set places s changed) k w ≡ residents places k w = λ k w apart. read k w
-    ∙ (elim (cases_Bool (s == k)) [
-      | inl e ↦ elim (cases_Bool (way == w)) [
-        | inl e' ↦ absurd (apart (sym (eqb-true s k e), sym (eqb-true way w e')))
-        | inr e' ↦ rw (e, e') (ap (λ j. residents places j w) (eqb-true s k e))
-      ]
-      | inr e ↦ rw e refl
-    ]) in
-    let counted : places_with m (is_of rmid) (residents (slice_set places s changed)) + one_if (is_of rmid (residents places s way)) ≡ places_with m (is_of rmid) (residents places) + one_if (is_of rmid (residents (slice_set places s changed) s way)) =
-    places_with-exchanged m (is_of rmid) (residents places) (residents (slice_set places s changed)) s way own (omega (arith, inside, width)) same in
-    let left : one_if (is_of rmid (residents places s way)) ≡ one_if (is_rmid (option_map (λ (p : Place). p.rmid) (place_in row way)) rmid) = ap one_if (is_of-res rmid (place_in row way)) in
-    let put : one_if (is_of rmid (residents (slice_set places s changed) s way)) ≡ one_if (place.rmid == rmid) = ap (λ o. one_if (is_of rmid o)) here in
-    omega (arith, recounts rmid, counted, left, put, was)
+counts-touched m places counts new s mask place changed (Filled way) rmid own within width t recounts was = counts-filled m places counts new s way place changed rmid own within width t.1.within t.2 recounts was
 counts-touched m places counts new s mask place changed (Stale floor) rmid own within width t recounts was = absurd t
 
 -- the domain's sets after a change of a kept one
@@ -121,15 +126,40 @@ IsKept-touched m rmids clock own now counts new shift s mask place answer kept i
     record {
       formed = subst (IsFormed m rmids (clock + 1)) (sym all) (IsFormed-slice_set m rmids clock places s mask place (set_in places s) changed answer kept.formed is.0 refl used named touched);
       narrow = kept.narrow;
+      inside = kept.inside;
       power = kept.power;
       known = size ∙ kept.known;
       counted = λ rmid l. counts-touched m places counts new s mask place changed answer rmid is within (ap length row ∙ length-kept_set m rmids clock own counts shift s kept is) touched counted (kept.counted rmid l) ∙ ap (λ ps. places_with m (is_of rmid) (residents ps)) (sym all);
     }
 
+-- a fill of a way leaves them so
+pub IsKept-filled : (m : Shape) (rmids clock : ℕ) (own now : List (List (Option Place))) (counts new : List ℕ) (shift s way : ℕ) (place : Place)
+    → IsKept m rmids clock own counts shift → IsOwn m s → way < m.ways → place.used < clock → place.rmid < rmids → now ≡ slice_set own (s / m.slices) (slice_set (set_in own (s / m.slices)) way (Some place))
+    → length new ≡ length counts → Recounts counts new (set_in own (s / m.slices)) place (Filled way) → IsKept m rmids clock now new shift
+IsKept-filled m rmids clock own now counts new shift s way place kept is inside used named set size recounts =
+    let places : List (List (Option Place)) = spread m own in
+    let row : set_in places s ≡ set_in own (s / m.slices) = set_in-spread_own m own s is in
+    let width : length (set_in places s) ≡ m.ways = ap length row ∙ length-kept_set m rmids clock own counts shift s kept is in
+    let here : way < length (set_in places s) = omega (arith, width, inside) in
+    let kept_set : s / m.slices < length own = lt-kept_set m rmids clock own counts shift s kept is (omega arith) in
+    let changed : List (Option Place) = slice_set (set_in places s) way (Some place) in
+    let all : spread m now ≡ slice_set places s changed =
+    ap (spread m) set ∙ (spread-slice_set m own s (slice_set (set_in own (s / m.slices)) way (Some place)) is kept_set ∙ ap (λ ps. slice_set places s (slice_set ps way (Some place))) (sym row)) in
+    let within : s < length places = omega (arith, is.0, length-spread m own) in
+    let counted : Recounts counts new (set_in places s) place (Filled way) = subst (λ ps. Recounts counts new ps place (Filled way)) (sym row) recounts in
+    record {
+      formed = subst (IsFormed m rmids clock) (sym all) (IsFormed-filled m rmids clock places s way place kept.formed is.0 here used named);
+      narrow = kept.narrow;
+      inside = kept.inside;
+      power = kept.power;
+      known = size ∙ kept.known;
+      counted = λ rmid l. counts-filled m places counts new s way place changed rmid is within width here refl counted (kept.counted rmid l) ∙ ap (λ ps. places_with m (is_of rmid) (residents ps)) (sym all);
+    }
+
 -- places and counts that are empty
-pub IsKept-empty : (m : Shape) (rmids clock : ℕ) (own : List (List (Option Place))) (counts : List ℕ) (shift : ℕ) → shift < 32 → m.slices ≡ 2 ^ shift → length counts ≡ rmids → ((r : ℕ) → slice_index counts r ≡ 0)
+pub IsKept-empty : (m : Shape) (rmids clock : ℕ) (own : List (List (Option Place))) (counts : List ℕ) (shift : ℕ) → shift < 32 → m.slice < m.slices → m.slices ≡ 2 ^ shift → length counts ≡ rmids → ((r : ℕ) → slice_index counts r ≡ 0)
     → ((set : ℕ) → set < m.sets → length (set_in (spread m own) set) ≡ cond (is_own m set) m.ways 0) → ((s w : ℕ) → place_in (set_in own s) w ≡ None) → IsKept m rmids clock own counts shift
-IsKept-empty m rmids clock own counts shift narrow power known zeros widths none =
+IsKept-empty m rmids clock own counts shift narrow inside power known zeros widths none =
     let empty : (s w : ℕ) → place_in (set_in (spread m own) s) w ≡ None = place_in-spread_empty m own none in
     record {
       formed = record {
@@ -139,6 +169,7 @@ IsKept-empty m rmids clock own counts shift narrow power known zeros widths none
         named = λ s w. subst (λ (o : Option Place). IfSome o (λ p. p.rmid < rmids)) (sym (empty s w)) tt;
       };
       narrow = narrow;
+      inside = inside;
       power = power;
       known = known;
       counted = λ rmid l. zeros rmid ∙ sym (places_with-none m (is_of rmid) (residents (spread m own)) refl (λ s w. ap res (empty s w)));
@@ -158,7 +189,7 @@ pub IsKept-emptied : (m : Shape) (rmids clock : ℕ) (own now : List (List (Opti
     → ((set : ℕ) → length (set_in now set) ≡ length (set_in own set)) → ((s w : ℕ) → place_in (set_in now s) w ≡ None) → length new ≡ length counts → ((r : ℕ) → slice_index new r ≡ 0)
     → IsKept m rmids (clock + 1) now new shift
 IsKept-emptied m rmids clock own now counts new shift kept widths none size zeros =
-    IsKept-empty m rmids (clock + 1) now new shift kept.narrow kept.power (size ∙ kept.known) zeros
+    IsKept-empty m rmids (clock + 1) now new shift kept.narrow kept.inside kept.power (size ∙ kept.known) zeros
     (λ set l. ap length (set_in-spread m now set l) ∙ (go (is_own m set) set ∙ (sym (ap length (set_in-spread m own set l)) ∙ kept.formed.widths set l)))
     none
   where

@@ -11,6 +11,7 @@ pub mod Keeping
 pub mod KeptPlaces
 pub mod Occupancy
 pub mod Powers
+pub mod RegionLoads
 pub mod Spread
 pub mod Uses
 pub mod laws

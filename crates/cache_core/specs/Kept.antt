@@ -15,10 +15,11 @@ spread m own = map (λ set. if is_own m set then set_in own (set / m.slices) els
 abbrev pub residents : List (List (Option Place)) → ℕ → ℕ → Option Resident
 residents places set way = resident_in (set_in places set) way
 
--- The places are in order, the number of slices is a power of two, and each count is the number of lines of its RMID.
+-- The places are in order, the slice is one of as many as a power of two says, and each count is the number of lines of its RMID.
 pub record IsKept (shape : Shape) (rmids clock : ℕ) (own : List (List (Option Place))) (counts : List ℕ) (shift : ℕ) : Type 0 where
   pub formed : IsFormed shape rmids clock (spread shape own)
   pub narrow : shift < 32
+  pub inside : shape.slice < shape.slices
   pub power : shape.slices ≡ 2 ^ shift
   pub known : length counts ≡ rmids
   pub counted : (rmid : ℕ) → rmid < rmids → slice_index counts rmid ≡ places_with shape (is_of rmid) (residents (spread shape own))

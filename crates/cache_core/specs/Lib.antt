@@ -4,5 +4,6 @@ pub mod Fills
 pub mod Flat
 pub mod History
 pub mod Kept
+pub mod Loads
 pub mod Places
 pub mod Stands

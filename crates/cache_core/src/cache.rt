@@ -2,12 +2,13 @@
 ghost use Rattle.std.specs.Prelude.{◌≡◌, ℕ, ◌+◌, ◌-◌, ◌%◌, ◌/◌, ◌^◌, ◌<◌, ◌≤◌, ◌↔◌, List, [], ◌∷◌, ◌++◌, length, if◌then◌else◌, IfOk, None};
 ghost use Rattle.machine.specs.Maps.{parameters_of};
 ghost use Rattle.cache_core.specs.declared.entry.SliceEntry.{SliceEntry};
-ghost use Rattle.cache_core.specs.declared.entry.What.TheVariants.{Raise, Flush, Look};
+ghost use Rattle.cache_core.specs.declared.entry.What.TheVariants.{Raise, Flush, Lock, Look};
 ghost use Rattle.cache_core.specs.History.{IsOwn, is_own, shape_of, lines_of, valid_of};
 ghost use Rattle.cache_core.specs.Places.{set_in, place_in};
 ghost use Rattle.cache_core.specs.Stands.{Accesses, Adds, StandsFor, IsStale, Touches, clock_after, entry};
 ghost use Rattle.lists.specs.Sums.{sum_below};
 
+use crate::loading::RegionLoad;
 use crate::place::Place;
 use crate::sets::Sets;
 use crate::touched::Touched;
@@ -18,9 +19,9 @@ use rc_base::{NoMemory, Tag};
 use std::alloc::Global;
 use std::marker::Model;
 
-/// One slice of a cache. It stands for the legal lists of entries that leave what it holds: `access`, `raise` and `flush`
-/// each add the one entry that legality allows. `clock` counts these entries. `sets` has the slice's own sets alone, set s of
-/// the domain at s >> `shift`, and `counts` how many lines each RMID has in them.
+/// One slice of a cache. It stands for the legal lists of entries that leave what it holds: `access`, `raise`, `flush` and
+/// `lock` each add the one entry that legality allows. `clock` counts these entries. `sets` has the slice's own sets alone,
+/// set s of the domain at s >> `shift`, and `counts` how many lines each RMID has in them.
 #[derive(Drop)]
 pub struct Cache {
     machine: Machine,
@@ -105,6 +106,32 @@ impl Cache {
     {
         self.sets.clear();
         self.counts.clear();
+        self.floor = epoch;
+        self.clock += 1;
+    }
+
+    /// Empties every way, loads a region into the ways of a mask, and raises the floor to the epoch of the command (this
+    /// project's profile): in set s of the domain the i-th way of the mask, rising, holds line `first_line` + s + i * sets,
+    /// with RMID 0. Ways from the machine's number on are passed over.
+    pub fn lock(&mut self, epoch: u64, mask: u32, first_line: u64)
+        requires epoch { self.old.floor ≤ epoch }
+        requires room { self.old.clock < 2 ^ 32 }
+        requires first_line { first_line < 2 ^ 60 }
+        ensures shape { self.new.shape ≡ self.old.shape }
+        ensures rmids { self.new.rmids ≡ self.old.rmids }
+        ensures floor { self.new.floor ≡ epoch }
+        ensures clock { self.new.clock ≡ self.old.clock + 1 }
+        ensures entry { Adds self.old self.new epoch (Lock mask first_line) }
+    {
+        let region = RegionLoad {
+            machine: self.machine,
+            slice: self.slice,
+            shift: self.shift,
+            mask,
+            first_line,
+            stamp: self.clock,
+        };
+        region.load(&mut self.sets, &mut self.counts);
         self.floor = epoch;
         self.clock += 1;
     }

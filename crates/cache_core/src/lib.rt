@@ -3,6 +3,7 @@
 
 pub mod cache;
 pub mod entry;
+mod loading;
 pub mod place;
 mod sets;
 pub mod touched;

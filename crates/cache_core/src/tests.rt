@@ -7,6 +7,9 @@ use machine::{Machine, Parameters};
 use rc_base::{Gid, Tag};
 use std::test::Fail;
 
+// The first line of a machine's first region.
+const FIRST_LINE: u64 = 1 << 52;
+
 // A tag of the default group.
 fn tag(epoch: u64, mask: u32) -> Tag
     ensures { result ≡ record { epoch = epoch; owner = record { 0 = 0 }; class = 0; rmid = 0; mask = mask; domain = 0 } }
@@ -67,5 +70,39 @@ fn slices_have_sets_of_their_own(rt: HostRuntime) -> Result<(), Fail> {
     assert_eq!(rt; cache.access(&tag(0, 3), 3), Touched::Filled { way: 0 });
     assert_eq!(rt; cache.access(&tag(0, 3), 7), Touched::Filled { way: 1 });
     assert_eq!(rt; (cache.look(0), cache.valid()), (3, 3));
+    cache.lock(1, 2, FIRST_LINE);
+    assert_eq!(rt; (cache.look(0), cache.valid()), (2, 2));
+    assert_eq!(rt;
+        cache.access(&tag(1, 1), FIRST_LINE + 3),
+        Touched::Hit { way: 1 }
+    );
+    Ok(())
+}
+
+#[test]
+fn a_lock_loads_its_region(rt: HostRuntime) -> Result<(), Fail> {
+    let parameters = Parameters {
+        sets: 4,
+        ways: 4,
+        ..Parameters::default()
+    };
+    let machine = Machine::checked(&parameters).expect(&rt, "the parameters are in range");
+    let mut cache = Cache::create(rt.alloc(), &machine, 0, 0)?;
+    assert_eq!(rt; cache.access(&tag(0, 15), 0), Touched::Filled { way: 0 });
+    cache.lock(1, 12, FIRST_LINE);
+    assert_eq!(rt; (cache.look(0), cache.valid(), cache.floor()), (8, 8, 1));
+    assert_eq!(rt;
+        cache.access(&tag(0, 3), FIRST_LINE),
+        Touched::Stale { floor: 1 }
+    );
+    assert_eq!(rt;
+        cache.access(&tag(1, 3), FIRST_LINE),
+        Touched::Hit { way: 2 }
+    );
+    assert_eq!(rt;
+        cache.access(&tag(1, 3), FIRST_LINE + 7),
+        Touched::Hit { way: 3 }
+    );
+    assert_eq!(rt; cache.access(&tag(1, 3), 0), Touched::Filled { way: 0 });
     Ok(())
 }

@@ -1,9 +1,10 @@
 //! What an access does to its set, and to the counts.
-ghost use Rattle.std.specs.Prelude.{◌≡◌, ℕ, ◌-◌, ◌+◌, ◌==◌, ◌%◌, ◌^◌, ◌<◌, length, IfSome, slice_set, slice_index};
+ghost use Rattle.std.specs.Prelude.{◌≡◌, ℕ, ◌-◌, ◌+◌, ◌==◌, ◌%◌, ◌^◌, ◌<◌, length, IfSome, Some, slice_set, slice_index};
 ghost use Rattle.lists.specs.Sums.{one_if, sum_below};
 ghost use Rattle.cache_core.specs.Counted.{IsCounted, Recounts, is_rmid};
 ghost use Rattle.cache_core.specs.Places.{set_in, place_in};
 ghost use Rattle.cache_core.specs.Stands.{Touches};
+ghost use Rattle.cache_core.specs.declared.touched.Touched.TheVariants.{Filled};
 
 use crate::place::Place;
 use crate::sets::Sets;
@@ -29,11 +30,25 @@ pub fn touch(sets: &mut Sets, counts: &mut Counts, set: u32, mask: u32, place: P
         }
         None => {
             let way = sets.victim(set, mask);
-            let left = sets.put(set, way, place);
-            recount(counts, left, place.rmid);
+            fill(sets, counts, set, way, place);
             Touched::Filled { way }
         }
     }
+}
+
+/// Fills a place into a way of a set, in place of the line that the way held.
+pub fn fill(sets: &mut Sets, counts: &mut Counts, set: u32, way: u8, place: Place)
+    requires set { set < length sets.old }
+    requires way { way < length (set_in sets.old set) }
+    requires rmid { place.rmid < length counts.old }
+    requires room { sum_below (length counts.old) (slice_index counts.old) < 2 ^ 64 - 1 }
+    requires counted { IfSome (place_in (set_in sets.old set) way) (λ p. IsCounted counts.old p.rmid) }
+    ensures put { sets.new ≡ slice_set sets.old set (slice_set (set_in sets.old set) way (Some place)) }
+    ensures size { length counts.new ≡ length counts.old }
+    ensures counts { Recounts counts.old counts.new (set_in sets.old set) place (Filled way) }
+{
+    let left = sets.put(set, way, place);
+    recount(counts, left, place.rmid);
 }
 
 // One line more of an RMID, and one less of that whose line left.

@@ -16,7 +16,7 @@ use script_ops::Op;
 use std::alloc::Global;
 use std::marker::Model;
 use std::process::Abort;
-use tree_core::{Tree, is_built};
+use tree_core::Tree;
 
 // What stands in front of each text.
 const BEFORE: &[u8] = b"before ";
@@ -84,7 +84,6 @@ impl Scene {
         requires reading { IsTrue (is_reading op.now) }
         requires accepted { refusal self.old.machine self.old.state op.now ≡ None }
     {
-        assert!(rt; is_built(op));
         assert!(rt; self.tree.needs(op) == 0);
         self.out.clear();
         self.out.push_all(BEFORE);

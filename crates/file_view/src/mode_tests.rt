@@ -95,3 +95,37 @@ fn exclusive_ways_have_letters(rt: HostRuntime) -> Result<(), Fail> {
     }
     Ok(())
 }
+
+// Two of four ways of the first of two caches are locked.
+#[test]
+fn a_region_is_shown_alone(rt: HostRuntime) -> Result<(), Fail> {
+    let mut scene = Scene::create(rt.alloc(), &machine(&rt, 4), NAMES)?;
+    let low = b"L3:0=3".as_slice();
+    assert!(rt; scene.write_root(&rt, rt.alloc(), FileKind::Schemata, low)? == Reply::Ok);
+    assert!(rt; scene.mkdir(&rt, 0) == Reply::Ok);
+    let p0 = DirRef::Ctrl(scene.name(0));
+    let high = b"L3:0=c".as_slice();
+    for (kind, text, mode, schemata) in [
+        (FileKind::Schemata, high, "shareable\n", "L3:0=c;1=f\n"),
+        (
+            FileKind::Mode,
+            b"pseudo-locksetup",
+            "pseudo-locksetup\n",
+            "L3:0=c;1=f\n",
+        ),
+        (FileKind::Schemata, high, "pseudo-locked\n", "L3:0=c\n"),
+    ] {
+        assert!(rt; scene.write(&rt, rt.alloc(), 0, kind, text)? == Reply::Ok);
+        assert!(rt; scene.read(&rt, p0, FileKind::Mode) == Some(mode.as_bytes()));
+        assert!(rt; scene.read(&rt, p0, FileKind::Schemata) == Some(schemata.as_bytes()));
+    }
+    for (dir, kind, want) in [
+        (p0, FileKind::Size, "L3:0=128\n"),
+        (p0, FileKind::Cpus, "1\n"),
+        (p0, FileKind::CpusList, "0\n"),
+        (DirRef::InfoL3, FileKind::BitUsage, "0=PPSS;1=SSSS\n"),
+    ] {
+        assert!(rt; scene.read(&rt, dir, kind) == Some(want.as_bytes()));
+    }
+    Ok(())
+}

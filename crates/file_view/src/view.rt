@@ -1,7 +1,6 @@
 //! The text that a command gives.
 ghost use Rattle.std.specs.Prelude.{◌≡◌, ◌+◌, ◌≤◌, ◌^◌, ◌++◌, All, IsTrue, None, length};
 ghost use Rattle.file_view.specs.Texts.{is_reading, listed_text, read_text, text_of};
-ghost use Rattle.tree_core.specs.Built.{IsBuilt};
 ghost use Rattle.tree_core.specs.Named.{AreNamed};
 ghost use Rattle.tree_law.specs.Existing.{is_directory, is_file};
 ghost use Rattle.tree_law.specs.Steps.{needs, refusal};
@@ -57,7 +56,6 @@ fn push_listed(tree: &Tree, names: &Names, path: PathRef, out: &mut TextBuf)
 pub fn text(tree: &Tree, names: &Names, op: &Op, looks: &[u64], out: &mut TextBuf)
     requires reading { IsTrue (is_reading op.now) }
     requires accepted { refusal tree.now.machine tree.now.state op.now ≡ None }
-    requires built { IsBuilt op.now }
     requires looks { length looks.now ≡ length (needs tree.now.machine tree.now.state op.now) }
     requires counts { All (λ n. n ≤ 2 ^ 32) looks.now }
     requires named { AreNamed names.now tree.now.state.groups }

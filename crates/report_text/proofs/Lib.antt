@@ -9,3 +9,5 @@ pub mod Pieces
 pub mod ReadTexts
 pub mod Replays
 pub mod SliceTexts
+pub mod TouchHits
+pub mod laws

@@ -1,21 +1,12 @@
--- What the ops that are built so far give.
+-- What ops give that read nothing.
 use Rattle.std.proofs.Common.{◌≡◌, ℕ, true, false, List, [], ◌++◌, refl, sym}
 use Rattle.std.proofs.lemmas.List.{append-nil}
 use Rattle.file_view.specs.Texts.{is_reading, text_of}
 use Rattle.machine.specs.declared.parameters.Parameters.{Parameters}
-use Rattle.rc_base.specs.declared.replies.Reply.{Reply}
-use Rattle.report_text.specs.Commands.{barred, reply_text, result_text}
-use Rattle.run_law.specs.Journals.{JournalsValue}
+use Rattle.report_text.specs.Commands.{barred}
 use Rattle.script_ops.specs.declared.op.Op.{Op}
 use Rattle.script_ops.specs.declared.op.Op.TheVariants as ops
-use Rattle.tree_core.specs.Built.{IsBuilt, is_built}
 use Rattle.tree_law.specs.State.{State}
-
--- a touch is not built yet
-pub result_text-built : (j : JournalsValue) (thread number : ℕ) (op : Op) (reply : Reply) → IsBuilt op → result_text j thread number op reply ≡ reply_text reply
-unfolding is_built
-result_text-built j thread number (ops.Touch path offset task cpu) reply built = absurd (let e : false ≡ true = built in cc)
-result_text-built j thread number op reply built = refl
 
 -- an op that is no read and no list gives no text
 text_of-other : (m : Parameters) (s : State) (names : List (List ℕ)) (op : Op) (looks : List ℕ) → is_reading op ≡ false → text_of m s names op looks ≡ []

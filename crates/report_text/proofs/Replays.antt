@@ -1,6 +1,5 @@
 -- What the tree and the groups that were made keep of the script, while the commands are taken once more.
-use Rattle.std.proofs.Common.{◌≡◌, ℕ, ◌<◌, List, [], ◌++◌, length, Option, None, Some, sym, ap, ◌∙◌, subst, arith}
-use Rattle.std.specs.Prelude.{IsTrue}
+use Rattle.std.proofs.Common.{◌≡◌, ℕ, ◌<◌, List, [], ◌++◌, length, Some, sym, ap, ◌∙◌, subst, arith}
 use Rattle.std.proofs.lemmas.List.Elements.{All-append, All-cons}
 use Rattle.run_law.proofs.laws.Tasks.{tasks_of-opening}
 use Rattle.tree_core.proofs.laws.KnownNames.{named_next, named_opening}
@@ -10,19 +9,16 @@ use Rattle.path_names.specs.declared.path_ref.PathRef.TheVariants.{Dir, File, Fr
 use Rattle.rc_base.specs.declared.replies.Reply.{Reply}
 use Rattle.rc_base.specs.declared.replies.Reply.TheVariants as replies
 use Rattle.report_text.specs.Made.{made_by}
-use Rattle.report_text.specs.Replayed.{AreKnownGroups, IsCounted, IsReplay, ReplayValue}
+use Rattle.report_text.specs.Replayed.{AreKnownGroups, IsReplay, ReplayValue}
 use Rattle.report_text.specs.declared.made.Made.{Made}
 use Rattle.script_ops.specs.Canonical.{IsNamed, IsShort}
-use Rattle.run_law.specs.Ops.{EachCommand, is_command}
-use Rattle.run_law.specs.TreeHistory.{IsCommandThat, TreeEntryValue}
 use Rattle.script_ops.specs.Fits.{Fits}
-use Rattle.script_ops.specs.Values.{ScriptValue, op_at}
+use Rattle.script_ops.specs.Values.{ScriptValue}
 use Rattle.script_ops.specs.declared.op.Op.{Op}
 use Rattle.script_ops.specs.declared.op.Op.TheVariants as ops
 use Rattle.tree_law.proofs.laws.DeclaredTasks.{tasks_of-next}
 use Rattle.tree_law.specs.State.{State, opening, tasks_of}
-use Rattle.tree_core.specs.Built.{IsBuilt}
-use Rattle.tree_law.specs.Steps.{needs, next}
+use Rattle.tree_law.specs.Steps.{next}
 
 -- ---- groups that were made
 
@@ -82,12 +78,3 @@ IsReplay-next script old new op looks reply before known short machine state mad
 -- it fits the tree
 pub Fits-replay : (script : ScriptValue) (r : ReplayValue) (op : Op) → IsReplay script r → Fits script.machine script.tasks op → Fits r.tree.machine (tasks_of r.tree.state) op
 Fits-replay script r op replay fits = subst (λ m. Fits m (tasks_of r.tree.state) op) (sym replay.machine) (subst (λ ts. Fits script.machine ts op) (sym replay.tasks) fits)
-
--- it is a command that the tree takes
-pub IsBuilt-command : (script : ScriptValue) (s : State) (h : TreeEntryValue) (op : Op) → EachCommand IsBuilt script → IsCounted script s h → op_at script h.thread h.op ≡ Some op → IsBuilt op
-IsBuilt-command script s h op built counted is =
-    built h.thread h.op op is (command (op_at script h.thread h.op) counted is)
-  where
-    command : (o : Option Op) → IsCommandThat (λ c. length h.looks ≡ length (needs script.machine s c)) o → o ≡ Some op → IsTrue (is_command op)
-    command None none same = absurd cc
-    command (Some c) there same = subst (λ x. IsTrue (is_command x)) (let e : c ≡ op = cc in e) there.0

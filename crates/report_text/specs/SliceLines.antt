@@ -53,8 +53,12 @@ abbrev pub entry_place : ℕ → SliceEntry → List ℕ
 entry_place p e = decimal p ++ codes " " ++ decimal e.thread ++ codes "." ++ decimal e.op ++ codes " e" ++ decimal e.epoch ++ codes " "
 
 -- the same, and what happened
+unfoldable pub entry_text : Parameters → ℕ → SliceEntry → List ℕ
+entry_text m p e = entry_place p e ++ what_text m e.what
+
+-- the line of an entry
 unfoldable pub entry_line : Parameters → ℕ → SliceEntry → List ℕ
-entry_line m p e = entry_place p e ++ what_text m e.what ++ codes "\n"
+entry_line m p e = entry_text m p e ++ codes "\n"
 
 -- the lines of these entries, numbered from p
 abbrev pub entry_lines : Parameters → ℕ → List SliceEntry → List ℕ

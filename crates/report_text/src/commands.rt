@@ -1,48 +1,44 @@
 //! The lines of commands.
 ghost use Rattle.std.specs.Prelude.{◌≡◌, ◌+◌, ◌<◌, ◌≤◌, ◌^◌, ◌∷◌, [], ◌++◌, All, IfOk, OnOk, codes, decimal, length, None, Some};
 ghost use Rattle.file_view.specs.Texts.{text_of};
-ghost use Rattle.report_text.specs.Commands.{barred, command_line, command_lines, op_said, read_lines, reply_text, result_text};
+ghost use Rattle.report_text.specs.Commands.{barred, command_line, command_lines, op_said, read_lines, result_text};
 ghost use Rattle.report_text.specs.Made.{made_by, made_from};
 ghost use Rattle.report_text.specs.Replayed.{AreKnownGroups, HasFewLooks, IsAnswered, IsAnsweredAs, IsCounted, IsReplay};
+ghost use Rattle.report_text.specs.Touches.{TellsTouch};
 ghost use Rattle.run_law.specs.Entries.{entry_value};
-ghost use Rattle.run_law.specs.Ops.{EachCommand};
-ghost use Rattle.run_law.specs.TreeHistory.{IsLegalTree, state_after};
+ghost use Rattle.run_law.specs.Runs.{IsRun};
+ghost use Rattle.run_law.specs.TreeHistory.{state_after};
 ghost use Rattle.script_ops.specs.Canonical.{IsNamed};
 ghost use Rattle.script_ops.specs.Values.{op_at};
 ghost use Rattle.script_ops.specs.declared.limits.TheConstants.{MOST_WEIGHT};
-ghost use Rattle.tree_core.specs.Built.{IsBuilt};
 ghost use Rattle.tree_law.specs.State.{opening};
 ghost use Rattle.tree_law.specs.Steps.{needs, refusal};
 
 use crate::buffer::ReportText;
 use crate::made::Made;
 use crate::replay::Replay;
+use crate::results::push_result_text;
+use crate::touches::Touches;
 use file_view::is_reading;
 use rc_base::{NoMemory, Reply};
 use run_law::{Journals, TreeEntry};
 use script_ops::{Op, Script};
 use std::alloc::Global;
 
-// Adds a reply after a colon.
-fn push_result(report: &mut ReportText, reply: Reply) -> Result<(), NoMemory>
-    ensures { OnOk result (report.new ≡ report.old ++ (codes ": " ++ reply_text reply ++ 10 ∷ [])) }
-{
-    report.push(b": ".as_slice())?;
-    report.push_reply(reply)?;
-    report.push(b"\n".as_slice())
-}
-
-// Adds the result of an op. A touch, whose result says what its access was, is not built yet.
+// Adds the result of an op after a colon.
 fn push_op_result(
     report: &mut ReportText,
     journals: &Journals,
     entry: &TreeEntry,
     op: &Op,
+    hit: Option<bool>,
 ) -> Result<(), NoMemory>
-    requires built { IsBuilt op.now }
+    requires { TellsTouch journals.now (entry_value entry.now) hit }
     ensures { OnOk result (report.new ≡ report.old ++ (codes ": " ++ result_text journals.now entry.now.thread entry.now.op op.now entry.now.reply ++ 10 ∷ [])) }
 {
-    push_result(report, entry.reply)
+    report.push(b": ".as_slice())?;
+    push_result_text(report, journals, entry, op, hit)?;
+    report.push(b"\n".as_slice())
 }
 
 // Adds what an accepted op gave, where it is a read or a list.
@@ -54,7 +50,6 @@ fn push_accepted(
     looks: &[u64],
 ) -> Result<(), NoMemory>
     requires replay { IsReplay script.now replay.old }
-    requires built { IsBuilt op.now }
     requires accepted { refusal script.now.machine replay.old.tree.state op.now ≡ None }
     requires looks { length looks.now ≡ length (needs script.now.machine replay.old.tree.state op.now) }
     requires counts { All (λ n. n ≤ 2 ^ 32) looks.now }
@@ -77,7 +72,6 @@ fn push_read_lines(
     entry: &TreeEntry,
 ) -> Result<(), NoMemory>
     requires replay { IsReplay script.now replay.old }
-    requires built { IsBuilt op.now }
     requires answered { IsAnsweredAs script.now.machine replay.old.tree.state (entry_value entry.now) op.now }
     requires counts { All (λ n. n ≤ 2 ^ 32) entry.now.looks.numbers }
     ensures text { OnOk result (report.new ≡ report.old ++ read_lines script.now replay.old.tree.state op.now entry.now.looks.numbers entry.now.reply) }
@@ -109,9 +103,10 @@ fn push_op_said(
     journals: &Journals,
     op: &Op,
     entry: &TreeEntry,
+    hit: Option<bool>,
 ) -> Result<(), NoMemory>
     requires replay { IsReplay script.now replay.old }
-    requires built { IsBuilt op.now }
+    requires hit { TellsTouch journals.now (entry_value entry.now) hit }
     requires named { IsNamed (length script.now.names) op.now }
     requires answered { IsAnsweredAs script.now.machine replay.old.tree.state (entry_value entry.now) op.now }
     requires counts { All (λ n. n ≤ 2 ^ 32) entry.now.looks.numbers }
@@ -119,7 +114,7 @@ fn push_op_said(
     ensures kept { replay.new ≡ replay.old }
 {
     report.push_op(op, script.names())?;
-    push_op_result(report, journals, entry, op)?;
+    push_op_result(report, journals, entry, op, hit)?;
     push_read_lines(report, replay, script, op, entry)
 }
 
@@ -131,9 +126,10 @@ fn push_command(
     journals: &Journals,
     k: u64,
     entry: &TreeEntry,
+    hit: Option<bool>,
 ) -> Result<(), NoMemory>
     requires replay { IsReplay script.now replay.old }
-    requires built { EachCommand IsBuilt script.now }
+    requires hit { TellsTouch journals.now (entry_value entry.now) hit }
     requires answered { IsAnswered script.now replay.old.tree.state (entry_value entry.now) }
     requires counts { All (λ n. n ≤ 2 ^ 32) entry.now.looks.numbers }
     ensures text { OnOk result (report.new ≡ report.old ++ command_line script.now journals.now replay.old.tree.state k (entry_value entry.now)) }
@@ -141,7 +137,7 @@ fn push_command(
 {
     push_place(report, k, entry)?;
     match script.op(entry.thread, entry.op) {
-        Some(op) => push_op_said(report, replay, script, journals, op, entry),
+        Some(op) => push_op_said(report, replay, script, journals, op, entry, hit),
         None => unreachable!(),
     }
 }
@@ -149,7 +145,6 @@ fn push_command(
 /// Takes the op of an entry once more.
 pub(crate) fn take(replay: &mut Replay, script: &Script, entry: &TreeEntry) -> Result<(), NoMemory>
     requires replay { IsReplay script.now replay.old }
-    requires built { EachCommand IsBuilt script.now }
     requires counted { IsCounted script.now replay.old.tree.state (entry_value entry.now) }
     requires epoch { replay.old.tree.epoch < MOST_WEIGHT }
     ensures replay { OnOk result (IsReplay script.now replay.new) }
@@ -170,8 +165,7 @@ pub(crate) fn push_commands(
     script: &Script,
     journals: &Journals,
 ) -> Result<Vec<Made>, NoMemory>
-    requires built { EachCommand IsBuilt script.now }
-    requires legal { IsLegalTree script.now journals.now.tree }
+    requires run { IsRun script.now journals.now }
     requires few { length journals.now.tree ≤ MOST_WEIGHT }
     requires counts { All HasFewLooks journals.now.tree }
     ensures text { OnOk result (report.new ≡ report.old ++ command_lines script.now journals.now (opening script.now.machine script.now.tasks) 0 journals.now.tree) }
@@ -179,9 +173,11 @@ pub(crate) fn push_commands(
     ensures known { IfOk result (λ made. AreKnownGroups script.now.names made.items) }
 {
     let tree = journals.tree();
+    let touches = Touches::of(alloc, script, journals)?;
     let mut replay = Replay::create(alloc, script)?;
     for (k, entry) in tree.iter().enumerate() {
-        push_command(report, &mut replay, script, journals, k as u64, entry)?;
+        let hit = touches.hit(k);
+        push_command(report, &mut replay, script, journals, k as u64, entry, hit)?;
         take(&mut replay, script, entry)?;
     }
     Ok(replay.into_made())

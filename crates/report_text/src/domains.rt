@@ -15,7 +15,7 @@ use script_ops::Script;
 use std::alloc::Global;
 
 /// How many slices there are, over all domains.
-pub(crate) fn slices_of(script: &Script) -> u32
+pub fn slices_of(script: &Script) -> u32
     ensures slices { result ≡ slice_count script.now.machine }
     ensures few { result ≤ 32 }
 {
@@ -23,7 +23,7 @@ pub(crate) fn slices_of(script: &Script) -> u32
 }
 
 /// The number of a slice over all domains.
-pub(crate) fn number_of(script: &Script, domain: u8, slice: u8) -> u32
+pub fn number_of(script: &Script, domain: u8, slice: u8) -> u32
     requires domain { domain < script.now.machine.domains }
     requires slice { slice < script.now.machine.slices }
     ensures number { result ≡ slice_number script.now.machine domain slice }
@@ -33,8 +33,8 @@ pub(crate) fn number_of(script: &Script, domain: u8, slice: u8) -> u32
     script.machine().slice_number(domain, slice) as u32
 }
 
-// Counts the lines of a domain at the end.
-fn count_domain(occupancy: &mut Occupancy, script: &Script, journals: &Journals, domain: u8)
+/// Counts the lines of a domain at the end, whatever was counted before.
+pub fn count_domain(occupancy: &mut Occupancy, script: &Script, journals: &Journals, domain: u8)
     requires suits { Suits script.now.machine occupancy.old }
     requires all { length journals.now.slices ≡ slice_count script.now.machine }
     requires domain { domain < script.now.machine.domains }

@@ -1,7 +1,7 @@
 //! The line of an entry of a slice.
 ghost use Rattle.std.specs.Prelude.{◌≡◌, ◌++◌, OnOk};
 ghost use Rattle.machine.specs.Maps.{parameters_of};
-ghost use Rattle.report_text.specs.SliceLines.{entry_line, entry_place, lock_text, look_text, mask_text, owner_text, place_text, tag_text, way_text, what_text};
+ghost use Rattle.report_text.specs.SliceLines.{entry_line, entry_place, entry_text, lock_text, look_text, mask_text, owner_text, place_text, tag_text, way_text, what_text};
 
 use crate::buffer::ReportText;
 use cache_core::{SliceEntry, What};
@@ -120,6 +120,20 @@ fn push_entry_place(report: &mut ReportText, p: u64, entry: &SliceEntry) -> Resu
     report.push(b" ".as_slice())
 }
 
+/// Adds the text of an entry at a position: its line without the newline.
+#[tactic(auto, unfolding(crate::specs::SliceLines::entry_text))]
+pub fn push_entry_text(
+    report: &mut ReportText,
+    machine: &Machine,
+    p: u64,
+    entry: &SliceEntry,
+) -> Result<(), NoMemory>
+    ensures { OnOk result (report.new ≡ report.old ++ entry_text (parameters_of machine.now) p entry.now) }
+{
+    push_entry_place(report, p, entry)?;
+    push_what(report, machine, &entry.what)
+}
+
 /// Adds the line of an entry at a position.
 #[tactic(auto, unfolding(crate::specs::SliceLines::entry_line))]
 pub(crate) fn push_entry(
@@ -130,7 +144,6 @@ pub(crate) fn push_entry(
 ) -> Result<(), NoMemory>
     ensures { OnOk result (report.new ≡ report.old ++ entry_line (parameters_of machine.now) p entry.now) }
 {
-    push_entry_place(report, p, entry)?;
-    push_what(report, machine, &entry.what)?;
+    push_entry_text(report, machine, p, entry)?;
     report.push(b"\n".as_slice())
 }

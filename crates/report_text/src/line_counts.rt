@@ -17,7 +17,7 @@ pub(crate) const MOST_COUNT: u64 = 1 << 62;
 /// the last one back: a place holds what its last fill put there, so that a word for each set, with a bit for each way,
 /// says which places are done with.
 #[derive(Drop)]
-pub(crate) struct Occupancy {
+pub struct Occupancy {
     seen: Vec<u32>,
     counts: Vec<u64>,
     valid: u64,

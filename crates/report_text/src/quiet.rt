@@ -2,10 +2,8 @@
 ghost use Rattle.std.specs.Prelude.{◌≡◌, ◌≤◌, IfOk, length};
 ghost use Rattle.report_text.specs.Made.{made_from};
 ghost use Rattle.report_text.specs.Replayed.{AreKnownGroups};
-ghost use Rattle.run_law.specs.Ops.{EachCommand};
 ghost use Rattle.run_law.specs.TreeHistory.{IsLegalTree};
 ghost use Rattle.script_ops.specs.declared.limits.TheConstants.{MOST_WEIGHT};
-ghost use Rattle.tree_core.specs.Built.{IsBuilt};
 ghost use Rattle.tree_law.specs.State.{opening};
 
 use crate::commands::take;
@@ -22,7 +20,6 @@ pub(crate) fn made_groups(
     script: &Script,
     journals: &Journals,
 ) -> Result<Vec<Made>, NoMemory>
-    requires built { EachCommand IsBuilt script.now }
     requires legal { IsLegalTree script.now journals.now.tree }
     requires few { length journals.now.tree ≤ MOST_WEIGHT }
     ensures made { IfOk result (λ made. made.items ≡ made_from script.now (opening script.now.machine script.now.tasks) journals.now.tree) }

@@ -8,7 +8,6 @@ ghost use Rattle.report_text.specs.Made.{made_by as made_in};
 ghost use Rattle.tree_law.specs.State.{opening, tasks_of};
 ghost use Rattle.tree_law.specs.Steps.{needs, next, refusal};
 ghost use Rattle.script_ops.specs.Fits.{Fits};
-ghost use Rattle.tree_core.specs.Built.{IsBuilt};
 ghost use Rattle.script_ops.specs.declared.limits.TheConstants.{MOST_WEIGHT};
 
 use crate::buffer::ReportText;
@@ -74,6 +73,13 @@ impl Replay {
         })
     }
 
+    /// The tree as it is now.
+    pub fn tree(&self) -> &Tree
+        ensures { result.now ≡ self.now.tree }
+    {
+        &self.tree
+    }
+
     /// Adds the text that an accepted read or list gives in this state, from its counts, line by line after bars.
     pub fn push_read(
         &mut self,
@@ -84,7 +90,6 @@ impl Replay {
     ) -> Result<(), NoMemory>
         requires reading { IsTrue (is_reading op.now) }
         requires accepted { refusal self.old.tree.machine self.old.tree.state op.now ≡ None }
-        requires built { IsBuilt op.now }
         requires looks { length looks.now ≡ length (needs self.old.tree.machine self.old.tree.state op.now) }
         requires counts { All (λ n. n ≤ 2 ^ 32) looks.now }
         requires named { AreNamed names.now self.old.tree.state.groups }
@@ -100,7 +105,6 @@ impl Replay {
     /// Takes a command once more, with its counts and its reply.
     pub fn take(&mut self, op: &Op, looks: &[u64], reply: Reply) -> Result<(), NoMemory>
         requires fits { Fits self.old.tree.machine (tasks_of self.old.tree.state) op.now }
-        requires built { IsBuilt op.now }
         requires looks { length looks.now ≡ length (needs self.old.tree.machine self.old.tree.state op.now) }
         requires epoch { self.old.tree.epoch < MOST_WEIGHT }
         ensures machine { OnOk result (self.new.tree.machine ≡ self.old.tree.machine) }

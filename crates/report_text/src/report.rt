@@ -7,12 +7,10 @@ ghost use Rattle.report_text.specs.Replayed.{AreKnownGroups, HasFewLooks};
 ghost use Rattle.report_text.specs.Reporting.{commands_count, commands_part, is_refusal, report_of, total_line};
 ghost use Rattle.report_text.specs.Tallies.{IsTallyOf};
 ghost use Rattle.run_law.specs.Entries.{entry_value};
-ghost use Rattle.run_law.specs.Ops.{EachCommand};
 ghost use Rattle.run_law.specs.Runs.{IsRun};
-ghost use Rattle.run_law.specs.TreeHistory.{IsLegalTree, TreeEntryValue};
+ghost use Rattle.run_law.specs.TreeHistory.{TreeEntryValue};
 ghost use Rattle.script_ops.specs.declared.limits.TheConstants.{MOST_WEIGHT};
 ghost use Rattle.tree_law.specs.State.{opening};
-ghost use Rattle.tree_core.specs.Built.{IsBuilt};
 
 use crate::buffer::ReportText;
 use crate::commands::push_commands;
@@ -39,8 +37,8 @@ fn is_refused(entry: &TreeEntry) -> bool
     }
 }
 
-// How many commands were refused.
-fn count_refused(tree: &[TreeEntry]) -> u64
+/// How many commands were refused.
+pub fn count_refused(tree: &[TreeEntry]) -> u64
     ensures { result ≡ count_by (λ (h : TreeEntryValue). is_refusal h.reply) (map entry_value tree.now) }
 {
     tree.iter().filter(|e| is_refused(e)).count() as u64
@@ -93,8 +91,7 @@ fn push_commands_part(
     journals: &Journals,
     quiet: bool,
 ) -> Result<Vec<Made>, NoMemory>
-    requires built { EachCommand IsBuilt script.now }
-    requires legal { IsLegalTree script.now journals.now.tree }
+    requires run { IsRun script.now journals.now }
     requires few { length journals.now.tree ≤ MOST_WEIGHT }
     requires counts { All HasFewLooks journals.now.tree }
     ensures text { OnOk result (report.new ≡ report.old ++ commands_part script.now journals.now quiet) }
@@ -116,7 +113,6 @@ fn push_report(
     flags: Flags,
     windows: &[Window],
 ) -> Result<(), NoMemory>
-    requires built { EachCommand IsBuilt script.now }
     requires run { IsRun script.now journals.now }
     ensures { OnOk result (report.new ≡ report.old ++ report_of script.now journals.now flags windows.now) }
 {
@@ -142,7 +138,6 @@ pub fn text(
     flags: Flags,
     windows: &[Window],
 ) -> Result<Vec<u8>, NoMemory>
-    requires built { EachCommand IsBuilt script.now }
     requires run { IsRun script.now journals.now }
     ensures { IfOk result (λ bytes. bytes.items ≡ report_of script.now journals.now flags windows.now) }
 {

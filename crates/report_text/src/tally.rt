@@ -13,7 +13,7 @@ use std::marker::Model;
 
 /// The accesses, hits and misses of each group that has some, by its gid, and those of all groups.
 #[derive(Drop)]
-pub(crate) struct Tally {
+pub struct Tally {
     groups: IndexMap<u32, Counts>,
     all: Counts,
 }

@@ -1,11 +1,14 @@
-//! The lines that entries leave, worked out by hand.
+//! The lines that entries leave, and what they say of touches, worked out by hand.
 
 ghost use Rattle.std.specs.Prelude.{◌≡◌};
 
 use crate::line_counts::Occupancy;
+use crate::touches::note_all;
 use cache_core::{SliceEntry, What};
 use machine::{Machine, Parameters};
-use rc_base::Gid;
+use rc_base::{Gid, LookList, NoMemory, Reply};
+use run_law::TreeEntry;
+use std::alloc::Global;
 use std::process::Abort;
 use std::test::Fail;
 
@@ -84,5 +87,54 @@ fn a_region_keeps_the_places_that_no_later_line_took(rt: HostRuntime) -> Result<
     assert_eq!(rt; occupancy.lines(0), 2);
     assert_eq!(rt; occupancy.lines(1), 1);
     assert_eq!(rt; occupancy.lines(3), 0);
+    Ok(())
+}
+
+// A command of the first thread.
+fn command(alloc: Global, op: u32) -> Result<TreeEntry, NoMemory> {
+    let looks = LookList::with_room(alloc, 0)?;
+    Ok(TreeEntry {
+        thread: 0,
+        op,
+        reply: Reply::Ok,
+        looks,
+    })
+}
+
+// An access to the first line of a region.
+fn access(op: u32, epoch: u64, hit: bool) -> SliceEntry {
+    let what = What::Access {
+        owner: Gid(0),
+        rmid: 0,
+        mask: 3,
+        line: 1 << 52,
+        hit,
+        way: 2,
+    };
+    SliceEntry {
+        thread: 0,
+        op,
+        epoch,
+        what,
+    }
+}
+
+#[test]
+fn touches_are_told_by_their_own_entries(rt: HostRuntime) -> Result<(), Fail> {
+    let alloc = rt.alloc();
+    // A touch, an access, a flush and another touch.
+    let tree = [command(alloc, 0)?, command(alloc, 2)?, command(alloc, 3)?];
+    let entries = [
+        access(0, 1, true),
+        access(1, 1, false),
+        entry(What::Flush),
+        access(3, 3, false),
+    ];
+    let mut hits = vec![in alloc; None; 3]?;
+    note_all(&mut hits, &tree, &entries);
+    assert_eq!(rt;
+        (hits[0], hits[1], hits[2]),
+        (Some(true), None, Some(false))
+    );
     Ok(())
 }

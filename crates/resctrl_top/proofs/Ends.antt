@@ -1,5 +1,5 @@
 -- How the parts of a call make its end.
-use Rattle.std.proofs.Common.{◌≡◌, ℕ, true, false, inl, inr, List, [], Option, Some, None, Result, Ok, Err, refl, sym, ap, ◌∙◌, subst, arith}
+use Rattle.std.proofs.Common.{◌≡◌, ℕ, true, false, inl, inr, ◌⊎◌, List, Option, Some, None, Result, Ok, Err, refl, sym, ap, ◌∙◌, subst, arith}
 use Rattle.std.specs.Io.KnownBytes.{Keeps}
 use Rattle.resctrl_top.specs.declared.ended.Status.{Status}
 use Rattle.resctrl_top.specs.declared.ended.Status.TheVariants.{Done, Refused, Usage, ReadFault, WriteFault, NoMemory}
@@ -7,13 +7,11 @@ use Rattle.resctrl_top.specs.declared.form.Form.{Form}
 use Rattle.resctrl_top.specs.declared.refusal.Refusal.{Refusal}
 use Rattle.resctrl_top.specs.declared.input.InputError.{InputError}
 use Rattle.resctrl_top.specs.declared.input.InputError.TheVariants as inputs
-use Rattle.resctrl_top.specs.Endings.{Call, Ends, IsComplete, IsDue, ReadsWell, Reports, Says, SaysNothing, WritesWell}
-use Rattle.resctrl_top.specs.Forms.{input_of, reads_source, usage_line}
-use Rattle.resctrl_top.specs.Isolation.{HoldsRegions, IsolatesGroups}
+use Rattle.resctrl_top.specs.Endings.{Call, Ends, IsComplete, IsDue, IsPromised, ReadsWell, Reports, Says, SaysNothing, WritesWell}
+use Rattle.resctrl_top.specs.Forms.{input_of, is_of_source, reads_source, usage_line}
+use Rattle.resctrl_top.specs.Outputs.{IsOutput}
 use Rattle.resctrl_top.specs.Meaning.{MeansAs, meaning, refusal_line}
 use Rattle.resctrl_top.specs.Outside.{HasRead, IsInput, IsMeant, IsToTheEnd}
-use Rattle.report_text.specs.Reporting.{report_of}
-use Rattle.run_law.specs.Runs.{IsRun}
 use Rattle.run_law.specs.Journals.{JournalsValue}
 use Rattle.script_ops.specs.Values.{ScriptValue}
 use Rattle.resctrl_top.proofs.InputBytes.{IsMeant-of}
@@ -42,29 +40,29 @@ pub Ends-nothing : (c : Call) (status : Status) (journals : Option JournalsValue
 Ends-nothing c status journals form has_form read (none, is, nothing) = subst (λ s. Ends c s journals) (sym is) (read, record { form = form; has_form = has_form; no_run = none; nothing = nothing })
 
 -- with the line of a refusal
-pub Ends-refused : (c : Call) (status : Status) (journals : Option JournalsValue) (form : Form) (refusal : Refusal) → c.form ≡ Some form → ReadsWell c → IsMeant (input_of form c.source.left) (Err refusal)
+pub Ends-refused : (c : Call) (status : Status) (journals : Option JournalsValue) (form : Form) (refusal : Refusal) → c.form ≡ Some form → reads_source c.form ≡ true → ReadsWell c → IsMeant (input_of form c.source.left) (Err refusal)
     → Says Refused None (refusal_line refusal) c.sink status journals → Ends c status journals
-Ends-refused c status journals form refusal has_form read meant (none, inl said) =
+Ends-refused c status journals form refusal has_form reads read meant (none, inl said) =
     subst (λ s. Ends c s journals) (sym said.0)
-    (read, record { form = form; bytes = meant.bytes; refusal = refusal; has_form = has_form; to_the_end = meant.to_the_end; no_script = meant.meant; no_run = none; line = said.1 })
-Ends-refused c status journals form refusal has_form read meant (none, inr failed) =
+    (read, record { form = form; bytes = meant.bytes; refusal = refusal; has_form = has_form; reads = reads; to_the_end = meant.to_the_end; no_script = meant.meant; no_run = none; line = said.1 })
+Ends-refused c status journals form refusal has_form reads read meant (none, inr failed) =
     subst (λ s. Ends c s journals) (sym failed.0)
-    (read, inr (inl (record { form = form; bytes = meant.bytes; refusal = refusal; has_form = has_form; to_the_end = meant.to_the_end; no_script = meant.meant; no_run = none; line = failed.1 })))
+    (read, inr (inl (record { form = form; bytes = meant.bytes; refusal = refusal; has_form = has_form; reads = reads; to_the_end = meant.to_the_end; no_script = meant.meant; no_run = none; line = failed.1 })))
 
 -- with the report or a beginning of it
-Ends-reported : (c : Call) (status : Status) (journals : Option JournalsValue) (form : Form) (script : ScriptValue) (run : JournalsValue) → c.form ≡ Some form → ReadsWell c → IsMeant (input_of form c.source.left) (Ok script) → IsRun script run → IsolatesGroups script run → HoldsRegions script run
-    → Says Done (Some run) (report_of script run form.flags []) c.sink status journals → Ends c status journals
-Ends-reported c status journals form script run has_form read meant is_run isolates holds (has_run, inl told) =
+Ends-reported : (c : Call) (status : Status) (journals : Option JournalsValue) (form : Form) (script : ScriptValue) (run : JournalsValue) (text : List ℕ) → c.form ≡ Some form → ReadsWell c → IsMeant (input_of form c.source.left) (Ok script) → IsPromised script run → IsOutput script run form.flags text
+    → Says Done (Some run) text c.sink status journals → Ends c status journals
+Ends-reported c status journals form script run text has_form read meant promised output (has_run, inl told) =
     subst (λ s. Ends c s journals) (sym told.0)
-    (read, record { form = form; bytes = meant.bytes; script = script; run = run; has_form = has_form; to_the_end = meant.to_the_end; is_script = meant.meant; has_run = has_run; is_run = is_run; isolates = isolates; holds = holds; report = told.1 })
-Ends-reported c status journals form script run has_form read meant is_run isolates holds (has_run, inr failed) =
+    (read, record { form = form; bytes = meant.bytes; script = script; run = run; has_form = has_form; to_the_end = meant.to_the_end; is_script = meant.meant; has_run = has_run; promised = promised; text = text; output = output; report = told.1 })
+Ends-reported c status journals form script run text has_form read meant promised output (has_run, inr failed) =
     subst (λ s. Ends c s journals) (sym failed.0)
-    (read, inl (record { form = form; bytes = meant.bytes; script = script; run = run; has_form = has_form; to_the_end = meant.to_the_end; is_script = meant.meant; has_run = has_run; is_run = is_run; isolates = isolates; holds = holds; report = failed.1 }))
+    (read, inl (record { form = form; bytes = meant.bytes; script = script; run = run; has_form = has_form; to_the_end = meant.to_the_end; is_script = meant.meant; has_run = has_run; promised = promised; text = text; output = output; report = failed.1 }))
 
 -- with a report
 pub Ends-played : (c : Call) (status : Status) (journals : Option JournalsValue) (form : Form) (script : ScriptValue) → c.form ≡ Some form → ReadsWell c → IsMeant (input_of form c.source.left) (Ok script)
     → Reports script form.flags c.sink status journals → Ends c status journals
-Ends-played c status journals form script has_form read meant reports = Ends-reported c status journals form script reports.run has_form read meant reports.is_run reports.isolates reports.holds reports.report
+Ends-played c status journals form script has_form read meant reports = Ends-reported c status journals form script reports.run reports.text has_form read meant reports.promised reports.output reports.report
 
 -- ---- completeness
 
@@ -106,6 +104,22 @@ reads_source-no_form : (form : Option Form) → reads_source form ≡ true → f
 reads_source-no_form None reads none = absurd (let no : false ≡ true = reads in cc)
 reads_source-no_form (Some form) reads none = absurd cc
 
+-- words that have the source read play no number
+reads_source-of_source : (form : Option Form) (is : Form) → reads_source form ≡ true → form ≡ Some is → is_of_source is.command ≡ false → ⊥
+reads_source-of_source None is reads has number = absurd cc
+reads_source-of_source (Some form) is reads has number = let same : form ≡ is = cc in let no : false ≡ true = sym number ∙ (ap (λ (f : Form). is_of_source f.command) (sym same) ∙ reads) in absurd cc
+
+-- which status comes of a number
+Done-number : (c : Call) (status : Status) (journals : Option JournalsValue) → Ends c status journals → (form : Form) → c.form ≡ Some form → is_of_source form.command ≡ false → WritesWell c → (status ≡ Done) ⊎ (status ≡ NoMemory)
+Done-number c Done journals (read, played) form has number writes = inl refl
+Done-number c Refused journals (read, refused) form has number writes = absurd (reads_source-of_source c.form form refused.reads has number)
+Done-number c Usage journals (read, usage) form has number writes = absurd (let no : None ≡ Some form = sym usage.no_form ∙ has in cc)
+Done-number c ReadFault journals fault form has number writes = absurd (reads_source-of_source c.form form fault.reads has number)
+Done-number c WriteFault journals (read, inl played) form has number writes = absurd (omega (arith, played.report.fault, writes))
+Done-number c WriteFault journals (read, inr (inl refused)) form has number writes = absurd (omega (arith, refused.line.fault, writes))
+Done-number c WriteFault journals (read, inr (inr usage)) form has number writes = absurd (omega (arith, usage.line.fault, writes))
+Done-number c NoMemory journals memory form has number writes = inr refl
+
 -- which status comes of other words
 Usage-no_form : (c : Call) (status : Status) (journals : Option JournalsValue) → Ends c status journals → c.form ≡ None → WritesWell c → status ≡ Usage
 Usage-no_form c Done journals (read, played) none writes = absurd (let no : None ≡ Some played.form = sym none ∙ played.has_form in cc)
@@ -119,4 +133,4 @@ Usage-no_form c NoMemory journals (read, memory) none writes = absurd (let no : 
 
 -- the status is the one that is due
 pub IsComplete-ends : (c : Call) (status : Status) (journals : Option JournalsValue) → Ends c status journals → IsComplete c status
-IsComplete-ends c status journals ends = record { by_bytes = IsDue-ends c status journals ends; by_words = Usage-no_form c status journals ends }
+IsComplete-ends c status journals ends = record { by_bytes = IsDue-ends c status journals ends; by_number = Done-number c status journals ends; by_words = Usage-no_form c status journals ends }

@@ -1,5 +1,5 @@
 -- What was read of a source, against what it had left.
-use Rattle.std.proofs.Common.{◌≡◌, ℕ, ◌+◌, ◌<◌, ◌≤◌, List, ◌++◌, length, Option, Some, None, Result, Err, refl, sym, ap, ◌∙◌, arith, inl, inr}
+use Rattle.std.proofs.Common.{◌≡◌, ℕ, ◌+◌, ◌<◌, ◌≤◌, List, ◌++◌, length, Option, Some, None, Result, Ok, Err, refl, sym, ap, ◌∙◌, arith, inl, inr}
 use Rattle.std.specs.Io.KnownBytes.{Consumes, IsAtEnd}
 use Rattle.std.proofs.lemmas.Bool.{cases_lt, le-ltb, lt-ltb}
 use Rattle.std.proofs.lemmas.List.{append-nil, length-take, take_all, take-append-le}
@@ -30,6 +30,10 @@ IsInput-at_end (Some xs) (Some ys) bytes consumed end fits =
     let all : xs ≡ bytes = consumed ∙ (ap (λ rest. bytes ++ rest) end ∙ append-nil bytes) in
     sym (ap first_bytes all ∙ first_bytes-all bytes fits)
 
+-- all that a text is, where it is no longer than a script may be
+pub IsInput-short : (text : List ℕ) → length text ≤ MOST_SCRIPT_BYTES → IsInput (Some text) text
+IsInput-short text short = sym (first_bytes-all text (omega (arith, short)))
+
 -- more was read than a script may have
 pub IsInput-full : (left now : Option (List ℕ)) (bytes : List ℕ) → Consumes left now bytes → length bytes ≡ 67108865 → IsInput left bytes
 IsInput-full None now bytes consumed full = tt
@@ -40,6 +44,11 @@ IsInput-full (Some xs) (Some ys) bytes consumed full = sym (ap first_bytes consu
 pub meaning-too_large : (bytes : List ℕ) → MOST_SCRIPT_BYTES < length bytes → meaning bytes ≡ Err TooLarge
 unfolding meaning
 meaning-too_large bytes more = rw (lt-ltb MOST_SCRIPT_BYTES (length bytes) more) refl
+
+-- bytes that are a script
+pub meaning-script : (bytes : List ℕ) (script : ScriptValue) → length bytes ≤ MOST_SCRIPT_BYTES → script_of bytes ≡ Ok script → meaning bytes ≡ Ok script
+unfolding meaning
+meaning-script bytes script few good = rw (le-ltb MOST_SCRIPT_BYTES (length bytes) few, good) refl
 
 -- bytes that are no script
 pub meaning-bad_line : (bytes : List ℕ) (fault : ScriptFault) → length bytes ≤ MOST_SCRIPT_BYTES → script_of bytes ≡ Err fault → meaning bytes ≡ Err (BadLine fault)

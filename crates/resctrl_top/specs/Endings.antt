@@ -1,18 +1,19 @@
 -- What each status of the top call says.
-use Rattle.std.specs.Prelude.{◌≡◌, ℕ, ◌<◌, ◌⊎◌, true, List, [], Option, Some, None, Result, Ok, Err}
+use Rattle.std.specs.Prelude.{◌≡◌, ℕ, ◌<◌, ◌⊎◌, false, true, List, Option, Some, None, Result, Ok, Err}
 use Rattle.resctrl_top.specs.declared.ended.Status.{Status}
 use Rattle.resctrl_top.specs.declared.ended.Status.TheVariants.{Done, Refused, Usage, ReadFault, WriteFault, NoMemory}
 use Rattle.resctrl_top.specs.declared.form.Form.{Form}
-use Rattle.resctrl_top.specs.Forms.{input_of, reads_source, usage_line}
+use Rattle.resctrl_top.specs.Forms.{input_of, is_of_source, reads_source, usage_line}
 use Rattle.resctrl_top.specs.Isolation.{HoldsRegions, IsolatesGroups}
 use Rattle.resctrl_top.specs.Meaning.{meaning, refusal_line}
+use Rattle.resctrl_top.specs.Outputs.{IsOutput}
 use Rattle.resctrl_top.specs.Outside.{IsToTheEnd, Reading, TakesAll, TakesNone, TakesSome, Writing}
 use Rattle.resctrl_top.specs.declared.refusal.Refusal.{Refusal}
-use Rattle.report_text.specs.Reporting.{report_of}
 use Rattle.run_law.specs.Runs.{IsRun}
 use Rattle.run_law.specs.declared.flags.Flags.{Flags}
 use Rattle.run_law.specs.Journals.{JournalsValue}
 use Rattle.script_ops.specs.Values.{ScriptValue}
+use Rattle.step_world.specs.Play.{IsPlay}
 
 -- a call as it is seen from outside: the form that its words are, what became of its source, and what of its sink
 pub record Call : Type 0 where
@@ -31,8 +32,15 @@ ReadsWell c = c.source.faults_now ≡ c.source.faults
 abbrev pub WritesWell : Call → Type 0
 WritesWell c = c.sink.faults_now ≡ c.sink.faults
 
--- The bytes that the form plays are a script that can be played, the journals are a run of it, which isolates groups and holds
--- regions, and the sink took this of their report.
+-- What is promised of the journals of a script that was played: they are a run of it, that of its play by its order lines, which
+-- isolates groups and holds regions.
+pub record IsPromised (script : ScriptValue) (run : JournalsValue) : Type 0 where
+  pub is_run : IsRun script run
+  pub is_play : IsPlay script run
+  pub isolates : IsolatesGroups script run
+  pub holds : HoldsRegions script run
+
+-- The bytes that the form plays are a script, the journals are those of its play, and the sink took this of their report.
 pub record IsPlayed (c : Call) (journals : Option JournalsValue) (Takes : Writing → List ℕ → Type 0) : Type 0 where
   pub form : Form
   pub bytes : List ℕ
@@ -42,17 +50,18 @@ pub record IsPlayed (c : Call) (journals : Option JournalsValue) (Takes : Writin
   pub to_the_end : IsToTheEnd (input_of form c.source.left) bytes
   pub is_script : meaning bytes ≡ Ok script
   pub has_run : journals ≡ Some run
-  pub is_run : IsRun script run
-  pub isolates : IsolatesGroups script run
-  pub holds : HoldsRegions script run
-  pub report : Takes c.sink (report_of script run form.flags [])
+  pub promised : IsPromised script run
+  pub text : List ℕ
+  pub output : IsOutput script run form.flags text
+  pub report : Takes c.sink text
 
--- The bytes that the form plays cannot be played, there are no journals, and the sink took this of the line of the refusal.
+-- The bytes that the source had are no script, there are no journals, and the sink took this of the line of the refusal.
 pub record IsRefused (c : Call) (journals : Option JournalsValue) (Takes : Writing → List ℕ → Type 0) : Type 0 where
   pub form : Form
   pub bytes : List ℕ
   pub refusal : Refusal
   pub has_form : c.form ≡ Some form
+  pub reads : reads_source c.form ≡ true
   pub to_the_end : IsToTheEnd (input_of form c.source.left) bytes
   pub no_script : meaning bytes ≡ Err refusal
   pub no_run : journals ≡ None
@@ -87,15 +96,16 @@ Ends c ReadFault journals = IsReadFault c journals
 Ends c WriteFault journals = ReadsWell c × (IsPlayed c journals TakesSome ⊎ (IsRefused c journals TakesSome ⊎ IsUsage c journals TakesSome))
 Ends c NoMemory journals = ReadsWell c × IsNoMemory c journals
 
--- the status that is due to a script that can be played, or to other bytes, unless memory is not found
+-- the status that is due to a script, or to other bytes, unless memory is not found
 abbrev pub IsDue : Result ScriptValue Refusal → Status → Type 0
 IsDue (Ok script) status = (status ≡ Done) ⊎ (status ≡ NoMemory)
 IsDue (Err refusal) status = (status ≡ Refused) ⊎ (status ≡ NoMemory)
 
--- Which status comes where nothing fails: of words that are a form, the one that is due to the bytes that it plays; of others,
--- `Usage`, whatever becomes of the source.
+-- Which status comes where nothing fails: of words that are a form, the one that is due to the bytes that it plays; of a form that
+-- reads no source, `Done` unless memory is not found; of other words `Usage`, whatever becomes of the source.
 pub record IsComplete (c : Call) (status : Status) : Type 0 where
   pub by_bytes : (form : Form) (bytes : List ℕ) → c.form ≡ Some form → input_of form c.source.left ≡ Some bytes → ReadsWell c → WritesWell c → IsDue (meaning bytes) status
+  pub by_number : (form : Form) → c.form ≡ Some form → is_of_source form.command ≡ false → WritesWell c → (status ≡ Done) ⊎ (status ≡ NoMemory)
   pub by_words : c.form ≡ None → WritesWell c → status ≡ Usage
 
 -- ---- the parts of a call
@@ -111,7 +121,7 @@ SaysNothing sink status journals = (journals ≡ None) × (status ≡ NoMemory) 
 -- the script was played, and the sink took the report, or it failed and took a beginning of it
 pub record Reports (script : ScriptValue) (flags : Flags) (sink : Writing) (status : Status) (journals : Option JournalsValue) : Type 0 where
   pub run : JournalsValue
-  pub is_run : IsRun script run
-  pub isolates : IsolatesGroups script run
-  pub holds : HoldsRegions script run
-  pub report : Says Done (Some run) (report_of script run flags []) sink status journals
+  pub promised : IsPromised script run
+  pub text : List ℕ
+  pub output : IsOutput script run flags text
+  pub report : Says Done (Some run) text sink status journals

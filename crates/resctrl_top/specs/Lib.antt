@@ -3,4 +3,5 @@ pub mod Endings
 pub mod Forms
 pub mod Isolation
 pub mod Meaning
+pub mod Outputs
 pub mod Outside

@@ -1,26 +1,24 @@
--- What the bytes of an input mean: a script that can be played, or why there is none.
+-- What the bytes of an input mean: a script, or why they are none.
 use Rattle.std.specs.Prelude.{◌≡◌, ℕ, nat_lt, if◌then◌else◌, List, [], ◌∷◌, ◌++◌, length, codes, decimal, Result, Ok, Err}
 use Rattle.resctrl_top.specs.declared.input.InputError.{InputError}
 use Rattle.resctrl_top.specs.declared.input.InputError.TheVariants as inputs
 use Rattle.resctrl_top.specs.declared.refusal.Refusal.{Refusal}
-use Rattle.resctrl_top.specs.declared.refusal.Refusal.TheVariants.{BadLine, NotBuilt, TooLarge}
+use Rattle.resctrl_top.specs.declared.refusal.Refusal.TheVariants.{BadLine, TooLarge}
 use Rattle.script_ops.specs.declared.limits.TheConstants.{MOST_SCRIPT_BYTES}
 use Rattle.script_text.specs.Reading.{script_of}
 use Rattle.script_ops.specs.Values.{ScriptValue}
 use Rattle.script_text.specs.declared.fault.LineFault.{LineFault}
 use Rattle.script_text.specs.declared.fault.LineFault.TheVariants as faults
 use Rattle.script_text.specs.declared.fault.ScriptFault.{ScriptFault}
-use Rattle.step_world.specs.Playable.{is_playable}
 
--- a script that can be played; of one that cannot, and of bytes that are none, why
-abbrev pub played : Result ScriptValue ScriptFault → Result ScriptValue Refusal
-played (Ok script) = if is_playable script then Ok script else Err NotBuilt
-played (Err fault) = Err (BadLine fault)
+-- a script, or its first bad line as the refusal
+abbrev pub or_bad_line : Result ScriptValue ScriptFault → Result ScriptValue Refusal
+or_bad_line (Ok script) = Ok script
+or_bad_line (Err fault) = Err (BadLine fault)
 
--- What the bytes to the end mean. Too many bytes are refused before a line is looked at, and a script that holds something
--- that is not built yet only where every line is good.
+-- What the bytes to the end mean. Too many bytes are refused before a line is looked at.
 unfoldable pub meaning : List ℕ → Result ScriptValue Refusal
-meaning bytes = if nat_lt MOST_SCRIPT_BYTES (length bytes) then Err TooLarge else played (script_of bytes)
+meaning bytes = if nat_lt MOST_SCRIPT_BYTES (length bytes) then Err TooLarge else or_bad_line (script_of bytes)
 
 -- ---- the line of a refusal: `line L: WHAT`, where line 0 stands for the whole
 
@@ -40,12 +38,10 @@ fault_text faults.TooLarge = codes "script too large"
 abbrev pub line_number : Refusal → ℕ
 line_number (BadLine fault) = fault.line
 line_number TooLarge = 0
-line_number NotBuilt = 0
 
 abbrev pub refusal_text : Refusal → List ℕ
 refusal_text (BadLine fault) = fault_text fault.what
 refusal_text TooLarge = codes "script too large"
-refusal_text NotBuilt = codes "not built yet"
 
 abbrev pub refusal_line : Refusal → List ℕ
 refusal_line refusal = codes "line " ++ decimal (line_number refusal) ++ codes ": " ++ refusal_text refusal ++ 10 ∷ []

@@ -74,6 +74,13 @@ pub record IsMeant (left : Option (List ℕ)) (answer : Result ScriptValue Refus
   pub to_the_end : IsToTheEnd left bytes
   pub meant : meaning bytes ≡ answer
 
+-- An answer that a source has to do with: it failed, or what it gave is no script. The generator's text never is.
+abbrev pub IsOfSource : Result ScriptValue InputError → Type 0
+IsOfSource (Ok script) = ⊥
+IsOfSource (Err (Bad refusal)) = Unit {0}
+IsOfSource (Err Failed) = Unit {0}
+IsOfSource (Err NoMemory) = ⊥
+
 -- What reading an input and its script answers: a script, a refusal, a failure of the source, or that memory was not found. The
 -- numbers say how often the source had failed and has failed.
 abbrev pub HasRead : Option (List ℕ) → ℕ → ℕ → Result ScriptValue InputError → Type 0

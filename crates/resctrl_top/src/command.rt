@@ -5,4 +5,6 @@
 pub enum Command {
     /// `step`: plays the script that the source holds, one step at a time.
     Step,
+    /// `gen N`: plays the script that the generator makes of the number, 1 to `MOST_THREAD_ACCESSES`. The source is not called.
+    Gen(u32),
 }

@@ -7,7 +7,7 @@ use run_law::Journals;
 /// How a call ended. The number of each is the program's exit status.
 #[derive(Clone, Copy, Debug, PartialEq, Eq)]
 pub enum Status {
-    /// The script was read to its end and played, and the sink took its report and holds none of it back.
+    /// The script was read to its end or generated, and played, and the sink took its report and holds none of it back.
     Done,
     /// The bytes are no script; the sink took the line that says so, and holds none of it back.
     Refused,

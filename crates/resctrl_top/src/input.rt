@@ -1,10 +1,10 @@
 //! Reads a source to its end.
 ghost use Rattle.std.specs.Prelude.{◌≡◌, ◌≢◌, ◌+◌, ◌-◌, ◌<◌, ◌≤◌, ◌^◌, List, ℕ, length, true, false, Some, IfOk, Option, Err, Ok, vec_len};
 ghost use Rattle.std.specs.Io.KnownBytes.{Consumes, IsAtEnd};
-ghost use Rattle.resctrl_top.specs.Forms.{input_of as input_in, reads_source};
-ghost use Rattle.resctrl_top.specs.Outside.{HasRead, IsInput};
-ghost use Rattle.step_world.specs.Playable.{is_playable as playable_script};
-ghost use Rattle.resctrl_top.specs.Meaning.{MeansAs, meaning, played};
+ghost use Rattle.resctrl_top.specs.Forms.{IsInRange, input_of as input_in, reads_source};
+ghost use Rattle.resctrl_top.specs.Outside.{HasRead, IsInput, IsOfSource};
+ghost use Rattle.resctrl_top.specs.Meaning.{MeansAs, meaning};
+ghost use Rattle.trace_gen.specs.Trace.{trace_text};
 
 use crate::command::Command;
 use crate::form::Form;
@@ -14,7 +14,8 @@ use rc_stream::{Failed, Source};
 use script_ops::{MOST_SCRIPT_BYTES, Script};
 use script_text::{ScriptError, read_script};
 use std::alloc::Global;
-use step_world::is_playable;
+use trace_gen::theorems::traces_are_scripts;
+use trace_gen::{MOST_THREAD_ACCESSES, make};
 
 /// Why no script was read.
 #[derive(Clone, Copy, Debug, PartialEq, Eq)]
@@ -23,7 +24,7 @@ pub enum InputError {
     Failed,
     /// Memory was not found.
     NoMemory,
-    /// The bytes cannot be played.
+    /// The bytes are no script.
     Bad(Refusal),
 }
 
@@ -94,43 +95,42 @@ pub(crate) fn read_all<S: Source>(alloc: Global, source: &mut S) -> Result<Vec<u
 }
 
 // The script that bytes are.
-#[tactic(auto, unfolding(crate::specs::Meaning::meaning))]
 fn script_in(alloc: Global, bytes: &[u8]) -> Result<Script, InputError>
-    ensures meant { MeansAs result (meaning bytes.now) }
-    ensures playable { IfOk result (λ script. playable_script script ≡ true) }
+    ensures { MeansAs result (meaning bytes.now) }
 {
     if bytes.len() > MOST_SCRIPT_BYTES {
         return Err(InputError::Bad(Refusal::TooLarge));
     }
     match read_script(alloc, bytes) {
-        Ok(script) => if_playable(script),
+        Ok(script) => Ok(script),
         Err(ScriptError::Bad(fault)) => Err(InputError::Bad(Refusal::BadLine(fault))),
         Err(ScriptError::NoMemory) => Err(InputError::NoMemory),
-    }
-}
-
-// A script that can be played.
-fn if_playable(script: Script) -> Result<Script, InputError>
-    ensures meant { MeansAs result (played (Ok script)) }
-    ensures playable { IfOk result (λ script. playable_script script ≡ true) }
-{
-    if is_playable(&script) {
-        Ok(script)
-    } else {
-        Err(InputError::Bad(Refusal::NotBuilt))
     }
 }
 
 /// Reads a source to its end and the script there.
 pub fn read_input<S: Source>(alloc: Global, source: &mut S) -> Result<Script, InputError>
     requires { S.faults source.old < 2 ^ 64 - 1 }
-    ensures read { HasRead (S.left source.old) (S.faults source.old) (S.faults source.new) result }
-    ensures playable { IfOk result (λ script. playable_script script ≡ true) }
+    ensures { HasRead (S.left source.old) (S.faults source.old) (S.faults source.new) result }
 {
     match read_all(alloc, source) {
         Ok(bytes) => script_in(alloc, &bytes),
         Err(ReadError::Failed) => Err(InputError::Failed),
         Err(ReadError::NoMemory) => Err(InputError::NoMemory),
+    }
+}
+
+// The script that the generator makes of a number.
+fn generate(alloc: Global, n: u32) -> Result<Script, InputError>
+    requires low { 1 ≤ n }
+    requires high { n ≤ MOST_THREAD_ACCESSES }
+    ensures read { (faults : ℕ) → HasRead (Some (trace_text n)) faults faults result }
+    ensures good { IsOfSource result → ⊥ }
+{
+    traces_are_scripts();
+    match make(alloc, n) {
+        Ok(text) => script_in(alloc, &text),
+        Err(NoMemory) => Err(InputError::NoMemory),
     }
 }
 
@@ -140,13 +140,14 @@ pub(crate) fn input_of<S: Source>(
     form: Form,
     source: &mut S,
 ) -> Result<Script, InputError>
-    requires { S.faults source.old < 2 ^ 64 - 1 }
+    requires faults { S.faults source.old < 2 ^ 64 - 1 }
+    requires range { IsInRange form.command }
     ensures read { HasRead (input_in form (S.left source.old)) (S.faults source.old) (S.faults source.new) result }
-    ensures playable { IfOk result (λ script. playable_script script ≡ true) }
-    ensures failed { result ≡ Err InputError.Failed → reads_source (Some form) ≡ true }
+    ensures of_source { IsOfSource result → reads_source (Some form) ≡ true }
     ensures unread { reads_source (Some form) ≡ false → source.new ≡ source.old }
 {
     match form.command {
         Command::Step => read_input(alloc, source),
+        Command::Gen(n) => generate(alloc, n),
     }
 }

@@ -10,7 +10,7 @@ use script_text::read_script;
 use std::alloc::Global;
 use std::process::Abort;
 use std::test::Fail;
-use step_world::{is_playable, play};
+use step_world::play;
 
 /// A script, and what happened in it.
 pub(crate) fn played(rt: &impl Abort, alloc: Global, text: &str) -> Result<(Script, Journals), Fail>
@@ -18,7 +18,6 @@ pub(crate) fn played(rt: &impl Abort, alloc: Global, text: &str) -> Result<(Scri
 {
     assert!(rt; text.len() <= 1 << 27);
     let script = read_script(alloc, text.as_bytes())?;
-    assert!(rt; is_playable(&script));
     let journals = play(alloc, &script)?;
     Ok((script, journals))
 }

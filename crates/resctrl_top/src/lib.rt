@@ -1,4 +1,4 @@
-//! The top call: reads a script, plays it and writes its report.
+//! The top call: reads or makes a script, plays it and writes its report.
 #![tactic(auto)]
 
 pub mod command;
@@ -7,6 +7,7 @@ pub mod form;
 pub mod input;
 mod output;
 pub mod refusal;
+mod report;
 pub mod top;
 pub mod words;
 
@@ -19,9 +20,15 @@ pub use top::top_step;
 pub use words::{USAGE, form_of};
 
 #[cfg(test)]
+mod answer_tests;
+#[cfg(test)]
 mod binding_tests;
 #[cfg(test)]
-mod built_tests;
+mod ending_tests;
+#[cfg(test)]
+mod flag_tests;
+#[cfg(test)]
+mod form_tests;
 #[cfg(test)]
 mod info_tests;
 #[cfg(test)]

@@ -1,18 +1,16 @@
-//! Why the bytes of an input cannot be played.
+//! Why the bytes of an input are no script.
 ghost use Rattle.std.specs.Prelude.{◌≡◌, ◌≤◌, length};
 ghost use Rattle.resctrl_top.specs.Meaning.{fault_text, line_number, refusal_text};
 
 use script_text::{LineFault, ScriptFault};
 
-/// Why the bytes of an input cannot be played (this project's profile).
+/// Why the bytes of an input are no script (this project's profile).
 #[derive(Clone, Copy, Debug, PartialEq, Eq)]
 pub enum Refusal {
-    /// They are no script: the first bad line, and its first fault.
+    /// The first bad line, and its first fault.
     BadLine(ScriptFault),
     /// They are more than `MOST_SCRIPT_BYTES`.
     TooLarge,
-    /// The script holds something that is not built yet.
-    NotBuilt,
 }
 
 impl Refusal {
@@ -22,7 +20,7 @@ impl Refusal {
     {
         match self {
             Refusal::BadLine(fault) => fault.line,
-            Refusal::TooLarge | Refusal::NotBuilt => 0,
+            Refusal::TooLarge => 0,
         }
     }
 
@@ -34,7 +32,6 @@ impl Refusal {
         match self {
             Refusal::BadLine(fault) => text_of(fault.what),
             Refusal::TooLarge => "script too large",
-            Refusal::NotBuilt => "not built yet",
         }
     }
 }

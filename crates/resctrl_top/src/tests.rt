@@ -1,32 +1,42 @@
-//! Scripts with their reports, bad input, and streams that fail. The reports were worked out by hand.
-ghost use Rattle.std.specs.Prelude.{◌<◌};
+//! Scripts with their reports, which were worked out by hand.
 
-use crate::{Command, Form, Status, USAGE, form_of, top_step};
+use crate::{Status, top_step};
 use rc_stream::{MemSink, MemSource};
-use run_law::Flags;
-use std::alloc::{AllocError, Global};
+use std::alloc::Global;
 use std::test::Fail;
 
-const FOUR_ACCESSES: &[u8] =
+pub(crate) const FOUR_ACCESSES: &[u8] =
     b"machine sets=1 ways=4\ntasks 1\nphase\nthread\naccess 1 0 0\naccess 1 0 64\naccess 1 0 128\naccess 1 0 0\n";
 
-const THEIR_REPORT: &[u8] =
+pub(crate) const THEIR_REPORT: &[u8] =
     b"group 0 /: accesses 4 hits 1 misses 3\ndomain 0: valid 3 of 4, rmid 0 3\ntotal: commands 0 refused 0 accesses 4 hits 1 misses 3\n";
 
-// The one word of the form.
-fn step(alloc: Global) -> Result<Vec<String>, AllocError> {
-    let word = String::from_str(alloc, "step")?;
-    Ok(vec![in alloc; word]?)
+/// These words.
+pub(crate) fn words(alloc: Global, texts: &[&str]) -> Result<Vec<String>, Fail> {
+    let mut words = Vec::new(alloc);
+    for text in texts {
+        words.push(String::from_str(alloc, text)?)?;
+    }
+    Ok(words)
 }
 
-// The status of a script and what it writes.
-pub(crate) fn told(alloc: Global, script: &[u8]) -> Result<(Status, Vec<u8>), Fail> {
+/// The status of these words and a script, and what is written.
+pub(crate) fn told_by(
+    alloc: Global,
+    texts: &[&str],
+    script: &[u8],
+) -> Result<(Status, Vec<u8>), Fail> {
+    let words = words(alloc, texts)?;
     let mut source = MemSource::create(alloc, script, 1 << 20, &[])?;
     let mut sink = MemSink::create(alloc, 4096, 4096, &[])?;
-    let words = step(alloc)?;
     let ended = top_step(alloc, &words, &mut source, &mut sink);
     let taken = Vec::from_slice(alloc, sink.taken())?;
     Ok((ended.status, taken))
+}
+
+/// The status of a script and what it writes.
+pub(crate) fn told(alloc: Global, script: &[u8]) -> Result<(Status, Vec<u8>), Fail> {
+    told_by(alloc, &["step"], script)
 }
 
 #[test]
@@ -105,145 +115,6 @@ fn groups_have_their_reports(rt: HostRuntime) -> Result<(), Fail> {
         let (status, taken) = told(rt.alloc(), script)?;
         assert_eq!(rt; status, Status::Done);
         assert_eq!(rt; taken.as_slice(), report);
-    }
-    Ok(())
-}
-
-#[test]
-fn bad_scripts_are_refused(rt: HostRuntime) -> Result<(), Fail> {
-    let rows: [(&[u8], &[u8]); 17] = [
-        (b"", b"line 1: no machine line\n"),
-        (b"\n# tasks\ntasks 1\n", b"line 3: no machine line\n"),
-        (
-            b"machine sets=1 ways=4\ntasks 1\nphase\nthread\nswee",
-            b"line 5: unknown word\n",
-        ),
-        (
-            b"machine sets=1 ways=4\ntasks 1\nphase\nthread\nsweep 1 0 0 3",
-            b"line 5: bad argument\n",
-        ),
-        (
-            b"machine sets=1 ways=33\ntasks 1\nphase\nthread\n",
-            b"line 1: bad machine line\n",
-        ),
-        (
-            b"machine sets=1 ways=4\ntasks 1\nphase\nthread\nsweep 1 0 0 3 64\naccess 2 0 0\n",
-            b"line 6: unknown task\n",
-        ),
-        (b"machine\ntasks 1\n#\x7f\n", b"line 3: bad byte\n"),
-        (b"machine\r\r\n", b"line 1: bad byte\n"),
-        (b"machine\nthread\n", b"line 2: out of place\n"),
-        (b"machine\ntasks 1-0\n", b"line 2: bad tasks line\n"),
-        (b"machine\nphase\nthread\nmkdir a\n", b"line 4: bad path\n"),
-        (
-            b"machine\nphase\nthread\nwrite /schemata a\\b\n",
-            b"line 4: bad escape\n",
-        ),
-        (
-            b"machine sets=1 ways=4\ntasks 1\nphase\nthread\nsweep 1 0 0 4000000 0\naccess 1 0 0\n",
-            b"line 6: script too large\n",
-        ),
-        (b"machine slices=2\n", b"line 1: bad machine line\n"),
-        (b"machine sparse=1\n", b"line 1: bad machine line\n"),
-        (
-            b"machine sets=1 ways=4\ntasks 1\nphase\nthread\naccess 1 0 281474976710656\n",
-            b"line 5: bad argument\n",
-        ),
-        (
-            b"machine sets=1 ways=4\ntasks 1\nphase\nthread\nmkdir /a\naccess 1 1 0\n",
-            b"line 6: bad argument\n",
-        ),
-    ];
-    for (script, line) in rows {
-        let (status, taken) = told(rt.alloc(), script)?;
-        assert_eq!(rt; status, Status::Refused);
-        assert_eq!(rt; taken.as_slice(), line);
-    }
-    Ok(())
-}
-
-#[test]
-fn scripts_have_their_limits(rt: HostRuntime) -> Result<(), Fail> {
-    let most = vec![in rt.alloc(); b'#'; 67_108_864]?;
-    let (status, taken) = told(rt.alloc(), &most)?;
-    assert_eq!(rt; status, Status::Refused);
-    assert_eq!(rt; taken.as_slice(), b"line 2: no machine line\n".as_slice());
-    let long = vec![in rt.alloc(); b'#'; 67_108_865]?;
-    let (status, taken) = told(rt.alloc(), &long)?;
-    assert_eq!(rt; status, Status::Refused);
-    assert_eq!(rt; taken.as_slice(), b"line 0: script too large\n".as_slice());
-    Ok(())
-}
-
-#[test]
-fn failing_streams_end_the_call(rt: HostRuntime) -> Result<(), Fail> {
-    let alloc = rt.alloc();
-    let words = step(alloc)?;
-    let mut source = MemSource::create(alloc, FOUR_ACCESSES, 8, &[2])?;
-    let mut sink = MemSink::create(alloc, 4096, 16, &[])?;
-    let ended = top_step(alloc, &words, &mut source, &mut sink);
-    assert_eq!(rt; ended.status, Status::ReadFault);
-    assert_eq!(rt; ended.journals.is_some(), false);
-    assert_eq!(rt; sink.taken(), b"".as_slice());
-    let mut source = MemSource::create(alloc, FOUR_ACCESSES, 8, &[])?;
-    let mut sink = MemSink::create(alloc, 4096, 16, &[3])?;
-    let ended = top_step(alloc, &words, &mut source, &mut sink);
-    assert_eq!(rt; ended.status, Status::WriteFault);
-    assert_eq!(rt; ended.journals.is_some(), true);
-    assert_eq!(rt;
-        sink.taken(),
-        b"group 0 /: accesses 4 hits 1 mis".as_slice()
-    );
-    Ok(())
-}
-
-#[test]
-fn a_report_is_handed_on(rt: HostRuntime) -> Result<(), Fail> {
-    let alloc = rt.alloc();
-    let words = step(alloc)?;
-    let mut source = MemSource::create(alloc, FOUR_ACCESSES, 8, &[])?;
-    let mut sink = MemSink::create(alloc, 4096, 4096, &[])?;
-    let ended = top_step(alloc, &words, &mut source, &mut sink);
-    assert_eq!(rt; ended.status, Status::Done);
-    assert_eq!(rt; sink.is_held(), false);
-    let mut source = MemSource::create(alloc, FOUR_ACCESSES, 8, &[])?;
-    let mut sink = MemSink::create(alloc, 4096, 4096, &[2])?;
-    let ended = top_step(alloc, &words, &mut source, &mut sink);
-    assert_eq!(rt; ended.status, Status::WriteFault);
-    assert_eq!(rt; sink.taken(), THEIR_REPORT);
-    assert_eq!(rt; sink.is_held(), true);
-    Ok(())
-}
-
-// The status of other words, and what they write.
-fn told_words(alloc: Global, words: &[String]) -> Result<(Status, Vec<u8>), Fail> {
-    let mut source = MemSource::create(alloc, FOUR_ACCESSES, 8, &[1])?;
-    let mut sink = MemSink::create(alloc, 4096, 7, &[])?;
-    let ended = top_step(alloc, words, &mut source, &mut sink);
-    let taken = Vec::from_slice(alloc, sink.taken())?;
-    Ok((ended.status, taken))
-}
-
-#[test]
-fn other_words_get_the_usage_line(rt: HostRuntime) -> Result<(), Fail> {
-    let alloc = rt.alloc();
-    let plain = Form {
-        command: Command::Step,
-        flags: Flags::NONE,
-    };
-    assert_eq!(rt; form_of(&step(alloc)?), Some(plain));
-    let none = Vec::new(alloc);
-    let other = vec![in alloc; String::from_str(alloc, "stop")?]?;
-    let more = vec![in alloc;
-        String::from_str(alloc, "step")?,
-        String::from_str(alloc, "--quiet")?,
-    ]?;
-    let rows: [&[String]; 3] = [&none, &other, &more];
-    for words in rows {
-        assert_eq!(rt; form_of(words), None);
-        let (status, taken) = told_words(alloc, words)?;
-        assert_eq!(rt; status, Status::Usage);
-        assert_eq!(rt; taken.as_slice(), USAGE.as_bytes());
     }
     Ok(())
 }

@@ -1,19 +1,19 @@
 //! The top call.
-ghost use Rattle.std.specs.Prelude.{◌≡◌, ◌-◌, ◌<◌, ◌^◌, ◌⊎◌, false, true, IfOk};
-ghost use Rattle.resctrl_top.specs.Endings.{Ends, IsComplete, Reports, Says, SaysNothing, call_of};
-ghost use Rattle.resctrl_top.specs.Forms.{form_of as form_in, reads_source};
+ghost use Rattle.std.specs.Prelude.{◌≡◌, ◌-◌, ◌<◌, ◌^◌, ◌⊎◌, false, IfOk};
+ghost use Rattle.resctrl_top.specs.Endings.{Ends, IsComplete, IsPromised, Reports, Says, SaysNothing, call_of};
+ghost use Rattle.resctrl_top.specs.Forms.{IsInRange, form_of as form_in, reads_source};
 ghost use Rattle.resctrl_top.specs.Meaning.{refusal_line};
+ghost use Rattle.resctrl_top.specs.Outputs.{IsOutput};
 ghost use Rattle.resctrl_top.specs.Outside.{reading_of, writing_of};
-ghost use Rattle.run_law.specs.Ops.{EachCommand};
 ghost use Rattle.run_law.specs.Runs.{IsRun};
-ghost use Rattle.step_world.specs.Playable.{is_playable as playable_script};
-ghost use Rattle.tree_core.specs.Built.{IsBuilt};
+ghost use Rattle.step_world.specs.Play.{IsPlay};
 
 use crate::ended::{Ended, Status, with_journals, without_journals};
 use crate::form::Form;
 use crate::input::{InputError, input_of};
 use crate::output::write_all;
 use crate::refusal::Refusal;
+use crate::report::report;
 use crate::words::{form_of, usage};
 use num_text::push_dec;
 use rc_base::{NoMemory, TextBuf};
@@ -79,15 +79,15 @@ fn tell<K: Sink>(
     sink: &mut K,
 ) -> Ended
     requires faults { K.faults sink.old < 2 ^ 64 - 1 }
-    requires built { EachCommand IsBuilt script.now }
     requires run { IsRun script.now journals }
+    requires play { IsPlay script.now journals }
     ensures { Reports script.now flags (writing_of K.taken K.held K.faults sink.old sink.new) result.status result.journals ⊎ SaysNothing (writing_of K.taken K.held K.faults sink.old sink.new) result.status result.journals }
 {
     // What the laws of windows say of every run of a script.
     let _threads = script.threads();
     windows_are_isolated();
     regions_hold();
-    match report_text::text(alloc, script, &journals, flags, &[]) {
+    match report(alloc, script, &journals, flags) {
         Ok(text) => hand_over(sink, &text, journals),
         Err(NoMemory) => without_journals(Status::NoMemory),
     }
@@ -95,8 +95,7 @@ fn tell<K: Sink>(
 
 // Plays a script and writes its report.
 fn perform<K: Sink>(alloc: Global, script: &Script, flags: Flags, sink: &mut K) -> Ended
-    requires faults { K.faults sink.old < 2 ^ 64 - 1 }
-    requires playable { playable_script script.now ≡ true }
+    requires { K.faults sink.old < 2 ^ 64 - 1 }
     ensures { Reports script.now flags (writing_of K.taken K.held K.faults sink.old sink.new) result.status result.journals ⊎ SaysNothing (writing_of K.taken K.held K.faults sink.old sink.new) result.status result.journals }
 {
     match play(alloc, script) {
@@ -109,6 +108,7 @@ fn perform<K: Sink>(alloc: Global, script: &Script, flags: Flags, sink: &mut K) 
 fn obey<S: Source, K: Sink>(alloc: Global, form: Form, source: &mut S, sink: &mut K) -> Ended
     requires source { S.faults source.old < 2 ^ 64 - 1 }
     requires sink { K.faults sink.old < 2 ^ 64 - 1 }
+    requires range { IsInRange form.command }
     ensures ends { Ends (call_of (Some form) (reading_of S.left S.faults source.old source.new) (writing_of K.taken K.held K.faults sink.old sink.new)) result.status result.journals }
     ensures unread { reads_source (Some form) ≡ false → source.new ≡ source.old }
 {
@@ -120,8 +120,9 @@ fn obey<S: Source, K: Sink>(alloc: Global, form: Form, source: &mut S, sink: &mu
     }
 }
 
-/// Reads a script from the source, plays it, writes its report to the sink and flushes it. The words are those after the
-/// program's name; where they are no form, the sink gets the usage line and the source is not called.
+/// Plays a script, writes its report to the sink and flushes it. The words are those after the program's name: `step` plays the
+/// script that the source holds, `gen N` the one that the generator makes of the number, and the flags say what the report holds.
+/// Where the words are no form, the sink gets the usage line. Only `step` calls the source.
 ///
 /// What the answer says of the call is told by its status, which comes as `Ends` and `IsComplete` say: `Done` with the
 /// journals of the run, `Refused` with the first bad line, `ReadFault` and `WriteFault` only where the source or the sink

@@ -1,9 +1,13 @@
 pub mod Entries
+pub mod FoundLooks
+pub mod Growth
+pub mod Jobs
 pub mod Journals
 pub mod Looks
 pub mod Ops
 pub mod Order
 pub mod Owed
+pub mod Progress
 pub mod Runs
 pub mod Slices
 pub mod TreeHistory

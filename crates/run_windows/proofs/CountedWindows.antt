@@ -36,7 +36,7 @@ Ends-ends_window last e is = elim (cases_Bool (empties e.what)) [
 ]
 
 -- the domain of a slice by its number
-domain_in-slice_number : (domain slice slices : ℕ) → slice < slices → (domain * slices + slice) / slices ≡ domain
+pub domain_in-slice_number : (domain slice slices : ℕ) → slice < slices → (domain * slices + slice) / slices ≡ domain
 domain_in-slice_number domain slice slices lt = div-mul-add domain slices slice lt
 
 -- the window from a place up to the first entry that ends it

@@ -19,7 +19,7 @@ use Rattle.run_windows.proofs.Epochs.{At-same}
 use Rattle.run_windows.proofs.Owners.{IsSomeAnd-parts}
 
 -- a group has one mask in a domain
-mask-same : (s : State) (domain : ℕ) (group : Gid) (mask other : ℕ) → IsExclusive domain group mask s → IsExclusive domain group other s → mask ≡ other
+pub mask-same : (s : State) (domain : ℕ) (group : Gid) (mask other : ℕ) → IsExclusive domain group mask s → IsExclusive domain group other s → mask ≡ other
 mask-same s domain group mask other first second =
     let x = IsSomeAnd-parts (λ (g : Group). (has_mode Exclusive g ≡ true) × (mask_in domain g ≡ mask)) (group_of s group) first in
     let y = IsSomeAnd-parts (λ (g : Group). (has_mode Exclusive g ≡ true) × (mask_in domain g ≡ other)) (group_of s group) second in

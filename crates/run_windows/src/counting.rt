@@ -35,8 +35,8 @@ pub struct Place {
     pub last: u64,
 }
 
-// Whether this empties the slice.
-fn empties(what: What) -> bool
+/// Whether this empties the slice.
+pub(crate) fn empties(what: What) -> bool
     ensures { result ≡ empties what }
 {
     matches!(what, What::Flush | What::Lock { .. })

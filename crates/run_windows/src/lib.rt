@@ -2,9 +2,13 @@
 #![tactic(auto)]
 
 pub mod counting;
+pub mod listing;
+mod stay;
 pub mod theorems;
+mod timeline;
 
 pub use counting::{Place, count_window_at};
+pub use listing::windows;
 
 #[cfg(test)]
 mod tests;

@@ -1,7 +1,9 @@
-//! Where windows end.
+//! Where windows end, and how long groups stay exclusive.
 
 use crate::counting::window_len;
+use crate::stay::{Stay, extended};
 use cache_core::{SliceEntry, What};
+use rc_base::Gid;
 use std::test::Fail;
 
 // An entry of an epoch.
@@ -25,5 +27,26 @@ fn windows_end_at_a_flush_or_a_later_epoch(rt: HostRuntime) -> Result<(), Fail> 
     assert_eq!(rt; window_len(&entries, 3), 1);
     assert_eq!(rt; window_len(&entries, 4), 2);
     assert_eq!(rt; window_len(&[], 4), 0);
+    Ok(())
+}
+
+// A group that is exclusive on a mask up to an epoch.
+fn stay(gid: u32, mask: u32, last: u64) -> Stay {
+    Stay {
+        gid: Gid(gid),
+        mask,
+        last,
+    }
+}
+
+#[test]
+fn groups_last_while_their_masks_stay(rt: HostRuntime) -> Result<(), Fail> {
+    let now = [stay(1, 3, 4), stay(2, 4, 4), stay(5, 8, 4)];
+    let next = [stay(1, 3, 9), stay(2, 12, 9), stay(7, 8, 9)];
+    let stays = extended(rt.alloc(), &now, &next)?;
+    assert_eq!(rt;
+        stays.as_slice(),
+        [stay(1, 3, 9), stay(2, 4, 4), stay(5, 8, 4)].as_slice()
+    );
     Ok(())
 }

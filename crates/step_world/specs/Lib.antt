@@ -1,4 +1,14 @@
+pub mod Answers
 pub mod Caches
-pub mod Done
-pub mod Playable
-pub mod Playing
+pub mod Law
+pub mod LookLists
+pub mod Looked
+pub mod Machine
+pub mod Moments
+pub mod Openings
+pub mod Play
+pub mod Quotas
+pub mod Slices
+pub mod Turns
+pub mod Works
+pub mod Worlds

@@ -1,13 +1,29 @@
-//! Plays a script of one thread over all slices of its machine, op by op.
+//! Plays a script step by step: its tree, its slices and its threads.
 #![tactic(auto)]
 
-mod empty_slices;
-mod follow_ups;
-mod looks;
-pub mod playable;
-pub mod playback;
-mod player;
-mod slice;
+pub mod action;
+mod closing;
+mod commands;
+mod fresh;
+pub mod look_lists;
+mod opening;
+pub mod place;
+mod playback;
+mod quotas;
+mod rooms;
+mod run_phase;
+pub mod slice;
+mod step;
+mod steps;
+pub mod theorems;
+pub mod work;
+pub mod world;
 
-pub use playable::is_playable;
+pub use action::{Action, Stepped};
+pub use place::{Place, Thread};
 pub use playback::play;
+pub use theorems::each_schedule_is_a_run;
+pub use world::World;
+
+#[cfg(test)]
+mod tests;

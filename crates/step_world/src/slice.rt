@@ -1,13 +1,11 @@
 //! One slice while a script is played.
-ghost use Rattle.std.specs.Prelude.{◌≡◌, ◌+◌, ◌%◌, ◌^◌, ◌<◌, ◌≤◌, [], ◌∷◌, ◌++◌, IfOk, OnOk};
+ghost use Rattle.std.specs.Prelude.{◌≡◌, ◌+◌, ◌%◌, ◌^◌, ◌<◌, ◌≤◌, [], ◌∷◌, ◌++◌, length, IfOk};
 ghost use Rattle.cache_core.specs.History.{IsOwn};
-ghost use Rattle.cache_core.specs.Stands.{StandsFor, entry as entry_of};
+ghost use Rattle.cache_core.specs.Stands.{entry as entry_of};
 ghost use Rattle.cache_core.specs.declared.entry.What.TheVariants as whats;
 ghost use Rattle.machine.specs.Maps.{parameters_of};
-ghost use Rattle.tree_core.specs.Follows.{IsRaiseOrFlush};
 ghost use Rattle.machine.specs.Slices.{slice_number};
-ghost use Rattle.step_world.specs.Playing.{Continues, HasAccessed, HasLooked, IsFresh, IsReady};
-ghost use Rattle.run_law.specs.Owed.{what_of};
+ghost use Rattle.step_world.specs.Slices.{CanFollow, FollowsUp, CountsLines, TouchesLine, IsFresh};
 
 use cache_core::{Cache, SliceEntry, Touched, What};
 use machine::Machine;
@@ -16,28 +14,29 @@ use std::alloc::Global;
 use std::marker::Model;
 use tree_core::Follow;
 
-/// One slice while a script is played: its cache, and its entries so far.
+/// One slice while a script is played: its cache, its entries so far, and room for those to come.
 #[derive(Drop)]
-pub(crate) struct Slice {
+pub struct Slice {
     cache: Cache,
     entries: Vec<SliceEntry>,
 }
 
 impl Model for Slice {
-    ghost use Rattle.step_world.specs.Playing.{SliceValue};
+    ghost use Rattle.std.specs.Prelude.{vec_capacity};
+    ghost use Rattle.step_world.specs.Slices.{SliceValue};
 
     ghost Value = { SliceValue };
 
-    ghost view = { λ s. record { cache = s.cache; entries = s.entries.items } };
+    ghost view = { λ s. record { cache = s.cache; entries = s.entries.items; room = vec_capacity s.entries } };
 }
 
 // The entry of an access.
-fn access_entry(n: u32, tag: &Tag, line: u64, hit: bool, way: u8) -> SliceEntry
-    ensures { result ≡ entry_of 0 n tag.now.epoch (whats.Access tag.now.owner tag.now.rmid tag.now.mask line hit way) }
+fn access_entry(thread: u32, op: u32, tag: &Tag, line: u64, hit: bool, way: u8) -> SliceEntry
+    ensures { result ≡ entry_of thread op tag.now.epoch (whats.Access tag.now.owner tag.now.rmid tag.now.mask line hit way) }
 {
     SliceEntry {
-        thread: 0,
-        op: n,
+        thread,
+        op,
         epoch: tag.epoch,
         what: What::Access {
             owner: tag.owner,
@@ -51,83 +50,112 @@ fn access_entry(n: u32, tag: &Tag, line: u64, hit: bool, way: u8) -> SliceEntry
 }
 
 // The entry of a command.
-fn command_entry(n: u32, epoch: u64, what: What) -> SliceEntry
-    ensures { result ≡ entry_of 0 n epoch what }
+fn command_entry(thread: u32, op: u32, epoch: u64, what: What) -> SliceEntry
+    ensures { result ≡ entry_of thread op epoch what }
 {
     SliceEntry {
-        thread: 0,
-        op: n,
+        thread,
+        op,
         epoch,
         what,
     }
 }
 
 impl Slice {
-    /// This slice of the cache of a domain, empty.
+    /// This slice of the cache of a domain, empty, with room for so many entries.
     pub(crate) fn create(
         alloc: Global,
         m: &Machine,
         domain: u8,
         slice: u8,
+        room: u64,
     ) -> Result<Slice, NoMemory>
         requires domain { domain < m.now.domains }
         requires slice { slice < m.now.slices }
-        ensures { IfOk result (λ s. IsFresh (parameters_of m.now) (slice_number (parameters_of m.now) domain slice) s) }
+        ensures fresh { IfOk result (λ s. IsFresh (parameters_of m.now) (slice_number (parameters_of m.now) domain slice) s) }
+        ensures room { IfOk result (λ s. room ≤ s.room) }
     {
         let cache = Cache::create(alloc, m, domain, slice)?;
-        Ok(Slice {
-            cache,
-            entries: Vec::new(alloc),
-        })
+        let entries = Vec::with_capacity(alloc, room as usize)?;
+        Ok(Slice { cache, entries })
     }
 
-    /// Makes the access of op n, and notes it.
-    pub(crate) fn access(&mut self, n: u32, tag: &Tag, line: u64) -> Result<(), NoMemory>
+    /// Makes the access of an op, and notes it where its tag is not stale.
+    pub(crate) fn access(&mut self, thread: u32, op: u32, tag: &Tag, line: u64) -> Touched
         requires own { IsOwn self.old.cache.shape (line % self.old.cache.shape.sets) }
         requires mask { 0 < tag.now.mask % 2 ^ self.old.cache.shape.ways }
         requires rmid { tag.now.rmid < self.old.cache.rmids }
-        requires ready { IsReady tag.now.epoch 1 self.old }
-        ensures { OnOk result (HasAccessed n tag.now line self.old self.new) }
+        requires clock { self.old.cache.clock < 2 ^ 32 }
+        requires room { length self.old.entries < self.old.room }
+        ensures { TouchesLine thread op tag.now line self.old self.new result }
     {
-        let entry = match self.cache.access(tag, line) {
-            Touched::Hit { way } => access_entry(n, tag, line, true, way),
-            Touched::Filled { way } => access_entry(n, tag, line, false, way),
-            Touched::Stale { .. } => unreachable!(),
-        };
-        self.entries.push(entry)?;
-        Ok(())
+        let touched = self.cache.access(tag, line);
+        match touched {
+            Touched::Hit { way } => {
+                self.entries
+                    .push_reserved(access_entry(thread, op, tag, line, true, way));
+            }
+            Touched::Filled { way } => {
+                self.entries
+                    .push_reserved(access_entry(thread, op, tag, line, false, way));
+            }
+            Touched::Stale { .. } => {}
+        }
+        touched
     }
 
-    /// Counts the lines of an RMID for the command of op n, and notes the look.
-    pub(crate) fn look(&mut self, n: u32, epoch: u64, rmid: u16) -> Result<u64, NoMemory>
-        requires { rmid < self.old.cache.rmids }
-        ensures { IfOk result (λ lines. HasLooked n epoch rmid lines self.old self.new) }
+    /// Counts the lines of an RMID for a command, and notes the look.
+    pub(crate) fn look(&mut self, thread: u32, op: u32, epoch: u64, rmid: u16) -> u64
+        requires rmid { rmid < self.old.cache.rmids }
+        requires room { length self.old.entries < self.old.room }
+        ensures { CountsLines thread op epoch rmid result self.old self.new }
     {
         let lines = self.cache.look(rmid);
-        let look = command_entry(n, epoch, What::Look { rmid, lines });
-        self.entries.push(look)?;
-        Ok(lines)
+        self.entries.push_reserved(command_entry(thread, op, epoch, What::Look { rmid, lines }));
+        lines
     }
 
-    /// Does what follows the command of op n, a raise or a flush, and notes it.
-    pub(crate) fn follow(&mut self, n: u32, epoch: u64, follow: Follow) -> Result<(), NoMemory>
-        requires plain { IsRaiseOrFlush follow }
-        requires ready { IsReady epoch 1 self.old }
-        ensures { OnOk result (Continues epoch (entry_of 0 n epoch (what_of follow) ∷ []) self.old self.new) }
+    /// Does what follows a command, and notes it. A touch is an access of the command's op with the epoch of the command, so that
+    /// it is never stale.
+    pub(crate) fn follow(&mut self, thread: u32, op: u32, epoch: u64, follow: Follow)
+        requires can { CanFollow follow self.old.cache }
+        requires floor { self.old.cache.floor ≤ epoch }
+        requires clock { self.old.cache.clock < 2 ^ 32 }
+        requires room { length self.old.entries < self.old.room }
+        ensures { FollowsUp thread op epoch follow self.old self.new }
     {
-        let what = match follow {
+        match follow {
             Follow::Raise { .. } => {
                 self.cache.raise(epoch);
-                What::Raise
+                self.note(thread, op, epoch, What::Raise);
             }
             Follow::Flush { .. } => {
                 self.cache.flush(epoch);
-                What::Flush
+                self.note(thread, op, epoch, What::Flush);
             }
-            Follow::Lock { .. } | Follow::Touch { .. } => unreachable!(),
-        };
-        self.entries.push(command_entry(n, epoch, what))?;
-        Ok(())
+            Follow::Lock {
+                mask,
+                first_line,
+                ..
+            } => {
+                self.cache.lock(epoch, mask, first_line);
+                self.note(thread, op, epoch, What::Lock { mask, first_line });
+            }
+            Follow::Touch { tag, line } => {
+                self.access(thread, op, &Tag { epoch, ..tag }, line);
+            }
+        }
+    }
+
+    // Notes the entry of a command.
+    fn note(&mut self, thread: u32, op: u32, epoch: u64, what: What)
+        requires room { length self.old.entries < self.old.room }
+        ensures cache { self.new.cache ≡ self.old.cache }
+        ensures room { self.new.room ≡ self.old.room }
+        ensures entries { self.new.entries ≡ self.old.entries ++ entry_of thread op epoch what ∷ [] }
+    {
+        self.entries
+            .push_reserved(command_entry(thread, op, epoch, what));
     }
 
     /// Its entries.

@@ -1,6 +1,6 @@
 -- The control group of a name is not the default group.
-use Rattle.std.proofs.Common.{◌≡◌, ◌≢◌, ℕ, zero, suc, ◌<◌, Bool, true, false, ◌&&◌, length, find, get_or, Option, None, Some, refl, sym, subst, ap, ◌∙◌, arith}
-use Rattle.std.specs.Option.{option_and_then, option_map, option_map_or}
+use Rattle.std.proofs.Common.{◌≡◌, ◌≢◌, ℕ, zero, suc, ◌<◌, Bool, true, false, ◌&&◌, length, find, get_or, Option, None, Some, IfSome, refl, sym, subst, ap, ◌∙◌, arith}
+use Rattle.std.specs.Option.{option_map, option_map_or}
 use Rattle.std.proofs.lemmas.Bool.{and_parts, eq-eqb, eqb-true}
 use Rattle.std.proofs.lemmas.List.Folds.{list_any_at}
 use Rattle.group_tree.specs.Lists.{has_group}
@@ -11,7 +11,7 @@ use Rattle.lists.proofs.Tests.{IsFound, find-found}
 use Rattle.machine.specs.declared.parameters.Parameters.{Parameters}
 use Rattle.path_names.specs.declared.names.NameId.{NameId}
 use Rattle.rc_base.specs.declared.names.Gid.{Gid}
-use Rattle.lists.proofs.Options.{option_and_then-some, option_map-some}
+use Rattle.lists.proofs.Options.{option_map-some}
 use Rattle.tree_core.proofs.KeptTables.{IsDefault-first, length-positive}
 use Rattle.tree_core.specs.Found.{IsControl}
 use Rattle.tree_core.specs.Kept.{Keeps}
@@ -53,7 +53,7 @@ module _ {m : Parameters} {t : Tables} {s : State} {epoch : ℕ} (keeps : Keeps 
       nameless false e = let f : false ≡ true = e in cc
 
   -- an id of another group than the default group is not 0
-  id-not_zero : (g : Group) (gid : Gid) (of : Group → Option ℕ) (id : ℕ) → gid.0 ≢ 0 → IsFound (has_gid gid) s.groups g → ((k : ℕ) (d : Group) → 0 < k → k < length s.groups → Differ (of (get_or s.groups 0 d)) (of (get_or s.groups k d)))
+  pub id-not_zero : (g : Group) (gid : Gid) (of : Group → Option ℕ) (id : ℕ) → gid.0 ≢ 0 → IsFound (has_gid gid) s.groups g → ((k : ℕ) (d : Group) → 0 < k → k < length s.groups → Differ (of (get_or s.groups 0 d)) (of (get_or s.groups k d)))
       → of (get_or s.groups 0 g) ≡ Some 0 → of g ≡ Some id → id ≢ 0
   id-not_zero g gid of id other f differ first has zeroth = at f.place refl
     where
@@ -74,30 +74,36 @@ module _ {m : Parameters} {t : Tables} {s : State} {epoch : ℕ} (keeps : Keeps 
       let same : get_or s.groups n.1.place g ≡ g = get_or-key (λ (x : Group). x.gid.0) s.groups (record g { gid = gid }) g keeps.sound.named.gids found n.1.place g n.1.within passes in
       (and_parts (is_control g.kind) (has_name name g.name) (ap (λ (x : Group). is_control_named name x) (sym same ∙ n.1.at g) ∙ n.1.passes)).0
 
+  -- the class of another group than the default group is not 0
+  pub IfSome-not_zero : (g : Group) (gid : Gid) → gid.0 ≢ 0 → group_of s gid ≡ Some g → IfSome g.class (λ class. class ≢ 0)
+  IfSome-not_zero g gid other found = at g.class refl
+    where
+      at : (o : Option ℕ) → g.class ≡ o → IfSome o (λ class. class ≢ 0)
+      at None is = tt
+      at (Some class) is =
+          (let first = IsDefault-first s.groups g keeps.sound.named.first in
+          id-not_zero g gid (λ (x : Group). x.class) class other (find-found (has_gid gid) s.groups g found) (λ k d some within. (keeps.sound.numbered.apart 0 k d some within).0) first.class is)
+
   -- the group of the name is a control group with its class
-  pub IsControl-found : (name : NameId) (gid : Gid) (g : Group) (class : ℕ) → NamedAs name gid → group_of s gid ≡ Some g → g.class ≡ Some class → IsControl s (record { gid = gid; class = class })
-  IsControl-found name gid g class named found is_class =
-      let f = find-found (has_gid gid) s.groups g found in
-      let first = IsDefault-first s.groups g keeps.sound.named.first in
-      let apart = keeps.sound.numbered.apart in
-      record {
-        has_class = ap (option_and_then (λ (x : Group). x.class)) found ∙ is_class;
-        is_control_kind = ap (λ (o : Option Group). option_map_or (λ (x : Group). is_control x.kind) o false) found ∙ IsControlKind-named name gid g named found;
-        other_gid = gid-named name gid named;
-        other_class = id-not_zero g gid (λ (x : Group). x.class) class (gid-named name gid named) f (λ k d some within. (apart 0 k d some within).0) first.class is_class;
-      }
+  pub IsControl-found : (name : NameId) (gid : Gid) (g : Group) → NamedAs name gid → group_of s gid ≡ Some g → IsControl s (record { gid = gid; class = g.class })
+  IsControl-found name gid g named found = record {
+    has_class = ap (option_map (λ (x : Group). x.class)) found;
+    is_control_kind = ap (λ (o : Option Group). option_map_or (λ (x : Group). is_control x.kind) o false) found ∙ IsControlKind-named name gid g named found;
+    other_gid = gid-named name gid named;
+    other_class = IfSome-not_zero g gid (gid-named name gid named) found;
+  }
 
 -- the record of a control group that was found
 pub record ControlAt (s : State) (found : Control) : Type 0 where
   pub group : Group
   pub there : group_of s found.gid ≡ Some group
-  pub class : group.class ≡ Some found.class
+  pub class : group.class ≡ found.class
   pub kind : is_control group.kind ≡ true
 
 -- a control group that was found has a record
 pub ControlAt-found : (s : State) (found : Control) → IsControl s found → ControlAt s found
 ControlAt-found s found control =
-    let g = option_and_then-some (λ (x : Group). x.class) (group_of s found.gid) found.class control.has_class in
+    let g = option_map-some (λ (x : Group). x.class) (group_of s found.gid) found.class control.has_class in
     record {
       group = g.0;
       there = g.1;

@@ -21,7 +21,6 @@ use Rattle.tree_core.proofs.Returns.{AreTaken-same_members}
 use Rattle.tree_core.proofs.Soundness.{IsSound-from_status}
 use Rattle.tree_law.proofs.laws.Steps.{next-sound}
 use Rattle.tree_core.proofs.TakenIds.{AreTaken-push}
-use Rattle.tree_core.proofs.UnreachedParts.{All-open_push}
 use Rattle.tree_core.specs.Kept.{Keeps}
 use Rattle.tree_core.specs.Places.{place_reasons}
 use Rattle.tree_core.specs.Tables.{Tables}
@@ -66,10 +65,10 @@ module _ {m : Parameters} {t : Tables} {s : State} {epoch : ℕ} (keeps : Keeps 
       shareable = keeps.stands.shareable;
       taken = AreTaken-same_members m s.groups t.classes classes t.rmids rmids keeps.stands.taken same_classes same_rmids;
       gids_left = keeps.stands.gids_left;
+      locks_left = keeps.stands.locks_left;
     };
     sound = keeps.sound;
     few_tasks = keeps.few_tasks;
-    not_reached = keeps.not_reached;
   }
 
   -- ---- a control group that is made
@@ -130,8 +129,8 @@ module _ {m : Parameters} {t : Tables} {s : State} {epoch : ℕ} (keeps : Keeps 
         shareable = shareable ∙ keeps.stands.shareable;
         taken = AreTaken-push m s.groups t.classes classes' t.rmids rmids' (control_record masks) class rmid keeps.stands.taken class_taken rmid_taken refl refl;
         gids_left = omega (arith, gids);
+        locks_left = keeps.stands.locks_left;
       };
       sound = IsSound-with_control masks range is_masks;
       few_tasks = keeps.few_tasks;
-      not_reached = record { groups = All-open_push s.groups (control_record masks) keeps.not_reached.groups refl; regions = keeps.not_reached.regions; locks = keeps.not_reached.locks };
     })

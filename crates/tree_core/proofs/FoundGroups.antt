@@ -1,5 +1,5 @@
 -- Groups that a look-up found.
-use Rattle.std.proofs.Common.{◌≡◌, ℕ, Bool, true, false, cond, List, find, None, Some, subst, ap, ◌∙◌}
+use Rattle.std.proofs.Common.{◌≡◌, ℕ, Bool, true, false, cond, List, find, None, Some, refl, sym, subst, ap, ◌∙◌}
 use Rattle.std.proofs.lemmas.Bool.{eqb-true}
 use Rattle.std.proofs.lemmas.List.Folds.{list_any_at}
 use Rattle.group_tree.specs.Lists.{has_group}
@@ -41,3 +41,11 @@ find-control_at s dir g is =
     own gid x found e =
         let mine : find (has_gid gid) s.groups ≡ Some g = found ∙ ap Some e in
         subst (λ (i : Gid). find (has_gid i) s.groups ≡ Some g) (gid-found s.groups gid g mine) mine
+
+-- it is a control group
+pub is_control-control_at : (s : State) (dir : DirRef) (g : Group) → control_at s dir ≡ Some g → is_control g.kind ≡ true
+is_control-control_at s dir g is = (let at = option_and_then-some only_control (group_at s dir) g is in same at.0 (is_control at.0.kind) refl at.2)
+  where
+    same : (x : Group) (b : Bool) → is_control x.kind ≡ b → cond b (Some x) None ≡ Some g → is_control g.kind ≡ true
+    same x true kind e = let it : x ≡ g = (let some : Some x ≡ Some g = e in cc) in ap (λ (y : Group). is_control y.kind) (sym it) ∙ kind
+    same x false kind e = absurd (let none : None ≡ Some g = e in cc)

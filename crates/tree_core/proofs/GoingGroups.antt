@@ -32,7 +32,7 @@ use Rattle.tree_law.specs.commands.Rmdir.{goes_with}
 -- ---- the RMIDs of those that go
 
 -- the RMID of a record
-contains-option_to_list : (id : ℕ) (o : Option ℕ) → contains id (option_to_list o) ≡ is_id id o
+pub contains-option_to_list : (id : ℕ) (o : Option ℕ) → contains id (option_to_list o) ≡ is_id id o
 contains-option_to_list id None = refl
 contains-option_to_list id (Some n) = or-false (eqb n id)
   where

@@ -12,14 +12,14 @@ use Rattle.cbm.specs.declared.geometry.Geometry.{Geometry}
 use Rattle.mode_rules.specs.Space.{initial_ways, may_start_with, space_in, starting_ways}
 use Rattle.mode_rules.specs.declared.domain_use.DomainUse.{DomainUse}
 use Rattle.machine.specs.declared.parameters.Parameters.{Parameters}
-use Rattle.tree_core.proofs.Uses.{SameUse}
+use Rattle.tree_core.specs.Uses.{SameUse}
 use Rattle.tree_law.proofs.laws.WayMasks.{mask_of-ways_of}
 use Rattle.tree_law.specs.Space.{geometry_of, initial_mask, mask_of, used_in}
 use Rattle.tree_law.specs.State.{State}
 
 -- they let a new group start with the same ways
 may_start_with-same : (a b : DomainUse) (way : ℕ) → SameUse a b → may_start_with a way ≡ may_start_with b way
-may_start_with-same a b way same = rw (same.hardware way, same.shared way, same.exclusive way, same.region way) refl
+may_start_with-same a b way same = rw (same.hardware way, same.shared way, same.exclusive way, same.region) refl
 
 -- give a new group the same ways
 pub initial_ways-same : (g : Geometry) (a b : DomainUse) → SameUse a b → initial_ways g a ≡ initial_ways g b

@@ -1,5 +1,5 @@
 -- What the type of the tree keeps, by its parts.
-use Rattle.std.proofs.Common.{◌≡◌, ℕ, ◌+◌, ◌<◌, true, false, List, [], ◌∷◌, length, find, get_or, Option, Some, IsSome, IfSome, refl, sym, subst, ap, ◌∙◌, arith}
+use Rattle.std.proofs.Common.{◌≡◌, ◌≢◌, ℕ, ◌+◌, ◌<◌, true, false, List, [], ◌∷◌, length, find, get_or, Option, None, Some, IsSome, IfSome, refl, sym, subst, ap, ◌∙◌, arith}
 use Rattle.std.specs.Prelude.{IsSomeAnd}
 use Rattle.std.specs.List.{slice_get}
 use Rattle.std.proofs.lemmas.Bool.{eq-eqb}
@@ -16,8 +16,8 @@ use Rattle.rc_base.specs.declared.names.Mode.TheVariants.{Shareable, Exclusive, 
 use Rattle.lists.proofs.Tests.{IsFound, IsFound-all, find-found}
 use Rattle.rc_base.specs.declared.replies.Reply.{Reply}
 use Rattle.tree_law.proofs.laws.Steps.{status-sound}
+use Rattle.tree_core.specs.Given.{MayGive}
 use Rattle.tree_core.specs.Kept.{IsKept, Keeps}
-use Rattle.tree_core.specs.NotReached.{IsOpen}
 use Rattle.tree_core.specs.Tables.{Tables}
 use Rattle.tree_core.specs.Values.{TreeValue}
 use Rattle.tree_law.specs.Counted.{is_counted_mode}
@@ -68,47 +68,14 @@ find-first (g ∷ gs) d first = rw (eq-eqb 0 g.gid.0 (sym first.gid)) refl
 
 -- ---- a group of the tree
 
--- a counted control group has a class and an RMID
-HasIdsOf-counted : (mode : Mode) (g : Group) → is_counted_mode mode ≡ true → HasIdsOf mode g → IsSome g.class × IsSome g.rmid
-HasIdsOf-counted Shareable g counted ids = ids
-HasIdsOf-counted Exclusive g counted ids = ids
-HasIdsOf-counted LockSetup g counted ids = absurd (let f : false ≡ true = counted in cc)
-HasIdsOf-counted Locked g counted ids = absurd (let f : false ≡ true = counted in cc)
-
--- an open group has an RMID
-HasIds-rmid : (groups : List Group) (kind : GroupKind) (g : Group) → IsOpen g → HasIds groups kind g → IsSome g.rmid
-HasIds-rmid groups Control g counted ids = (HasIdsOf-counted g.mode g counted ids).1
-HasIds-rmid groups (Monitor parent) g counted ids = ids.1
-
--- an open control group has a class
-HasIds-class : (groups : List Group) (kind : GroupKind) (g : Group) → is_control kind ≡ true → IsOpen g → HasIds groups kind g → IsSome g.class
-HasIds-class groups Control g control counted ids = (HasIdsOf-counted g.mode g counted ids).0
-HasIds-class groups (Monitor parent) g control counted ids = absurd (let f : false ≡ true = control in cc)
-
 module _ {m : Parameters} {t : Tables} {s : State} {epoch : ℕ} (keeps : Keeps m t s epoch) where
-  -- each has an RMID, for it is open
-  pub IsSome-rmid : (k : ℕ) (d : Group) → k < length s.groups → IsSome (get_or s.groups k d).rmid
-  IsSome-rmid k d within = (let g = get_or s.groups k d in HasIds-rmid s.groups g.kind g (keeps.not_reached.groups k d within) (keeps.sound.numbered.ids k d within))
-
   -- what a look-up found
   pub IsFound-group_of : (gid : Gid) (g : Group) → group_of s gid ≡ Some g → IsFound (has_gid gid) s.groups g
   IsFound-group_of gid g found = find-found (has_gid gid) s.groups g found
 
-  -- a group that a look-up found is open
-  pub IsOpen-found : (gid : Gid) (g : Group) → group_of s gid ≡ Some g → IsOpen g
-  IsOpen-found gid g found = IsFound-all IsOpen (has_gid gid) s.groups g (IsFound-group_of gid g found) keeps.not_reached.groups
-
   -- it has the ids of its kind
   pub HasIds-found : (gid : Gid) (g : Group) → group_of s gid ≡ Some g → HasIds s.groups g.kind g
   HasIds-found gid g found = IsFound-all (λ (x : Group). HasIds s.groups x.kind x) (has_gid gid) s.groups g (IsFound-group_of gid g found) keeps.sound.numbered.ids
-
-  -- so it has an RMID
-  pub IsSome-found_rmid : (gid : Gid) (g : Group) → group_of s gid ≡ Some g → IsSome g.rmid
-  IsSome-found_rmid gid g found = HasIds-rmid s.groups g.kind g (IsOpen-found gid g found) (HasIds-found gid g found)
-
-  -- and a control group has a class too
-  pub IsSome-found_class : (gid : Gid) (g : Group) → group_of s gid ≡ Some g → is_control g.kind ≡ true → IsSome g.class
-  IsSome-found_class gid g found control = HasIds-class s.groups g.kind g control (IsOpen-found gid g found) (HasIds-found gid g found)
 
   -- it has eight masks
   pub length-found_masks : (gid : Gid) (g : Group) → group_of s gid ≡ Some g → length g.masks ≡ 8
@@ -137,6 +104,11 @@ module _ {m : Parameters} {t : Tables} {s : State} {epoch : ℕ} (keeps : Keeps 
   pub contains-class_found : (gid : Gid) (g : Group) (id : ℕ) → group_of s gid ≡ Some g → g.class ≡ Some id → contains id t.classes.taken ≡ true
   contains-class_found gid g id found has = let f = IsFound-group_of gid g found in contains-class f.place g id f.within (ap (λ (x : Group). x.class) (f.at g) ∙ has)
 
+  -- so it may be given back, where it is not 0
+  pub MayGive-found : (gid : Gid) (g : Group) → group_of s gid ≡ Some g → (class : Option ℕ) → g.class ≡ class → IfSome class (λ id. id ≢ 0) → MayGive t.classes class
+  MayGive-found gid g found None is other = tt
+  MayGive-found gid g found (Some id) is other = (contains-class_found gid g id found is, other)
+
   -- and so is its RMID
   pub contains-rmid_found : (gid : Gid) (g : Group) (id : ℕ) → group_of s gid ≡ Some g → g.rmid ≡ Some id → contains id t.rmids.taken ≡ true
   contains-rmid_found gid g id found has = let f = IsFound-group_of gid g found in contains-rmid f.place g id f.within (ap (λ (x : Group). x.rmid) (f.at g) ∙ has)
@@ -158,10 +130,10 @@ IsKept-suc keeps = record {
     shareable = keeps.stands.shareable;
     taken = keeps.stands.taken;
     gids_left = let left = keeps.stands.gids_left in omega arith;
+    locks_left = let left = keeps.stands.locks_left in omega arith;
   };
   sound = keeps.sound;
   few_tasks = keeps.few_tasks;
-  not_reached = keeps.not_reached;
 }
 
 -- and so does another last status
@@ -179,8 +151,8 @@ IsKept-status {m} {t} {s} reply keeps = record {
     shareable = keeps.stands.shareable;
     taken = keeps.stands.taken;
     gids_left = keeps.stands.gids_left;
+    locks_left = keeps.stands.locks_left;
   };
   sound = status-sound m s reply keeps.sound;
   few_tasks = keeps.few_tasks;
-  not_reached = record { groups = keeps.not_reached.groups; regions = keeps.not_reached.regions; locks = keeps.not_reached.locks };
 }

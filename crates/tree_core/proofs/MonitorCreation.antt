@@ -25,7 +25,6 @@ use Rattle.tree_core.proofs.Outcomes.{needs-nothing, next-accepted}
 use Rattle.tree_core.proofs.Refusals.{IsPlace-find_none, IsRefused, IsRefused-by, refusal-in_place}
 use Rattle.tree_core.proofs.Soundness.{IsSound-from_status}
 use Rattle.tree_core.proofs.TakenIds.{or-eqb_swap}
-use Rattle.tree_core.proofs.UnreachedParts.{All-open_push}
 use Rattle.tree_core.specs.Kept.{Keeps}
 use Rattle.tree_core.specs.Places.{place_reasons}
 use Rattle.tree_core.specs.Tables.{AreTaken, Tables}
@@ -136,8 +135,8 @@ module _ {m : Parameters} {t : Tables} {s : State} {epoch : ℕ} (keeps : Keeps 
           shareable = shareable ∙ keeps.stands.shareable;
           taken = AreTaken-push_monitor m s.groups t.classes t.rmids rmids' monitor_record rmid keeps.stands.taken rmid_taken refl refl;
           gids_left = omega (arith, gids);
+          locks_left = keeps.stands.locks_left;
         };
         sound = IsSound-with_monitor range;
         few_tasks = keeps.few_tasks;
-        not_reached = record { groups = All-open_push s.groups monitor_record keeps.not_reached.groups refl; regions = keeps.not_reached.regions; locks = keeps.not_reached.locks };
       })

@@ -5,7 +5,13 @@ use Rattle.std.specs.List.{flat_map, slice_get}
 use Rattle.std.proofs.lemmas.List.Concat.{flat_map_single, get_or-flat_map}
 use Rattle.std.proofs.lemmas.List.FromFn.{get_or-map-range_with_len, length-map-range_with_len}
 use Rattle.std.proofs.lemmas.Option.{slice_get-get_or}
+use Rattle.machine.specs.declared.parameters.Parameters.{Parameters}
+use Rattle.path_names.specs.declared.path_ref.PathRef.{PathRef}
+use Rattle.script_ops.specs.declared.op.Op.{Op}
+use Rattle.script_ops.specs.declared.op.Op.TheVariants as ops
 use Rattle.tree_core.specs.RmidLists.{counts_in}
+use Rattle.tree_law.specs.State.{State}
+use Rattle.tree_law.specs.Steps.{needs_accepted}
 
 -- each RMID has as many counts as there are domains
 pub length-counts_in : (first domains : ℕ) (rmids : List ℕ) → length (flat_map (counts_in first domains) rmids) ≡ length rmids * domains
@@ -39,3 +45,24 @@ slice_get-counts_in first domains rmids i some within =
     let place : i / domains * domains + i % domains ≡ i = omega (arith, mod-eq-sub-div-mul i domains, div-mul-le_self i domains) in
     slice_get-get_or all i (0, 0) (omega (arith, within, length-counts_in first domains rmids))
     ∙ ap Some (sym (ap (λ (k : ℕ). get_or all k (0, 0)) place) ∙ get_or-counts_in first domains rmids (i / domains) (i % domains) 0 (0, 0) lt (mod-lt i some))
+
+-- ---- which commands need counts
+
+-- a command that is none of these
+pub record IsOtherOp (op : Op) : Type 0 where
+  pub rmdir : (path : PathRef) → op ≡ ops.Rmdir path → ⊥
+  pub write : (path : PathRef) (text : List ℕ) → op ≡ ops.Write path text → ⊥
+  pub tick : op ≡ ops.Tick → ⊥
+  pub read : (path : PathRef) → op ≡ ops.Read path → ⊥
+
+-- no other needs any
+pub needs_accepted-none : (m : Parameters) (s : State) (op : Op) → IsOtherOp op → needs_accepted m s op ≡ []
+needs_accepted-none m s (ops.Rmdir path) other = absurd (other.rmdir path refl)
+needs_accepted-none m s (ops.Write path text) other = absurd (other.write path text refl)
+needs_accepted-none m s (ops.Read path) other = absurd (other.read path refl)
+needs_accepted-none m s ops.Tick other = absurd (other.tick refl)
+needs_accepted-none m s (ops.Mkdir path) other = refl
+needs_accepted-none m s (ops.List path) other = refl
+needs_accepted-none m s (ops.Flush domain) other = refl
+needs_accepted-none m s (ops.Access task cpu addr) other = refl
+needs_accepted-none m s (ops.Touch path offset task cpu) other = refl

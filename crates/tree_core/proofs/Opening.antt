@@ -19,7 +19,6 @@ use Rattle.task_binding.specs.declared.binding.Binding.{Binding}
 use Rattle.tree_core.proofs.KeptTables.{IsKept-from_Keeps}
 use Rattle.tree_law.proofs.laws.Opening.{opening-sound}
 use Rattle.tree_core.specs.Kept.{IsKept}
-use Rattle.tree_core.specs.NotReached.{IsOpen}
 use Rattle.tree_core.specs.Tables.{state_of, tables}
 use Rattle.tree_law.specs.Sound.{IsSound}
 use Rattle.tree_law.specs.State.{opening}
@@ -47,14 +46,10 @@ IsKept-opening m ids groups tasks cpus classes rmids regions rising is_groups is
     shareable = refl;
     taken = record { class_count = refl; class_taken = λ id. refl; rmid_count = refl; rmid_taken = λ id. refl };
     gids_left = omega arith;
+    locks_left = omega arith;
   };
   sound = subst (λ (places : List (Option Region)). IsSound (parameters_of m) (record (opening (parameters_of m) ids) { regions = places })) (sym (take-unused (parameters_of m) m.in_range.domain_limit)) (opening-sound (parameters_of m) ids m.in_range rising);
   few_tasks = omega (arith, few, length-map ids bindings.opening_binding);
-  not_reached = record {
-    groups = All-cons IsOpen (default_group (parameters_of m)) [] refl (λ k d within. absurd (omega arith));
-    regions = take-unused (parameters_of m) m.in_range.domain_limit;
-    locks = refl;
-  };
 }))
 
 -- the new tables stand for the opening state

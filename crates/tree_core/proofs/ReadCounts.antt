@@ -64,3 +64,8 @@ refusal-tick m s = refl
 pub needs-tick : (m : Parameters) (s : State) → needs m s ops.Tick ≡ counts_of m s.limbo
 unfolding tick.needs
 needs-tick m s = needs-accepted m s ops.Tick (refusal-tick m s)
+
+-- nor is an access
+pub refusal-access : (m : Parameters) (s : State) (task cpu addr : ℕ) → refusal m s (ops.Access task cpu addr) ≡ None
+unfolding refusal
+refusal-access m s task cpu addr = refl

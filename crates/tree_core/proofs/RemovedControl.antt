@@ -1,5 +1,5 @@
 -- What removing a control group leaves.
-use Rattle.std.proofs.Common.{◌≡◌, ◌≢◌, ℕ, ◌*◌, ◌<◌, Bool, true, false, not, ◌&&◌, ◌||◌, cond, eqb, List, [], ◌∷◌, length, map, filter, get_or, Option, None, Some, is_some, IsNone, refl, sym, subst, ap, ap₂, ◌∙◌}
+use Rattle.std.proofs.Common.{◌≡◌, ◌≢◌, ℕ, ◌*◌, ◌<◌, Bool, true, false, not, ◌&&◌, ◌||◌, cond, List, [], ◌∷◌, length, map, filter, get_or, take, Option, None, Some, is_some, IsNone, refl, sym, subst, ap, ap₂, ◌∙◌}
 use Rattle.std.specs.Option.{option_map_or}
 use Rattle.std.proofs.lemmas.Bool.{ne_eqb}
 use Rattle.std.proofs.lemmas.List.Folds.{list_any_none}
@@ -10,9 +10,7 @@ use Rattle.group_tree.specs.Records.{has_gid, is_control, is_monitor_of}
 use Rattle.group_tree.specs.declared.group.Group.{Group}
 use Rattle.group_tree.specs.declared.group_kind.GroupKind.{GroupKind}
 use Rattle.group_tree.specs.declared.group_kind.GroupKind.TheVariants.{Control, Monitor}
-use Rattle.hw_ids.proofs.laws.Membership.{contains-without}
 use Rattle.hw_ids.specs.Classes.{Classes}
-use Rattle.hw_ids.specs.Ids as ids
 use Rattle.hw_ids.specs.Ids.{contains}
 use Rattle.hw_ids.specs.MonitoringIds.{MonitoringIds}
 use Rattle.lists.proofs.Keyed.{get_or-key, place-key}
@@ -38,8 +36,6 @@ use Rattle.tree_core.proofs.RemovedGroups.{Keeps-gone, length-changed_le}
 use Rattle.tree_core.proofs.ReturnedCpus.{map-cpu_after}
 use Rattle.tree_core.proofs.RmidLists.{is_monitor_of-counted}
 use Rattle.tree_core.proofs.StayingIds.{goes_with_id}
-use Rattle.tree_core.proofs.TakenIds.{eqb-turned}
-use Rattle.tree_core.proofs.UnreachedParts.{map-region_after}
 use Rattle.tree_core.specs.Found.{IsControl}
 use Rattle.tree_core.specs.Kept.{Keeps}
 use Rattle.tree_core.specs.Removals.{off_monitors}
@@ -55,7 +51,11 @@ use Rattle.tree_law.specs.State.{Outcome, State}
 use Rattle.tree_law.specs.Steps.{accepted, needs, refusal}
 use Rattle.tree_law.specs.commands.Rmdir.{cpu_after, goes_with, region_after, staying, without_control}
 use Rattle.tree_law.specs.commands.Rmdir as rmdir
+use Rattle.pseudo_lock.specs.Regions as regions
+use Rattle.pseudo_lock.specs.Regions.{RegionTable, without_group}
 use Rattle.pseudo_lock.specs.declared.region.Region.{Region}
+use Rattle.std.proofs.lemmas.List.{take-map}
+use Rattle.tree_core.specs.Given.{IsGiven}
 
 -- what may be removed is there
 pub directory_gid-accepted : (m : Parameters) (s : State) (name : NameId) → refusal m s (Rmdir (Dir (Ctrl name))) ≡ None → directory_gid s (Ctrl name) ≡ None → ⊥
@@ -144,10 +144,10 @@ module _ {m : Parameters} {t : Tables} {s : State} {epoch : ℕ} (keeps : Keeps 
       (has_group-found s.groups found.gid at.group at.there)
 
   -- the class that goes is its own
-  class-goes : (id : ℕ) → eqb id found.class ≡ goes_with_id (goes_with found.gid) (λ (g : Group). g.class) id s.groups
+  class-goes : (id : ℕ) → is_id id found.class ≡ goes_with_id (goes_with found.gid) (λ (g : Group). g.class) id s.groups
   class-goes id =
       let at = ControlAt-found s found control in
-      eqb-turned id found.class ∙ sym (ap (is_id id) at.class) ∙ or-none (is_id id at.group.class)
+      sym (ap (is_id id) at.class) ∙ or-none (is_id id at.group.class)
       ∙ ap₂ (λ (a b : Bool). a || b) (sym (list_any-has_gid keeps found.gid at.group (λ (g : Group). is_id id g.class) at.there))
       (sym (list_any_none (λ (g : Group). is_monitor_of found.gid g.kind && is_id id g.class) s.groups (λ k d within. class-monitor s.groups found.gid (get_or s.groups k d).kind (get_or s.groups k d) id (keeps.sound.numbered.ids k d within))))
       ∙ sym (list_any-goes_with found.gid (λ (g : Group). is_id id g.class) s.groups)
@@ -156,12 +156,21 @@ module _ {m : Parameters} {t : Tables} {s : State} {epoch : ℕ} (keeps : Keeps 
       or-none true = refl
       or-none false = refl
 
-  module _ (looks : List ℕ) (groups' : GroupList) (tasks' : List Binding) (cpus' : List CpuGroups) (classes' : Classes) (rmids' : MonitoringIds) (range : InRange m) (count : length looks ≡ length (needs m s (Rmdir (Dir (Ctrl name)))))
+  module _ (looks : List ℕ) (groups' : GroupList) (tasks' : List Binding) (cpus' : List CpuGroups) (classes' : Classes) (rmids' : MonitoringIds) (regions' : RegionTable) (range : InRange m) (count : length looks ≡ length (needs m s (Rmdir (Dir (Ctrl name)))))
       (is_groups : groups'.groups ≡ without found.gid (off_monitors found.gid t.groups.groups)) (shareable : groups'.shareable ≡ t.groups.shareable) (is_tasks : tasks' ≡ bindings.changed (bindings.has_control found.gid) (bindings.joined default_gid) t.tasks)
-      (is_cpus : cpu_groups.Changes (cpu_groups.after_control found.gid 0) t.cpus cpus') (is_classes : classes' ≡ record t.classes { taken = ids.without found.class t.classes.taken }) (is_rmids : Frees m freed looks t.rmids rmids') where
+      (is_cpus : cpu_groups.Changes (cpu_groups.after_control found.gid 0) t.cpus cpus') (is_classes : IsGiven t.classes classes' found.class) (is_rmids : Frees m freed looks t.rmids rmids') (is_regions : regions' ≡ without_group found.gid t.regions) where
     -- the state without it
     abbrev pub left_control : State
-    left_control = record s { groups = staying found.gid s.groups; tasks = tasks'; cpus = cpus'; limbo = rmids'.limbo }
+    left_control = record s { groups = staying found.gid s.groups; tasks = tasks'; cpus = cpus'; limbo = rmids'.limbo; regions = take m.domains regions'.places; locks = regions'.placed }
+
+    -- the region of the group is gone
+    regions-left : take m.domains regions'.places ≡ map (region_after found.gid) s.regions
+    regions-left = ap (λ (r : RegionTable). take m.domains r.places) is_regions ∙ take-map (regions.without found.gid) m.domains t.regions.places ∙ map-same (take m.domains t.regions.places) ∙ ap (map (region_after found.gid)) keeps.stands.regions
+      where
+        map-same : (rs : List (Option Region)) → map (regions.without found.gid) rs ≡ map (region_after found.gid) rs
+        map-same [] = refl
+        map-same (None ∷ rs) = ap (λ (more : List (Option Region)). None ∷ more) (map-same rs)
+        map-same (Some r ∷ rs) = ap (λ (more : List (Option Region)). region_after found.gid (Some r) ∷ more) (map-same rs)
 
     -- is the one after the command
     pub left_control-accepted : left_control ≡ accepted m s (Rmdir (Dir (Ctrl name))) looks
@@ -170,7 +179,8 @@ module _ {m : Parameters} {t : Tables} {s : State} {epoch : ℕ} (keeps : Keeps 
         ap (λ (ts : List Binding). record left_control { tasks = ts }) (is_tasks ∙ ap (bindings.changed (bindings.has_control found.gid) (bindings.joined default_gid)) keeps.stands.tasks)
         ∙ ap (λ (cs : List CpuGroups). record left_control { tasks = moved; cpus = cs }) (map-cpu_after found.gid t.cpus cpus' is_cpus ∙ ap (map (cpu_after found.gid)) keeps.stands.cpus)
         ∙ ap (λ (limbo : List ℕ). record left_control { tasks = moved; cpus = map (cpu_after found.gid) s.cpus; limbo = limbo }) (is_rmids.limbo ∙ ap₂ (λ (h : ℕ) (limbo : List ℕ). limbo_after m h limbo freed looks) keeps.stands.threshold keeps.stands.limbo)
-        ∙ ap (λ (rs : List (Option Region)). record (without_control m s found.gid freed looks) { regions = rs }) (sym (ap (map (region_after found.gid)) keeps.not_reached.regions ∙ map-region_after found.gid m.domains ∙ sym keeps.not_reached.regions))
+        ∙ ap (λ (rs : List (Option Region)). record (without_control m s found.gid freed looks) { regions = rs; locks = regions'.placed }) regions-left
+        ∙ ap (λ (n : ℕ). record (without_control m s found.gid freed looks) { locks = n }) (ap (λ (r : RegionTable). r.placed) is_regions ∙ keeps.stands.locks)
         ∙ ap (λ (rmids : List ℕ). without_control m s found.gid rmids looks) is_freed
         ∙ sym (ap (λ (gid : Option Gid). option_map_or (λ i. without_control m s i (rmdir.freed s (Dir (Ctrl name))) looks) gid s) named)
       where
@@ -185,8 +195,8 @@ module _ {m : Parameters} {t : Tables} {s : State} {epoch : ℕ} (keeps : Keeps 
         subst (IsSound m) (sym (is ∙ left_control-accepted)) (subst (λ (o : Outcome). IsSound m o.state) (next-accepted m s op looks nothing) next)
 
     -- and which the type keeps
-    pub Keeps-control : (after : State) → after ≡ left_control → Keeps m (record t { groups = groups'; tasks = tasks'; cpus = cpus'; classes = classes'; rmids = rmids' }) after epoch
-    Keeps-control after is = Keeps-gone keeps (goes_with found.gid) freed looks groups' tasks' cpus' classes' rmids' after (is_groups ∙ without-off_monitors found.gid t.groups.groups) shareable
-        (ap (λ (c : Classes). c.count) is_classes)
-        (λ id. ap (λ (c : Classes). contains id c.taken) is_classes ∙ contains-without found.class id t.classes.taken ∙ ap (λ (b : Bool). not b && contains id t.classes.taken) (class-goes id))
-        is_rmids contains-freed (length-changed_le keeps (goes_with found.gid) (bindings.has_control found.gid) (bindings.joined default_gid) tasks' is_tasks) is (IsSound-control after is)
+    pub Keeps-control : (after : State) → after ≡ left_control → Keeps m (record t { groups = groups'; tasks = tasks'; cpus = cpus'; classes = classes'; rmids = rmids'; regions = regions' }) after epoch
+    Keeps-control after is = Keeps-gone keeps (goes_with found.gid) freed looks groups' tasks' cpus' classes' rmids' regions' after (is_groups ∙ without-off_monitors found.gid t.groups.groups) shareable
+        is_classes.count
+        (λ id. is_classes.taken id ∙ ap (λ (b : Bool). not b && contains id t.classes.taken) (class-goes id))
+        is_rmids contains-freed (length-changed_le keeps (goes_with found.gid) (bindings.has_control found.gid) (bindings.joined default_gid) tasks' is_tasks) (ap (λ (r : RegionTable). r.placed) is_regions) is (IsSound-control after is)

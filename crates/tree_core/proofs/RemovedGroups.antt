@@ -1,7 +1,6 @@
 -- What removing groups leaves.
-use Rattle.std.proofs.Common.{◌≡◌, ℕ, ◌-◌, ◌*◌, ◌^◌, ◌<◌, ◌≤◌, Bool, not, ◌&&◌, cond, List, length, filter, refl, sym, subst, ap, ◌∙◌, arith}
+use Rattle.std.proofs.Common.{◌≡◌, ℕ, ◌-◌, ◌*◌, ◌^◌, ◌<◌, ◌≤◌, Bool, not, ◌&&◌, cond, List, length, filter, take, refl, sym, subst, ap, ◌∙◌, arith}
 use Rattle.std.proofs.lemmas.List.{length-map}
-use Rattle.std.proofs.lemmas.List.Elements.{All-filter}
 use Rattle.std.proofs.lemmas.Nat.{mul-le}
 use Rattle.cpu_binding.specs.declared.groups.CpuGroups.{CpuGroups}
 use Rattle.group_tree.specs.Lists.{GroupList}
@@ -12,12 +11,12 @@ use Rattle.hw_ids.specs.MonitoringIds.{MonitoringIds}
 use Rattle.machine.specs.Maps.{cache_bytes}
 use Rattle.machine.specs.Ranges.{InRange}
 use Rattle.machine.specs.declared.parameters.Parameters.{Parameters}
+use Rattle.pseudo_lock.specs.Regions.{RegionTable}
 use Rattle.script_ops.specs.declared.limits.TheConstants.{MOST_TASKS}
 use Rattle.task_binding.specs.Bindings as bindings
 use Rattle.task_binding.specs.declared.binding.Binding.{Binding}
 use Rattle.tree_core.proofs.StayingIds.{AreTaken-staying, goes_with_id}
 use Rattle.tree_core.specs.Kept.{Keeps}
-use Rattle.tree_core.specs.NotReached.{IsOpen}
 use Rattle.tree_core.specs.RmidLists.{Frees}
 use Rattle.tree_core.specs.Tables.{Tables}
 use Rattle.tree_law.specs.Sound.{IsSound}
@@ -54,32 +53,28 @@ module _ {m : Parameters} {t : Tables} {s : State} {epoch : ℕ} (keeps : Keeps 
       omega (arith, same, keeps.few_tasks)
 
   -- what the type keeps where these groups are gone, and their RMIDs are freed
-  pub Keeps-gone : (freed looks : List ℕ) (groups' : GroupList) (tasks' : List Binding) (cpus' : List CpuGroups) (classes' : Classes) (rmids' : MonitoringIds) (after : State)
+  pub Keeps-gone : (freed looks : List ℕ) (groups' : GroupList) (tasks' : List Binding) (cpus' : List CpuGroups) (classes' : Classes) (rmids' : MonitoringIds) (regions' : RegionTable) (after : State)
       → groups'.groups ≡ staying t.groups.groups → groups'.shareable ≡ t.groups.shareable
       → classes'.count ≡ t.classes.count → ((id : ℕ) → contains id classes'.taken ≡ (not (goes_with_id goes (λ (g : Group). g.class) id s.groups) && contains id t.classes.taken))
       → Frees m freed looks t.rmids rmids' → ((id : ℕ) → contains id freed ≡ goes_with_id goes (λ (g : Group). g.rmid) id s.groups)
-      → length tasks' ≤ MOST_TASKS → after ≡ record s { groups = staying s.groups; tasks = tasks'; cpus = cpus'; limbo = rmids'.limbo } → IsSound m after
-      → Keeps m (record t { groups = groups'; tasks = tasks'; cpus = cpus'; classes = classes'; rmids = rmids' }) after epoch
-  Keeps-gone freed looks groups' tasks' cpus' classes' rmids' after is_groups shareable class_count class_taken is_rmids is_freed few is sound =
-      subst (λ (x : State). Keeps m (record t { groups = groups'; tasks = tasks'; cpus = cpus'; classes = classes'; rmids = rmids' }) x epoch) (sym is) (record {
+      → length tasks' ≤ MOST_TASKS → regions'.placed ≡ t.regions.placed → after ≡ record s { groups = staying s.groups; tasks = tasks'; cpus = cpus'; limbo = rmids'.limbo; regions = take m.domains regions'.places; locks = regions'.placed } → IsSound m after
+      → Keeps m (record t { groups = groups'; tasks = tasks'; cpus = cpus'; classes = classes'; rmids = rmids'; regions = regions' }) after epoch
+  Keeps-gone freed looks groups' tasks' cpus' classes' rmids' regions' after is_groups shareable class_count class_taken is_rmids is_freed few placed is sound =
+      subst (λ (x : State). Keeps m (record t { groups = groups'; tasks = tasks'; cpus = cpus'; classes = classes'; rmids = rmids'; regions = regions' }) x epoch) (sym is) (record {
         stands = record {
           groups = is_groups ∙ ap staying keeps.stands.groups;
           tasks = refl;
           cpus = refl;
           limbo = refl;
           threshold = is_rmids.threshold ∙ keeps.stands.threshold;
-          regions = keeps.stands.regions;
-          locks = keeps.stands.locks;
+          regions = refl;
+          locks = refl;
           shareable = shareable ∙ keeps.stands.shareable;
           taken = AreTaken-staying m s.groups goes t.classes classes' t.rmids rmids' keeps.stands.taken keeps.sound.numbered.apart class_count class_taken is_rmids.count
               (λ id. is_rmids.taken id ∙ ap (λ (b : Bool). not b && contains id t.rmids.taken) (is_freed id));
           gids_left = keeps.stands.gids_left;
+          locks_left = subst (λ (n : ℕ). n ≤ epoch) (sym (placed ∙ keeps.stands.locks)) keeps.stands.locks_left;
         };
         sound = subst (IsSound m) is sound;
         few_tasks = few;
-        not_reached = record {
-          groups = All-filter (λ (g : Group). not (goes g)) IsOpen s.groups keeps.not_reached.groups;
-          regions = keeps.not_reached.regions;
-          locks = keeps.not_reached.locks;
-        };
       })

@@ -11,6 +11,7 @@ use Rattle.group_tree.specs.declared.group_kind.GroupKind.{GroupKind}
 use Rattle.group_tree.specs.declared.group_kind.GroupKind.TheVariants.{Control, Monitor}
 use Rattle.hw_ids.specs.Ids.{contains}
 use Rattle.hw_ids.specs.MonitoringIds.{MonitoringIds}
+use Rattle.pseudo_lock.specs.declared.region.Region.{Region}
 use Rattle.machine.specs.Ranges.{InRange}
 use Rattle.machine.specs.declared.parameters.Parameters.{Parameters}
 use Rattle.path_names.specs.declared.dirs.DirRef.TheVariants.{Mon}
@@ -149,6 +150,8 @@ module _ {m : Parameters} {t : Tables} {s : State} {epoch : ℕ} (keeps : Keeps 
 
     -- and which the type keeps
     pub Keeps-monitor : (after : State) → after ≡ left_monitor → Keeps m (record t { groups = groups'; tasks = tasks'; cpus = cpus'; rmids = rmids' }) after epoch
-    Keeps-monitor after is = Keeps-gone keeps (has_gid gid) freed looks groups' tasks' cpus' t.classes rmids' after is_groups shareable refl
+    Keeps-monitor after is = Keeps-gone keeps (has_gid gid) freed looks groups' tasks' cpus' t.classes rmids' t.regions after is_groups shareable refl
         (λ id. sym (ap (λ (b : Bool). not b && contains id t.classes.taken) (class-goes id)))
-        is_rmids contains-freed (length-changed_le keeps (has_gid gid) (bindings.has_monitor gid) (bindings.counted parent) tasks' is_tasks) is (IsSound-monitor after is)
+        is_rmids contains-freed (length-changed_le keeps (has_gid gid) (bindings.has_monitor gid) (bindings.counted parent) tasks' is_tasks) refl
+        (is ∙ sym (ap (λ (rs : List (Option Region)). record left_monitor { regions = rs; locks = t.regions.placed }) keeps.stands.regions ∙ ap (λ (n : ℕ). record left_monitor { locks = n }) keeps.stands.locks))
+        (IsSound-monitor after is)

@@ -11,7 +11,7 @@ use Rattle.tree_core.specs.Tables.{AreTaken}
 use Rattle.tree_core.specs.Taking.{ClassesStay, ClassTaken, RmidsStay, SameMembers}
 
 -- taken and given back, an id leaves the members as they were
-SameMembers-returned : (ids : List ℕ) (id : ℕ) → contains id ids ≡ false → SameMembers ids (without id (with_id id ids))
+pub SameMembers-returned : (ids : List ℕ) (id : ℕ) → contains id ids ≡ false → SameMembers ids (without id (with_id id ids))
 SameMembers-returned ids id free other =
     contains-without id other (with_id id ids) ∙ ap (λ (b : Bool). not (eqb other id) && b) (contains-with_id id other ids) ∙ at (eqb other id) refl
   where

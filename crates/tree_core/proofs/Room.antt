@@ -1,20 +1,32 @@
 -- How many groups there are, and that one more has a place.
-use Rattle.std.proofs.Common.{◌≡◌, ◌≢◌, ℕ, ◌<◌, ◌≤◌, true, false, eqb, List, length, map, get_or, Option, None, Some, IsSome, IfSome, unwrap_or, refl, sym, ◌∙◌, arith}
-use Rattle.std.specs.List.{All, AllPairs, list_any}
+use Rattle.std.proofs.Common.{◌≡◌, ◌≢◌, ℕ, zero, suc, ◌+◌, ◌<◌, ◌≤◌, Bool, true, false, cond, eqb, List, [], ◌∷◌, length, map, filter, get_or, Option, None, Some, IsSome, IfSome, refl, sym, subst, ap, ◌∙◌, arith, length-append}
+use Rattle.std.specs.Prelude.{IsSomeAnd}
+use Rattle.std.specs.List.{All, AllPairs, flat_map, list_any, slice_get}
+use Rattle.std.specs.Option.{option_map, option_to_list}
 use Rattle.std.proofs.lemmas.Bool.{eqb-true, ne_eqb}
-use Rattle.std.proofs.lemmas.List.{get_or-map, length-map}
 use Rattle.std.proofs.lemmas.List.Folds.{Any-from_list_any, list_any_none}
 use Rattle.std.proofs.lemmas.Map.Keys.{IsDistinct-from_apart}
 use Rattle.std.proofs.lemmas.Map.Steps.{length-le_from_distinct_below}
 use Rattle.group_tree.specs.Lists.{has_group}
-use Rattle.group_tree.specs.Records.{blank, has_gid}
+use Rattle.group_tree.specs.Records.{has_gid, has_mode, is_control, is_mode}
 use Rattle.group_tree.specs.declared.group.Group.{Group}
+use Rattle.group_tree.specs.declared.group_kind.GroupKind.{GroupKind}
+use Rattle.group_tree.specs.declared.group_kind.GroupKind.TheVariants.{Control, Monitor}
+use Rattle.lists.proofs.Pairs.{All-flat_map, AllAcross, AllPairs-flat_map, AllPairs-one}
+use Rattle.machine.specs.Ranges.{InRange}
 use Rattle.machine.specs.declared.parameters.Parameters.{Parameters}
-use Rattle.tree_core.proofs.KeptTables.{IsSome-rmid}
+use Rattle.pseudo_lock.specs.declared.region.Region.{Region}
+use Rattle.rc_base.specs.declared.names.Gid.{Gid}
+use Rattle.rc_base.specs.declared.names.Mode.{Mode}
+use Rattle.rc_base.specs.declared.names.Mode.TheVariants.{Shareable, Exclusive, LockSetup, Locked}
 use Rattle.tree_core.specs.Kept.{Keeps}
 use Rattle.tree_core.specs.Tables.{Tables}
-use Rattle.tree_law.specs.Sound.{Differ, IsUsed}
+use Rattle.tree_law.specs.Freeing.{rmids_of}
+use Rattle.tree_law.specs.Regions.{HasOneRegion, has_region_of}
+use Rattle.tree_law.specs.Sound.{Differ, HasIds, HasIdsOf, IsDefault, IsUsed}
 use Rattle.tree_law.specs.State.{State}
+
+-- ---- ids that differ
 
 -- numbers that differ and are below one are no more than that
 pub length-distinct : (n : ℕ) (ids : List ℕ) → AllPairs (λ (a b : ℕ). a ≢ b) ids → All (λ id. id < n) ids → length ids ≤ n
@@ -27,47 +39,193 @@ length-distinct n ids differ below = length-le_from_distinct_below ids n (IsDist
         let at : get_or ids some.0 q ≡ get_or ids some.0 q = refl in
         omega (arith, is, least, some.3))
 
-abbrev rmid_number : Group → ℕ
-rmid_number g = unwrap_or g.rmid 0
+-- the ids of these groups
+abbrev pub ids_of : (Group → Option ℕ) → List Group → List ℕ
+ids_of of groups = flat_map (λ (g : Group). option_to_list (of g)) groups
 
--- the numbers of two RMIDs that are there differ
-unwrap_or-differ : (a b : Option ℕ) → IsSome a → IsSome b → Differ a b → unwrap_or a 0 ≢ unwrap_or b 0
-unwrap_or-differ (Some x) (Some y) some some' differ = differ
-unwrap_or-differ None b some some' differ = absurd (let e : false ≡ true = some in cc)
-unwrap_or-differ (Some x) None some some' differ = absurd (let e : false ≡ true = some' in cc)
+-- where they differ and are below one, they are no more than that
+pub length-ids_of : (of : Group → Option ℕ) (n : ℕ) (groups : List Group) → AllPairs (λ (a b : Group). Differ (of a) (of b)) groups → All (λ (g : Group). IfSome (of g) (λ id. id < n)) groups → length (ids_of of groups) ≤ n
+length-ids_of of n groups pairs below = length-distinct n (ids_of of groups)
+    (AllPairs-flat_map (λ (a b : ℕ). a ≢ b) (λ (g : Group). option_to_list (of g)) groups (λ k d within. one (of (get_or groups k d))) (λ i j d before within. two (of (get_or groups i d)) (of (get_or groups j d)) (pairs i j d before within)))
+    (All-flat_map (λ id. id < n) (λ (g : Group). option_to_list (of g)) groups (λ k d within. small (of (get_or groups k d)) (below k d within)))
+  where
+    one : (o : Option ℕ) → AllPairs (λ (a b : ℕ). a ≢ b) (option_to_list o)
+    one None = λ i j d before within. absurd (omega arith)
+    one (Some id) = AllPairs-one (λ (a b : ℕ). a ≢ b) id
+
+    two : (a b : Option ℕ) → Differ a b → AllAcross (λ (x y : ℕ). x ≢ y) (option_to_list a) (option_to_list b)
+    two None b differ = λ i j d less within. absurd (omega arith)
+    two (Some a) None differ = λ i j d less within. absurd (omega arith)
+    two (Some a) (Some b) differ = at
+      where
+        at : (i j d : ℕ) → i < 1 → j < 1 → get_or (a ∷ []) i d ≢ get_or (b ∷ []) j d
+        at zero zero d less within = differ
+        at zero (suc j) d less within = absurd (omega arith)
+        at (suc i) j d less within = absurd (omega arith)
+
+    small : (o : Option ℕ) → IfSome o (λ id. id < n) → All (λ id. id < n) (option_to_list o)
+    small None is = λ k d within. absurd (omega arith)
+    small (Some id) is = at
+      where
+        at : (k d : ℕ) → k < 1 → get_or (id ∷ []) k d < n
+        at zero d within = is
+        at (suc k) d within = absurd (omega arith)
+
+-- ---- the place of a region
+
+-- the first place at which a test passes
+abbrev place_of : {X : Type 0} → (X → Bool) → List X → Option ℕ
+place_of p [] = None
+place_of p (x ∷ xs) = cond (p x) (Some 0) (option_map suc (place_of p xs))
+
+-- it passes there
+abbrev Passes : {X : Type 0} → (X → Bool) → List X → ℕ → Type 0
+Passes {X = X} p xs k = (k < length xs) × ((d : X) → p (get_or xs k d) ≡ true)
+
+place_of-passes : {X : Type 0} (p : X → Bool) (xs : List X) → IfSome (place_of p xs) (Passes p xs)
+place_of-passes p [] = tt
+place_of-passes p (x ∷ xs) = at (p x) (place_of p xs) refl (place_of-passes p xs)
+  where
+    at : (b : Bool) (o : Option ℕ) → p x ≡ b → IfSome o (Passes p xs) → IfSome (cond b (Some 0) (option_map suc o)) (Passes p (x ∷ xs))
+    at true o is rest = (omega arith, λ d. is)
+    at false None is rest = tt
+    at false (Some k) is rest = (let less = rest.0 in omega arith, λ d. rest.1 d)
+
+-- and there is such a place where one passes
+place_of-some : {X : Type 0} (p : X → Bool) (xs : List X) → 0 < length (filter p xs) → IsSome (place_of p xs)
+place_of-some p [] some = absurd (omega arith)
+place_of-some p (x ∷ xs) some = at (p x) (place_of-some p xs) some
+  where
+    mapped : (o : Option ℕ) → IsSome o → IsSome (option_map suc o)
+    mapped None is = is
+    mapped (Some k) is = refl
+
+    at : (b : Bool) → (0 < length (filter p xs) → IsSome (place_of p xs)) → 0 < length (cond b (x ∷ filter p xs) (filter p xs)) → IsSome (cond b (Some 0) (option_map suc (place_of p xs)))
+    at true rest some = refl
+    at false rest some = mapped (place_of p xs) (rest some)
+
+-- the first domain whose region is a pseudo-locked group's
+abbrev region_place : List (Option Region) → Group → Option ℕ
+region_place regions g = cond (has_mode Locked g) (place_of (has_region_of g.gid) regions) None
+
+-- it is that group's
+abbrev IsPlaceOf : List (Option Region) → Group → ℕ → Type 0
+IsPlaceOf regions g = Passes (has_region_of g.gid) regions
+
+region_place-passes : (regions : List (Option Region)) (g : Group) → IfSome (region_place regions g) (IsPlaceOf regions g)
+region_place-passes regions g = at (has_mode Locked g)
+  where
+    at : (b : Bool) → IfSome (cond b (place_of (has_region_of g.gid) regions) None) (IsPlaceOf regions g)
+    at true = place_of-passes (has_region_of g.gid) regions
+    at false = tt
+
+-- no two groups have the same region
+region_place-differ : (regions : List (Option Region)) (a b : Group) → a.gid.0 ≢ b.gid.0 → Differ (region_place regions a) (region_place regions b)
+region_place-differ regions a b differ = at (region_place regions a) (region_place regions b) (region_place-passes regions a) (region_place-passes regions b)
+  where
+    of_one : (r : Option Region) → has_region_of a.gid r ≡ true → has_region_of b.gid r ≡ true → ⊥
+    of_one None is is' = let f : false ≡ true = is in cc
+    of_one (Some r) is is' = differ (sym (eqb-true r.gid.0 a.gid.0 is) ∙ eqb-true r.gid.0 b.gid.0 is')
+
+    at : (x y : Option ℕ) → IfSome x (IsPlaceOf regions a) → IfSome y (IsPlaceOf regions b) → Differ x y
+    at None y is is' = tt
+    at (Some k) None is is' = tt
+    at (Some k) (Some j) is is' = λ same. of_one (get_or regions k None) (is.1 None) (ap (λ (n : ℕ). has_region_of b.gid (get_or regions n None)) same ∙ is'.1 None)
+
+-- ---- the groups
+
+-- how many ids of a kind a group has
+abbrev held : (Group → Option ℕ) → Group → ℕ
+held of g = length (option_to_list (of g))
+
+module _ (regions : List (Option Region)) where
+  -- how many ids and regions a group has
+  abbrev holds : Group → ℕ
+  holds g = held (λ (x : Group). x.rmid) g + held (λ (x : Group). x.class) g + held (region_place regions) g
+
+  -- each group has some
+  holds-some : (groups : List Group) (g : Group) → HasIds groups g.kind g → HasOneRegion regions g → 0 < holds g
+  holds-some groups g has one = by_kind g.kind refl has
+    where
+      some : (o : Option ℕ) → IsSome o → 0 < length (option_to_list o)
+      some None is = absurd (let f : false ≡ true = is in cc)
+      some (Some id) is = omega arith
+
+      placed : has_mode Locked g ≡ true → 0 < held (region_place regions) g
+      placed locked = subst (λ (b : Bool). 0 < length (option_to_list (cond b (place_of (has_region_of g.gid) regions) None))) (sym locked)
+          (some (place_of (has_region_of g.gid) regions) (place_of-some (has_region_of g.gid) regions (let here = one locked in omega arith)))
+
+      by_mode : (mode : Mode) → g.kind ≡ Control → g.mode ≡ mode → HasIdsOf mode g → 0 < holds g
+      by_mode Shareable control is ids = let more = some g.rmid ids.1 in omega arith
+      by_mode Exclusive control is ids = let more = some g.rmid ids.1 in omega arith
+      by_mode LockSetup control is ids = let more = some g.class ids.0 in omega arith
+      by_mode Locked control is ids = let more = placed (rw (control, is) refl) in omega arith
+
+      by_kind : (kind : GroupKind) → g.kind ≡ kind → HasIds groups kind g → 0 < holds g
+      by_kind Control is ids = by_mode g.mode is refl ids
+      by_kind (Monitor parent) is ids = let more = some g.rmid ids.1 in omega arith
+
+  -- the ids and regions of all of them
+  abbrev total : List Group → ℕ
+  total groups = length (ids_of (λ (x : Group). x.rmid) groups) + length (ids_of (λ (x : Group). x.class) groups) + length (ids_of (region_place regions) groups)
+
+  total-cons : (g : Group) (gs : List Group) → total (g ∷ gs) ≡ holds g + total gs
+  total-cons g gs =
+      let a = length-append (option_to_list g.rmid) (ids_of (λ (x : Group). x.rmid) gs) in
+      let b = length-append (option_to_list g.class) (ids_of (λ (x : Group). x.class) gs) in
+      let c = length-append (option_to_list (region_place regions g)) (ids_of (region_place regions) gs) in
+      omega arith
+
+  -- are no fewer than they are
+  length-total : (groups : List Group) → All (λ (g : Group). 0 < holds g) groups → length groups ≤ total groups
+  length-total [] each = omega arith
+  length-total (g ∷ gs) each =
+      let rest = length-total gs (λ k d within. each (suc k) d (omega arith)) in
+      let here = each 0 g (omega arith) in
+      omega (arith, rest, here, total-cons g gs)
+
+  -- and more, for the first has two
+  length-total_lt : (groups : List Group) → IsSomeAnd (slice_get groups 0) IsDefault → All (λ (g : Group). 0 < holds g) groups → length groups < total groups
+  length-total_lt [] first each = absurd first
+  length-total_lt (g ∷ gs) first each =
+      let rest = length-total gs (λ k d within. each (suc k) d (omega arith)) in
+      let one : held (λ (x : Group). x.class) g ≡ 1 = ap (λ (o : Option ℕ). length (option_to_list o)) first.class in
+      let two : held (λ (x : Group). x.rmid) g ≡ 1 = ap (λ (o : Option ℕ). length (option_to_list o)) first.rmid in
+      omega (arith, rest, one, two, total-cons g gs)
 
 module _ {m : Parameters} {t : Tables} {s : State} {epoch : ℕ} (keeps : Keeps m t s epoch) where
-  -- the number of an RMID that is there is below that of RMIDs
-  unwrap_or-lt : (rmid : Option ℕ) → IsSome rmid → IfSome rmid (IsUsed m s.limbo) → unwrap_or rmid 0 < m.rmids
-  unwrap_or-lt (Some id) some used = used.0
-  unwrap_or-lt None some used = absurd (let e : false ≡ true = some in cc)
-
-  -- there are no more groups than RMIDs
-  pub length-groups_le : length s.groups ≤ m.rmids
-  length-groups_le = omega (arith, length-distinct m.rmids (map rmid_number s.groups) differ below, length-map s.groups rmid_number)
+  -- there are no more RMIDs of groups than RMIDs
+  pub length-rmids_le : length (ids_of (λ (g : Group). g.rmid) s.groups) ≤ m.rmids
+  length-rmids_le = length-ids_of (λ (g : Group). g.rmid) m.rmids s.groups (λ i j d lt within. (keeps.sound.numbered.apart i j d lt within).1) (λ k d within. used (get_or s.groups k d).rmid (keeps.sound.numbered.rmids k d within))
     where
-      differ : (i j : ℕ) (d : ℕ) → i < j → j < length (map rmid_number s.groups) → get_or (map rmid_number s.groups) i d ≢ get_or (map rmid_number s.groups) j d
-      differ i j d lt within e = (let long = length-map s.groups rmid_number in
-          let later : j < length s.groups = omega arith in
-          let earlier : i < length s.groups = omega arith in
-          let at_i = get_or-map rmid_number s.groups i blank d earlier in
-          let at_j = get_or-map rmid_number s.groups j blank d later in
-          unwrap_or-differ (get_or s.groups i blank).rmid (get_or s.groups j blank).rmid (IsSome-rmid keeps i blank earlier) (IsSome-rmid keeps j blank later) (keeps.sound.numbered.apart i j blank lt later).1 (sym at_i ∙ e ∙ at_j))
+      used : (o : Option ℕ) → IfSome o (IsUsed m s.limbo) → IfSome o (λ id. id < m.rmids)
+      used None is = tt
+      used (Some id) is = is.0
 
-      below : (k d : ℕ) → k < length (map rmid_number s.groups) → get_or (map rmid_number s.groups) k d < m.rmids
-      below k d within = (let long = length-map s.groups rmid_number in
-          let inside : k < length s.groups = omega arith in
-          let at = get_or-map rmid_number s.groups k blank d inside in
-          let least = unwrap_or-lt (get_or s.groups k blank).rmid (IsSome-rmid keeps k blank inside) (keeps.sound.numbered.rmids k blank inside) in
-          omega (arith, at, least))
+  -- nor more classes of groups than classes
+  length-classes_le : length (ids_of (λ (g : Group). g.class) s.groups) ≤ m.classes
+  length-classes_le = length-ids_of (λ (g : Group). g.class) m.classes s.groups (λ i j d lt within. (keeps.sound.numbered.apart i j d lt within).0) keeps.sound.numbered.classes
+
+  -- nor more pseudo-locked groups than domains
+  length-regions_le : length (ids_of (region_place s.regions) s.groups) ≤ m.domains
+  length-regions_le = length-ids_of (region_place s.regions) m.domains s.groups (λ i j d lt within. region_place-differ s.regions (get_or s.groups i d) (get_or s.groups j d) (keeps.sound.named.gids i j d lt within))
+      (λ k d within. placed (get_or s.groups k d) (region_place s.regions (get_or s.groups k d)) (region_place-passes s.regions (get_or s.groups k d)))
+    where
+      placed : (g : Group) (o : Option ℕ) → IfSome o (IsPlaceOf s.regions g) → IfSome o (λ id. id < m.domains)
+      placed g None is = tt
+      placed g (Some k) is = subst (λ (n : ℕ). k < n) keeps.sound.regions.each is.0
 
   -- the next gid is fresh
   pub has_group-next_gid : has_group (record { 0 = s.next_gid }) s.groups ≡ false
   has_group-next_gid = list_any_none (has_gid (record { 0 = s.next_gid })) s.groups (λ k d within. let below = keeps.sound.named.serial k d within in ne_eqb s.next_gid (get_or s.groups k d).gid.0 (λ e. absurd (omega (arith, below, e))))
 
-  -- where there are at most 256 RMIDs, one more group has a place
-  pub length-groups_lt : m.rmids ≤ 256 → length s.groups < 328
-  length-groups_lt few = omega (arith, length-groups_le)
+  -- one more group has a place
+  pub length-groups_lt : InRange m → length s.groups < 328
+  length-groups_lt range =
+      let more = length-total_lt s.regions s.groups keeps.sound.named.first (λ k d within. holds-some s.regions s.groups (get_or s.groups k d) (keeps.sound.numbered.ids k d within) (keeps.sound.regions.once k d within)) in
+      let rmids = length-rmids_le in let classes = length-classes_le in let domains = length-regions_le in
+      let a = range.rmid_limit in let b = range.class_limit in let c = range.domain_limit in
+      omega arith
 
   -- there are no more RMIDs in limbo than RMIDs
   pub length-limbo_le : length s.limbo ≤ m.rmids

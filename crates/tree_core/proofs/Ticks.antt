@@ -11,7 +11,6 @@ use Rattle.tree_core.proofs.Outcomes.{next-accepted}
 use Rattle.tree_core.proofs.ReadCounts.{needs-tick, refusal-tick}
 use Rattle.tree_core.proofs.RemovedGroups.{threshold-lt}
 use Rattle.tree_core.specs.Kept.{Keeps}
-use Rattle.tree_core.specs.NotReached.{NotReached}
 use Rattle.tree_core.specs.RmidLists.{bytes_each}
 use Rattle.tree_core.specs.Tables.{Tables}
 use Rattle.tree_law.proofs.laws.Steps.{next-sound}
@@ -62,11 +61,8 @@ module _ {m : Parameters} {t : Tables} {s : State} {epoch : ℕ} (keeps : Keeps 
         rmid_taken = λ id. ap (λ (r : MonitoringIds). contains id r.taken) is ∙ keeps.stands.taken.rmid_taken id;
       };
       gids_left = keeps.stands.gids_left;
+      locks_left = keeps.stands.locks_left;
     };
     sound = subst (IsSound m) (sym ticked-next) (next-sound m s Tick looks range keeps.sound tt count);
     few_tasks = keeps.few_tasks;
-    not_reached = keeps_open;
   })
-    where
-      keeps_open : NotReached m (record s { limbo = rmids'.limbo })
-      keeps_open = record { groups = keeps.not_reached.groups; regions = keeps.not_reached.regions; locks = keeps.not_reached.locks }

@@ -1,13 +1,15 @@
 -- What a write leaves, by what is against it.
-use Rattle.std.proofs.Common.{◌≡◌, ℕ, List, Option, None, Some, refl, ap, ◌∙◌}
+use Rattle.std.proofs.Common.{◌≡◌, ℕ, List, [], Option, None, Some, refl, ap, ap₂, ◌∙◌}
 use Rattle.machine.specs.declared.parameters.Parameters.{Parameters}
 use Rattle.path_names.specs.declared.path_ref.PathRef.{PathRef}
+use Rattle.script_ops.specs.declared.op.Op.{Op}
 use Rattle.script_ops.specs.declared.op.Op.TheVariants.{Write}
 use Rattle.tree_core.proofs.Outcomes.{reply-next}
 use Rattle.tree_core.specs.CpuFiles.{unless}
 use Rattle.tree_law.specs.Refusals.{Refusal, reply_of}
 use Rattle.tree_law.specs.State.{State}
-use Rattle.tree_law.specs.Steps.{accepted, left, next, next_if, refusal}
+use Rattle.tree_law.specs.Steps.{accepted, after, after_accepted, left, next, next_if, refusal}
+use Rattle.tree_law.specs.declared.follow.Follow.{Follow}
 
 -- the state after a write, accepted or refused
 state-write : (m : Parameters) (s : State) (path : PathRef) (text : List ℕ) (looks : List ℕ) → (next m s (Write path text) looks).state
@@ -32,3 +34,8 @@ Leaves-write m s path text looks o later is leaves = record {
       ∙ ap (λ (p : Option Refusal). record (unless p (left s (Write path text)) (accepted m s (Write path text) looks)) { status = reply_of p }) is
       ∙ ap (λ (x : State). record x { status = reply_of o }) leaves;
 }
+
+-- what follows a command against which this is, or nothing
+pub after-unless : (m : Parameters) (s : State) (k : ℕ) (op : Op) (o : Option Refusal) (follows : List Follow) → refusal m s op ≡ o → after_accepted m s k op ≡ follows → after m s k op ≡ unless o [] follows
+unfolding after
+after-unless m s k op o follows is_refusal is_after = ap₂ (λ (p : Option Refusal) (fs : List Follow). unless p [] fs) is_refusal is_after

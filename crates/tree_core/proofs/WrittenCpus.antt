@@ -53,10 +53,10 @@ Keeps-with_cpus {m} {t} {s} {epoch} o groups new keeps is sound = record {
     shareable = keeps.stands.shareable;
     taken = keeps.stands.taken;
     gids_left = keeps.stands.gids_left;
+    locks_left = keeps.stands.locks_left;
   };
   sound = subst (λ (cs : List CpuGroups). IsSound m (record s { cpus = cs })) (sym is) (IsSound-unless m s o groups keeps.sound sound);
   few_tasks = keeps.few_tasks;
-  not_reached = record { groups = keeps.not_reached.groups; regions = keeps.not_reached.regions; locks = keeps.not_reached.locks };
 }
 
 -- ---- the CPUs that a text names

@@ -1,138 +1,235 @@
 -- What a write of `mode` answers and leaves.
-use Rattle.std.proofs.Common.{◌≡◌, ℕ, ◌≤◌, Bool, true, false, ◌&&◌, cond, List, [], length, find, map, Option, None, Some, refl, sym, subst, ap, ◌∙◌}
-use Rattle.std.specs.List.{list_any, range_with_len}
+use Rattle.std.proofs.Common.{◌≡◌, ℕ, ◌*◌, ◌≤◌, Bool, true, false, cond, List, [], length, find, map, Option, None, Some, is_some, refl, sym, subst, ap, ap₂, ◌∙◌}
+use Rattle.std.specs.List.{range_with_len}
 use Rattle.std.specs.Option.{option_map_or, option_or}
-use Rattle.group_tree.specs.Records.{is_mode}
 use Rattle.group_tree.specs.declared.group.Group.{Group}
+use Rattle.lists.proofs.Tests.{find-found}
 use Rattle.machine.specs.Ranges.{InRange}
 use Rattle.machine.specs.declared.parameters.Parameters.{Parameters}
 use Rattle.num_text.specs.Blanks.{trim}
 use Rattle.path_names.specs.declared.dirs.DirRef.{DirRef}
+use Rattle.path_names.specs.declared.files.FileKind.{FileKind}
 use Rattle.path_names.specs.declared.files.FileKind.TheVariants as files
 use Rattle.path_names.specs.declared.path_ref.PathRef.TheVariants.{File}
 use Rattle.rc_base.specs.declared.names.Mode.{Mode}
 use Rattle.rc_base.specs.declared.names.Mode.TheVariants.{Shareable, Exclusive, LockSetup, Locked}
-use Rattle.rc_base.specs.declared.replies.Reply.TheVariants as replies
-use Rattle.rc_base.specs.declared.replies.Why.TheVariants.{SchemataOverlap, UnknownMode}
+use Rattle.rc_base.specs.declared.replies.Why.TheVariants.{GroupLocked, UnknownMode}
 use Rattle.script_ops.specs.declared.op.Op.TheVariants.{Write}
-use Rattle.tree_core.proofs.AskedModes.{freed-mode}
-use Rattle.tree_core.proofs.Outcomes.{needs-nothing, next-accepted}
-use Rattle.tree_core.proofs.WrittenMasks.{is_locked-counted, refusal-write_text}
-use Rattle.tree_core.specs.Modes.{Stays, TurnsTo}
+use Rattle.tree_core.proofs.NeededCounts.{length-counts_in}
+use Rattle.tree_core.proofs.Outcomes.{needs-accepted, needs-nothing, needs-refused}
+use Rattle.tree_core.proofs.Soundness.{IsSound-from_status}
+use Rattle.tree_core.proofs.WriteOutcomes.{Leaves, Leaves-write, after-unless}
+use Rattle.tree_core.proofs.WrittenMasks.{refusal-write_text}
+use Rattle.tree_core.specs.CpuFiles.{unless}
+use Rattle.tree_core.specs.Modes.{TurnsTo, against_turn, turned}
 use Rattle.tree_law.proofs.laws.Steps.{next-sound}
-use Rattle.tree_law.specs.Counted.{is_counted_mode}
 use Rattle.tree_law.specs.Freeing.{counts_of}
-use Rattle.tree_law.specs.Places.{control_at, with_record}
-use Rattle.tree_law.specs.Refusals.{plain}
+use Rattle.tree_law.specs.Places.{control_at}
+use Rattle.tree_law.specs.Refusals.{Refusal, plain, reply_of}
 use Rattle.tree_law.specs.Sound.{IsSound}
-use Rattle.tree_law.specs.State.{Outcome, State}
-use Rattle.tree_law.specs.Steps.{accepted, after_accepted, refusal}
+use Rattle.tree_law.specs.State.{State}
+use Rattle.tree_law.specs.Steps.{accepted, after, left, needs, needs_accepted, refusal}
 use Rattle.tree_law.specs.commands.Mode as modes
+use Rattle.tree_law.specs.commands.Schemata.{is_locked}
 use Rattle.tree_law.specs.commands.Write as write
+use Rattle.tree_law.specs.declared.follow.Follow.{Follow}
 use Rattle.tree_law.specs.declared.follow.Follow.TheVariants.{Raise}
-
--- a counted mode is not pseudo-locksetup
-is_setup-counted : (mode : Mode) → is_counted_mode mode ≡ true → modes.is_setup mode ≡ false
-is_setup-counted Shareable counted = refl
-is_setup-counted Exclusive counted = refl
-is_setup-counted LockSetup counted = absurd (let f : false ≡ true = counted in cc)
-is_setup-counted Locked counted = absurd (let f : false ≡ true = counted in cc)
-
--- nothing more, or nothing
-option_or-nothing : {X : Type 0} (o : Option X) → option_or o None ≡ o
-option_or-nothing None = refl
-option_or-nothing (Some x) = refl
 
 -- ---- what a text asks of a group
 
 -- the name of a mode, or another text
-pub is_present-true : (mode : Mode) (text : List ℕ) → modes.is_named (trim text) mode ≡ true → modes.is_present mode text ≡ true
+pub is_present-is : (mode : Mode) (text : List ℕ) (b : Bool) → modes.is_named (trim text) mode ≡ b → modes.is_present mode text ≡ b
 unfolding modes.is_present
-is_present-true mode text named = named
+is_present-is mode text b named = named
 
-pub is_present-false : (mode : Mode) (text : List ℕ) → modes.is_named (trim text) mode ≡ false → modes.is_present mode text ≡ false
-unfolding modes.is_present
-is_present-false mode text other = other
+-- a mode that a text asks for is one that it names
+pub is_present-asked : (mode : Mode) (text : List ℕ) → modes.mode_in text ≡ Some mode → modes.is_present mode text ≡ true
+unfolding modes.mode_in modes.is_present
+is_present-asked mode text asked = (find-found (modes.is_named (trim text)) modes.writable_modes mode asked).passes
+
+-- so a group in pseudo-locksetup that turns to another mode does not turn to that
+pub is_setup-apart : (m : Parameters) (s : State) (g : Group) (text : List ℕ) (mode : Mode) → TurnsTo m s g text mode → modes.is_setup mode ≡ true → modes.is_setup g.mode ≡ false
+is_setup-apart m s g text mode turns to = at mode g.mode to (is_present-asked mode text turns.asked) turns.other
+  where
+    at : (a b : Mode) → modes.is_setup a ≡ true → modes.is_present a text ≡ true → modes.is_present b text ≡ false → modes.is_setup b ≡ false
+    at LockSetup LockSetup is named unnamed = absurd (let f : true ≡ false = sym named ∙ unnamed in cc)
+    at LockSetup Shareable is named unnamed = refl
+    at LockSetup Exclusive is named unnamed = refl
+    at LockSetup Locked is named unnamed = refl
+    at Shareable b is named unnamed = absurd (let f : false ≡ true = is in cc)
+    at Exclusive b is named unnamed = absurd (let f : false ≡ true = is in cc)
+    at Locked b is named unnamed = absurd (let f : false ≡ true = is in cc)
 
 module _ (m : Parameters) (s : State) (g : Group) (text : List ℕ) where
-  -- the mode that it is in
-  pub Stays-present : modes.is_present g.mode text ≡ true → Stays m s g text
+  -- the mode that it is in is not refused
+  pub refusal-stays : modes.is_present g.mode text ≡ true → modes.refusal m s g text ≡ None
   unfolding modes.refusal
-  Stays-present present = record { accepted = rw present refl; present = present }
+  refusal-stays present = rw present refl
 
-  module _ (other : modes.is_present g.mode text ≡ false) (counted : is_counted_mode g.mode ≡ true) where
-    -- no mode that may be written
-    pub refusal-unknown : modes.mode_in text ≡ None → modes.refusal m s g text ≡ Some (plain UnknownMode)
+  -- nothing changes
+  pub accepted-stays : (looks : List ℕ) → modes.is_present g.mode text ≡ true → modes.accepted m s g text looks ≡ s
+  unfolding modes.accepted
+  accepted-stays looks present = rw present refl
+
+  -- and nothing follows
+  pub after-stays : modes.is_present g.mode text ≡ true → modes.after m g text ≡ []
+  unfolding modes.after
+  after-stays present = rw present refl
+
+  -- nor is an RMID freed
+  pub freed-stays : modes.is_present g.mode text ≡ true → modes.freed g text ≡ []
+  unfolding modes.freed
+  freed-stays present = rw present refl
+
+  module _ (other : modes.is_present g.mode text ≡ false) where
+    -- a pseudo-locked group takes no other mode
+    pub refusal-locked : is_locked g.mode ≡ true → modes.refusal m s g text ≡ Some (plain GroupLocked)
     unfolding modes.refusal
-    refusal-unknown none = rw (other, is_locked-counted g.mode counted, none) refl
+    refusal-locked locked = rw (other, locked) refl
 
-    module _ (mode : Mode) (asked : modes.mode_in text ≡ Some mode) (to : is_counted_mode mode ≡ true) where
-      -- another mode, against which the overlap alone is
-      refusal-asked : modes.refusal m s g text ≡ modes.against_exclusive m s g mode
+    module _ (unlocked : is_locked g.mode ≡ false) where
+      -- no mode that may be written
+      pub refusal-unknown : modes.mode_in text ≡ None → modes.refusal m s g text ≡ Some (plain UnknownMode)
       unfolding modes.refusal
-      refusal-asked = rw (other, is_locked-counted g.mode counted, asked, is_setup-counted mode to, is_setup-counted g.mode counted) (option_or-nothing (modes.against_exclusive m s g mode))
+      refusal-unknown none = rw (other, unlocked, none) refl
 
-      -- whether it would be exclusive and overlaps what others use
-      abbrev pub is_barred : Bool
-      is_barred = is_mode Exclusive mode && list_any (modes.overlaps_some m s g) (range_with_len 0 m.domains)
+      module _ (mode : Mode) (asked : modes.mode_in text ≡ Some mode) where
+        refusal-asked : modes.refusal m s g text ≡ modes.against_change m s g mode
+        unfolding modes.refusal
+        refusal-asked = rw (other, unlocked, asked) refl
 
-      -- if so, it is refused
-      pub refusal-barred : is_barred ≡ true → modes.refusal m s g text ≡ Some (plain SchemataOverlap)
-      refusal-barred barred = refusal-asked ∙ ap (λ (b : Bool). cond b (Some (plain SchemataOverlap)) None) barred
+        -- a mode to which it may not turn
+        pub refusal-turn_some : (r : Refusal) → against_turn m s g mode ≡ Some r → modes.refusal m s g text ≡ Some r
+        refusal-turn_some r is = refusal-asked ∙ at (modes.against_entry s g mode) (modes.against_leaving m s g) (modes.against_exclusive m s g mode) is
+          where
+            at : (a b c : Option Refusal) → option_or a (option_or b c) ≡ Some r → option_or a (option_or b (option_or c (modes.against_rmid m s g))) ≡ Some r
+            at (Some x) b c e = e
+            at None (Some x) c e = e
+            at None None (Some x) e = e
+            at None None None e = absurd (let none : None ≡ Some r = e in cc)
 
-      -- if not, it turns
-      pub TurnsTo-free : is_barred ≡ false → TurnsTo m s g text mode
-      TurnsTo-free free = record { accepted = refusal-asked ∙ ap (λ (b : Bool). cond b (Some (plain SchemataOverlap)) None) free; other = other; asked = asked; counted = to }
+        -- and one to which it may
+        refusal-turn_none : against_turn m s g mode ≡ None → modes.refusal m s g text ≡ modes.against_rmid m s g
+        refusal-turn_none is = refusal-asked ∙ at (modes.against_entry s g mode) (modes.against_leaving m s g) (modes.against_exclusive m s g mode) is
+          where
+            at : (a b c : Option Refusal) → option_or a (option_or b c) ≡ None → option_or a (option_or b (option_or c (modes.against_rmid m s g))) ≡ modes.against_rmid m s g
+            at (Some x) b c e = absurd (let none : Some x ≡ None = e in cc)
+            at None (Some x) c e = absurd (let none : Some x ≡ None = e in cc)
+            at None None (Some x) e = absurd (let none : Some x ≡ None = e in cc)
+            at None None None e = refl
 
--- ---- what the command does
+  module _ (mode : Mode) (turns : TurnsTo m s g text mode) where
+    -- a group that turns is refused a lack of RMIDs alone
+    pub refusal-turns : modes.refusal m s g text ≡ modes.against_rmid m s g
+    refusal-turns = refusal-turn_none turns.other turns.unlocked mode turns.asked turns.free
+
+    -- the RMIDs that are freed
+    pub freed-turns : modes.freed g text ≡ modes.freed_by g (Some mode)
+    unfolding modes.freed
+    freed-turns = rw (turns.other, turns.asked) refl
+
+    -- its mode changes
+    pub accepted-turns : (looks : List ℕ) → modes.accepted m s g text looks ≡ turned m s g mode looks
+    unfolding modes.accepted modes.freed
+    accepted-turns looks = rw (turns.other, turns.asked) refl
+
+    -- and every domain is raised
+    pub after-turns : modes.after m g text ≡ map (λ d. Raise d) (range_with_len 0 m.domains)
+    unfolding modes.after
+    after-turns = rw turns.other refl
+
+-- ---- the command
 
 module _ (m : Parameters) (s : State) (dir : DirRef) (text : List ℕ) (writable : find (write.against s (File dir files.Mode)) write.reasons ≡ None) where
-  -- a directory that is no control group's takes any text
-  pub refusal-nowhere : control_at s dir ≡ None → refusal m s (Write (File dir files.Mode) text) ≡ None
+  -- a refused one leaves the state
+  left-mode : left s (Write (File dir files.Mode) text) ≡ s
+  unfolding write.refused
+  left-mode = refl
+
+  -- ---- a directory that is no control group's takes any text, and nothing changes
+
+  refusal-nowhere : control_at s dir ≡ None → refusal m s (Write (File dir files.Mode) text) ≡ None
   refusal-nowhere none = refusal-write_text m s (File dir files.Mode) text writable ∙ ap (λ (o : Option Group). option_map_or (λ g. modes.refusal m s g text) o None) none
 
-  -- it changes nothing
-  pub accepted-nowhere : (looks : List ℕ) → control_at s dir ≡ None → accepted m s (Write (File dir files.Mode) text) looks ≡ s
+  accepted-nowhere : (looks : List ℕ) → control_at s dir ≡ None → accepted m s (Write (File dir files.Mode) text) looks ≡ s
   unfolding write.accepted
   accepted-nowhere looks none = ap (λ (o : Option Group). option_map_or (λ g. modes.accepted m s g text looks) o s) none
 
-  -- and nothing follows it
-  pub after_accepted-nowhere : (k : ℕ) → control_at s dir ≡ None → after_accepted m s k (Write (File dir files.Mode) text) ≡ []
+  pub Leaves-nowhere : (looks : List ℕ) → control_at s dir ≡ None → Leaves m s (File dir files.Mode) text looks None s
+  Leaves-nowhere looks none = Leaves-write m s (File dir files.Mode) text looks None s (refusal-nowhere none) (accepted-nowhere looks none)
+
+  pub after-nowhere : (k : ℕ) → control_at s dir ≡ None → after m s k (Write (File dir files.Mode) text) ≡ []
   unfolding write.after
-  after_accepted-nowhere k none = ap (λ (o : Option Group). option_map_or (λ g. modes.after m g text) o []) none
+  after-nowhere k none = after-unless m s k (Write (File dir files.Mode) text) None [] (refusal-nowhere none) (ap (λ (o : Option Group). option_map_or (λ g. modes.after m g text) o []) none)
+
+  -- it needs no counts
+  pub needs-nowhere : control_at s dir ≡ None → needs m s (Write (File dir files.Mode) text) ≡ []
+  unfolding write.freed
+  needs-nowhere none = needs-nothing m s (Write (File dir files.Mode) text) (ap (λ (o : Option Group). counts_of m (option_map_or (λ g. modes.freed g text) o [])) none)
+
+  -- ---- the mode of a control group
 
   module _ (g : Group) (is_group : control_at s dir ≡ Some g) where
     -- what is against the command is against the text
-    pub refusal-mode : refusal m s (Write (File dir files.Mode) text) ≡ modes.refusal m s g text
-    refusal-mode = refusal-write_text m s (File dir files.Mode) text writable ∙ ap (λ (o : Option Group). option_map_or (λ x. modes.refusal m s x text) o None) is_group
+    pub refusal-group : refusal m s (Write (File dir files.Mode) text) ≡ modes.refusal m s g text
+    refusal-group = refusal-write_text m s (File dir files.Mode) text writable ∙ ap (λ (o : Option Group). option_map_or (λ x. modes.refusal m s x text) o None) is_group
 
-    -- where the group stays as it is, so does the state
-    pub accepted-stays : (looks : List ℕ) → Stays m s g text → accepted m s (Write (File dir files.Mode) text) looks ≡ s
-    unfolding write.accepted modes.accepted
-    accepted-stays looks stays = ap (λ (o : Option Group). option_map_or (λ x. modes.accepted m s x text looks) o s) is_group ∙ rw stays.present refl
+    accepted-group : (looks : List ℕ) → accepted m s (Write (File dir files.Mode) text) looks ≡ modes.accepted m s g text looks
+    unfolding write.accepted
+    accepted-group looks = ap (λ (o : Option Group). option_map_or (λ x. modes.accepted m s x text looks) o s) is_group
 
-    -- and nothing follows
-    pub after_accepted-stays : (k : ℕ) → Stays m s g text → after_accepted m s k (Write (File dir files.Mode) text) ≡ []
-    unfolding write.after modes.after
-    after_accepted-stays k stays = ap (λ (o : Option Group). option_map_or (λ x. modes.after m x text) o []) is_group ∙ rw stays.present refl
+    -- the state after it, by what is against it
+    pub Leaves-mode : (looks : List ℕ) → Leaves m s (File dir files.Mode) text looks (modes.refusal m s g text) (unless (modes.refusal m s g text) s (modes.accepted m s g text looks))
+    Leaves-mode looks = Leaves-write m s (File dir files.Mode) text looks (modes.refusal m s g text) (unless (modes.refusal m s g text) s (modes.accepted m s g text looks)) refusal-group
+        (ap₂ (λ (a b : State). unless (modes.refusal m s g text) a b) left-mode (accepted-group looks))
 
-    module _ (mode : Mode) (counted : is_counted_mode g.mode ≡ true) (turns : TurnsTo m s g text mode) where
-      -- where the group turns to another mode, that alone changes
-      pub accepted-turns : (looks : List ℕ) → accepted m s (Write (File dir files.Mode) text) looks ≡ with_record s (record g { mode = mode })
-      unfolding write.accepted modes.accepted modes.freed
-      accepted-turns looks =
-          ap (λ (o : Option Group). option_map_or (λ x. modes.accepted m s x text looks) o s) is_group
-          ∙ rw (turns.other, turns.asked, is_setup-counted mode turns.counted, is_setup-counted g.mode counted) refl
+    -- and what follows
+    pub after-mode : (k : ℕ) → after m s k (Write (File dir files.Mode) text) ≡ unless (modes.refusal m s g text) [] (modes.after m g text)
+    unfolding write.after
+    after-mode k = after-unless m s k (Write (File dir files.Mode) text) (modes.refusal m s g text) (modes.after m g text) refusal-group (ap (λ (o : Option Group). option_map_or (λ x. modes.after m x text) o []) is_group)
 
-      -- and every domain is raised
-      pub after_accepted-turns : (k : ℕ) → after_accepted m s k (Write (File dir files.Mode) text) ≡ map (λ d. Raise d) (range_with_len 0 m.domains)
-      unfolding write.after modes.after
-      after_accepted-turns k = ap (λ (o : Option Group). option_map_or (λ x. modes.after m x text) o []) is_group ∙ rw turns.other refl
+    needs-group : needs_accepted m s (Write (File dir files.Mode) text) ≡ counts_of m (modes.freed g text)
+    unfolding write.freed
+    needs-group = ap (λ (o : Option Group). counts_of m (option_map_or (λ x. modes.freed x text) o [])) is_group
 
-      -- the state is sound
-      pub IsSound-turned : InRange m → IsSound m s → length text ≤ 4096 → modes.is_named (trim text) LockSetup ≡ false → IsSound m (record (with_record s (record g { mode = mode })) { status = replies.Ok })
-      IsSound-turned range sound short other =
-          let op = Write (File dir files.Mode) text in
-          let next = next-sound m s op [] range sound short (ap length (sym (needs-nothing m s op (ap (counts_of m) (freed-mode s dir text other))))) in
-          let after = subst (λ (o : Outcome). IsSound m o.state) (next-accepted m s op [] (refusal-mode ∙ turns.accepted)) next in
-          subst (λ (x : State). IsSound m (record x { status = replies.Ok })) (accepted-turns []) after
+    -- the counts that it needs, where nothing is against it
+    pub needs-mode : modes.refusal m s g text ≡ None → needs m s (Write (File dir files.Mode) text) ≡ counts_of m (modes.freed g text)
+    needs-mode none = needs-accepted m s (Write (File dir files.Mode) text) (refusal-group ∙ none) ∙ needs-group
+
+    -- and none, where something is
+    pub needs-mode_refused : (r : Refusal) → modes.refusal m s g text ≡ Some r → needs m s (Write (File dir files.Mode) text) ≡ []
+    needs-mode_refused r is = needs-refused m s (Write (File dir files.Mode) text) r (refusal-group ∙ is)
+
+    -- none too, where no RMID is freed
+    pub needs-mode_none : modes.freed g text ≡ [] → needs m s (Write (File dir files.Mode) text) ≡ []
+    needs-mode_none none = needs-nothing m s (Write (File dir files.Mode) text) (needs-group ∙ ap (counts_of m) none)
+
+    -- those of the RMID that is freed, where it turns to another mode
+    pub needs-turns : (mode : Mode) → TurnsTo m s g text mode → needs m s (Write (File dir files.Mode) text) ≡ counts_of m (modes.freed_by g (Some mode))
+    needs-turns mode turns = at mode refl
+      where
+        at : (x : Mode) → mode ≡ x → needs m s (Write (File dir files.Mode) text) ≡ counts_of m (modes.freed_by g (Some x))
+        at LockSetup is =
+            (let apart = is_setup-apart m s g text mode turns (ap modes.is_setup is) in
+            let none : modes.against_rmid m s g ≡ None = ap (λ (b : Bool). cond b (modes.rmid_refusal m s) None) apart in
+            needs-mode (refusal-turns m s g text mode turns ∙ none) ∙ ap (counts_of m) (freed-turns m s g text mode turns ∙ ap (λ (y : Mode). modes.freed_by g (Some y)) is))
+        at Shareable is = needs-mode_none (freed-turns m s g text mode turns ∙ ap (λ (y : Mode). modes.freed_by g (Some y)) is)
+        at Exclusive is = needs-mode_none (freed-turns m s g text mode turns ∙ ap (λ (y : Mode). modes.freed_by g (Some y)) is)
+        at Locked is = needs-mode_none (freed-turns m s g text mode turns ∙ ap (λ (y : Mode). modes.freed_by g (Some y)) is)
+
+    -- one for each domain of each RMID that is freed
+    pub length-looks : (looks : List ℕ) → length looks ≡ length (needs m s (Write (File dir files.Mode) text)) → modes.refusal m s g text ≡ None → length looks ≡ length (modes.freed g text) * m.domains
+    length-looks looks count none = count ∙ ap (λ (xs : List (ℕ × ℕ)). length xs) (needs-mode none) ∙ length-counts_in 0 m.domains (modes.freed g text)
+
+    -- where nothing is against it, the state after it is sound
+    pub IsSound-accepted : (looks : List ℕ) → length looks ≡ length (needs m s (Write (File dir files.Mode) text)) → InRange m → IsSound m s → length text ≤ 4096 → modes.refusal m s g text ≡ None → IsSound m (modes.accepted m s g text looks)
+    IsSound-accepted looks count range sound short none =
+        let next = next-sound m s (Write (File dir files.Mode) text) looks range sound short count in
+        IsSound-from_status m (modes.accepted m s g text looks) (reply_of (modes.refusal m s g text))
+        (subst (λ (x : State). IsSound m (record x { status = reply_of (modes.refusal m s g text) })) (ap (λ (o : Option Refusal). unless o s (modes.accepted m s g text looks)) none) (subst (IsSound m) (Leaves-mode looks).state next))
+
+-- a write to any other file needs no counts
+pub needs-other_file : (m : Parameters) (s : State) (dir : DirRef) (kind : FileKind) (text : List ℕ) → (kind ≡ files.Mode → ⊥) → needs m s (Write (File dir kind) text) ≡ []
+unfolding write.freed
+needs-other_file m s dir files.Mode text other = absurd (other refl)
+needs-other_file m s dir kind text other = needs-nothing m s (Write (File dir kind) text) refl

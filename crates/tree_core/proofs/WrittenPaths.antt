@@ -15,7 +15,7 @@ use Rattle.rc_base.specs.declared.replies.Reply.{Reply}
 use Rattle.rc_base.specs.declared.replies.Why.{Why}
 use Rattle.rc_base.specs.declared.replies.Why.TheVariants.{NoSuchPath, OnlyRead}
 use Rattle.script_ops.specs.declared.op.Op.TheVariants as ops
-use Rattle.tree_core.proofs.BuiltPaths.{cond-not_none}
+use Rattle.tree_core.proofs.RemovablePaths.{cond-not_none}
 use Rattle.tree_core.specs.Places.{is_some_file}
 use Rattle.tree_law.specs.Existing.{dir_exists, group_of, holder_gid, owner_gid}
 use Rattle.tree_law.specs.Places.{group_at}

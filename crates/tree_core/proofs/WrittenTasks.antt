@@ -45,10 +45,10 @@ Keeps-with_tasks {m} {t} {s} {epoch} later new keeps is sound few = record {
     shareable = keeps.stands.shareable;
     taken = keeps.stands.taken;
     gids_left = keeps.stands.gids_left;
+    locks_left = keeps.stands.locks_left;
   };
   sound = subst (λ (bs : List Binding). IsSound m (record s { tasks = bs })) (sym is) sound;
   few_tasks = subst (λ (bs : List Binding). length bs ≤ MOST_TASKS) (sym is) few;
-  not_reached = record { groups = keeps.not_reached.groups; regions = keeps.not_reached.regions; locks = keeps.not_reached.locks };
 }
 
 -- ---- what a text asks of a group

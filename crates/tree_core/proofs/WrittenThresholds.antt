@@ -78,10 +78,10 @@ Keeps-threshold n reply keeps few = record {
     shareable = keeps.stands.shareable;
     taken = record { class_count = keeps.stands.taken.class_count; class_taken = keeps.stands.taken.class_taken; rmid_count = keeps.stands.taken.rmid_count; rmid_taken = keeps.stands.taken.rmid_taken };
     gids_left = keeps.stands.gids_left;
+    locks_left = keeps.stands.locks_left;
   };
   sound = record { named = keeps.sound.named; numbered = keeps.sound.numbered; masks = keeps.sound.masks; regions = keeps.sound.regions; lines = keeps.sound.lines; threshold = few; tasks = keeps.sound.tasks; cpus = keeps.sound.cpus };
   few_tasks = keeps.few_tasks;
-  not_reached = record { groups = keeps.not_reached.groups; regions = keeps.not_reached.regions; locks = keeps.not_reached.locks };
 }
 
 -- a refused write leaves the state, but for the last status

@@ -1,10 +1,13 @@
 -- What follows a command.
+use Rattle.std.specs.Prelude.{ℕ, ◌<◌, ◌^◌}
+use Rattle.machine.specs.declared.parameters.Parameters.{Parameters}
 use Rattle.tree_law.specs.declared.follow.Follow.{Follow}
 use Rattle.tree_law.specs.declared.follow.Follow.TheVariants.{Raise, Flush, Lock, Touch}
 
--- a raise or a flush; so far no command does anything else
-abbrev pub IsRaiseOrFlush : Follow → Type 0
-IsRaiseOrFlush (Raise domain) = Unit {0}
-IsRaiseOrFlush (Flush domain) = Unit {0}
-IsRaiseOrFlush (Lock domain mask first_line) = ⊥
-IsRaiseOrFlush (Touch tag line) = ⊥
+-- What a slice needs of a follow-up: a lock has ways of the caches, and a touch has an RMID of the machine and ways of the caches;
+-- their lines are below 2^60.
+abbrev pub IsReady : Parameters → Follow → Type 0
+IsReady m (Raise domain) = Unit {0}
+IsReady m (Flush domain) = Unit {0}
+IsReady m (Lock domain mask first_line) = (0 < mask) × (mask < 2 ^ m.ways) × (first_line < 2 ^ 60)
+IsReady m (Touch tag line) = (tag.rmid < m.rmids) × (0 < tag.mask) × (tag.mask < 2 ^ m.ways) × (line < 2 ^ 60)

@@ -2,7 +2,6 @@
 use Rattle.std.specs.Prelude.{ℕ, ◌≤◌, length}
 use Rattle.machine.specs.declared.parameters.Parameters.{Parameters}
 use Rattle.script_ops.specs.declared.limits.TheConstants.{MOST_TASKS}
-use Rattle.tree_core.specs.NotReached.{NotReached}
 use Rattle.tree_core.specs.Tables.{Stands, Tables}
 use Rattle.tree_law.specs.Sound.{IsSound}
 use Rattle.tree_law.specs.State.{State}
@@ -12,7 +11,6 @@ pub record Keeps (m : Parameters) (t : Tables) (s : State) (epoch : ℕ) : Type 
   pub stands : Stands m t s epoch
   pub sound : IsSound m s
   pub few_tasks : length s.tasks ≤ MOST_TASKS
-  pub not_reached : NotReached m s
 
 -- the same, as one fact
 unfoldable pub IsKept : Parameters → Tables → State → ℕ → Type 0

@@ -1,12 +1,11 @@
-pub mod Built
 pub mod CpuFiles
 pub mod Directories
 pub mod Follows
 pub mod Found
+pub mod Given
 pub mod Kept
 pub mod Modes
 pub mod Named
-pub mod NotReached
 pub mod Overlaps
 pub mod Places
 pub mod Removals
@@ -14,4 +13,6 @@ pub mod RmidLists
 pub mod Tables
 pub mod Taking
 pub mod TaskMoves
+pub mod Touched
+pub mod Uses
 pub mod Values

@@ -1,28 +1,43 @@
 -- What a written mode asks of a group.
-use Rattle.std.specs.Prelude.{◌≡◌, ℕ, true, false, List, Option, Some, None, Result, Ok, Err}
+use Rattle.std.specs.Prelude.{◌≡◌, ℕ, false, true, List, Option, Some, None, Result, Ok, Err}
+use Rattle.std.specs.Option.{option_or}
 use Rattle.group_tree.specs.declared.group.Group.{Group}
 use Rattle.machine.specs.declared.parameters.Parameters.{Parameters}
 use Rattle.rc_base.specs.declared.names.Mode.{Mode}
-use Rattle.rc_base.specs.declared.replies.Why.{Why}
-use Rattle.tree_law.specs.Counted.{is_counted_mode}
-use Rattle.tree_law.specs.Refusals.{plain}
+use Rattle.rc_base.specs.declared.replies.Reply.{Reply}
+use Rattle.tree_core.specs.Overlaps.{reply_to}
+use Rattle.tree_law.specs.Refusals.{Refusal}
 use Rattle.tree_law.specs.State.{State}
-use Rattle.tree_law.specs.commands.Mode.{is_present, mode_in, refusal}
+use Rattle.tree_law.specs.commands.Mode.{against_entry, against_exclusive, against_leaving, freed_by, is_present, mode_in, refusal, with_mode}
+use Rattle.tree_law.specs.commands.Schemata.{is_locked}
 
--- a group may turn to a shareable or exclusive mode, which is another than its own
+-- what is against a change of mode, but for a lack of RMIDs
+abbrev pub against_turn : Parameters → State → Group → Mode → Option Refusal
+against_turn m s g mode = option_or (against_entry s g mode) (option_or (against_leaving m s g) (against_exclusive m s g mode))
+
+-- the text asks a group to turn to another mode, against which nothing is but for a lack of RMIDs
 pub record TurnsTo (m : Parameters) (s : State) (g : Group) (text : List ℕ) (mode : Mode) : Type 0 where
-  pub accepted : refusal m s g text ≡ None
   pub other : is_present g.mode text ≡ false
+  pub unlocked : is_locked g.mode ≡ false
   pub asked : mode_in text ≡ Some mode
-  pub counted : is_counted_mode mode ≡ true
+  pub free : against_turn m s g mode ≡ None
 
 -- the text asks for the mode that the group is in
-pub record Stays (m : Parameters) (s : State) (g : Group) (text : List ℕ) : Type 0 where
-  pub accepted : refusal m s g text ≡ None
-  pub present : is_present g.mode text ≡ true
+abbrev pub Stays : Group → List ℕ → Type 0
+Stays g text = is_present g.mode text ≡ true
+
+-- the text is refused, whatever RMIDs are free
+pub record IsRefused (m : Parameters) (s : State) (g : Group) (text : List ℕ) (reply : Reply) : Type 0 where
+  pub reason : Refusal
+  pub is : refusal m s g text ≡ Some reason
+  pub reply_is : reply ≡ reply_to reason
 
 -- why a text is refused, or whether it changes the mode of a group, and to which
-abbrev pub AsksMode : Parameters → State → Group → List ℕ → Result (Option Mode) Why → Type 0
-AsksMode m s g text (Ok None) = Stays m s g text
+abbrev pub AsksMode : Parameters → State → Group → List ℕ → Result (Option Mode) Reply → Type 0
+AsksMode m s g text (Ok None) = Stays g text
 AsksMode m s g text (Ok (Some mode)) = TurnsTo m s g text mode
-AsksMode m s g text (Err why) = refusal m s g text ≡ Some (plain why)
+AsksMode m s g text (Err reply) = IsRefused m s g text reply
+
+-- the state after a group has turned to a mode
+abbrev pub turned : Parameters → State → Group → Mode → List ℕ → State
+turned m s g mode looks = with_mode m s g (freed_by g (Some mode)) looks (Some mode)

@@ -49,7 +49,7 @@ pub record AreTaken (m : Parameters) (groups : List Group) (classes : Classes) (
   pub rmid_taken : (id : ℕ) → contains id rmids.taken ≡ list_any (λ (g : Group). is_id id g.rmid) groups
 
 -- The tables stand for a state after so many commands: each part of the state is in its table, the groups' table has the machine's
--- shareable bits, the ids that are taken are the groups', and each command so far made one group at most.
+-- shareable bits, the ids that are taken are the groups', and each command so far made one group and locked one region at most.
 pub record Stands (m : Parameters) (t : Tables) (s : State) (epoch : ℕ) : Type 0 where
   pub groups : t.groups.groups ≡ s.groups
   pub tasks : t.tasks ≡ s.tasks
@@ -61,3 +61,4 @@ pub record Stands (m : Parameters) (t : Tables) (s : State) (epoch : ℕ) : Type
   pub shareable : t.groups.shareable ≡ m.shareable
   pub taken : AreTaken m s.groups t.classes t.rmids
   pub gids_left : s.next_gid ≤ epoch + 1
+  pub locks_left : s.locks ≤ epoch

@@ -2,9 +2,9 @@
 
 use rc_base::Gid;
 
-/// A control group other than the default group, and its class.
+/// A control group other than the default group, and its class. A pseudo-locked group has none.
 #[derive(Clone, Copy, Debug)]
 pub(crate) struct Control {
     pub(crate) gid: Gid,
-    pub(crate) class: u8,
+    pub(crate) class: Option<u8>,
 }

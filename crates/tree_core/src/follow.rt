@@ -1,8 +1,9 @@
 //! What follows a command in the slices.
 ghost use Rattle.std.specs.Prelude.{◌≡◌, ◌<◌, ◌≤◌, [], ◌∷◌, filter, map};
 ghost use Rattle.std.specs.List.{All, list_any, range_with_len};
+ghost use Rattle.machine.specs.declared.parameters.Parameters.{Parameters};
 ghost use Rattle.schemata_text.specs.Reading.{is_of};
-ghost use Rattle.tree_core.specs.Follows.{IsRaiseOrFlush};
+ghost use Rattle.tree_core.specs.Follows.{IsReady};
 ghost use Rattle.tree_law.specs.Steps.{follow_domain};
 ghost use Rattle.tree_law.specs.commands.Schemata.{names_domain};
 ghost use Rattle.tree_law.specs.declared.follow.Follow.TheVariants.{Flush, Raise};
@@ -27,7 +28,7 @@ pub(crate) fn raises(domains: u8, all: &[Assignment]) -> After
     ensures raises { result.items
         ≡ map (λ d. Raise d) (filter (names_domain all.now) (range_with_len 0 domains)) }
     ensures domains { All (λ f. follow_domain f < domains) result.items }
-    ensures plain { All IsRaiseOrFlush result.items }
+    ensures ready { (m : Parameters) → All (IsReady m) result.items }
 {
     let mut after = After::new();
     for domain in 0..domains {
@@ -43,7 +44,7 @@ pub(crate) fn raise_all(domains: u8) -> After
     requires { domains ≤ 8 }
     ensures raises { result.items ≡ map (λ d. Raise d) (range_with_len 0 domains) }
     ensures domains { All (λ f. follow_domain f < domains) result.items }
-    ensures plain { All IsRaiseOrFlush result.items }
+    ensures ready { (m : Parameters) → All (IsReady m) result.items }
 {
     let mut after = After::new();
     for domain in 0..domains {
@@ -57,7 +58,7 @@ pub(crate) fn flushes(domains: u8) -> After
     requires { domains ≤ 8 }
     ensures flushes { result.items ≡ map (λ d. Flush d) (range_with_len 0 domains) }
     ensures domains { All (λ f. follow_domain f < domains) result.items }
-    ensures plain { All IsRaiseOrFlush result.items }
+    ensures ready { (m : Parameters) → All (IsReady m) result.items }
 {
     let mut after = After::new();
     for domain in 0..domains {

@@ -1,7 +1,7 @@
 //! The tree of groups: what each command does to it, and whose an access is.
 #![tactic(auto)]
 
-pub mod built;
+mod classes;
 mod control;
 pub mod counts;
 mod cpu_sets;
@@ -22,7 +22,6 @@ mod task_moves;
 mod tests;
 pub mod tree;
 
-pub use built::is_built;
 pub use counts::Counts;
 pub use follow::{After, Follow};
 pub use group_tree::{Group, GroupKind, Groups};

@@ -2,6 +2,7 @@
 ghost use Rattle.std.specs.Prelude.{◌≡◌};
 ghost use Rattle.num_text.specs.Blanks.{trim};
 ghost use Rattle.tree_law.specs.commands.Mode.{is_named, mode_in};
+ghost use Rattle.tree_law.specs.commands.Schemata.{is_locked};
 
 use crate::mode_names::mode_name;
 use num_text::trim;
@@ -27,5 +28,15 @@ pub(crate) fn mode_in(text: &[u8]) -> Option<Mode>
         Some(Mode::LockSetup)
     } else {
         None
+    }
+}
+
+/// Whether a mode is that of a pseudo-locked group.
+pub(crate) fn is_locked(mode: Mode) -> bool
+    ensures { result ≡ is_locked mode }
+{
+    match mode {
+        Mode::Locked => true,
+        Mode::Shareable | Mode::Exclusive | Mode::LockSetup => false,
     }
 }

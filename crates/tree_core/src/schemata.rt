@@ -2,7 +2,7 @@
 ghost use Rattle.std.specs.Prelude.{◌≡◌, IfOk};
 ghost use Rattle.machine.specs.Maps.{parameters_of};
 ghost use Rattle.schemata_text.specs.Reading.{AreLawful, Gives};
-ghost use Rattle.tree_law.specs.commands.Schemata.{mask_reason, overlap_refusal, schemata_read, text_refusal};
+ghost use Rattle.tree_law.specs.commands.Schemata.{mask_reason, names_many, overlap_refusal, schemata_read, text_refusal};
 ghost use Rattle.tree_law.specs.Space.{geometry_of};
 ghost use Rattle.tree_law.specs.Refusals.{reply_of};
 
@@ -10,8 +10,8 @@ use cbm::CbmFault;
 use machine::Machine;
 use mode_rules::Overlap;
 use num_text::trim;
-use rc_base::{Reply, Why};
-use schemata_text::{Assignments, TextFault, read};
+use rc_base::{Mode, Reply, Why};
+use schemata_text::{Assignment, Assignments, TextFault, read};
 
 /// The assignments of a text, or its first fault.
 #[tactic(auto, unfolding(tree_law::specs::commands::Schemata::schemata_read))]
@@ -59,5 +59,15 @@ pub(crate) fn overlap_refusal(domain: u8, overlap: Overlap) -> Reply
         Overlap::Other => Reply::refused(Why::OverlapOther, 0),
         Overlap::Hardware => Reply::refused(Why::OverlapShareable, 0),
         Overlap::HasRegion => Reply::refused(Why::HasRegion, u64::from(domain)),
+    }
+}
+
+/// Whether a group of this mode takes one domain, and more are named: so it is in pseudo-locksetup.
+pub(crate) fn names_many(mode: Mode, all: &[Assignment]) -> bool
+    ensures { result ≡ names_many mode all.now }
+{
+    match mode {
+        Mode::LockSetup => all.len() > 1,
+        Mode::Shareable | Mode::Exclusive | Mode::Locked => false,
     }
 }

@@ -3,6 +3,7 @@
 mod fixtures;
 mod groups;
 mod joining;
+mod locking;
 mod masks;
 mod modes;
 mod monitors;

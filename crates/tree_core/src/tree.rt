@@ -9,10 +9,13 @@ ghost use Rattle.tree_law.specs.Sound.{IsSound};
 mod apply;
 mod control;
 mod cpus;
+mod entering;
 mod existing;
 mod flush;
 mod freed;
 mod joining;
+mod leaving;
+mod lock;
 mod mkdir;
 mod mkdir_monitor;
 mod mode;
@@ -26,6 +29,9 @@ mod space;
 mod tasks;
 mod threshold;
 mod tick;
+mod touch;
+mod turning;
+mod uses;
 mod write;
 
 use cpu_binding::Cpus;
@@ -39,7 +45,6 @@ use std::marker::Model;
 use task_binding::Tasks;
 
 /// The tree of groups on a machine. Contracts see its machine, its state, and as `epoch` how many commands it has taken.
-/// So far no group is in pseudo-locksetup or pseudo-locked.
 #[derive(Drop)]
 pub struct Tree {
     machine: Machine,

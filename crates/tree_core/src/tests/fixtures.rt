@@ -3,7 +3,7 @@ ghost use Rattle.std.specs.Prelude.{Contains, IsTrue};
 ghost use Rattle.script_ops.specs.Fits.{Fits};
 ghost use Rattle.tree_law.specs.State.{tasks_of};
 
-use crate::{After, Tree, is_built};
+use crate::{After, Tree};
 use machine::{Machine, Parameters};
 use path_names::{DirRef, FileKind, NameId, PathRef};
 use rc_base::{Errno, Gid, NoMemory, Reply, Tag, Why};
@@ -50,7 +50,7 @@ pub(crate) fn two_domains(rt: &impl Abort, alloc: Global) -> Result<Tree, NoMemo
     opening(rt, alloc, &parameters)
 }
 
-/// Whether an op fits the machine and its tasks; the ops that are no commands are not asked.
+/// Whether a command fits the machine and its tasks; an access is not asked.
 pub(crate) fn fits(tree: &Tree, op: &Op) -> bool
     ensures { IsTrue result → Fits tree.now.machine (tasks_of tree.now.state) op.now }
 {
@@ -62,7 +62,8 @@ pub(crate) fn fits(tree: &Tree, op: &Op) -> bool
         Op::Read {
             path: PathRef::File(DirRef::MonDomain(_, domain), _),
         } => { *domain < tree.machine().domains }
-        Op::Access { .. } | Op::Touch { .. } => false,
+        Op::Touch { task, cpu, .. } => declares(tree, *task) && *cpu < tree.machine().cpus,
+        Op::Access { .. } => false,
         _ => true,
     }
 }
@@ -70,7 +71,6 @@ pub(crate) fn fits(tree: &Tree, op: &Op) -> bool
 /// Takes a command, after the tests that `apply` leaves to its caller.
 pub(crate) fn take(rt: &impl Abort, tree: &mut Tree, op: &Op, looks: &[u64]) -> (Reply, After) {
     assert!(rt; fits(tree, op));
-    assert!(rt; is_built(op));
     assert!(rt; tree.epoch() < MOST_WEIGHT);
     assert!(rt; looks.len() == tree.needs(op) as usize);
     tree.apply(op, looks)
@@ -100,7 +100,7 @@ pub(crate) fn refused(errno: Errno, why: Why) -> Reply {
     Reply::Refused { errno, why, arg: 0 }
 }
 
-/// Writes a text to a file of a directory.
+/// Writes a text to a file of a directory, where no cache has lines of an RMID that is freed.
 pub(crate) fn write(
     rt: &impl Abort,
     alloc: Global,
@@ -111,7 +111,12 @@ pub(crate) fn write(
 ) -> Result<(Reply, After), NoMemory> {
     let path = PathRef::File(dir, file);
     let text = Bytes::copy(alloc, text)?;
-    Ok(take(rt, tree, &Op::Write { path, text }, &[]))
+    let op = Op::Write { path, text };
+    assert!(rt; fits(tree, &op));
+    let count = tree.needs(&op) as usize;
+    let looks = [0; 8];
+    assert!(rt; count <= looks.len());
+    Ok(take(rt, tree, &op, &looks[..count]))
 }
 
 /// The masks of a group in the first two domains.

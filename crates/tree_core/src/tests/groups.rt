@@ -1,7 +1,7 @@
 //! Control groups that come and go.
 
+use crate::Follow;
 use crate::tests::fixtures::{A, B, ROOT, fits, mkdir, opening, refused, small, take, two_domains};
-use crate::{Follow, is_built};
 use machine::Parameters;
 use path_names::{DirRef, FileKind, NameId, Owner, PathRef};
 use rc_base::{Errno, Gid, Reply, Why};
@@ -125,7 +125,6 @@ fn a_removal_needs_counts(rt: HostRuntime) -> Result<(), Fail> {
     let mut tree = two_domains(&rt, rt.alloc())?;
     let gone = Op::Rmdir { path: A };
     assert!(rt; fits(&tree, &gone));
-    assert!(rt; is_built(&gone));
     assert_eq!(rt; tree.needs(&gone), 0);
     assert_eq!(rt; mkdir(&rt, &mut tree, A), Reply::Ok);
 
@@ -134,37 +133,5 @@ fn a_removal_needs_counts(rt: HostRuntime) -> Result<(), Fail> {
     assert_eq!(rt; tree.needs(&gone), 2);
     assert_eq!(rt; tree.need(&gone, 0), (0, 1));
     assert_eq!(rt; tree.need(&gone, 1), (1, 1));
-    Ok(())
-}
-
-#[test]
-fn commands_that_are_built(rt: HostRuntime) -> Result<(), Fail> {
-    let monitor = PathRef::Dir(DirRef::Mon(Owner::Default, NameId(0)));
-    let tasks = PathRef::File(DirRef::Root, FileKind::Tasks);
-    let count = PathRef::File(DirRef::Root, FileKind::Occupancy);
-    let schemata = PathRef::File(DirRef::Ctrl(NameId(0)), FileKind::Schemata);
-    let usage = PathRef::File(DirRef::InfoL3, FileKind::BitUsage);
-    let threshold = PathRef::File(DirRef::InfoL3Mon, FileKind::MaxThreshold);
-    for (op, want) in [
-        (Op::Mkdir { path: A }, true),
-        (Op::Mkdir { path: monitor }, true),
-        (Op::Rmdir { path: monitor }, true),
-        (Op::List { path: monitor }, true),
-        (Op::Read { path: schemata }, true),
-        (Op::Read { path: tasks }, true),
-        (Op::Read { path: count }, true),
-        (Op::Read { path: usage }, true),
-        (Op::Read { path: threshold }, true),
-        (
-            Op::Read {
-                path: PathRef::Nowhere(NameId(1)),
-            },
-            true,
-        ),
-        (Op::Flush { domain: None }, true),
-        (Op::Tick, true),
-    ] {
-        assert_eq!(rt; is_built(&op), want);
-    }
     Ok(())
 }

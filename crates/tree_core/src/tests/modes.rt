@@ -1,11 +1,10 @@
 //! Modes that are written.
 
+use crate::Follow;
 use crate::tests::fixtures::{A, B, masks, mkdir, opening, refused, small, write};
-use crate::{Follow, is_built};
 use machine::Parameters;
 use path_names::{DirRef, FileKind, NameId, PathRef};
 use rc_base::{Errno, Reply, Why};
-use script_ops::{Bytes, Op};
 use std::test::Fail;
 
 const ROOT: DirRef = DirRef::Root;
@@ -149,26 +148,6 @@ fn overlaps_are_refused_in_order(rt: HostRuntime) -> Result<(), Fail> {
         let (reply, _) = write(&rt, rt.alloc(), &mut tree, dir, file, text)?;
         assert_eq!(rt; reply, want);
         assert_eq!(rt; tree.status(), want);
-    }
-    Ok(())
-}
-
-#[test]
-fn writes_that_are_built(rt: HostRuntime) -> Result<(), Fail> {
-    for (file, text, want) in [
-        (MODE, b"exclusive".as_slice(), true),
-        (MODE, b"pseudo-locksetup", false),
-        (MODE, b"\tpseudo-locksetup ", false),
-        (MODE, b"pseudo-locksetups", true),
-        (MODE, b"pseudo-locked", true),
-        (SCHEMATA, b"pseudo-locksetup", true),
-        (FileKind::NumClosids, b"pseudo-locksetup", true),
-        (FileKind::Cpus, b"1", true),
-        (FileKind::Occupancy, b"1", true),
-    ] {
-        let path = PathRef::File(ROOT, file);
-        let text = Bytes::copy(rt.alloc(), text)?;
-        assert_eq!(rt; is_built(&Op::Write { path, text }), want);
     }
     Ok(())
 }

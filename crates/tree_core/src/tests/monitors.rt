@@ -1,7 +1,7 @@
 //! Monitor groups, and RMIDs in limbo.
 
+use crate::Tree;
 use crate::tests::fixtures::{A, B, fits, mkdir, opening, refused, small, take, write};
-use crate::{Tree, is_built};
 use machine::{Machine, Parameters};
 use path_names::{DirRef, FileKind, Holder, NameId, Owner, PathRef};
 use rc_base::{Errno, Gid, Reply, Why};
@@ -23,7 +23,6 @@ fn occupancy(holder: Holder) -> Op {
 
 // The RMIDs that a command needs counted in domain 0, and how many counts it needs.
 fn rmids_of(rt: &impl Abort, tree: &Tree, op: &Op) -> (u32, u16, u16) {
-    assert!(rt; is_built(op));
     assert!(rt; fits(tree, op));
     let counts = tree.counts(op);
     let first = if 0 < counts.len() { counts.at(0).1 } else { 0 };

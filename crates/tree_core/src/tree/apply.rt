@@ -5,8 +5,7 @@ ghost use Rattle.rc_base.specs.Replies.{refused};
 ghost use Rattle.rc_base.specs.declared.replies.Why.TheVariants as whys;
 ghost use Rattle.script_ops.specs.Fits.{Fits};
 ghost use Rattle.script_ops.specs.declared.limits.TheConstants.{MOST_WEIGHT};
-ghost use Rattle.tree_core.specs.Built.{IsBuilt};
-ghost use Rattle.tree_core.specs.Follows.{IsRaiseOrFlush};
+ghost use Rattle.tree_core.specs.Follows.{IsReady};
 ghost use Rattle.tree_law.specs.Steps.{follow_domain};
 ghost use Rattle.tree_law.specs.Refusals.{plain, reply_of};
 ghost use Rattle.tree_law.specs.Sound.{IsSound};
@@ -19,13 +18,12 @@ use rc_base::{Reply, Why};
 use script_ops::Op;
 
 impl Tree {
-    /// Takes a command that fits and is built, with the counts of lines that it needs: its reply, and what follows it in the
+    /// Takes a command that fits, with the counts of lines that it needs: its reply, and what follows it in the
     /// slices. A refused command leaves the tree as it was but for the last status, which mkdir and write set; only a refused write
     /// of `tasks` keeps the tasks that it had moved (kernel documentation, "Resource alloc and monitor groups"; this project's
     /// profile says which error answers which case).
     pub fn apply(&mut self, op: &Op, looks: &[u64]) -> (Reply, After)
         requires fits { Fits self.old.machine (tasks_of self.old.state) op.now }
-        requires built { IsBuilt op.now }
         requires looks { length looks.now ≡ length (needs self.old.machine self.old.state op.now) }
         requires epoch { self.old.epoch < MOST_WEIGHT }
         ensures machine { self.new.machine ≡ self.old.machine }
@@ -36,7 +34,7 @@ impl Tree {
         ensures epoch { self.new.epoch ≡ self.old.epoch + 1 }
         ensures after { result.1.items ≡ after self.old.machine self.old.state self.old.epoch op.now }
         ensures domains { All (λ f. follow_domain f < self.old.machine.domains) result.1.items }
-        ensures plain { All IsRaiseOrFlush result.1.items }
+        ensures ready { All (IsReady self.old.machine) result.1.items }
         ensures sound { IsSound self.new.machine self.new.state }
     {
         let answer = self.take(op, looks);
@@ -49,7 +47,6 @@ impl Tree {
     // Takes a command.
     fn take(&mut self, op: &Op, looks: &[u64]) -> (Reply, After)
         requires fits { Fits self.old.machine (tasks_of self.old.state) op.now }
-        requires built { IsBuilt op.now }
         requires looks { length looks.now ≡ length (needs self.old.machine self.old.state op.now) }
         requires epoch { self.old.epoch < MOST_WEIGHT }
         ensures machine { self.new.machine ≡ self.old.machine }
@@ -58,28 +55,35 @@ impl Tree {
         ensures epoch { self.new.epoch ≡ self.old.epoch + 1 }
         ensures after { result.1.items ≡ after self.old.machine self.old.state self.old.epoch op.now }
         ensures domains { All (λ f. follow_domain f < self.old.machine.domains) result.1.items }
-        ensures plain { All IsRaiseOrFlush result.1.items }
+        ensures ready { All (IsReady self.old.machine) result.1.items }
     {
         self.count();
         match op {
             Op::Mkdir { path } => (self.mkdir(*path), After::new()),
             Op::Rmdir { path } => self.rmdir(*path, looks),
-            Op::Write { path, text } => self.write(*path, text.as_slice()),
+            Op::Write { path, text } => self.write(*path, text.as_slice(), looks),
             Op::Read { path } => (found(self.is_file(*path)), After::new()),
             Op::List { path } => (found(self.is_directory(*path)), After::new()),
             Op::Flush { domain } => (Reply::Ok, self.flush(*domain)),
             Op::Tick => self.tick(looks),
-            Op::Access { .. } | Op::Touch { .. } => unreachable!(),
+            Op::Touch {
+                path,
+                offset,
+                task,
+                cpu,
+            } => self.touch(*path, *offset, *task, *cpu),
+            Op::Access { .. } => (Reply::Ok, After::new()),
         }
     }
 
-    // Counts a command. The next group's number is at most that of the commands so far.
+    // Counts a command. The next group's number is at most that of the commands so far, and fewer locks were accepted.
     fn count(&mut self)
         requires epoch { self.old.epoch < MOST_WEIGHT }
         ensures machine { self.new.machine ≡ self.old.machine }
         ensures state { self.new.state ≡ self.old.state }
         ensures epoch { self.new.epoch ≡ self.old.epoch + 1 }
         ensures gids { self.new.state.next_gid ≤ self.new.epoch }
+        ensures locks { self.new.state.locks < self.new.epoch }
     {
         self.epoch += 1;
     }

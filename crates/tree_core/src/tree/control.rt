@@ -16,7 +16,7 @@ impl Tree {
         let group = self.groups.get(gid).unwrap();
         Some(Control {
             gid,
-            class: group.class.unwrap(),
+            class: group.class,
         })
     }
 }

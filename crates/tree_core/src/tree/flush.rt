@@ -1,7 +1,7 @@
 //! flush: emptying caches.
 ghost use Rattle.std.specs.Prelude.{◌≡◌, ◌<◌, IfSome};
 ghost use Rattle.std.specs.List.{All};
-ghost use Rattle.tree_core.specs.Follows.{IsRaiseOrFlush};
+ghost use Rattle.tree_core.specs.Follows.{IsReady};
 ghost use Rattle.tree_law.specs.Steps.{follow_domain};
 ghost use Rattle.tree_law.specs.commands.Flush as flush;
 
@@ -15,7 +15,7 @@ impl Tree {
         requires { IfSome domain (λ d. d < self.now.machine.domains) }
         ensures after { result.items ≡ flush.after self.now.machine domain }
         ensures domains { All (λ f. follow_domain f < self.now.machine.domains) result.items }
-        ensures plain { All IsRaiseOrFlush result.items }
+        ensures ready { All (IsReady self.now.machine) result.items }
     {
         match domain {
             Some(domain) => only(Follow::Flush { domain }),

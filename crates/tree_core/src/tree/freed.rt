@@ -1,18 +1,24 @@
 //! The RMIDs of groups, and those in limbo.
-ghost use Rattle.std.specs.Prelude.{◌≡◌, [], None};
+ghost use Rattle.std.specs.Prelude.{◌≡◌, [], None, Some, find};
 ghost use Rattle.std.specs.Option.{option_map_or};
-ghost use Rattle.script_ops.specs.declared.op.Op.TheVariants.{Rmdir};
+ghost use Rattle.path_names.specs.declared.files.FileKind.TheVariants as files;
+ghost use Rattle.path_names.specs.declared.path_ref.PathRef.TheVariants.{File};
+ghost use Rattle.script_ops.specs.declared.op.Op.TheVariants.{Rmdir, Write};
 ghost use Rattle.tree_core.specs.Directories.{path_of};
 ghost use Rattle.tree_law.specs.Existing.{group_of, holder_gid};
 ghost use Rattle.tree_law.specs.Freeing.{counts_of, rmids_of, rmids_with};
 ghost use Rattle.tree_law.specs.Steps.{needs};
+ghost use Rattle.tree_law.specs.commands.Mode.{freed_by};
 ghost use Rattle.tree_law.specs.commands.Rmdir as rmdir;
+ghost use Rattle.tree_law.specs.commands.Write as write;
 
 use super::Tree;
 use crate::group_dir::{GroupDir, group_dir};
+use crate::places::file_at;
 use crate::rmid_list::{RmidList, only, push_monitors};
-use path_names::{Holder, PathRef};
-use rc_base::Gid;
+use group_tree::Group;
+use path_names::{DirRef, FileKind, Holder, PathRef};
+use rc_base::{Gid, Mode};
 
 impl Tree {
     /// The RMIDs that are freed where what is at this path is removed, and none where it may not be.
@@ -25,6 +31,48 @@ impl Tree {
                 Some(dir) => self.freed(dir),
                 None => unreachable!(),
             },
+        }
+    }
+
+    /// The RMIDs that are freed where a text is written, and none where it is refused: that of a group that enters
+    /// pseudo-locksetup.
+    pub(crate) fn freed_by_write(&self, path: PathRef, text: &[u8]) -> RmidList
+        ensures { needs self.now.machine self.now.state (Write path text.now) ≡ counts_of self.now.machine result.items }
+    {
+        match self.against_write(path) {
+            Some(_) => RmidList::new(),
+            None => match file_at(path) {
+                Some((dir, kind)) => self.freed_by_file(dir, kind, text),
+                None => unreachable!(),
+            },
+        }
+    }
+
+    // The RMIDs that are freed where a text is written to a file that can be written.
+    fn freed_by_file(&self, dir: DirRef, kind: FileKind, text: &[u8]) -> RmidList
+        requires writable { find (write.against self.now.state (File dir kind)) write.reasons ≡ None }
+        ensures { needs self.now.machine self.now.state (Write (File dir kind) text.now)
+            ≡ counts_of self.now.machine result.items }
+    {
+        match kind {
+            FileKind::Mode => self.freed_by_mode(dir, text),
+            _ => RmidList::new(),
+        }
+    }
+
+    // The RMID that is freed where a text is written to the `mode` of a directory, which is there.
+    fn freed_by_mode(&self, dir: DirRef, text: &[u8]) -> RmidList
+        requires writable { find (write.against self.now.state (File dir files.Mode)) write.reasons ≡ None }
+        ensures { needs self.now.machine self.now.state (Write (File dir files.Mode) text.now)
+            ≡ counts_of self.now.machine result.items }
+    {
+        let Some(group) = self.control_at(dir) else {
+            return RmidList::new();
+        };
+        match self.asked_mode(&group, text) {
+            Ok(Some(mode)) => freed_by(&group, mode),
+            Ok(None) => RmidList::new(),
+            Err(_) => RmidList::new(),
         }
     }
 
@@ -83,5 +131,15 @@ impl Tree {
             limbo.push(self.rmids.limbo_at(i));
         }
         limbo
+    }
+}
+
+// The RMID that a group gives up where it turns to another mode.
+fn freed_by(group: &Group, mode: Mode) -> RmidList
+    ensures { result.items ≡ freed_by group.now (Some mode) }
+{
+    match mode {
+        Mode::LockSetup => only(group.rmid),
+        Mode::Shareable | Mode::Exclusive | Mode::Locked => RmidList::new(),
     }
 }

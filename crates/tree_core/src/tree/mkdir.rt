@@ -1,11 +1,11 @@
 //! mkdir: making a group.
-ghost use Rattle.std.specs.Prelude.{◌≡◌, ◌≤◌, ◌<◌, ◌^◌, ◌-◌, ℕ, List, None, Some, find};
+ghost use Rattle.std.specs.Prelude.{◌≡◌, ◌≤◌, ◌<◌, ◌^◌, ◌-◌, ℕ, List, None, Some, false, find};
 ghost use Rattle.path_names.specs.declared.dirs.DirRef.TheVariants.{Ctrl};
 ghost use Rattle.path_names.specs.declared.path_ref.PathRef.TheVariants.{Dir};
 ghost use Rattle.script_ops.specs.declared.op.Op.TheVariants.{Mkdir};
-ghost use Rattle.tree_core.specs.Built.{IsBuilt};
 ghost use Rattle.tree_core.specs.Directories.{path_of};
 ghost use Rattle.tree_core.specs.Places.{place_reasons};
+ghost use Rattle.tree_law.specs.Existing.{is_group_directory};
 ghost use Rattle.tree_law.specs.Refusals.{reply_of};
 ghost use Rattle.tree_law.specs.Steps.{next, next_if, refusal};
 ghost use Rattle.tree_law.specs.commands.Mkdir.{against};
@@ -13,7 +13,7 @@ ghost use Rattle.tree_law.specs.commands.Mkdir.{against};
 use super::Tree;
 use crate::group_dir::{GroupDir, group_dir};
 use crate::places::is_in_place;
-use crate::taking::{NewIds, take_ids};
+use crate::taking::{NewIds, take_ids, take_rmid};
 use group_tree::{Group, GroupKind};
 use path_names::{NameId, PathRef};
 use rc_base::{Gid, Mode, Reply, Why};
@@ -22,7 +22,6 @@ impl Tree {
     /// Makes a group at this path, and sets the last status.
     #[tactic(auto, unfolding(tree_law::specs::Steps::next))]
     pub(crate) fn mkdir(&mut self, path: PathRef) -> Reply
-        requires built { IsBuilt (Mkdir path) }
         requires gids { self.old.state.next_gid ≤ self.old.epoch }
         requires epoch { self.old.epoch < 2 ^ 32 - 1 }
         ensures machine { self.new.machine ≡ self.old.machine }
@@ -39,7 +38,6 @@ impl Tree {
 
     // Makes a group at this path, but for the last status.
     fn make(&mut self, path: PathRef) -> Reply
-        requires built { IsBuilt (Mkdir path) }
         requires gids { self.old.state.next_gid ≤ self.old.epoch }
         requires epoch { self.old.epoch < 2 ^ 32 - 1 }
         ensures machine { self.new.machine ≡ self.old.machine }
@@ -53,8 +51,28 @@ impl Tree {
             Some(why) => Reply::refused(why, 0),
             None => match group_dir(path) {
                 Some(dir) => self.make_group(dir),
-                None => unreachable!(),
+                None => self.make_nothing(path),
             },
+        }
+    }
+
+    // Makes no group at a path that names no group's directory, but stands in a place for one; no text reads to such a path.
+    fn make_nothing(&mut self, path: PathRef) -> Reply
+        requires place { find (against self.old.machine self.old.state path) place_reasons ≡ None }
+        requires nameless { is_group_directory path ≡ false }
+        ensures machine { self.new.machine ≡ self.old.machine }
+        ensures reply { result ≡ reply_of (refusal self.old.machine self.old.state (Mkdir path)) }
+        ensures state { (looks : List ℕ) → self.new.state
+            ≡ next_if self.old.machine self.old.state (Mkdir path) looks
+            (refusal self.old.machine self.old.state (Mkdir path)) }
+        ensures epoch { self.new.epoch ≡ self.old.epoch }
+    {
+        match take_rmid(&mut self.rmids, None) {
+            Ok(rmid) => {
+                self.rmids.free(rmid, 0);
+                Reply::Ok
+            }
+            Err(reply) => reply,
         }
     }
 

@@ -1,76 +1,127 @@
-//! A write of `mode`: whether a control group shares its ways.
-ghost use Rattle.std.specs.Prelude.{◌≡◌, ◌<◌, ◌≤◌, ◌&&◌, ℕ, List, None, Some, find, length, map, false, true};
+//! A write of `mode`: whether a control group shares its ways, keeps them for itself, or is about to lock a region.
+ghost use Rattle.std.specs.Prelude.{◌≡◌, ◌≤◌, ◌<◌, ◌*◌, ◌&&◌, None, Some, [], find, length, true};
 ghost use Rattle.std.specs.List.{All, list_any, range_with_len};
-ghost use Rattle.group_tree.specs.Records.{has_gid, is_mode};
-ghost use Rattle.num_text.specs.Blanks.{trim};
+ghost use Rattle.std.specs.Option.{option_map};
+ghost use Rattle.group_tree.specs.Records.{has_gid, is_control, is_mode};
 ghost use Rattle.path_names.specs.declared.files.FileKind.TheVariants as files;
 ghost use Rattle.path_names.specs.declared.path_ref.PathRef.TheVariants.{File};
 ghost use Rattle.rc_base.specs.declared.names.Mode.TheVariants as modes;
-ghost use Rattle.rc_base.specs.declared.replies.Reply.TheVariants as replies;
 ghost use Rattle.script_ops.specs.declared.op.Op.TheVariants.{Write};
-ghost use Rattle.tree_core.specs.Built.{IsBuilt};
-ghost use Rattle.tree_core.specs.Follows.{IsRaiseOrFlush};
-ghost use Rattle.tree_core.specs.Modes.{AsksMode};
-ghost use Rattle.tree_law.specs.Counted.{is_counted_mode};
-ghost use Rattle.tree_law.specs.Places.{with_record};
+ghost use Rattle.tree_core.specs.CpuFiles.{unless};
+ghost use Rattle.tree_core.specs.Follows.{IsReady};
+ghost use Rattle.tree_core.specs.Modes.{AsksMode, against_turn};
+ghost use Rattle.tree_core.specs.Overlaps.{reply_to};
+ghost use Rattle.tree_law.specs.Refusals.{reply_of};
 ghost use Rattle.tree_law.specs.Sound.{IsSound};
-ghost use Rattle.tree_law.specs.Steps.{after, follow_domain, next};
-ghost use Rattle.tree_law.specs.commands.Mode.{is_named, overlaps_some};
+ghost use Rattle.tree_law.specs.Steps.{after, follow_domain, needs, next};
+ghost use Rattle.tree_law.specs.commands.Mode as mode;
+ghost use Rattle.tree_law.specs.commands.Mode.{overlaps_some};
 ghost use Rattle.tree_law.specs.commands.Write.{against, reasons};
-ghost use Rattle.tree_law.specs.declared.follow.Follow.TheVariants.{Raise};
 
 use super::Tree;
-use crate::follow::{After, raise_all};
-use crate::mode_text::{is_named, mode_in};
+use crate::follow::After;
+use crate::mode_text::{is_locked, is_named, mode_in};
 use group_tree::Group;
 use path_names::DirRef;
 use rc_base::{Mode, Reply, Why};
 
 impl Tree {
-    /// Writes the `mode` of a directory.
-    pub(crate) fn write_mode(&mut self, dir: DirRef, text: &[u8]) -> (Reply, After)
-        requires built { IsBuilt (Write (File dir files.Mode) text.now) }
+    /// Writes the `mode` of a directory, with the counts of the RMID that a group gives up when it enters pseudo-locksetup.
+    pub(crate) fn write_mode(&mut self, dir: DirRef, text: &[u8], looks: &[u64]) -> (Reply, After)
         requires writable { find (against self.old.state (File dir files.Mode)) reasons ≡ None }
         requires short { length text.now ≤ 4096 }
+        requires looks { length looks.now
+            ≡ length (needs self.old.machine self.old.state (Write (File dir files.Mode) text.now)) }
         ensures machine { self.new.machine ≡ self.old.machine }
-        ensures reply { (looks : List ℕ)
-            → result.0 ≡ (next self.old.machine self.old.state (Write (File dir files.Mode) text.now) looks).reply }
-        ensures state { (looks : List ℕ)
-            → self.new.state ≡ (next self.old.machine self.old.state (Write (File dir files.Mode) text.now) looks).state }
+        ensures reply { result.0
+            ≡ (next self.old.machine self.old.state (Write (File dir files.Mode) text.now) looks.now).reply }
+        ensures state { self.new.state
+            ≡ (next self.old.machine self.old.state (Write (File dir files.Mode) text.now) looks.now).state }
         ensures epoch { self.new.epoch ≡ self.old.epoch }
         ensures after { result.1.items
             ≡ after self.old.machine self.old.state self.old.epoch (Write (File dir files.Mode) text.now) }
         ensures domains { All (λ f. follow_domain f < self.old.machine.domains) result.1.items }
-        ensures plain { All IsRaiseOrFlush result.1.items }
+        ensures ready { All (IsReady self.old.machine) result.1.items }
     {
-        // What the type keeps makes the group a shareable or exclusive one.
+        // What the type keeps makes the next state a sound one.
         let _ = &self.machine;
         let Some(group) = self.control_at(dir) else {
             return self.answer(Reply::Ok);
         };
-        match self.asked_mode(&group, text) {
-            Ok(Some(mode)) => self.turn(group, mode),
-            Ok(None) => self.answer(Reply::Ok),
-            Err(why) => self.answer(Reply::refused(why, 0)),
+        let (reply, after) = self.change_mode(&group, text, looks);
+        self.status = reply;
+        (reply, after)
+    }
+
+    // Changes the mode of a group as a text asks, where nothing is against it.
+    fn change_mode(&mut self, group: &Group, text: &[u8], looks: &[u64]) -> (Reply, After)
+        requires there { find (has_gid group.now.gid) self.old.state.groups ≡ Some group.now }
+        requires control { is_control group.now.kind ≡ true }
+        requires looks { mode.refusal self.old.machine self.old.state group.now text.now ≡ None
+            → length looks.now ≡ length (mode.freed group.now text.now) * self.old.machine.domains }
+        requires sound { mode.refusal self.old.machine self.old.state group.now text.now ≡ None
+            → IsSound self.old.machine (mode.accepted self.old.machine self.old.state group.now text.now looks.now) }
+        ensures machine { self.new.machine ≡ self.old.machine }
+        ensures reply { result.0 ≡ reply_of (mode.refusal self.old.machine self.old.state group.now text.now) }
+        ensures state { self.new.state
+            ≡ unless (mode.refusal self.old.machine self.old.state group.now text.now) self.old.state
+            (mode.accepted self.old.machine self.old.state group.now text.now looks.now) }
+        ensures epoch { self.new.epoch ≡ self.old.epoch }
+        ensures after { result.1.items ≡ unless (mode.refusal self.old.machine self.old.state group.now text.now) []
+            (mode.after self.old.machine group.now text.now) }
+        ensures domains { All (λ f. follow_domain f < self.old.machine.domains) result.1.items }
+        ensures ready { All (IsReady self.old.machine) result.1.items }
+    {
+        match self.asked_mode(group, text) {
+            Ok(Some(mode)) => self.turn(group, mode, looks),
+            Ok(None) => (Reply::Ok, After::new()),
+            Err(reply) => (reply, After::new()),
         }
     }
 
-    // What a text asks of a group: to turn to another mode, or to stay as it is.
-    fn asked_mode(&self, group: &Group, text: &[u8]) -> Result<Option<Mode>, Why>
-        requires not_setup { is_named (trim text.now) modes.LockSetup ≡ false }
-        requires counted { is_counted_mode group.now.mode ≡ true }
+    /// What a text asks of a group: to turn to another mode, or to stay as it is. A lack of RMIDs is not tried.
+    pub(crate) fn asked_mode(&self, group: &Group, text: &[u8]) -> Result<Option<Mode>, Reply>
         ensures { AsksMode self.now.machine self.now.state group.now text.now result }
     {
         if is_named(text, group.mode) {
             return Ok(None);
         }
-        let Some(mode) = mode_in(text) else {
-            return Err(Why::UnknownMode);
-        };
-        if self.is_barred(group, mode) {
-            return Err(Why::SchemataOverlap);
+        if is_locked(group.mode) {
+            return Err(Reply::refused(Why::GroupLocked, 0));
         }
-        Ok(Some(mode))
+        let Some(mode) = mode_in(text) else {
+            return Err(Reply::refused(Why::UnknownMode, 0));
+        };
+        match self.against_turn(group, mode) {
+            Some(reply) => Err(reply),
+            None => Ok(Some(mode)),
+        }
+    }
+
+    // What is against turning a group to another mode, but for a lack of RMIDs.
+    fn against_turn(&self, group: &Group, mode: Mode) -> Option<Reply>
+        ensures { result ≡ option_map reply_to (against_turn self.now.machine self.now.state group.now mode) }
+    {
+        if let Some(reply) = self.against_entry(group, mode) {
+            return Some(reply);
+        }
+        if let Some(reply) = self.against_leaving(group) {
+            return Some(reply);
+        }
+        if self.is_barred(group, mode) {
+            return Some(Reply::refused(Why::SchemataOverlap, 0));
+        }
+        None
+    }
+
+    // What is against the masks that a group kept in pseudo-locksetup.
+    fn against_leaving(&self, group: &Group) -> Option<Reply>
+        ensures { result ≡ option_map reply_to (mode.against_leaving self.now.machine self.now.state group.now) }
+    {
+        match group.mode {
+            Mode::LockSetup => self.against_kept_masks(group),
+            Mode::Shareable | Mode::Exclusive | Mode::Locked => None,
+        }
     }
 
     // Whether a group may not turn to this mode, since it would be exclusive and overlaps what others use.
@@ -82,25 +133,5 @@ impl Tree {
             Mode::Exclusive => self.overlaps_some(group),
             Mode::Shareable | Mode::LockSetup | Mode::Locked => false,
         }
-    }
-
-    // Turns a group to another mode, which leaves a sound tree, and raises every domain.
-    fn turn(&mut self, group: Group, mode: Mode) -> (Reply, After)
-        requires there { find (has_gid group.gid) self.old.state.groups ≡ Some group }
-        requires counted { is_counted_mode mode ≡ true }
-        requires sound { IsSound self.old.machine
-            (record (with_record self.old.state (record group { mode = mode })) { status = replies.Ok }) }
-        ensures machine { self.new.machine ≡ self.old.machine }
-        ensures reply { result.0 ≡ replies.Ok }
-        ensures state { self.new.state
-            ≡ record (with_record self.old.state (record group { mode = mode })) { status = replies.Ok } }
-        ensures epoch { self.new.epoch ≡ self.old.epoch }
-        ensures after { result.1.items ≡ map (λ d. Raise d) (range_with_len 0 self.old.machine.domains) }
-        ensures domains { All (λ f. follow_domain f < self.old.machine.domains) result.1.items }
-        ensures plain { All IsRaiseOrFlush result.1.items }
-    {
-        let after = raise_all(self.machine.domains);
-        self.put(group, mode, group.masks);
-        (Reply::Ok, after)
     }
 }

@@ -2,7 +2,6 @@
 ghost use Rattle.std.specs.Prelude.{◌≡◌, ◌<◌, All, Some, length, slice_get};
 ghost use Rattle.script_ops.specs.Fits.{Fits};
 ghost use Rattle.script_ops.specs.declared.op.Op.TheVariants as ops;
-ghost use Rattle.tree_core.specs.Built.{IsBuilt};
 ghost use Rattle.tree_law.specs.Freeing.{counts_of};
 ghost use Rattle.tree_law.specs.LawsCounts.{CanLook};
 ghost use Rattle.tree_law.specs.State.{tasks_of};
@@ -19,7 +18,6 @@ impl Tree {
     /// How many counts a command needs.
     pub fn needs(&self, op: &Op) -> u32
         requires fits { Fits self.now.machine (tasks_of self.now.state) op.now }
-        requires built { IsBuilt op.now }
         ensures { result ≡ length (needs self.now.machine self.now.state op.now) }
     {
         self.counts(op).len()
@@ -28,7 +26,6 @@ impl Tree {
     /// The domain and the RMID of the i-th count that a command needs, from 0.
     pub fn need(&self, op: &Op, i: u32) -> (u8, u16)
         requires fits { Fits self.now.machine (tasks_of self.now.state) op.now }
-        requires built { IsBuilt op.now }
         requires within { i < length (needs self.now.machine self.now.state op.now) }
         ensures need { slice_get (needs self.now.machine self.now.state op.now) i ≡ Some result }
         ensures domain { result.0 < self.now.machine.domains }
@@ -41,7 +38,6 @@ impl Tree {
     /// it reads `llc_occupancy`, those of a group and of its monitor groups in one domain (this project's profile).
     pub fn counts(&self, op: &Op) -> Counts
         requires fits { Fits self.now.machine (tasks_of self.now.state) op.now }
-        requires built { IsBuilt op.now }
         ensures needs { result ≡ needs self.now.machine self.now.state op.now }
         ensures exist { All (CanLook self.now.machine) result }
     {
@@ -52,11 +48,14 @@ impl Tree {
 
     // The counts that a command needs.
     fn needed(&self, op: &Op) -> Counts
-        requires built { IsBuilt op.now }
         ensures { result ≡ needs self.now.machine self.now.state op.now }
     {
         match op {
             Op::Rmdir { path } => self.in_each_domain(self.freed_at(*path)),
+            Op::Write { path, text } => self.in_each_domain(self.freed_by_write(
+                *path,
+                text.as_slice(),
+            )),
             Op::Tick => self.in_each_domain(self.limbo()),
             Op::Read { path } => self.read_counts(*path),
             _ => Counts::none(),

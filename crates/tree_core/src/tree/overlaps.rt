@@ -1,12 +1,11 @@
 //! What stands against the masks of a group.
-ghost use Rattle.std.specs.Prelude.{◌≡◌, ◌<◌, true};
+ghost use Rattle.std.specs.Prelude.{◌≡◌, ◌<◌, false};
 ghost use Rattle.std.specs.List.{All, list_any, range_with_len};
 ghost use Rattle.std.specs.Option.{option_map};
 ghost use Rattle.schemata_text.specs.declared.assignment.Assignment.{Assignment};
 ghost use Rattle.tree_core.specs.Overlaps.{reply_to};
-ghost use Rattle.tree_law.specs.Counted.{is_counted_mode};
 ghost use Rattle.tree_law.specs.commands.Mode.{overlaps_some};
-ghost use Rattle.tree_law.specs.commands.Schemata.{against_entries, against_entry};
+ghost use Rattle.tree_law.specs.commands.Schemata.{against_entries, against_entry, is_locked};
 
 use super::Tree;
 use crate::masks::mask_in;
@@ -17,9 +16,9 @@ use rc_base::Reply;
 use schemata_text::Assignment;
 
 impl Tree {
-    /// The refusal of the first of these assignments to a shareable or exclusive group against which something stands.
+    /// The refusal of the first of these assignments to a group, which is not pseudo-locked, against which something stands.
     pub(crate) fn against_masks(&self, group: &Group, all: &[Assignment]) -> Option<Reply>
-        requires counted { is_counted_mode group.now.mode ≡ true }
+        requires unlocked { is_locked group.now.mode ≡ false }
         requires exist { All (λ (a : Assignment). a.domain < self.now.machine.domains) all.now }
         ensures { result ≡ option_map reply_to (against_entries self.now.machine self.now.state group.now all.now) }
     {
@@ -34,18 +33,18 @@ impl Tree {
 
     // The refusal of one assignment.
     fn against_mask(&self, group: &Group, a: &Assignment) -> Option<Reply>
-        requires counted { is_counted_mode group.now.mode ≡ true }
+        requires unlocked { is_locked group.now.mode ≡ false }
         requires exists { a.now.domain < self.now.machine.domains }
         ensures { result ≡ option_map reply_to (against_entry self.now.machine self.now.state group.now a.now) }
     {
-        let used = self.groups.others(Some(group.gid), a.domain);
+        let used = self.used(Some(group.gid), a.domain);
         match may_write_mask(group.mode, a.mask, &used) {
             Ok(()) => None,
             Err(overlap) => Some(overlap_refusal(a.domain, overlap)),
         }
     }
 
-    /// Whether in some domain the mask of a shareable or exclusive group overlaps another's or a shareable bit.
+    /// Whether in some domain the mask of a group overlaps a shareable or exclusive group's or a shareable bit.
     pub(crate) fn overlaps_some(&self, group: &Group) -> bool
         ensures { result
             ≡ list_any (overlaps_some self.now.machine self.now.state group.now) (range_with_len 0 self.now.machine.domains) }
@@ -63,7 +62,7 @@ impl Tree {
         requires { domain < self.now.machine.domains }
         ensures { result ≡ overlaps_some self.now.machine self.now.state group.now domain }
     {
-        let used = self.groups.others(Some(group.gid), domain);
+        let used = self.used(Some(group.gid), domain);
         !may_turn_exclusive(mask_in(&group.masks, domain), &used)
     }
 }

@@ -5,12 +5,13 @@ ghost use Rattle.path_names.specs.declared.dirs.DirRef.TheVariants.{Ctrl, Mon};
 ghost use Rattle.path_names.specs.declared.path_ref.PathRef.TheVariants.{Dir};
 ghost use Rattle.script_ops.specs.declared.op.Op.TheVariants.{Rmdir};
 ghost use Rattle.tree_core.specs.Directories.{path_of};
-ghost use Rattle.tree_core.specs.Follows.{IsRaiseOrFlush};
+ghost use Rattle.tree_core.specs.Follows.{IsReady};
 ghost use Rattle.tree_law.specs.Steps.{accepted, after, follow_domain, needs, next, refusal};
 ghost use Rattle.tree_law.specs.commands.Rmdir.{against, reasons};
 ghost use Rattle.tree_law.specs.commands.Rmdir as rmdir;
 
 use super::Tree;
+use crate::classes::give;
 use crate::follow::{After, raise_all};
 use crate::freeing::free_all;
 use crate::group_dir::{GroupDir, group_dir};
@@ -29,7 +30,7 @@ impl Tree {
         ensures epoch { self.new.epoch ≡ self.old.epoch }
         ensures after { result.1.items ≡ after self.old.machine self.old.state self.old.epoch (Rmdir path) }
         ensures domains { All (λ f. follow_domain f < self.old.machine.domains) result.1.items }
-        ensures plain { All IsRaiseOrFlush result.1.items }
+        ensures ready { All (IsReady self.old.machine) result.1.items }
     {
         match self.against_rmdir(path) {
             Some(why) => (Reply::refused(why, 0), After::new()),
@@ -60,7 +61,7 @@ impl Tree {
         ensures epoch { self.new.epoch ≡ self.old.epoch }
         ensures after { result.1.items ≡ after self.old.machine self.old.state self.old.epoch (Rmdir path) }
         ensures domains { All (λ f. follow_domain f < self.old.machine.domains) result.1.items }
-        ensures plain { All IsRaiseOrFlush result.1.items }
+        ensures ready { All (IsReady self.old.machine) result.1.items }
     {
         let after = raise_all(self.machine.domains);
         match group_dir(path) {
@@ -90,7 +91,7 @@ impl Tree {
         }
     }
 
-    // Removes a control group with its monitor groups. Its tasks and CPUs go to the default group.
+    // Removes a control group with its monitor groups and its region. Its tasks and CPUs go to the default group.
     fn remove_control(&mut self, name: NameId, freed: &[u16], looks: &[u64])
         requires accepted { refusal self.old.machine self.old.state (Rmdir (Dir (Ctrl name))) ≡ None }
         requires freed { freed.now ≡ rmdir.freed self.old.state (Dir (Ctrl name)) }
@@ -104,7 +105,8 @@ impl Tree {
         };
         remove_monitors(&mut self.groups, found.gid);
         self.groups.remove(found.gid);
-        self.classes.give(found.class);
+        give(&mut self.classes, found.class);
+        self.regions.remove(found.gid);
         self.tasks.unbind_ctrl(found.gid);
         self.cpus.remove_ctrl(found.gid);
         free_all(&self.machine, &mut self.rmids, freed, looks);

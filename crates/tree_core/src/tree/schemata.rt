@@ -1,29 +1,31 @@
-//! A write of `schemata`: the masks of a control group.
-ghost use Rattle.std.specs.Prelude.{◌≡◌, ◌<◌, ◌≤◌, ℕ, List, None, Some, find, length, true};
+//! A write of `schemata`: the masks of a control group, or the region of a group in pseudo-locksetup.
+ghost use Rattle.std.specs.Prelude.{◌≡◌, ◌<◌, ◌≤◌, ◌^◌, ℕ, List, None, Ok, Some, [], false, find, length, true};
 ghost use Rattle.std.specs.List.{All};
 ghost use Rattle.group_tree.specs.Records.{has_gid};
 ghost use Rattle.path_names.specs.declared.files.FileKind.TheVariants.{Schemata};
 ghost use Rattle.path_names.specs.declared.path_ref.PathRef.TheVariants.{File};
-ghost use Rattle.rc_base.specs.declared.replies.Reply.TheVariants as replies;
 ghost use Rattle.schemata_text.specs.Reading.{AreLawful};
+ghost use Rattle.script_ops.specs.declared.limits.TheConstants.{MOST_WEIGHT};
 ghost use Rattle.script_ops.specs.declared.op.Op.TheVariants.{Write};
-ghost use Rattle.tree_core.specs.Follows.{IsRaiseOrFlush};
-ghost use Rattle.tree_law.specs.Counted.{is_counted_mode};
-ghost use Rattle.tree_law.specs.Steps.{follow_domain};
+ghost use Rattle.tree_core.specs.CpuFiles.{unless};
+ghost use Rattle.tree_core.specs.Follows.{IsReady};
 ghost use Rattle.tree_law.specs.Places.{control_at, with_record};
+ghost use Rattle.tree_law.specs.Refusals.{reply_of};
 ghost use Rattle.tree_law.specs.Sound.{IsSound};
 ghost use Rattle.tree_law.specs.Space.{geometry_of};
-ghost use Rattle.tree_law.specs.Steps.{after, next};
+ghost use Rattle.tree_law.specs.Steps.{after, follow_domain, next};
+ghost use Rattle.tree_law.specs.commands.Schemata as schemata;
+ghost use Rattle.tree_law.specs.commands.Schemata.{against_entries, against_read, assigned, is_locked, names_many, schemata_read, with_masks};
 ghost use Rattle.tree_law.specs.commands.Write.{against, reasons};
-ghost use Rattle.tree_law.specs.commands.Schemata.{assigned, raises};
 
 use super::Tree;
 use crate::follow::{After, raises};
 use crate::masks::assign;
-use crate::schemata::{read_schemata, refusal};
+use crate::mode_text::is_locked;
+use crate::schemata::{names_many, read_schemata, refusal};
 use group_tree::{Group, GroupKind};
 use path_names::DirRef;
-use rc_base::Reply;
+use rc_base::{Mode, Reply, Why};
 use schemata_text::Assignment;
 
 impl Tree {
@@ -31,6 +33,8 @@ impl Tree {
     pub(crate) fn write_schemata(&mut self, dir: DirRef, text: &[u8]) -> (Reply, After)
         requires writable { find (against self.old.state (File dir Schemata)) reasons ≡ None }
         requires short { length text.now ≤ 4096 }
+        requires locks { self.old.state.locks < self.old.epoch }
+        requires epoch { self.old.epoch ≤ MOST_WEIGHT }
         ensures machine { self.new.machine ≡ self.old.machine }
         ensures reply { (looks : List ℕ)
             → result.0 ≡ (next self.old.machine self.old.state (Write (File dir Schemata) text.now) looks).reply }
@@ -40,18 +44,16 @@ impl Tree {
         ensures after { result.1.items
             ≡ after self.old.machine self.old.state self.old.epoch (Write (File dir Schemata) text.now) }
         ensures domains { All (λ f. follow_domain f < self.old.machine.domains) result.1.items }
-        ensures plain { All IsRaiseOrFlush result.1.items }
+        ensures ready { All (IsReady self.old.machine) result.1.items }
     {
+        // What the type keeps makes the next state a sound one.
+        let _ = &self.machine;
         let Some(group) = self.control_at(dir) else {
             return self.answer(Reply::Ok);
         };
-        match read_schemata(&self.machine, text) {
-            Ok(all) => match self.against_masks(&group, all.as_slice()) {
-                Some(reply) => self.answer(reply),
-                None => self.write_masks(group, all.as_slice()),
-            },
-            Err(fault) => self.answer(refusal(fault)),
-        }
+        let (reply, after) = self.change_masks(&group, text);
+        self.status = reply;
+        (reply, after)
     }
 
     /// The group of a directory, where it is a control group.
@@ -65,26 +67,107 @@ impl Tree {
         }
     }
 
-    // Takes the assignments of an accepted text for a counted group, which leave a sound tree.
-    fn write_masks(&mut self, group: Group, all: &[Assignment]) -> (Reply, After)
-        requires there { find (has_gid group.gid) self.old.state.groups ≡ Some group }
-        requires counted { is_counted_mode group.mode ≡ true }
+    // Changes the masks of a group as a text says, or locks its region, where nothing is against it.
+    fn change_masks(&mut self, group: &Group, text: &[u8]) -> (Reply, After)
+        requires there { find (has_gid group.now.gid) self.old.state.groups ≡ Some group.now }
+        requires locks { self.old.state.locks < self.old.epoch }
+        requires epoch { self.old.epoch ≤ MOST_WEIGHT }
+        requires sound { schemata.refusal self.old.machine self.old.state group.now (schemata_read self.old.machine text.now) ≡ None
+            → IsSound self.old.machine (schemata.accepted self.old.state group.now (schemata_read self.old.machine text.now)) }
+        ensures machine { self.new.machine ≡ self.old.machine }
+        ensures reply { result.0
+            ≡ reply_of (schemata.refusal self.old.machine self.old.state group.now (schemata_read self.old.machine text.now)) }
+        ensures state { self.new.state
+            ≡ unless (schemata.refusal self.old.machine self.old.state group.now (schemata_read self.old.machine text.now))
+            self.old.state (schemata.accepted self.old.state group.now (schemata_read self.old.machine text.now)) }
+        ensures epoch { self.new.epoch ≡ self.old.epoch }
+        ensures after { result.1.items
+            ≡ unless (schemata.refusal self.old.machine self.old.state group.now (schemata_read self.old.machine text.now)) []
+            (schemata.after self.old.machine self.old.state group.now (schemata_read self.old.machine text.now)) }
+        ensures domains { All (λ f. follow_domain f < self.old.machine.domains) result.1.items }
+        ensures ready { All (IsReady self.old.machine) result.1.items }
+    {
+        if is_locked(group.mode) {
+            return (Reply::refused(Why::GroupLocked, 0), After::new());
+        }
+        match read_schemata(&self.machine, text) {
+            Ok(all) => self.take_masks(group, all.as_slice()),
+            Err(fault) => (refusal(fault), After::new()),
+        }
+    }
+
+    // Takes the assignments of a text for a group that is not pseudo-locked, where nothing is against them.
+    fn take_masks(&mut self, group: &Group, all: &[Assignment]) -> (Reply, After)
+        requires there { find (has_gid group.now.gid) self.old.state.groups ≡ Some group.now }
+        requires unlocked { is_locked group.now.mode ≡ false }
+        requires lawful { AreLawful (geometry_of self.old.machine) self.old.machine.domains all.now }
+        requires locks { self.old.state.locks < self.old.epoch }
+        requires epoch { self.old.epoch ≤ MOST_WEIGHT }
+        requires sound { against_read self.old.machine self.old.state group.now (Ok all.now) ≡ None
+            → IsSound self.old.machine (with_masks self.old.state group.now group.now.mode all.now) }
+        ensures machine { self.new.machine ≡ self.old.machine }
+        ensures reply { result.0 ≡ reply_of (against_read self.old.machine self.old.state group.now (Ok all.now)) }
+        ensures state { self.new.state
+            ≡ unless (against_read self.old.machine self.old.state group.now (Ok all.now)) self.old.state
+            (with_masks self.old.state group.now group.now.mode all.now) }
+        ensures epoch { self.new.epoch ≡ self.old.epoch }
+        ensures after { result.1.items ≡ unless (against_read self.old.machine self.old.state group.now (Ok all.now)) []
+            (schemata.follow self.old.machine self.old.state group.now.mode all.now) }
+        ensures domains { All (λ f. follow_domain f < self.old.machine.domains) result.1.items }
+        ensures ready { All (IsReady self.old.machine) result.1.items }
+    {
+        if names_many(group.mode, all) {
+            return (Reply::refused(Why::OneDomain, 0), After::new());
+        }
+        match self.against_masks(group, all) {
+            Some(reply) => (reply, After::new()),
+            None => (Reply::Ok, self.put_masks(group, all)),
+        }
+    }
+
+    // Takes assignments against which nothing is: the masks change, or the first locks a region.
+    fn put_masks(&mut self, group: &Group, all: &[Assignment]) -> After
+        requires there { find (has_gid group.now.gid) self.old.state.groups ≡ Some group.now }
+        requires lawful { AreLawful (geometry_of self.old.machine) self.old.machine.domains all.now }
+        requires free { against_entries self.old.machine self.old.state group.now all.now ≡ None }
+        requires locks { self.old.state.locks < self.old.epoch }
+        requires epoch { self.old.epoch ≤ MOST_WEIGHT }
+        requires sound { IsSound self.old.machine (with_masks self.old.state group.now group.now.mode all.now) }
+        ensures machine { self.new.machine ≡ self.old.machine }
+        ensures state { self.new.state ≡ with_masks self.old.state group.now group.now.mode all.now }
+        ensures epoch { self.new.epoch ≡ self.old.epoch }
+        ensures after { result.items ≡ schemata.follow self.old.machine self.old.state group.now.mode all.now }
+        ensures domains { All (λ f. follow_domain f < self.old.machine.domains) result.items }
+        ensures ready { All (IsReady self.old.machine) result.items }
+    {
+        match group.mode {
+            Mode::Shareable | Mode::Exclusive => self.write_masks(group, all),
+            Mode::LockSetup => match all {
+                [a, ..] => self.lock(group, a),
+                [] => After::new(),
+            },
+            Mode::Locked => After::new(),
+        }
+    }
+
+    // Changes the masks that are named, which leaves a sound tree, and raises their domains.
+    fn write_masks(&mut self, group: &Group, all: &[Assignment]) -> After
+        requires there { find (has_gid group.now.gid) self.old.state.groups ≡ Some group.now }
         requires lawful { AreLawful (geometry_of self.old.machine) self.old.machine.domains all.now }
         requires sound { IsSound self.old.machine
-            (record (with_record self.old.state (record group { masks = assigned group.masks all.now })) { status = replies.Ok }) }
+            (with_record self.old.state (record group.now { masks = assigned group.now.masks all.now })) }
         ensures machine { self.new.machine ≡ self.old.machine }
-        ensures reply { result.0 ≡ replies.Ok }
         ensures state { self.new.state
-            ≡ record (with_record self.old.state (record group { masks = assigned group.masks all.now })) { status = replies.Ok } }
+            ≡ with_record self.old.state (record group.now { masks = assigned group.now.masks all.now }) }
         ensures epoch { self.new.epoch ≡ self.old.epoch }
-        ensures after { result.1.items ≡ raises self.old.machine all.now }
-        ensures domains { All (λ f. follow_domain f < self.old.machine.domains) result.1.items }
-        ensures plain { All IsRaiseOrFlush result.1.items }
+        ensures after { result.items ≡ schemata.raises self.old.machine all.now }
+        ensures domains { All (λ f. follow_domain f < self.old.machine.domains) result.items }
+        ensures ready { All (IsReady self.old.machine) result.items }
     {
         let after = raises(self.machine.domains, all);
         let mut masks = group.masks;
         assign(&mut masks, all);
-        self.put(group, group.mode, masks);
-        (Reply::Ok, after)
+        self.put(*group, group.mode, masks);
+        after
     }
 }

@@ -12,7 +12,7 @@ impl Tree {
         requires { domain < self.now.machine.domains }
         ensures { result ≡ initial_mask self.now.machine self.now.state domain }
     {
-        let used = self.groups.others(None, domain);
+        let used = self.used(None, domain);
         initial_mask(&used, &self.machine.geometry())
     }
 

@@ -4,7 +4,7 @@ ghost use Rattle.std.specs.List.{All};
 ghost use Rattle.path_names.specs.declared.files.FileKind.TheVariants.{Tasks};
 ghost use Rattle.path_names.specs.declared.path_ref.PathRef.TheVariants.{File};
 ghost use Rattle.script_ops.specs.declared.op.Op.TheVariants.{Write};
-ghost use Rattle.tree_core.specs.Follows.{IsRaiseOrFlush};
+ghost use Rattle.tree_core.specs.Follows.{IsReady};
 ghost use Rattle.tree_law.specs.Refusals.{reply_of};
 ghost use Rattle.tree_law.specs.Sound.{IsSound};
 ghost use Rattle.tree_law.specs.Steps.{after, follow_domain, next};
@@ -32,7 +32,7 @@ impl Tree {
         ensures after { result.1.items
             ≡ after self.old.machine self.old.state self.old.epoch (Write (File dir Tasks) text.now) }
         ensures domains { All (λ f. follow_domain f < self.old.machine.domains) result.1.items }
-        ensures plain { All IsRaiseOrFlush result.1.items }
+        ensures ready { All (IsReady self.old.machine) result.1.items }
     {
         // What the type keeps makes the next state a sound one.
         let _ = &self.machine;

@@ -4,14 +4,13 @@ ghost use Rattle.std.specs.List.{All};
 ghost use Rattle.group_tree.specs.Records.{has_gid};
 ghost use Rattle.path_names.specs.declared.path_ref.PathRef.TheVariants.{File};
 ghost use Rattle.rc_base.specs.declared.replies.Reply.TheVariants as replies;
+ghost use Rattle.script_ops.specs.declared.limits.TheConstants.{MOST_WEIGHT};
 ghost use Rattle.script_ops.specs.declared.op.Op.TheVariants.{Write};
-ghost use Rattle.tree_core.specs.Built.{IsBuilt};
-ghost use Rattle.tree_core.specs.Follows.{IsRaiseOrFlush};
-ghost use Rattle.tree_law.specs.Counted.{is_counted_mode};
+ghost use Rattle.tree_core.specs.Follows.{IsReady};
 ghost use Rattle.tree_law.specs.Places.{with_record};
 ghost use Rattle.tree_law.specs.Sound.{IsSound};
 ghost use Rattle.tree_law.specs.Steps.{follow_domain};
-ghost use Rattle.tree_law.specs.Steps.{after, next};
+ghost use Rattle.tree_law.specs.Steps.{after, needs, next};
 ghost use Rattle.tree_law.specs.commands.Write.{against, reasons};
 
 use super::Tree;
@@ -22,48 +21,56 @@ use path_names::{DirRef, FileKind, PathRef};
 use rc_base::{Mode, Reply, Why};
 
 impl Tree {
-    /// Writes a text to a file, and sets the last status.
-    pub(crate) fn write(&mut self, path: PathRef, text: &[u8]) -> (Reply, After)
-        requires built { IsBuilt (Write path text.now) }
+    /// Writes a text to a file, with the counts that it needs, and sets the last status.
+    pub(crate) fn write(&mut self, path: PathRef, text: &[u8], looks: &[u64]) -> (Reply, After)
         requires short { length text.now ≤ 4096 }
+        requires looks { length looks.now ≡ length (needs self.old.machine self.old.state (Write path text.now)) }
+        requires locks { self.old.state.locks < self.old.epoch }
+        requires epoch { self.old.epoch ≤ MOST_WEIGHT }
         ensures machine { self.new.machine ≡ self.old.machine }
-        ensures reply { (looks : List ℕ)
-            → result.0 ≡ (next self.old.machine self.old.state (Write path text.now) looks).reply }
-        ensures state { (looks : List ℕ)
-            → self.new.state ≡ (next self.old.machine self.old.state (Write path text.now) looks).state }
+        ensures reply { result.0 ≡ (next self.old.machine self.old.state (Write path text.now) looks.now).reply }
+        ensures state { self.new.state ≡ (next self.old.machine self.old.state (Write path text.now) looks.now).state }
         ensures epoch { self.new.epoch ≡ self.old.epoch }
         ensures after { result.1.items ≡ after self.old.machine self.old.state self.old.epoch (Write path text.now) }
         ensures domains { All (λ f. follow_domain f < self.old.machine.domains) result.1.items }
-        ensures plain { All IsRaiseOrFlush result.1.items }
+        ensures ready { All (IsReady self.old.machine) result.1.items }
     {
         match self.against_write(path) {
             Some(why) => self.answer(Reply::refused(why, 0)),
             None => match file_at(path) {
-                Some((dir, kind)) => self.write_file(dir, kind, text),
+                Some((dir, kind)) => self.write_file(dir, kind, text, looks),
                 None => unreachable!(),
             },
         }
     }
 
     // Writes a text to a file that can be written.
-    fn write_file(&mut self, dir: DirRef, kind: FileKind, text: &[u8]) -> (Reply, After)
-        requires built { IsBuilt (Write (File dir kind) text.now) }
+    fn write_file(
+        &mut self,
+        dir: DirRef,
+        kind: FileKind,
+        text: &[u8],
+        looks: &[u64],
+    ) -> (Reply, After)
         requires writable { find (against self.old.state (File dir kind)) reasons ≡ None }
         requires short { length text.now ≤ 4096 }
+        requires looks { length looks.now ≡ length (needs self.old.machine self.old.state (Write (File dir kind) text.now)) }
+        requires locks { self.old.state.locks < self.old.epoch }
+        requires epoch { self.old.epoch ≤ MOST_WEIGHT }
         ensures machine { self.new.machine ≡ self.old.machine }
-        ensures reply { (looks : List ℕ)
-            → result.0 ≡ (next self.old.machine self.old.state (Write (File dir kind) text.now) looks).reply }
-        ensures state { (looks : List ℕ)
-            → self.new.state ≡ (next self.old.machine self.old.state (Write (File dir kind) text.now) looks).state }
+        ensures reply { result.0
+            ≡ (next self.old.machine self.old.state (Write (File dir kind) text.now) looks.now).reply }
+        ensures state { self.new.state
+            ≡ (next self.old.machine self.old.state (Write (File dir kind) text.now) looks.now).state }
         ensures epoch { self.new.epoch ≡ self.old.epoch }
         ensures after { result.1.items
             ≡ after self.old.machine self.old.state self.old.epoch (Write (File dir kind) text.now) }
         ensures domains { All (λ f. follow_domain f < self.old.machine.domains) result.1.items }
-        ensures plain { All IsRaiseOrFlush result.1.items }
+        ensures ready { All (IsReady self.old.machine) result.1.items }
     {
         match kind {
             FileKind::Schemata => self.write_schemata(dir, text),
-            FileKind::Mode => self.write_mode(dir, text),
+            FileKind::Mode => self.write_mode(dir, text, looks),
             FileKind::Tasks => self.write_tasks(dir, text),
             FileKind::Cpus | FileKind::CpusList => self.write_cpus(dir, kind, text),
             FileKind::MaxThreshold => self.write_threshold(dir, text),
@@ -71,8 +78,8 @@ impl Tree {
         }
     }
 
-    // What is against writing to this path, whatever the text.
-    fn against_write(&self, path: PathRef) -> Option<Why>
+    /// What is against writing to this path, whatever the text.
+    pub(crate) fn against_write(&self, path: PathRef) -> Option<Why>
         ensures { result ≡ find (against self.now.state path) reasons }
     {
         if !self.is_file(path) {
@@ -84,22 +91,19 @@ impl Tree {
         }
     }
 
-    /// Gives a group this mode, which is shareable or exclusive, and these masks, which leave a sound tree. The command is accepted.
+    /// Gives a group this mode and these masks, which leave a sound tree.
     pub(crate) fn put(&mut self, group: Group, mode: Mode, masks: [u32; 8])
         requires there { find (has_gid group.gid) self.old.state.groups ≡ Some group }
-        requires counted { is_counted_mode mode ≡ true }
         requires sound { IsSound self.old.machine
-            (record (with_record self.old.state (record group { mode = mode; masks = masks })) { status = replies.Ok }) }
+            (with_record self.old.state (record group { mode = mode; masks = masks })) }
         ensures machine { self.new.machine ≡ self.old.machine }
-        ensures state { self.new.state
-            ≡ record (with_record self.old.state (record group { mode = mode; masks = masks })) { status = replies.Ok } }
+        ensures state { self.new.state ≡ with_record self.old.state (record group { mode = mode; masks = masks }) }
         ensures epoch { self.new.epoch ≡ self.old.epoch }
     {
         let mut new = group;
         new.mode = mode;
         new.masks = masks;
         self.groups.replace(new);
-        self.status = Reply::Ok;
     }
 
     /// Sets the last status, and nothing follows.

@@ -10,11 +10,12 @@ use Rattle.report_text.specs.Replayed.{HasFewLooks, IsCounted, ReplayValue}
 use Rattle.report_text.proofs.Entries.{HasFewLooks-at, IsAnswered-at, IsCounted-answered}
 use Rattle.report_text.proofs.Pieces.{command_lines-take_suc, made_from-take_suc, tree_from-take_suc}
 use Rattle.report_text.proofs.Replays.{IsReplay-opening}
+use Rattle.report_text.proofs.laws.Touches.{TellsTouch-entry}
 use Rattle.report_text.proofs.commands.push_commands.Goals as goal
 
 pub push_command-requires-clause-answered : goal.push_command-requires-clause-answered
 push_command-requires-clause-answered c =
-    let legal = subst (IsLegalTree c.args.script.now) (sym c.tree-tree.ensures) c.requires.legal in
+    let legal = subst (IsLegalTree c.args.script.now) (sym c.tree-tree.ensures) c.requires.run.tree_legal in
     IsAnswered-at c.args.script.now c.tree-tree.result.now c.loop-k.k c.index-tree-k.result c.loop-k.replay.tree.state legal c.loop-k-test.true c.index-tree-k.is c.loop-k.invariant.state
 
 pub push_command-requires-clause-counts : goal.push_command-requires-clause-counts
@@ -22,7 +23,7 @@ push_command-requires-clause-counts c = HasFewLooks-at c.tree-tree.result.now c.
 
 pub take-requires-clause-counted : goal.take-requires-clause-counted
 take-requires-clause-counted c =
-    let legal = subst (IsLegalTree c.args.script.now) (sym c.tree-tree.ensures) c.requires.legal in
+    let legal = subst (IsLegalTree c.args.script.now) (sym c.tree-tree.ensures) c.requires.run.tree_legal in
     let answered = IsAnswered-at c.args.script.now c.tree-tree.result.now c.loop-k.k c.index-tree-k.result c.loop-k.replay.tree.state legal c.loop-k-test.true c.index-tree-k.is c.loop-k.invariant.state in
     let counted = IsCounted-answered c.args.script.now c.loop-k.replay.tree.state (entry_value c.index-tree-k.result) answered in
     subst (λ (r : ReplayValue). IsCounted c.args.script.now r.tree.state (entry_value c.index-tree-k.result)) (sym c.push_command.ensures.kept) counted
@@ -59,3 +60,7 @@ loop-k-init c =
       made = first.made;
       text = sym (append-nil c.args.report.now);
     }
+
+pub push_command-requires-clause-hit : goal.push_command-requires-clause-hit
+push_command-requires-clause-hit c =
+    TellsTouch-entry c.args.journals.now c.tree-tree.result.now c.loop-k.k c.index-tree-k.result c.in_ok-touches.touches c.hit-hit.result c.tree-tree.ensures c.in_ok-touches.ensures.told c.loop-k-test.true c.index-tree-k.is c.hit-hit.ensures

@@ -1,14 +1,9 @@
-use Rattle.std.proofs.Common.{sym}
-use Rattle.run_law.specs.Entries.{entry_value}
-use Rattle.report_text.proofs.Replays.{IsBuilt-command, Fits-replay, IsReplay-next}
+use Rattle.report_text.proofs.Replays.{Fits-replay, IsReplay-next}
 use Rattle.report_text.proofs.Pieces.{OnOk-map_three}
 use Rattle.report_text.proofs.commands.take.Goals as goal
 
 pub take-requires-clause-fits : goal.take-requires-clause-fits
 take-requires-clause-fits c = Fits-replay c.args.script.now c.args.replay.now c.in-Some.op.now c.requires.replay c.in-Some.ensures.fit
-
-pub take-requires-clause-built : goal.take-requires-clause-built
-take-requires-clause-built c = IsBuilt-command c.args.script.now c.args.replay.now.tree.state (entry_value c.args.entry.now) c.in-Some.op.now c.requires.built c.requires.counted (sym c.in-Some.ensures.op)
 
 pub returns-clause-replay : goal.returns-clause-replay
 returns-clause-replay c =

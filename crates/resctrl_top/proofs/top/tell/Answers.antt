@@ -1,4 +1,4 @@
-use Rattle.std.proofs.Common.{ℕ, List, Some, inl, subst, ◌∙◌}
+use Rattle.std.proofs.Common.{List, ℕ, Some, inl, subst}
 use Rattle.resctrl_top.specs.declared.ended.Status.TheVariants.{Done}
 use Rattle.resctrl_top.specs.Endings.{Says}
 use Rattle.resctrl_top.specs.Outside.{writing_of}
@@ -12,8 +12,13 @@ returns-in-Ok g c =
     let sink = writing_of g.K.Sink.taken g.K.Sink.held g.K.Sink.faults c.args.sink.now c.hand_over.new.sink in
     inl (record {
       run = run;
-      is_run = c.requires.run;
-      isolates = λ i from to opening group mask last window. c.windows_are_isolated.ensures script run i from to opening group mask last lawful c.requires.run window;
-      holds = λ i from to opening r window. c.regions_hold.ensures script run i from to opening r lawful c.requires.run window;
-      report = subst (λ (text : List ℕ). Says Done (Some run) text sink c.hand_over.result.status c.hand_over.result.journals) (c.deref.ensures.value ∙ c.in-Ok.ensures) c.hand_over.ensures;
+      promised = record {
+        is_run = c.requires.run;
+        is_play = c.requires.play;
+        isolates = λ i from to opening group mask last window. c.windows_are_isolated.ensures script run i from to opening group mask last lawful c.requires.run window;
+        holds = λ i from to opening r window. c.regions_hold.ensures script run i from to opening r lawful c.requires.run window;
+      };
+      text = c.in-Ok.text.items;
+      output = c.in-Ok.ensures;
+      report = subst (λ (text : List ℕ). Says Done (Some run) text sink c.hand_over.result.status c.hand_over.result.journals) c.deref.ensures.value c.hand_over.ensures;
     })

@@ -5,7 +5,7 @@ use Rattle.tree_law.specs.declared.follow.Follow.{Follow}
 use Rattle.tree_law.specs.declared.follow.Follow.TheVariants.{Raise}
 use Rattle.tree_core.proofs.Raises.{All-follow_domain_push}
 use Rattle.std.proofs.lemmas.List.Elements.{All-map}
-use Rattle.tree_core.specs.Follows.{IsRaiseOrFlush}
+use Rattle.tree_core.specs.Follows.{IsReady}
 use Rattle.tree_core.proofs.follow.raise_all.Goals as goal
 
 pub loop-domain-preserved : goal.loop-domain-preserved
@@ -18,5 +18,5 @@ loop-domain-preserved c =
       domains = All-follow_domain_push domain c.loop-domain.after.items (Raise domain) c.loop-domain.invariant.domains refl;
     })
 
-pub returns-clause-plain : goal.returns-clause-plain
-returns-clause-plain c = rw c.loop-domain.invariant.raises (All-map IsRaiseOrFlush (λ (d : ℕ). Raise d) (range_with_len 0 c.loop-domain.domain) (λ k d within. tt))
+pub returns-clause-ready : goal.returns-clause-ready
+returns-clause-ready c = λ m. rw c.loop-domain.invariant.raises (All-map (IsReady m) (λ (d : ℕ). Raise d) (range_with_len 0 c.loop-domain.domain) (λ k d within. tt))

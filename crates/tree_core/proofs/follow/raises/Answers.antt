@@ -6,7 +6,7 @@ use Rattle.tree_law.specs.declared.follow.Follow.{Follow}
 use Rattle.tree_law.specs.declared.follow.Follow.TheVariants.{Raise}
 use Rattle.tree_core.proofs.Raises.{All-follow_domain_push, All-follow_domain_suc, map-filter_suc}
 use Rattle.std.proofs.lemmas.List.Elements.{All-map}
-use Rattle.tree_core.specs.Follows.{IsRaiseOrFlush}
+use Rattle.tree_core.specs.Follows.{IsReady}
 use Rattle.tree_core.proofs.follow.raises.Goals as goal
 use Rattle.tree_core.proofs.follow.raises.Goals.{then-is_named, else-is_named}
 
@@ -33,5 +33,5 @@ loop-domain-preserved c =
           })
     ]
 
-pub returns-clause-plain : goal.returns-clause-plain
-returns-clause-plain c = rw c.loop-domain.invariant.raises (All-map IsRaiseOrFlush (λ (d : ℕ). Raise d) (filter (names_domain c.args.all.now) (range_with_len 0 c.loop-domain.domain)) (λ k d within. tt))
+pub returns-clause-ready : goal.returns-clause-ready
+returns-clause-ready c = λ m. rw c.loop-domain.invariant.raises (All-map (IsReady m) (λ (d : ℕ). Raise d) (filter (names_domain c.args.all.now) (range_with_len 0 c.loop-domain.domain)) (λ k d within. tt))

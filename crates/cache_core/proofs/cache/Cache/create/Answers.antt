@@ -19,7 +19,7 @@ invariant_of-result c =
     let power : m.slices ≡ 2 ^ shift = pow-trailing_zeros m.slices m.in_range.slice_power m.in_range.slice_limit in
     let narrow : shift < 32 = omega (arith, trailing_le 8 m.slices) in
     let count : length c.in_ok-sets.sets ≡ (m.sets - 1) / m.slices + 1 = c.in_ok-sets.ensures.count ∙ (c.own_sets.ensures ∙ ap (λ k. (m.sets - 1) / k + 1) (sym power)) in
-    IsKept-empty shape m.rmids 0 c.in_ok-sets.sets c.in_ok-counts.counts shift narrow power c.in_ok-counts.ensures.size c.in_ok-counts.ensures.none
+    IsKept-empty shape m.rmids 0 c.in_ok-sets.sets c.in_ok-counts.counts shift narrow c.requires.slice power c.in_ok-counts.ensures.size c.in_ok-counts.ensures.none
     (length-set_in_spread shape c.in_ok-sets.sets (λ set l. c.in_ok-sets.ensures.widths (set / m.slices) (omega (arith, div-lt_sets set m.sets m.slices l m.in_range.some_slice, count, c.in_ok-sets.ensures.count))))
     c.in_ok-sets.ensures.empty
 

@@ -3,8 +3,8 @@ use Rattle.std.specs.Option.{option_copied}
 use Rattle.group_tree.specs.Records.{has_gid}
 use Rattle.machine.specs.Maps.{parameters_of}
 use Rattle.path_names.specs.declared.dirs.DirRef.TheVariants.{Ctrl}
-use Rattle.tree_core.proofs.ControlGroups.{IsControl-found, IsControlKind-named, has_group-named}
-use Rattle.tree_core.proofs.KeptTables.{IsSome-found_class, Keeps-from_IsKept}
+use Rattle.tree_core.proofs.ControlGroups.{IsControl-found, has_group-named}
+use Rattle.tree_core.proofs.KeptTables.{Keeps-from_IsKept}
 use Rattle.tree_core.specs.Found.{IsControl}
 use Rattle.tree_core.specs.Tables.{state_of, tables}
 use Rattle.tree_core.specs.Values.{TreeValue}
@@ -13,14 +13,6 @@ use Rattle.tree_core.proofs.tree.Tree.control.Goals as goal
 
 pub unwrap-group-requires : goal.unwrap-group-requires
 unwrap-group-requires c = c.get.ensures.there ∙ has_group-named (Keeps-from_IsKept c.self.invariant) c.args.name c.in-Some.gid (sym c.in-Some.ensures.found)
-
-pub unwrap-requires : goal.unwrap-requires
-unwrap-requires c =
-    let t = c.self.inside in
-    let g = c.unwrap-group.result.now in
-    let keeps = Keeps-from_IsKept c.self.invariant in
-    let found : find (has_gid c.in-Some.gid) t.groups.groups ≡ Some g = sym c.get.ensures.found ∙ ap option_copied c.unwrap-group.ensures in
-    IsSome-found_class keeps c.in-Some.gid g found (IsControlKind-named keeps c.args.name c.in-Some.gid g (sym c.in-Some.ensures.found) found)
 
 pub returns : goal.returns
 returns c =
@@ -31,6 +23,6 @@ returns c =
     let found : find (has_gid c.in-Some.gid) t.groups.groups ≡ Some g = sym c.get.ensures.found ∙ ap option_copied c.unwrap-group.ensures in
     let named : directory_gid s (Ctrl c.args.name) ≡ Some c.in-Some.gid = sym c.in-Some.ensures.found in (
       ap (λ (v : TreeValue). directory_gid v.state (Ctrl c.args.name)) (sym c.self.view_is) ∙ named,
-      subst (λ (v : TreeValue). IsControl v.state (record { gid = c.in-Some.gid; class = c.unwrap.result })) c.self.view_is
-          (IsControl-found (Keeps-from_IsKept c.self.invariant) c.args.name c.in-Some.gid g c.unwrap.result named found c.unwrap.ensures),
+      subst (λ (v : TreeValue). IsControl v.state (record { gid = c.in-Some.gid; class = g.class })) c.self.view_is
+          (IsControl-found (Keeps-from_IsKept c.self.invariant) c.args.name c.in-Some.gid g named found),
     )

@@ -39,7 +39,7 @@ pub insert-requires-clause-fresh : goal.insert-requires-clause-fresh
 insert-requires-clause-fresh c = ap (λ (g : Group). has_group g.gid c.self.inside.groups.groups) c.monitor_group-group.ensures ∙ has_group-next_gid (Keeps-from_IsKept c.self.invariant)
 
 pub insert-requires-clause-place : goal.insert-requires-clause-place
-insert-requires-clause-place c = length-groups_lt (Keeps-from_IsKept c.self.invariant) c.self.inside.machine.in_range.rmid_limit
+insert-requires-clause-place c = length-groups_lt (Keeps-from_IsKept c.self.invariant) c.self.inside.machine.in_range
 
 pub invariant_of-self : goal.invariant_of-self
 invariant_of-self c =

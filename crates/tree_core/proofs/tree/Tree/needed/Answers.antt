@@ -1,5 +1,5 @@
 use Rattle.std.proofs.Common.{sym, ap, ◌∙◌}
-use Rattle.tree_core.proofs.BuiltPaths.{needs_accepted-none}
+use Rattle.tree_core.proofs.NeededCounts.{needs_accepted-none}
 use Rattle.tree_core.proofs.Outcomes.{needs-nothing}
 use Rattle.tree_core.proofs.ReadCounts.{needs-tick}
 use Rattle.tree_law.specs.Freeing.{counts_of}
@@ -14,4 +14,4 @@ returns-in-Tick c =
 pub returns-in_default : goal.returns-in_default
 returns-in_default c =
     let m = c.args.self.now.machine in let s = c.args.self.now.state in
-    c.none.ensures ∙ sym (needs-nothing m s c.args.op.now (needs_accepted-none m s c.args.op.now c.requires.built c.in_default.not-Rmdir c.in_default.not-Tick c.in_default.not-Read))
+    c.none.ensures ∙ sym (needs-nothing m s c.args.op.now (needs_accepted-none m s c.args.op.now (record { rmdir = c.in_default.not-Rmdir; write = c.in_default.not-Write; tick = c.in_default.not-Tick; read = c.in_default.not-Read })))

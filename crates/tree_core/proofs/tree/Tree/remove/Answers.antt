@@ -2,7 +2,7 @@ use Rattle.std.proofs.Common.{◌≡◌, ℕ, None, length, sym, subst, ap, ◌�
 use Rattle.std.specs.List.{range_with_len}
 use Rattle.path_names.specs.declared.path_ref.PathRef.{PathRef}
 use Rattle.script_ops.specs.declared.op.Op.TheVariants.{Rmdir}
-use Rattle.tree_core.proofs.BuiltPaths.{is_group_directory-rmdir}
+use Rattle.tree_core.proofs.RemovablePaths.{is_group_directory-rmdir}
 use Rattle.tree_core.proofs.Outcomes.{after-accepted, find-rmdir_none, next-accepted}
 use Rattle.tree_core.specs.Values.{TreeValue}
 use Rattle.tree_law.specs.State.{Outcome}

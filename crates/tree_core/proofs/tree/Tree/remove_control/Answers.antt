@@ -1,4 +1,4 @@
-use Rattle.std.proofs.Common.{◌≡◌, List, None, Some, length, refl, sym, subst, ap, ◌∙◌}
+use Rattle.std.proofs.Common.{◌≡◌, List, None, Some, length, take, refl, sym, subst, ap, ◌∙◌}
 use Rattle.group_tree.specs.Lists.{has_group, without}
 use Rattle.group_tree.specs.declared.group.Group.{Group}
 use Rattle.machine.specs.Maps.{parameters_of}
@@ -6,10 +6,11 @@ use Rattle.path_names.specs.declared.dirs.DirRef.TheVariants.{Ctrl}
 use Rattle.path_names.specs.declared.path_ref.PathRef.TheVariants.{Dir}
 use Rattle.script_ops.specs.declared.op.Op.TheVariants.{Rmdir}
 use Rattle.tree_core.proofs.ControlGroups.{ControlAt-found}
-use Rattle.tree_core.proofs.KeptTables.{IsKept-from_Keeps, Keeps-from_IsKept, contains-class_found}
+use Rattle.tree_core.proofs.KeptTables.{IsKept-from_Keeps, Keeps-from_IsKept, MayGive-found}
 use Rattle.tree_core.proofs.RemovedControl as removed
 use Rattle.tree_core.proofs.RemovedGroups.{State-parts, table_threshold-lt}
 use Rattle.tree_core.specs.Found.{IsControl}
+use Rattle.tree_core.specs.Given.{MayGive}
 use Rattle.tree_core.specs.Tables.{state_of, tables}
 use Rattle.tree_core.specs.Values.{TreeValue}
 use Rattle.tree_law.specs.Existing.{directory_gid}
@@ -48,8 +49,8 @@ remove-requires-clause-there c =
     let freed : c.args.freed.now ≡ rmdir.freed s (Dir (Ctrl c.args.name)) = subst (λ (v : TreeValue). c.args.freed.now ≡ rmdir.freed v.state (Dir (Ctrl c.args.name))) (sym c.self.view_is) c.requires.freed in
     ap (has_group found.gid) c.remove_monitors.ensures.groups ∙ removed.has_group-off_monitors keeps c.args.name found named control nothing c.args.freed.now freed
 
-pub give-requires-clause-taken : goal.give-requires-clause-taken
-give-requires-clause-taken c =
+pub give-requires : goal.give-requires
+give-requires c =
     let t = c.self.inside in
     let m = parameters_of t.machine in
     let s = state_of m (tables t.groups t.tasks t.cpus t.classes t.rmids t.regions) t.status t.next_gid in
@@ -61,7 +62,8 @@ give-requires-clause-taken c =
     let nothing : refusal m s op ≡ None = subst (λ (v : TreeValue). refusal v.machine v.state op ≡ None) (sym c.self.view_is) c.requires.accepted in
     let freed : c.args.freed.now ≡ rmdir.freed s (Dir (Ctrl c.args.name)) = subst (λ (v : TreeValue). c.args.freed.now ≡ rmdir.freed v.state (Dir (Ctrl c.args.name))) (sym c.self.view_is) c.requires.freed in
     let at = ControlAt-found s found control in
-    contains-class_found keeps found.gid at.group found.class at.there at.class
+    let may : MayGive t.classes found.class = MayGive-found keeps found.gid at.group at.there found.class at.class control.other_class in
+    record { may = may }
 
 pub free_all-requires : goal.free_all-requires
 free_all-requires c =
@@ -97,8 +99,8 @@ invariant_of-self c =
     let count : length c.args.looks.now ≡ length (needs m s op) = subst (λ (v : TreeValue). length c.args.looks.now ≡ length (needs v.machine v.state op)) (sym c.self.view_is) c.requires.looks in
     let groups = c.remove.ensures.without ∙ ap (λ (gs : List Group). without found.gid gs) c.remove_monitors.ensures.groups in
     let shareable = c.remove.ensures.kept ∙ c.remove_monitors.ensures.shareable in
-    let after = State-parts s c.remove.new.self.groups _ c.unbind_ctrl.new.self c.unbind_ctrl.new.self c.remove_ctrl.new.self c.remove_ctrl.new.self c.free_all.new.rmids.limbo c.free_all.new.rmids.threshold t.rmids.threshold (groups ∙ removed.without-off_monitors found.gid t.groups.groups) refl refl c.free_all.ensures.threshold in
-    IsKept-from_Keeps (removed.Keeps-control keeps c.args.name found named control nothing c.args.freed.now freed c.args.looks.now c.remove.new.self c.unbind_ctrl.new.self c.remove_ctrl.new.self c.give.new.self c.free_all.new.rmids t.machine.in_range count groups shareable c.unbind_ctrl.ensures c.remove_ctrl.ensures c.give.ensures c.free_all.ensures _ after)
+    let after = State-parts (record s { regions = take m.domains c.remove-2.new.self.places; locks = c.remove-2.new.self.placed }) c.remove.new.self.groups _ c.unbind_ctrl.new.self c.unbind_ctrl.new.self c.remove_ctrl.new.self c.remove_ctrl.new.self c.free_all.new.rmids.limbo c.free_all.new.rmids.threshold t.rmids.threshold (groups ∙ removed.without-off_monitors found.gid t.groups.groups) refl refl c.free_all.ensures.threshold in
+    IsKept-from_Keeps (removed.Keeps-control keeps c.args.name found named control nothing c.args.freed.now freed c.args.looks.now c.remove.new.self c.unbind_ctrl.new.self c.remove_ctrl.new.self c.give.new.classes c.free_all.new.rmids c.remove-2.new.self t.machine.in_range count groups shareable c.unbind_ctrl.ensures c.remove_ctrl.ensures c.give.ensures c.free_all.ensures c.remove-2.ensures _ after)
 
 pub returns-clause-state : goal.returns-clause-state
 returns-clause-state c =
@@ -115,6 +117,6 @@ returns-clause-state c =
     let count : length c.args.looks.now ≡ length (needs m s op) = subst (λ (v : TreeValue). length c.args.looks.now ≡ length (needs v.machine v.state op)) (sym c.self.view_is) c.requires.looks in
     let groups = c.remove.ensures.without ∙ ap (λ (gs : List Group). without found.gid gs) c.remove_monitors.ensures.groups in
     let shareable = c.remove.ensures.kept ∙ c.remove_monitors.ensures.shareable in
-    let after = State-parts s c.remove.new.self.groups _ c.unbind_ctrl.new.self c.unbind_ctrl.new.self c.remove_ctrl.new.self c.remove_ctrl.new.self c.free_all.new.rmids.limbo c.free_all.new.rmids.threshold t.rmids.threshold (groups ∙ removed.without-off_monitors found.gid t.groups.groups) refl refl c.free_all.ensures.threshold in
-    subst (λ (v : TreeValue). state_of m (tables c.remove.new.self c.unbind_ctrl.new.self c.remove_ctrl.new.self c.give.new.self c.free_all.new.rmids t.regions) t.status t.next_gid ≡ accepted v.machine v.state op c.args.looks.now) c.self.view_is
-    (after ∙ removed.left_control-accepted keeps c.args.name found named control nothing c.args.freed.now freed c.args.looks.now c.remove.new.self c.unbind_ctrl.new.self c.remove_ctrl.new.self c.give.new.self c.free_all.new.rmids t.machine.in_range count groups shareable c.unbind_ctrl.ensures c.remove_ctrl.ensures c.give.ensures c.free_all.ensures)
+    let after = State-parts (record s { regions = take m.domains c.remove-2.new.self.places; locks = c.remove-2.new.self.placed }) c.remove.new.self.groups _ c.unbind_ctrl.new.self c.unbind_ctrl.new.self c.remove_ctrl.new.self c.remove_ctrl.new.self c.free_all.new.rmids.limbo c.free_all.new.rmids.threshold t.rmids.threshold (groups ∙ removed.without-off_monitors found.gid t.groups.groups) refl refl c.free_all.ensures.threshold in
+    subst (λ (v : TreeValue). state_of m (tables c.remove.new.self c.unbind_ctrl.new.self c.remove_ctrl.new.self c.give.new.classes c.free_all.new.rmids c.remove-2.new.self) t.status t.next_gid ≡ accepted v.machine v.state op c.args.looks.now) c.self.view_is
+    (after ∙ removed.left_control-accepted keeps c.args.name found named control nothing c.args.freed.now freed c.args.looks.now c.remove.new.self c.unbind_ctrl.new.self c.remove_ctrl.new.self c.give.new.classes c.free_all.new.rmids c.remove-2.new.self t.machine.in_range count groups shareable c.unbind_ctrl.ensures c.remove_ctrl.ensures c.give.ensures c.free_all.ensures c.remove-2.ensures)

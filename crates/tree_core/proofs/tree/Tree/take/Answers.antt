@@ -1,23 +1,17 @@
-use Rattle.std.proofs.Common.{None, Some, Bool, cond, inl, inr, refl, sym, ap, ap₂, ◌∙◌}
+use Rattle.std.proofs.Common.{None, Some, Bool, cond, Contains, ◌<◌, refl, sym, subst, ap, ap₂, ◌∙◌}
 use Rattle.rc_base.specs.declared.replies.Why.TheVariants.{NoSuchPath}
 use Rattle.machine.specs.declared.parameters.Parameters.{Parameters}
 use Rattle.script_ops.specs.declared.op.Op.{Op}
 use Rattle.script_ops.specs.declared.op.Op.TheVariants as ops
-use Rattle.tree_core.proofs.BuiltPaths.{IsBuilt-not_access, IsBuilt-not_touch}
 use Rattle.tree_core.proofs.Outcomes.{after-accepted, after-moved, after-nothing, refusal-flush, refusal-list, refusal-read, reply-next, state-quiet}
-use Rattle.tree_core.proofs.ReadCounts.{refusal-tick}
+use Rattle.tree_core.proofs.ReadCounts.{refusal-access, refusal-tick}
 use Rattle.tree_law.specs.Existing.{is_directory, is_file}
 use Rattle.tree_law.specs.Refusals.{plain, reply_of}
-use Rattle.tree_law.specs.State.{State}
-use Rattle.tree_law.specs.Steps.{after, next}
+use Rattle.script_ops.specs.Fits.{Fits}
+use Rattle.tree_law.specs.State.{State, tasks_of}
+use Rattle.tree_law.specs.Steps.{after, next, refusal}
 use Rattle.tree_law.specs.commands.Flush as flush
 use Rattle.tree_core.proofs.tree.Tree.take.Goals as goal
-
-pub unreachable-requires : goal.unreachable-requires
-unreachable-requires c = elim c.in-Access.is [
-  | inl w ↦ IsBuilt-not_access c.args.op.now w.0 w.1 w.2 c.requires.built w.3
-  | inr w ↦ IsBuilt-not_touch c.args.op.now w.0 w.1 w.2 w.3 c.requires.built w.4
-]
 
 pub returns-in-Mkdir-clause-after : goal.returns-in-Mkdir-clause-after
 returns-in-Mkdir-clause-after c =
@@ -98,3 +92,46 @@ pub returns-in-Tick-clause-after : goal.returns-in-Tick-clause-after
 returns-in-Tick-clause-after c =
     let m = c.args.self.now.machine in let s = c.args.self.now.state in let k = c.args.self.now.epoch in
     c.tick.ensures.after ∙ sym (ap (after m s k) c.in-Tick.is ∙ after-nothing m s k ops.Tick refl)
+
+pub touch-requires-clause-task : goal.touch-requires-clause-task
+touch-requires-clause-task c =
+    let m = c.args.self.now.machine in let s = c.args.self.now.state in
+    let fits : Fits m (tasks_of s) (ops.Touch c.in-Touch.path c.in-Touch.offset c.in-Touch.task c.in-Touch.cpu) = subst (Fits m (tasks_of s)) c.in-Touch.is c.requires.fits in
+    subst (λ (x : State). Contains (tasks_of x) c.in-Touch.task) (sym c.count.ensures.state) fits.0
+
+pub touch-requires-clause-cpu : goal.touch-requires-clause-cpu
+touch-requires-clause-cpu c =
+    let m = c.args.self.now.machine in let s = c.args.self.now.state in
+    let fits : Fits m (tasks_of s) (ops.Touch c.in-Touch.path c.in-Touch.offset c.in-Touch.task c.in-Touch.cpu) = subst (Fits m (tasks_of s)) c.in-Touch.is c.requires.fits in
+    subst (λ (n : Parameters). c.in-Touch.cpu < n.cpus) (sym c.count.ensures.machine) fits.1
+
+pub returns-in-Touch-clause-reply : goal.returns-in-Touch-clause-reply
+returns-in-Touch-clause-reply c =
+    let m = c.args.self.now.machine in let s = c.args.self.now.state in let op = ops.Touch c.in-Touch.path c.in-Touch.offset c.in-Touch.task c.in-Touch.cpu in
+    c.touch.ensures.reply ∙ ap₂ (λ (n : Parameters) (x : State). reply_of (refusal n x op)) c.count.ensures.machine c.count.ensures.state
+    ∙ sym (ap (λ (o : Op). (next m s o c.args.looks.now).reply) c.in-Touch.is ∙ reply-next m s op c.args.looks.now)
+
+pub returns-in-Touch-clause-state : goal.returns-in-Touch-clause-state
+returns-in-Touch-clause-state c =
+    let m = c.args.self.now.machine in let s = c.args.self.now.state in let op = ops.Touch c.in-Touch.path c.in-Touch.offset c.in-Touch.task c.in-Touch.cpu in
+    c.count.ensures.state ∙ sym (ap (λ (o : Op). (next m s o c.args.looks.now).state) c.in-Touch.is ∙ state-quiet m s op c.args.looks.now refl refl (λ x. refl))
+
+pub returns-in-Touch-clause-after : goal.returns-in-Touch-clause-after
+returns-in-Touch-clause-after c =
+    let m = c.args.self.now.machine in let s = c.args.self.now.state in let k = c.args.self.now.epoch in let op = ops.Touch c.in-Touch.path c.in-Touch.offset c.in-Touch.task c.in-Touch.cpu in
+    c.touch.ensures.after k (sym c.count.ensures.epoch) ∙ ap₂ (λ (n : Parameters) (x : State). after n x k op) c.count.ensures.machine c.count.ensures.state ∙ ap (after m s k) (sym c.in-Touch.is)
+
+pub returns-in-Access-clause-reply : goal.returns-in-Access-clause-reply
+returns-in-Access-clause-reply c =
+    let m = c.args.self.now.machine in let s = c.args.self.now.state in let op = ops.Access c.in-Access.task c.in-Access.cpu c.in-Access.addr in
+    sym (ap (λ (o : Op). (next m s o c.args.looks.now).reply) c.in-Access.is ∙ reply-next m s op c.args.looks.now ∙ ap reply_of (refusal-access m s c.in-Access.task c.in-Access.cpu c.in-Access.addr))
+
+pub returns-in-Access-clause-state : goal.returns-in-Access-clause-state
+returns-in-Access-clause-state c =
+    let m = c.args.self.now.machine in let s = c.args.self.now.state in let op = ops.Access c.in-Access.task c.in-Access.cpu c.in-Access.addr in
+    c.count.ensures.state ∙ sym (ap (λ (o : Op). (next m s o c.args.looks.now).state) c.in-Access.is ∙ state-quiet m s op c.args.looks.now refl refl (λ x. refl))
+
+pub returns-in-Access-clause-after : goal.returns-in-Access-clause-after
+returns-in-Access-clause-after c =
+    let m = c.args.self.now.machine in let s = c.args.self.now.state in let k = c.args.self.now.epoch in let op = ops.Access c.in-Access.task c.in-Access.cpu c.in-Access.addr in
+    c.new-in-Access.ensures ∙ sym (ap (after m s k) c.in-Access.is ∙ after-nothing m s k op refl)

@@ -11,15 +11,15 @@ pub unreachable-requires : goal.unreachable-requires
 unreachable-requires c = is_some_file-written c.args.self.now.state c.args.path (sym c.in-None.ensures) c.in-None-file_at.ensures
 
 pub returns-in-Some-clause-reply : goal.returns-in-Some-clause-reply
-returns-in-Some-clause-reply c = λ looks.
+returns-in-Some-clause-reply c =
     let m = c.args.self.now.machine in let s = c.args.self.now.state in
-    c.answer.ensures.reply ∙ c.refused.ensures ∙ ap (λ (o : Outcome). o.reply) (sym (next-refused m s (Write c.args.path c.args.text.now) (plain c.in-Some.why) looks (refusal-write_path m s c.args.path c.args.text.now c.in-Some.why (sym c.in-Some.ensures))))
+    c.answer.ensures.reply ∙ c.refused.ensures ∙ ap (λ (o : Outcome). o.reply) (sym (next-refused m s (Write c.args.path c.args.text.now) (plain c.in-Some.why) c.args.looks.now (refusal-write_path m s c.args.path c.args.text.now c.in-Some.why (sym c.in-Some.ensures))))
 
 pub returns-in-Some-clause-state : goal.returns-in-Some-clause-state
-returns-in-Some-clause-state c = λ looks.
+returns-in-Some-clause-state c =
     let m = c.args.self.now.machine in let s = c.args.self.now.state in
     c.answer.ensures.state ∙ ap (λ r. record s { status = r }) c.refused.ensures ∙ sym (with_status-path s c.args.path c.args.text.now _ c.in-Some.why (sym c.in-Some.ensures))
-    ∙ ap (λ (o : Outcome). o.state) (sym (next-refused m s (Write c.args.path c.args.text.now) (plain c.in-Some.why) looks (refusal-write_path m s c.args.path c.args.text.now c.in-Some.why (sym c.in-Some.ensures))))
+    ∙ ap (λ (o : Outcome). o.state) (sym (next-refused m s (Write c.args.path c.args.text.now) (plain c.in-Some.why) c.args.looks.now (refusal-write_path m s c.args.path c.args.text.now c.in-Some.why (sym c.in-Some.ensures))))
 
 pub returns-in-Some-clause-after : goal.returns-in-Some-clause-after
 returns-in-Some-clause-after c =

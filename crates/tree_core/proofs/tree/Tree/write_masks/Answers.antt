@@ -11,7 +11,7 @@ use Rattle.tree_core.proofs.tree.Tree.write_masks.Goals as goal
 pub assign-requires : goal.assign-requires
 assign-requires c =
     let t = c.self.inside in
-    let g = c.args.group in
+    let g = c.args.group.now in
     let there : find (has_gid g.gid) t.groups.groups ≡ Some g = subst (λ (v : TreeValue). find (has_gid g.gid) v.state.groups ≡ Some g) (sym c.self.view_is) c.requires.there in
     let lawful : AreLawful (geometry_of (parameters_of t.machine)) t.machine.domains c.args.all.now = subst (λ (v : TreeValue). AreLawful (geometry_of v.machine) v.machine.domains c.args.all.now) (sym c.self.view_is) c.requires.lawful in
     let long : length g.masks ≡ 8 = length-found_masks (Keeps-from_IsKept c.self.invariant) g.gid g there in

@@ -1,0 +1,31 @@
+use Rattle.std.proofs.Common.{◌<◌, ◌≤◌, List, length, map, take, subst, sym, ap, ◌∙◌, arith}
+use Rattle.std.specs.List.{flat_map}
+use Rattle.std.specs.Option.{option_or}
+use Rattle.std.proofs.lemmas.List.{take_all}
+use Rattle.cache_core.specs.declared.entry.SliceEntry.{SliceEntry}
+use Rattle.report_text.proofs.TouchHits.{outcome_text-run, touch_hit-more}
+use Rattle.report_text.specs.Touches.{hit_text, touch_hit}
+use Rattle.run_law.specs.Entries.{entry_value}
+use Rattle.run_law.specs.Journals.{At}
+use Rattle.report_text.proofs.touches.Touches.of.Goals as goal
+
+pub loop-i-preserved : goal.loop-i-preserved
+loop-i-preserved c =
+    let j = c.args.journals.now in
+    let within : c.loop-i.i < length j.slices = omega (arith, c.loop-i-test.true, c.slices_of-i-end.ensures.slices, c.requires.run.all_slices) in
+    record {
+      size = c.note_all.ensures.size ∙ c.loop-i.invariant.size;
+      hits = λ k h there.
+          c.note_all.ensures.hits k h there
+          ∙ (ap (λ o. option_or o (touch_hit k h c.slice.result.now)) (c.loop-i.invariant.hits k h there)
+          ∙ (ap (λ es. option_or (touch_hit k h (flat_map (λ (xs : List SliceEntry). xs) (take c.loop-i.i j.slices))) (touch_hit k h es)) c.slice.ensures
+          ∙ sym (touch_hit-more k h j.slices c.loop-i.i within)));
+    }
+
+pub returns-clause-told : goal.returns-clause-told
+returns-clause-told c k h there =
+    let j = c.args.journals.now in
+    let all : length j.slices ≤ c.loop-i.i = omega (arith, c.loop-i-test.false, c.slices_of-i-end.ensures.slices, c.requires.run.all_slices) in
+    let here : At (map entry_value c.tree-tree.result.now) k h = subst (λ tree. At tree k h) (sym c.tree-tree.ensures) there in
+    outcome_text-run c.args.script.now j k h c.requires.run there
+    ∙ ap hit_text (sym (c.loop-i.invariant.hits k h here ∙ ap (λ es. touch_hit k h (flat_map (λ (xs : List SliceEntry). xs) es)) (take_all c.loop-i.i j.slices all)))

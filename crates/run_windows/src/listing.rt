@@ -1,0 +1,189 @@
+//! All windows of a run.
+ghost use Rattle.std.specs.Prelude.{◌≡◌, ◌+◌, ◌<◌, ◌≤◌, ◌^◌, true, length, slice_index_or, IfOk, OnOk};
+ghost use Rattle.cache_core.specs.Filled.{empties};
+ghost use Rattle.cache_core.specs.declared.entry.SliceEntry.{SliceEntry};
+ghost use Rattle.machine.specs.Slices.{slice_number};
+ghost use Rattle.run_law.specs.Journals.{At, slice_at};
+ghost use Rattle.run_law.specs.Runs.{IsRun};
+ghost use Rattle.run_windows.specs.AllWindows.{AreWindowsBefore, AreWindowsOf, IsOpening, with_used};
+ghost use Rattle.run_windows.specs.Stays.{AreStays, IsTimeline};
+ghost use Rattle.run_windows.specs.Windows.{StaysExclusive};
+ghost use Rattle.script_ops.specs.Values.{IsLawful};
+
+use crate::counting::{Place, count_window_at, empties};
+use crate::stay::Stay;
+use crate::timeline::timeline;
+use cache_core::SliceEntry;
+use rc_base::NoMemory;
+use run_law::{Journals, Window};
+use script_ops::Script;
+use std::alloc::Global;
+
+// A flush or a lock: the domain, the slice in it, and the position there.
+#[derive(Clone, Copy, Debug, PartialEq, Eq)]
+struct Opening {
+    domain: u8,
+    slice: u8,
+    from: u32,
+}
+
+// Adds a window in which its group has an access.
+fn push_used(windows: &mut Vec<Window>, window: Window) -> Result<(), NoMemory>
+    ensures { OnOk result (windows.new.items ≡ with_used windows.old.items window) }
+{
+    if 0 < window.accesses {
+        windows.push(window)?;
+    }
+    Ok(())
+}
+
+// Adds the window of an exclusive group that begins at a flush or a lock, where the group has an access in it.
+fn push_window(
+    alloc: Global,
+    script: &Script,
+    journals: &Journals,
+    opening: Opening,
+    stay: Stay,
+    windows: &mut Vec<Window>,
+) -> Result<(), NoMemory>
+    requires lawful { IsLawful script.now }
+    requires run { IsRun script.now journals.now }
+    requires domain { opening.domain < script.now.machine.domains }
+    requires slice { opening.slice < script.now.machine.slices }
+    requires opens { IsOpening script.now journals.now opening.domain opening.slice opening.from }
+    requires exclusive { (d : SliceEntry) → StaysExclusive script.now journals.now opening.domain stay.gid stay.mask (slice_index_or (slice_at journals.now (slice_number script.now.machine opening.domain opening.slice)) opening.from d).epoch stay.last }
+    requires before { AreWindowsBefore script.now journals.now (record { domain = opening.domain; slice = opening.slice; from = opening.from; gid = stay.gid.0 }) windows.old.items }
+    ensures { OnOk result (AreWindowsBefore script.now journals.now (record { domain = opening.domain; slice = opening.slice; from = opening.from; gid = stay.gid.0 + 1 }) windows.new.items) }
+{
+    let place = Place {
+        domain: opening.domain,
+        slice: opening.slice,
+        from: opening.from,
+        gid: stay.gid,
+        mask: stay.mask,
+        last: stay.last,
+    };
+    let window = count_window_at(alloc, script, journals, place)?;
+    push_used(windows, window)
+}
+
+// Adds the windows that begin at a flush or a lock, of the groups that are exclusive then.
+fn push_opened(
+    alloc: Global,
+    script: &Script,
+    journals: &Journals,
+    opening: Opening,
+    stays: &[Stay],
+    windows: &mut Vec<Window>,
+) -> Result<(), NoMemory>
+    requires lawful { IsLawful script.now }
+    requires run { IsRun script.now journals.now }
+    requires domain { opening.domain < script.now.machine.domains }
+    requires slice { opening.slice < script.now.machine.slices }
+    requires opens { IsOpening script.now journals.now opening.domain opening.slice opening.from }
+    requires stays { (d : SliceEntry) → AreStays script.now journals.now opening.domain (slice_index_or (slice_at journals.now (slice_number script.now.machine opening.domain opening.slice)) opening.from d).epoch stays.now }
+    requires before { AreWindowsBefore script.now journals.now (record { domain = opening.domain; slice = opening.slice; from = opening.from; gid = 0 }) windows.old.items }
+    ensures { OnOk result (AreWindowsBefore script.now journals.now (record { domain = opening.domain; slice = opening.slice; from = opening.from + 1; gid = 0 }) windows.new.items) }
+{
+    for stay in stays {
+        push_window(alloc, script, journals, opening, *stay, windows)?;
+    }
+    Ok(())
+}
+
+// Adds the windows that begin at an entry of a slice, where it is a flush or a lock.
+fn push_entry(
+    alloc: Global,
+    script: &Script,
+    journals: &Journals,
+    opening: Opening,
+    entry: &SliceEntry,
+    timeline: &[Vec<Stay>],
+    windows: &mut Vec<Window>,
+) -> Result<(), NoMemory>
+    requires lawful { IsLawful script.now }
+    requires run { IsRun script.now journals.now }
+    requires domain { opening.domain < script.now.machine.domains }
+    requires slice { opening.slice < script.now.machine.slices }
+    requires entry { At (slice_at journals.now (slice_number script.now.machine opening.domain opening.slice)) opening.from entry.now }
+    requires timeline { IsTimeline script.now journals.now opening.domain (length journals.now.tree + 1) timeline.now }
+    requires before { AreWindowsBefore script.now journals.now (record { domain = opening.domain; slice = opening.slice; from = opening.from; gid = 0 }) windows.old.items }
+    ensures { OnOk result (AreWindowsBefore script.now journals.now (record { domain = opening.domain; slice = opening.slice; from = opening.from + 1; gid = 0 }) windows.new.items) }
+{
+    if !empties(entry.what) {
+        return Ok(());
+    }
+    let back = journals.tree().len() - entry.epoch as usize;
+    push_opened(alloc, script, journals, opening, &timeline[back], windows)
+}
+
+// Adds the windows of a slice.
+fn push_slice(
+    alloc: Global,
+    script: &Script,
+    journals: &Journals,
+    domain: u8,
+    slice: u8,
+    timeline: &[Vec<Stay>],
+    windows: &mut Vec<Window>,
+) -> Result<(), NoMemory>
+    requires lawful { IsLawful script.now }
+    requires run { IsRun script.now journals.now }
+    requires domain { domain < script.now.machine.domains }
+    requires slice { slice < script.now.machine.slices }
+    requires timeline { IsTimeline script.now journals.now domain (length journals.now.tree + 1) timeline.now }
+    requires before { AreWindowsBefore script.now journals.now (record { domain = domain; slice = slice; from = 0; gid = 0 }) windows.old.items }
+    ensures { OnOk result (AreWindowsBefore script.now journals.now (record { domain = domain; slice = slice + 1; from = 0; gid = 0 }) windows.new.items) }
+{
+    let number = u32::from(domain) * u32::from(script.machine().slices) + u32::from(slice);
+    let entries = journals.slice(number);
+    for (from, entry) in entries.iter().enumerate() {
+        let opening = Opening {
+            domain,
+            slice,
+            from: from as u32,
+        };
+        push_entry(alloc, script, journals, opening, entry, timeline, windows)?;
+    }
+    Ok(())
+}
+
+// Adds the windows of a domain, slice by slice.
+fn push_domain(
+    alloc: Global,
+    script: &Script,
+    journals: &Journals,
+    domain: u8,
+    windows: &mut Vec<Window>,
+) -> Result<(), NoMemory>
+    requires lawful { IsLawful script.now }
+    requires run { IsRun script.now journals.now }
+    requires domain { domain < script.now.machine.domains }
+    requires before { AreWindowsBefore script.now journals.now (record { domain = domain; slice = 0; from = 0; gid = 0 }) windows.old.items }
+    ensures { OnOk result (AreWindowsBefore script.now journals.now (record { domain = domain + 1; slice = 0; from = 0; gid = 0 }) windows.new.items) }
+{
+    let timeline = timeline(alloc, script, journals, domain)?;
+    for slice in 0..script.machine().slices {
+        push_slice(alloc, script, journals, domain, slice, &timeline, windows)?;
+    }
+    Ok(())
+}
+
+/// The windows of a run in which a control group stays exclusive on one mask after a flush or a lock, each with at least one
+/// access of the group: by domain, by slice, by the position of the flush or lock, and by group in order of creation (this
+/// project's profile). NoMemory where the system is out of memory.
+///
+/// The tree is played once more for each domain, and for each epoch its exclusive groups are kept, 16 bytes for each. Then a
+/// window's entries are walked some times for each group that is exclusive when it begins. These have masks with no way in
+/// common, so there are at most as many as ways. Walking costs a look-up among the group's lines in the window for each access.
+pub fn windows(alloc: Global, script: &Script, journals: &Journals) -> Result<Vec<Window>, NoMemory>
+    requires lawful { IsLawful script.now }
+    requires run { IsRun script.now journals.now }
+    ensures { IfOk result (λ windows. AreWindowsOf script.now journals.now windows.items) }
+{
+    let mut windows: Vec<Window> = Vec::new(alloc);
+    for domain in 0..script.machine().domains {
+        push_domain(alloc, script, journals, domain, &mut windows)?;
+    }
+    Ok(windows)
+}

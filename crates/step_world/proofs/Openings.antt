@@ -1,0 +1,116 @@
+-- The slices, the threads and the lists of counts before the first step.
+use Rattle.std.proofs.Common.{◌≡◌, ℕ, zero, suc, ◌+◌, ◌-◌, ◌<◌, ◌≤◌, true, false, inl, inr, List, [], ◌∷◌, ◌++◌, length, drop, get_or, Some, refl, sym, ap, ◌∙◌, subst, arith}
+use Rattle.std.proofs.lemmas.Bool.{cases_lt}
+use Rattle.std.proofs.Math.Seq.{get_or-append_seam}
+use Rattle.std.proofs.lemmas.List.{get_or_append_left, length-append}
+use Rattle.std.proofs.lemmas.Option.{slice_get-get_or}
+use Rattle.machine.specs.declared.parameters.Parameters.{Parameters}
+use Rattle.rc_base.specs.Buffers.{Looks}
+use Rattle.run_law.specs.Journals.{At}
+use Rattle.run_law.specs.Ops.{is_command}
+use Rattle.script_ops.specs.Values.{ScriptValue, ops_of}
+use Rattle.script_ops.specs.declared.op.Op.{Op}
+use Rattle.script_ops.specs.declared.op.Op.TheVariants.{Access}
+use Rattle.step_world.proofs.TakenWorlds.{drop-at}
+use Rattle.step_world.specs.LookLists.{AreReady, rooms_of}
+use Rattle.step_world.specs.Machine.{opening_thread}
+use Rattle.step_world.specs.Openings.{AreFirst, AreFresh, AreListed}
+use Rattle.step_world.specs.Quotas.{most_counts, room_of}
+use Rattle.step_world.specs.Slices.{IsFresh, SliceValue}
+use Rattle.step_world.specs.declared.place.Thread.{Thread}
+
+-- what holds of each element holds of each of a longer list
+all-push : {X : Type 0} (P : ℕ → X → Type 0) (n : ℕ) (xs : List X) (x : X) → length xs ≡ n → ((i : ℕ) (d : X) → i < n → P i (get_or xs i d)) → P n x → (i : ℕ) (d : X) → i < n + 1 → P i (get_or (xs ++ x ∷ []) i d)
+all-push P n xs x count each one i d within = elim (cases_lt i (length xs)) [
+  | inl before ↦ subst (λ y. P i y) (sym (get_or_append_left xs (x ∷ []) d i before)) (each i d (omega (arith, before, count)))
+  | inr last ↦
+      let at : i ≡ length xs = omega (arith, within, last, count) in
+      subst (λ k. P k (get_or (xs ++ x ∷ []) k d)) (sym at) (subst (λ y. P (length xs) y) (sym (get_or-append_seam xs x [] d)) (subst (λ k. P k x) (sym count) one))
+]
+
+-- ---- slices
+
+-- one slice more
+pub AreFresh-push : (script : ScriptValue) (n : ℕ) (slices : List SliceValue) (s : SliceValue) → AreFresh script n slices → IsFresh script.machine n s → room_of script n ≤ s.room → AreFresh script (n + 1) (slices ++ s ∷ [])
+AreFresh-push script n slices s all one room = record {
+  count = length-append slices (s ∷ []) ∙ omega (arith, all.count);
+  each = all-push (λ i x. IsFresh script.machine i x) n slices s all.count all.each one;
+  rooms = all-push (λ i (x : SliceValue). room_of script i ≤ x.room) n slices s all.count all.rooms room;
+}
+
+-- none yet
+pub AreFresh-nil : (script : ScriptValue) (n : ℕ) (slices : List SliceValue) → slices ≡ [] → n ≡ 0 → AreFresh script n slices
+AreFresh-nil script n slices empty zero_is = record {
+  count = ap length empty ∙ sym zero_is;
+  each = λ i d within. absurd (omega (arith, within, zero_is));
+  rooms = λ i d within. absurd (omega (arith, within, zero_is));
+}
+
+-- ---- threads
+
+-- one thread more
+pub AreFirst-push : (n : ℕ) (threads : List Thread) → AreFirst n threads → AreFirst (n + 1) (threads ++ opening_thread ∷ [])
+AreFirst-push n threads all = record {
+  count = length-append threads (opening_thread ∷ []) ∙ omega (arith, all.count);
+  each = all_of threads all.each;
+}
+  where
+    all_of : (xs : List Thread) → ((t : ℕ) → get_or xs t opening_thread ≡ opening_thread) → (t : ℕ) → get_or (xs ++ opening_thread ∷ []) t opening_thread ≡ opening_thread
+    all_of [] each zero = refl
+    all_of [] each (suc t) = refl
+    all_of (x ∷ xs) each zero = each 0
+    all_of (x ∷ xs) each (suc t) = all_of xs (λ k. each (suc k)) t
+
+-- none yet
+pub AreFirst-nil : (threads : List Thread) → threads ≡ [] → AreFirst 0 threads
+AreFirst-nil threads empty = record { count = ap length empty; each = λ t. subst (λ xs. get_or xs t opening_thread ≡ opening_thread) (sym empty) refl }
+
+-- ---- lists of counts
+
+-- one thread's lists more
+pub AreListed-push : (script : ScriptValue) (n : ℕ) (lists : List (List Looks)) (l : List Looks) → AreListed script n lists → AreReady (rooms_of script.machine (ops_of script n)) l → AreListed script (n + 1) (lists ++ l ∷ [])
+AreListed-push script n lists l all one = record {
+  count = length-append lists (l ∷ []) ∙ omega (arith, all.count);
+  each = all-push (λ t x. AreReady (rooms_of script.machine (ops_of script t)) x) n lists l all.count all.each one;
+}
+
+-- none yet
+pub AreListed-nil : (script : ScriptValue) (lists : List (List Looks)) → lists ≡ [] → AreListed script 0 lists
+AreListed-nil script lists empty = record { count = ap length empty; each = λ t d within. absurd (omega (arith, within)) }
+
+-- one op back: a command has a list more
+pub AreReady-command : (m : Parameters) (ops : List Op) (k : ℕ) (op : Op) (lists : List Looks) (l : Looks) → At ops k op → is_command op ≡ true → l.numbers ≡ [] → most_counts m op ≤ l.spare
+    → AreReady (rooms_of m (drop (k + 1) ops)) lists → AreReady (rooms_of m (drop k ops)) (lists ++ l ∷ [])
+AreReady-command m ops k op lists l at command empty room ready =
+    let rooms : rooms_of m (drop k ops) ≡ most_counts m op ∷ rooms_of m (drop (k + 1) ops) = ap (rooms_of m) (drop-at ops k op at) ∙ (rw command refl) in
+    subst (λ rs. AreReady rs (lists ++ l ∷ [])) (sym rooms) (lists, l, refl, empty, room, ready)
+
+-- and an access none
+pub AreReady-access : (m : Parameters) (ops : List Op) (k : ℕ) (op : Op) (lists : List Looks) → At ops k op → is_command op ≡ false → AreReady (rooms_of m (drop (k + 1) ops)) lists → AreReady (rooms_of m (drop k ops)) lists
+AreReady-access m ops k op lists at access ready =
+    let rooms : rooms_of m (drop k ops) ≡ rooms_of m (drop (k + 1) ops) = ap (rooms_of m) (drop-at ops k op at) ∙ (rw access refl) in
+    subst (λ rs. AreReady rs lists) (sym rooms) ready
+
+-- the lists so far, one op further back that is an access
+pub AreReady-access_back : (m : Parameters) (ops : List Op) (k : ℕ) (op : Op) (lists : List Looks) → k < length ops → op ≡ get_or ops (length ops - 1 - k) op → is_command op ≡ false
+    → AreReady (rooms_of m (drop (length ops - k) ops)) lists → AreReady (rooms_of m (drop (length ops - (k + 1)) ops)) lists
+AreReady-access_back m ops k op lists below is access ready =
+    let there : At ops (length ops - 1 - k) op = slice_get-get_or ops (length ops - 1 - k) op (omega (arith, below)) ∙ ap (λ x. Some x) (sym is) in
+    let place : length ops - 1 - k ≡ length ops - (k + 1) = omega arith in
+    let next : length ops - k ≡ length ops - 1 - k + 1 = omega (arith, below) in
+    subst (λ n. AreReady (rooms_of m (drop n ops)) lists) place (AreReady-access m ops (length ops - 1 - k) op lists there access (subst (λ n. AreReady (rooms_of m (drop n ops)) lists) next ready))
+
+-- or a command
+pub AreReady-command_back : (m : Parameters) (ops : List Op) (k : ℕ) (op : Op) (lists : List Looks) (l : Looks) → k < length ops → op ≡ get_or ops (length ops - 1 - k) op → is_command op ≡ true → l.numbers ≡ [] → most_counts m op ≤ l.spare
+    → AreReady (rooms_of m (drop (length ops - k) ops)) lists → AreReady (rooms_of m (drop (length ops - (k + 1)) ops)) (lists ++ l ∷ [])
+AreReady-command_back m ops k op lists l below is command empty room ready =
+    let there : At ops (length ops - 1 - k) op = slice_get-get_or ops (length ops - 1 - k) op (omega (arith, below)) ∙ ap (λ x. Some x) (sym is) in
+    let place : length ops - 1 - k ≡ length ops - (k + 1) = omega arith in
+    let next : length ops - k ≡ length ops - 1 - k + 1 = omega (arith, below) in
+    subst (λ n. AreReady (rooms_of m (drop n ops)) (lists ++ l ∷ [])) place
+    (AreReady-command m ops (length ops - 1 - k) op lists l there command empty room (subst (λ n. AreReady (rooms_of m (drop n ops)) lists) next ready))
+
+-- an op that is no access is a command
+pub is_command-not_access : (op : Op) → ((task cpu addr : ℕ) → op ≡ Access task cpu addr → ⊥) → is_command op ≡ true
+is_command-not_access (Access task cpu addr) not = absurd (not task cpu addr refl)
+is_command-not_access op not = refl

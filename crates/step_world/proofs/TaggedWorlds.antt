@@ -1,0 +1,76 @@
+-- An access of a world reads its tag.
+use Rattle.std.proofs.Common.{◌≡◌, ℕ, false, length, get_or, Some, None, refl, sym, ap, ◌∙◌, subst}
+use Rattle.machine.specs.Maps.{domain_of}
+use Rattle.rc_base.specs.declared.names.Tag.{Tag}
+use Rattle.run_law.specs.Growth.{tag_of}
+use Rattle.run_law.specs.Ops.{is_command}
+use Rattle.run_law.specs.TreeHistory.{tree_after}
+use Rattle.script_ops.specs.Values.{ScriptValue}
+use Rattle.script_ops.specs.declared.op.Op.TheVariants as ops
+use Rattle.step_world.proofs.KeptWorlds.{IsWorldOf-step, Leaves, moves-leaves}
+use Rattle.step_world.proofs.StepRows.{step_tags}
+use Rattle.step_world.specs.Answers.{HasNext, HasTagged}
+use Rattle.step_world.specs.Machine.{Moves, Steps, Tags, thread_at}
+use Rattle.step_world.specs.Worlds.{AreInPlay, KeepsLists, IsWorldOf, machine_of}
+use Rattle.step_world.specs.declared.place.Place.TheVariants.{Ready, Tagged}
+use Rattle.step_world.specs.declared.place.Thread.{Thread}
+use Rattle.step_world.specs.declared.world.World.{World}
+use Rattle.tree_law.specs.Resolving.{Owned, resolve}
+use Rattle.step_world.proofs.TakenWorlds.{IsQuiet, journals-quiet, leaves-quiet, lists-quiet, one_op, tree-quiet, within-next}
+
+-- a tag is what its parts are
+same_tag : (a b : Tag) → a.epoch ≡ b.epoch → a.owner ≡ b.owner → a.class ≡ b.class → a.rmid ≡ b.rmid → a.mask ≡ b.mask → a.domain ≡ b.domain → a ≡ b
+same_tag a b e o c r m d =
+    ap (λ x. record { epoch = x; owner = a.owner; class = a.class; rmid = a.rmid; mask = a.mask; domain = a.domain }) e
+    ∙ (ap (λ x. record { epoch = b.epoch; owner = x; class = a.class; rmid = a.rmid; mask = a.mask; domain = a.domain }) o
+    ∙ (ap (λ x. record { epoch = b.epoch; owner = b.owner; class = x; rmid = a.rmid; mask = a.mask; domain = a.domain }) c
+    ∙ (ap (λ x. record { epoch = b.epoch; owner = b.owner; class = b.class; rmid = x; mask = a.mask; domain = a.domain }) r
+    ∙ (ap (λ x. record { epoch = b.epoch; owner = b.owner; class = b.class; rmid = b.rmid; mask = x; domain = a.domain }) m
+    ∙ ap (λ x. record { epoch = b.epoch; owner = b.owner; class = b.class; rmid = b.rmid; mask = b.mask; domain = x }) d))))
+
+-- what the tree answers
+pub record IsResolved (old : World) (task cpu : ℕ) (tag : Tag) : Type 0 where
+  pub epoch : tag.epoch ≡ old.tree.epoch
+  pub owner : tag.owner ≡ (resolve old.tree.machine old.tree.state task cpu).owner
+  pub class : tag.class ≡ (resolve old.tree.machine old.tree.state task cpu).class
+  pub rmid : tag.rmid ≡ (resolve old.tree.machine old.tree.state task cpu).rmid
+  pub mask : tag.mask ≡ (resolve old.tree.machine old.tree.state task cpu).mask
+  pub domain : tag.domain ≡ domain_of old.tree.machine cpu
+
+-- the tag that the tree gives
+tag-resolved : (script : ScriptValue) (old : World) (task cpu : ℕ) (tag : Tag) → IsWorldOf script old → IsResolved old task cpu tag
+    → tag ≡ tag_of script.machine (tree_after script (machine_of old).journals.tree) (length (machine_of old).journals.tree) task cpu
+tag-resolved script old task cpu tag world is =
+    let same : resolve old.tree.machine old.tree.state task cpu ≡ resolve script.machine (tree_after script (machine_of old).journals.tree) task cpu =
+    ap (λ m. resolve m old.tree.state task cpu) world.tree.machine ∙ ap (λ s. resolve script.machine s task cpu) world.tree.state in
+    same_tag tag (tag_of script.machine (tree_after script (machine_of old).journals.tree) (length (machine_of old).journals.tree) task cpu)
+    (is.epoch ∙ world.tree.epoch) (is.owner ∙ ap (λ (o : Owned). o.owner) same) (is.class ∙ ap (λ (o : Owned). o.class) same) (is.rmid ∙ ap (λ (o : Owned). o.rmid) same) (is.mask ∙ ap (λ (o : Owned). o.mask) same)
+    (is.domain ∙ ap (λ m. domain_of m cpu) world.tree.machine)
+
+pub tagged : (script : ScriptValue) (t n task cpu addr : ℕ) (tag : Tag) (old new : World) → IsWorldOf script old → HasNext script (machine_of old) t (ops.Access task cpu addr) → n ≡ (thread_at (machine_of old) t).next
+    → (thread_at (machine_of old) t).place ≡ Ready → old.holder ≡ None → IsResolved old task cpu tag → IsQuiet t (record { next = n; place = Tagged tag }) old new → new.slices.items ≡ old.slices.items → new.holder ≡ old.holder
+    → IsWorldOf script new × HasTagged script t tag.epoch (ops.Access task cpu addr) (machine_of old) (machine_of new)
+tagged script t n task cpu addr tag old new world next number place free resolved quiet slices holder =
+    let now : Thread = record { next = n; place = Tagged tag } in
+    let within = within-next script old t (ops.Access task cpu addr) world next in
+    let nobody : (u : ℕ) → new.holder ≡ Some u → ⊥ = λ u held. none_some u (sym (holder ∙ free) ∙ held) in
+    let leaves : Leaves t now old new = leaves-quiet script t now old new world within quiet (λ u apart held. absurd (nobody u held)) in
+    let moves : Moves t now (machine_of old) (machine_of new) = moves-leaves t now old new within leaves in
+    let tags : Tags script t task cpu (machine_of old) (machine_of new) = record {
+      journals = journals-quiet script t now old new world within quiet slices;
+      holder = holder;
+      moves = subst (λ tag. Moves t (record { next = (thread_at (machine_of old) t).next; place = Tagged tag }) (machine_of old) (machine_of new)) (tag-resolved script old task cpu tag world resolved)
+          (subst (λ k. Moves t (record { next = k; place = Tagged tag }) (machine_of old) (machine_of new)) number moves);
+    } in
+    let step : Steps script t (machine_of old) (machine_of new) = step_tags script t task cpu addr (machine_of old) (machine_of new) next.present next.is place free tags in (
+      IsWorldOf-step script old new t now world within step leaves (tree-quiet script t now old new world within quiet) (subst (λ ss. AreInPlay script ss) (sym slices) world.slices)
+          (λ d. subst (λ k. KeepsLists script t k (get_or new.lists.items t d)) (sym number) (record {
+            access = λ other is. subst (λ c. is_command c ≡ false) (one_op (ops.Access task cpu addr) other (sym next.is ∙ is)) refl;
+            ready = lists-quiet script t now old new world within quiet Ready d place;
+          }))
+          (λ other d held is. absurd (nobody t held)),
+      record { task = task; cpu = cpu; addr = addr; access = refl; place = place; free = free; row = tags; told = resolved.epoch ∙ world.tree.epoch },
+    )
+  where
+    none_some : (u : ℕ) → None ≡ Some u → ⊥
+    none_some u h = cc

@@ -1,0 +1,203 @@
+-- The machine of atomic steps: the journals, the present phase, who holds the tree, and where each thread is.
+use Rattle.std.specs.Prelude.{List, MatchBool, None, Option, Some, [], if◌then◌else◌, length, map, nat_lt, slice_index_or, ℕ, ◌++◌, ◌+◌, ◌<◌, ◌==◌, ◌∷◌, ◌≡◌, ◌≢◌, ◌≤◌}
+use Rattle.cache_core.specs.History.{EntryMayFollow, floor_of}
+use Rattle.cache_core.specs.declared.entry.SliceEntry.{SliceEntry}
+use Rattle.machine.specs.Maps.{line_of}
+use Rattle.machine.specs.Slices.{slice_count, slice_of_line}
+use Rattle.machine.specs.declared.parameters.Parameters.{Parameters}
+use Rattle.rc_base.specs.declared.names.Tag.{Tag}
+use Rattle.run_law.specs.Growth.{PaysJob, tag_of}
+use Rattle.run_law.specs.Jobs.{Job, looks_of, jobs_of}
+use Rattle.run_law.specs.Journals.{At, JournalsValue, slice_at}
+use Rattle.run_law.specs.Looks.{lines_looked}
+use Rattle.run_law.specs.Ops.{ByKind, phase_in}
+use Rattle.run_law.specs.Owed.{owed_by_access}
+use Rattle.run_law.specs.Slices.{shape_in}
+use Rattle.run_law.specs.TreeHistory.{CommandMayFollow, TreeEntryValue, tree_after}
+use Rattle.script_ops.specs.Values.{ScriptValue, op_at, ops_of}
+use Rattle.script_ops.specs.declared.op.Op.{Op}
+use Rattle.step_world.specs.declared.place.Place.{Place}
+use Rattle.step_world.specs.declared.place.Place.TheVariants.{Ready, Looking, Following, Tagged}
+use Rattle.step_world.specs.declared.place.Thread.{Thread}
+use Rattle.tree_law.specs.Steps.{needs}
+
+-- a state of the machine
+pub record MachineValue : Type 0 where
+  pub journals : JournalsValue
+  pub phase : ℕ
+  pub holder : Option ℕ
+  pub threads : List Thread
+
+-- where each thread is at first
+abbrev pub opening_thread : Thread
+opening_thread = record { next = 0; place = Ready }
+
+-- where a thread is
+abbrev pub thread_at : MachineValue → ℕ → Thread
+thread_at s t = slice_index_or s.threads t opening_thread
+
+-- ---- what steps change
+
+-- one thread is here now, and the others are where they were
+pub record Moves (t : ℕ) (now : Thread) (old new : MachineValue) : Type 0 where
+  pub phase : new.phase ≡ old.phase
+  pub count : length new.threads ≡ length old.threads
+  pub there : thread_at new t ≡ now
+  pub others : (u : ℕ) → u ≢ t → thread_at new u ≡ thread_at old u
+
+-- a slice has this entry more, which its history allows, and the other journals are as they were
+pub record Notes (m : Parameters) (i : ℕ) (e : SliceEntry) (old new : MachineValue) : Type 0 where
+  pub tree : new.journals.tree ≡ old.journals.tree
+  pub count : length new.journals.slices ≡ length old.journals.slices
+  pub within : i < length old.journals.slices
+  pub may : EntryMayFollow (shape_in m i) (slice_at old.journals i) e
+  pub slices : (k : ℕ) → slice_at new.journals k ≡ slice_at old.journals k ++ (if k == i then e ∷ [] else [])
+
+-- the entry that a job of a thread's op becomes
+pub record MakesEntry (m : Parameters) (t n : ℕ) (job : Job) (old new : MachineValue) : Type 0 where
+  pub entry : SliceEntry
+  pub pays : PaysJob t n job entry
+  pub notes : Notes m job.slice entry old new
+
+-- ---- the steps
+
+-- a command takes the tree
+pub record Takes (t : ℕ) (old new : MachineValue) : Type 0 where
+  pub journals : new.journals ≡ old.journals
+  pub holder : new.holder ≡ Some t
+  pub moves : Moves t (record { next = (thread_at old t).next; place = Looking 0 }) old new
+
+-- it looks at a slice
+pub record Looks (script : ScriptValue) (t made : ℕ) (op : Op) (old new : MachineValue) : Type 0 where
+  pub job : Job
+  pub there : At (looks_of script old.journals.tree (length old.journals.tree) op) made job
+  pub makes : MakesEntry script.machine t (thread_at old t).next job old new
+  pub holder : new.holder ≡ old.holder
+  pub moves : Moves t (record { next = (thread_at old t).next; place = Looking (made + 1) }) old new
+
+-- the place of a command that was decided and has made so many of all its entries, and who holds the tree there
+abbrev pub place_behind : ℕ → ℕ → ℕ → Thread
+place_behind next made all = if nat_lt made all then record { next = next; place = Following made } else record { next = next + 1; place = Ready }
+
+-- who holds the tree after so many of all entries
+abbrev pub holder_behind : ℕ → ℕ → ℕ → Option ℕ
+holder_behind t made all = if nat_lt made all then Some t else None
+
+-- The command is decided: its entry is one that the tree's history allows, with the counts that its looks found. Where nothing
+-- follows it, the tree is let go.
+pub record Decides (script : ScriptValue) (t made : ℕ) (op : Op) (old new : MachineValue) : Type 0 where
+  pub entry : TreeEntryValue
+  pub thread : entry.thread ≡ t
+  pub number : entry.op ≡ (thread_at old t).next
+  pub may : CommandMayFollow script old.journals.tree entry
+  pub looks : map (λ n. Some n) entry.looks ≡ map (lines_looked script old.journals entry) (needs script.machine (tree_after script old.journals.tree) op)
+  pub tree : new.journals.tree ≡ old.journals.tree ++ entry ∷ []
+  pub slices : new.journals.slices ≡ old.journals.slices
+  pub holder : new.holder ≡ holder_behind t made (length (jobs_of script old.journals.tree (length old.journals.tree) op))
+  pub moves : Moves t (place_behind (thread_at old t).next made (length (jobs_of script old.journals.tree (length old.journals.tree) op))) old new
+
+-- One entry follows it; it was decided at position k. After the last the tree is let go.
+pub record Follows (script : ScriptValue) (t made : ℕ) (op : Op) (old new : MachineValue) : Type 0 where
+  pub position : ℕ
+  pub last : length old.journals.tree ≡ position + 1
+  pub job : Job
+  pub there : At (jobs_of script old.journals.tree position op) made job
+  pub makes : MakesEntry script.machine t (thread_at old t).next job old new
+  pub holder : new.holder ≡ holder_behind t (made + 1) (length (jobs_of script old.journals.tree position op))
+  pub moves : Moves t (place_behind (thread_at old t).next (made + 1) (length (jobs_of script old.journals.tree position op))) old new
+
+-- an access learns its tag
+pub record Tags (script : ScriptValue) (t task cpu : ℕ) (old new : MachineValue) : Type 0 where
+  pub journals : new.journals ≡ old.journals
+  pub holder : new.holder ≡ old.holder
+  pub moves : Moves t (record { next = (thread_at old t).next; place = Tagged (tag_of script.machine (tree_after script old.journals.tree) (length old.journals.tree) task cpu) }) old new
+
+-- the access hits or fills: its entry pays what the tree of its tag's epoch gives it
+pub record Touches (script : ScriptValue) (t : ℕ) (tag : Tag) (task cpu addr : ℕ) (old new : MachineValue) : Type 0 where
+  pub entry : SliceEntry
+  pub pays : PaysJob t (thread_at old t).next (record { slice = slice_of_line script.machine tag.domain (line_of addr); owed = owed_by_access script old.journals.tree tag.epoch task cpu addr }) entry
+  pub notes : Notes script.machine (slice_of_line script.machine tag.domain (line_of addr)) entry old new
+  pub holder : new.holder ≡ old.holder
+  pub moves : Moves t (record { next = (thread_at old t).next + 1; place = Ready }) old new
+
+-- it finds its tag stale, and is to tag again
+pub record TagsAgain (t : ℕ) (old new : MachineValue) : Type 0 where
+  pub journals : new.journals ≡ old.journals
+  pub holder : new.holder ≡ old.holder
+  pub moves : Moves t (record { next = (thread_at old t).next; place = Ready }) old new
+
+-- the floor of the slice that an access goes to
+abbrev pub floor_for : ScriptValue → MachineValue → Tag → ℕ → ℕ
+floor_for script s tag addr = floor_of (slice_at s.journals (slice_of_line script.machine tag.domain (line_of addr)))
+
+-- Touch, or stale
+abbrev pub Reaches : ScriptValue → ℕ → Tag → ℕ → ℕ → ℕ → MachineValue → MachineValue → Type 0
+Reaches script t tag task cpu addr old new =
+    MatchBool (nat_lt tag.epoch (floor_for script old tag addr)) (TagsAgain t old new) (Touches script t tag task cpu addr old new)
+
+-- Take, or Tag; where somebody holds the tree, nothing
+abbrev pub Begins : ScriptValue → ℕ → Op → Option ℕ → MachineValue → MachineValue → Type 0
+Begins script t op (Some holder) old new = new ≡ old
+Begins script t op None old new = ByKind (λ task cpu addr. Tags script t task cpu old new) (Takes t old new) op
+
+-- The step of a thread at this place of this op. A place that is not one of the op's kind changes nothing.
+abbrev pub StepFrom : ScriptValue → ℕ → Op → Place → MachineValue → MachineValue → Type 0
+StepFrom script t op Ready old new = Begins script t op old.holder old new
+StepFrom script t op (Looking made) old new =
+    MatchBool (nat_lt made (length (looks_of script old.journals.tree (length old.journals.tree) op))) (Looks script t made op old new) (Decides script t made op old new)
+StepFrom script t op (Following made) old new = Follows script t made op old new
+StepFrom script t op (Tagged tag) old new = ByKind (λ task cpu addr. Reaches script t tag task cpu addr old new) (new ≡ old) op
+
+-- at its end a thread changes nothing
+abbrev pub StepOf : ScriptValue → ℕ → Option Op → MachineValue → MachineValue → Type 0
+StepOf script t None old new = new ≡ old
+StepOf script t (Some op) old new = StepFrom script t op (thread_at old t).place old new
+
+-- One step of a thread. One of another phase changes nothing.
+abbrev pub Steps : ScriptValue → ℕ → MachineValue → MachineValue → Type 0
+Steps script t old new =
+    MatchBool (phase_in script.phases t == old.phase) (StepOf script t (op_at script t (thread_at old t).next) old new) (new ≡ old)
+
+-- ---- the opening state, the next phase, and the end
+
+-- a thread is at its end
+abbrev pub HasEnded : ScriptValue → ℕ → Thread → Type 0
+HasEnded script t v = (v.next ≡ length (ops_of script t)) × (v.place ≡ Ready)
+
+-- the state before the first step
+pub record IsOpening (script : ScriptValue) (s : MachineValue) : Type 0 where
+  pub tree : s.journals.tree ≡ []
+  pub count : length s.journals.slices ≡ slice_count script.machine
+  pub slices : (i : ℕ) → slice_at s.journals i ≡ []
+  pub phase : s.phase ≡ 0
+  pub holder : s.holder ≡ None
+  pub threads : (t : ℕ) → thread_at s t ≡ opening_thread
+
+-- when all threads of a phase have ended, the next one begins
+pub record GoesOn (script : ScriptValue) (old new : MachineValue) : Type 0 where
+  pub ended : (t : ℕ) → phase_in script.phases t ≡ old.phase → HasEnded script t (thread_at old t)
+  pub journals : new.journals ≡ old.journals
+  pub holder : new.holder ≡ old.holder
+  pub threads : new.threads ≡ old.threads
+  pub phase : new.phase ≡ old.phase + 1
+
+-- the last phase is over
+abbrev pub IsOver : ScriptValue → MachineValue → Type 0
+IsOver script s = length script.phases ≤ s.phase
+
+-- ---- schedules
+
+-- what may happen: a thread takes a step, or the next phase begins
+pub data Event : Type 0 where
+  Step : ℕ → Event
+  Next : Event
+
+-- what an event does
+abbrev pub Happens : ScriptValue → Event → MachineValue → MachineValue → Type 0
+Happens script (Step t) old new = Steps script t old new
+Happens script Next old new = GoesOn script old new
+
+-- one after the other
+abbrev pub Plays : ScriptValue → List Event → MachineValue → MachineValue → Type 0
+Plays script [] old new = new ≡ old
+Plays script (e ∷ es) old new = (between : MachineValue) × Happens script e old between × Plays script es between new

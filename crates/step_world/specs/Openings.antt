@@ -1,0 +1,25 @@
+-- The slices, the threads and their lists before the first step.
+use Rattle.std.specs.Prelude.{◌≡◌, ℕ, ◌<◌, ◌≤◌, List, length, slice_index_or}
+use Rattle.rc_base.specs.Buffers.{Looks}
+use Rattle.script_ops.specs.Values.{ScriptValue, ops_of}
+use Rattle.step_world.specs.LookLists.{AreReady, rooms_of}
+use Rattle.step_world.specs.Machine.{opening_thread}
+use Rattle.step_world.specs.Quotas.{room_of}
+use Rattle.step_world.specs.Slices.{IsFresh, SliceValue}
+use Rattle.step_world.specs.declared.place.Thread.{Thread}
+
+-- these are the first n slices, empty, each with its room
+pub record AreFresh (script : ScriptValue) (n : ℕ) (slices : List SliceValue) : Type 0 where
+  pub count : length slices ≡ n
+  pub each : (i : ℕ) (d : SliceValue) → i < n → IsFresh script.machine i (slice_index_or slices i d)
+  pub rooms : (i : ℕ) (d : SliceValue) → i < n → room_of script i ≤ (slice_index_or slices i d).room
+
+-- so many threads, each before its first op
+pub record AreFirst (n : ℕ) (threads : List Thread) : Type 0 where
+  pub count : length threads ≡ n
+  pub each : (t : ℕ) → slice_index_or threads t opening_thread ≡ opening_thread
+
+-- the first n threads have a list for each of their commands
+pub record AreListed (script : ScriptValue) (n : ℕ) (lists : List (List Looks)) : Type 0 where
+  pub count : length lists ≡ n
+  pub each : (t : ℕ) (d : List Looks) → t < n → AreReady (rooms_of script.machine (ops_of script t)) (slice_index_or lists t d)

@@ -1,0 +1,152 @@
+//! The steps of a command that holds the tree.
+ghost use Rattle.std.specs.Prelude.{◌≡◌, ◌+◌, ◌≤◌, ◌<◌, ◌^◌, Some, length, slice_get};
+ghost use Rattle.machine.specs.Maps.{parameters_of};
+ghost use Rattle.machine.specs.Slices.{slice_count};
+ghost use Rattle.step_world.specs.Answers.{HasCounted, HasDecided, HasDone, HasNext};
+ghost use Rattle.step_world.specs.LookLists.{spare_in};
+ghost use Rattle.step_world.specs.Machine.{thread_at};
+ghost use Rattle.step_world.specs.Slices.{slice_for, slices_for};
+ghost use Rattle.step_world.specs.Works.{CountsOn, Settles};
+ghost use Rattle.step_world.specs.Worlds.{IsWorldOf, machine_of};
+ghost use Rattle.step_world.specs.declared.place.Place.TheVariants.{Following, Looking};
+ghost use Rattle.tree_law.specs.Steps.{follow_domain};
+
+use crate::look_lists::LookLists;
+use crate::place::Place;
+use crate::steps::move_to;
+use crate::work::Work;
+use crate::world::World;
+use machine::Machine;
+use rc_base::Reply;
+use run_law::TreeEntry;
+use script_ops::{Op, Script};
+use tree_core::Follow;
+
+// A slice was counted: the next slice of its domain comes, and after the last the sum is noted, and the next count comes.
+fn count_on(work: &mut Work, lists: &mut LookLists, slices: u8, lines: u64)
+    requires slice { work.old.slice < slices }
+    requires at { work.old.at < work.old.count }
+    requires sum { work.old.lines + lines < 2 ^ 64 }
+    requires room { 0 < spare_in lists.old }
+    ensures { CountsOn slices lines work.old work.new lists.old lists.new }
+{
+    work.lines += lines;
+    work.slice += 1;
+    if work.slice == slices {
+        lists.note(work.lines);
+        work.lines = 0;
+        work.slice = 0;
+        work.at += 1;
+    }
+}
+
+/// A command that still needs counts looks at the next slice, and answers the lines that it found.
+pub(crate) fn look(world: &mut World, script: &Script, t: u32, n: u32, made: u64, op: &Op) -> u64
+    requires world { IsWorldOf script.now world.old }
+    requires next { HasNext script.now (machine_of world.old) t op.now }
+    requires number { n ≡ (thread_at (machine_of world.old) t).next }
+    requires place { (thread_at (machine_of world.old) t).place ≡ Looking made }
+    requires more { world.old.work.at < world.old.work.count }
+    ensures world { IsWorldOf script.now world.new }
+    ensures counted { HasCounted script.now t result op.now (machine_of world.old) (machine_of world.new) }
+{
+    let m = script.machine();
+    let (domain, rmid) = world.work.need();
+    let slice = m.slice_number(domain, world.work.slice);
+    let lines = world.slices[slice].look(t, n, world.tree.epoch(), rmid);
+    count_on(
+        &mut world.work,
+        &mut world.lists[t as usize],
+        m.slices,
+        lines,
+    );
+    move_to(&mut world.threads, t, n, Place::Looking { made: made + 1 });
+    lines
+}
+
+// There is more to follow, or the tree is let go.
+fn settle(world: &mut World, t: u32, n: u32, made: u64)
+    requires thread { t < length world.old.threads.items }
+    requires number { n + 1 < 2 ^ 32 }
+    ensures { Settles t n made world.old world.new }
+{
+    if (world.work.at as usize) < world.work.after.len() {
+        move_to(&mut world.threads, t, n, Place::Following { made });
+    } else {
+        world.holder = None;
+        move_to(&mut world.threads, t, n + 1, Place::Ready);
+    }
+}
+
+/// A command that has all its counts is decided, and answers its reply. Where nothing follows it, the tree is let go.
+pub(crate) fn decide(
+    world: &mut World,
+    script: &Script,
+    t: u32,
+    n: u32,
+    made: u64,
+    op: &Op,
+) -> Reply
+    requires world { IsWorldOf script.now world.old }
+    requires next { HasNext script.now (machine_of world.old) t op.now }
+    requires number { n ≡ (thread_at (machine_of world.old) t).next }
+    requires place { (thread_at (machine_of world.old) t).place ≡ Looking made }
+    requires all { world.old.work.count ≤ world.old.work.at }
+    ensures world { IsWorldOf script.now world.new }
+    ensures decided { HasDecided script.now t result op.now (machine_of world.old) (machine_of world.new) }
+{
+    let looks = world.lists[t as usize].take();
+    let (reply, after) = world.tree.apply(op, looks.items());
+    world.commands.push_reserved(TreeEntry {
+        thread: t,
+        op: n,
+        reply,
+        looks,
+    });
+    world.work = Work::following(after);
+    settle(world, t, n, made);
+    reply
+}
+
+// How many slices a follow-up is entered in.
+fn slices_for(m: &Machine, follow: Follow) -> u8
+    ensures { result ≡ slices_for (parameters_of m.now) follow }
+{
+    match follow {
+        Follow::Touch { .. } => 1,
+        _ => m.slices,
+    }
+}
+
+// The number of the x-th of these over all domains.
+fn slice_for(m: &Machine, follow: Follow, x: u8) -> usize
+    requires domain { follow_domain follow < m.now.domains }
+    requires slice { x < m.now.slices }
+    ensures number { result ≡ slice_for (parameters_of m.now) follow x }
+    ensures within { result < slice_count (parameters_of m.now) }
+{
+    match follow {
+        Follow::Raise { domain } | Follow::Flush { domain } | Follow::Lock { domain, .. } => {
+            m.slice_number(domain, x)
+        }
+        Follow::Touch { tag, line } => m.line_slice(tag.domain, line),
+    }
+}
+
+/// One entry follows a command that was decided. After the last the tree is let go.
+pub(crate) fn follow(world: &mut World, script: &Script, t: u32, n: u32, made: u64, op: &Op)
+    requires world { IsWorldOf script.now world.old }
+    requires next { HasNext script.now (machine_of world.old) t op.now }
+    requires number { n ≡ (thread_at (machine_of world.old) t).next }
+    requires place { (thread_at (machine_of world.old) t).place ≡ Following made }
+    ensures world { IsWorldOf script.now world.new }
+    ensures done { HasDone script.now t op.now (machine_of world.old) (machine_of world.new) }
+{
+    let m = script.machine();
+    let follows = world.work.after.as_slice();
+    let next = follows[world.work.at as usize];
+    let slice = slice_for(m, next, world.work.slice);
+    world.slices[slice].follow(t, n, world.tree.epoch(), next);
+    world.work.follow_on(slices_for(m, next));
+    settle(world, t, n, made + 1);
+}

@@ -1,0 +1,41 @@
+//! A world before its first step.
+ghost use Rattle.std.specs.Prelude.{IfOk};
+ghost use Rattle.step_world.specs.Machine.{IsOpening};
+ghost use Rattle.step_world.specs.Worlds.{IsWorldOf, machine_of};
+
+use crate::fresh::{first_threads, fresh_lists, fresh_slices};
+use crate::rooms::command_room;
+use crate::work::Work;
+use crate::world::World;
+use rc_base::NoMemory;
+use script_ops::Script;
+use std::alloc::Global;
+use tree_core::Tree;
+
+impl World {
+    /// The world of a script before the first step: the opening tree, empty caches, and each thread before its first op. It has the
+    /// room for all that the script can make, so that no step takes memory (this project's profile). NoMemory where there is no
+    /// room for that.
+    pub fn create(alloc: Global, script: &Script) -> Result<World, NoMemory>
+        ensures world { IfOk result (λ w. IsWorldOf script.now w) }
+        ensures opening { IfOk result (λ w. IsOpening script.now (machine_of w)) }
+    {
+        let tree = Tree::create(alloc, script.machine(), script.tasks())?;
+        let commands = Vec::with_capacity(alloc, command_room(script) as usize)?;
+        let slices = fresh_slices(alloc, script)?;
+        let closing = Vec::with_capacity(alloc, slices.len())?;
+        let threads = first_threads(alloc, script)?;
+        let lists = fresh_lists(alloc, script)?;
+        Ok(World {
+            tree,
+            commands,
+            slices,
+            threads,
+            lists,
+            phase: 0,
+            holder: None,
+            work: Work::none(),
+            closing,
+        })
+    }
+}

@@ -1,0 +1,93 @@
+//! One phase of a script.
+ghost use Rattle.std.specs.Prelude.{◌≡◌, ◌<◌, length, None, is_some};
+ghost use Rattle.run_law.specs.Ops.{phase_in};
+ghost use Rattle.script_ops.specs.Values.{op_at};
+ghost use Rattle.step_world.specs.Machine.{thread_at};
+ghost use Rattle.step_world.specs.Play.{EndInTurn, PlaysPhaseBy, StepsOf, threads_of_phase};
+ghost use Rattle.step_world.specs.Turns.{EndsThread, HasLetGo};
+ghost use Rattle.step_world.specs.Worlds.{IsWorldOf, machine_of};
+
+use crate::world::World;
+use script_ops::Script;
+
+// These threads take a step each.
+fn step_in_order(world: &mut World, script: &Script, order: &[u32])
+    requires { IsWorldOf script.now world.old }
+    ensures world { IsWorldOf script.now world.new }
+    ensures steps { StepsOf script.now order.now (machine_of world.old) (machine_of world.new) }
+    ensures phase { world.new.phase ≡ world.old.phase }
+{
+    for t in order {
+        world.step(script, *t);
+    }
+}
+
+// The thread that holds the tree steps until it lets go.
+fn let_go(world: &mut World, script: &Script)
+    requires { IsWorldOf script.now world.old }
+    ensures world { IsWorldOf script.now world.new }
+    ensures lets_go { HasLetGo script.now world.old.holder (machine_of world.old) (machine_of world.new) }
+    ensures free { world.new.holder ≡ None }
+    ensures phase { world.new.phase ≡ world.old.phase }
+{
+    while let Some(t) = world.holder {
+        world.step(script, t);
+    }
+}
+
+// Whether a thread has an op to do.
+fn has_op(world: &World, script: &Script, t: u32) -> bool
+    requires { t < length world.now.threads.items }
+    ensures { result ≡ is_some (op_at script.now t (thread_at (machine_of world.now) t).next) }
+{
+    script.op(t, world.threads[t as usize].next).is_some()
+}
+
+// A thread steps to its end.
+fn end_thread(world: &mut World, script: &Script, t: u32)
+    requires world { IsWorldOf script.now world.old }
+    requires present { phase_in script.now.phases t ≡ world.old.phase }
+    requires thread { t < length world.old.threads.items }
+    requires free { world.old.holder ≡ None }
+    ensures world { IsWorldOf script.now world.new }
+    ensures ends { EndsThread script.now t (machine_of world.old) (machine_of world.new) }
+    ensures free { world.new.holder ≡ None }
+    ensures phase { world.new.phase ≡ world.old.phase }
+{
+    while has_op(world, script, t) {
+        world.step(script, t);
+        let_go(world, script);
+    }
+}
+
+// The threads of the present phase step to their ends, one after the other.
+fn end_threads(world: &mut World, script: &Script)
+    requires world { IsWorldOf script.now world.old }
+    requires phase { world.old.phase < length script.now.phases }
+    requires free { world.old.holder ≡ None }
+    ensures world { IsWorldOf script.now world.new }
+    ensures ends { EndInTurn script.now (threads_of_phase script.now world.old.phase) (machine_of world.old) (machine_of world.new) }
+    ensures free { world.new.holder ≡ None }
+    ensures phase { world.new.phase ≡ world.old.phase }
+{
+    let first = script.first_thread(world.phase);
+    for k in 0..script.thread_count(world.phase) {
+        end_thread(world, script, first + k);
+    }
+}
+
+impl World {
+    /// Plays the present phase: the threads of `order` take a step each, then the thread that holds the tree steps until it lets go,
+    /// and then each thread of the phase to its end, in rising order. The next phase begins (this project's profile).
+    pub fn run_phase(&mut self, script: &Script, order: &[u32])
+        requires world { IsWorldOf script.now self.old }
+        requires phase { self.old.phase < length script.now.phases }
+        ensures world { IsWorldOf script.now self.new }
+        ensures plays { PlaysPhaseBy script.now order.now (machine_of self.old) (machine_of self.new) }
+    {
+        step_in_order(self, script, order);
+        let_go(self, script);
+        end_threads(self, script);
+        self.phase += 1;
+    }
+}

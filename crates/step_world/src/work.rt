@@ -1,0 +1,74 @@
+//! The work of the command that holds the tree.
+ghost use Rattle.std.specs.Prelude.{◌≡◌, ◌<◌, ◌^◌, [], IfSome, IsSome, None, Some, length, slice_get};
+ghost use Rattle.step_world.specs.Works.{FollowsOn};
+
+use tree_core::{After, Counts};
+
+/// What the command that holds the tree has to do, and how far it is.
+#[derive(Drop)]
+pub struct Work {
+    /// The counts that it needs, while it looks.
+    pub(crate) counts: Option<Counts>,
+    /// How many these are.
+    pub(crate) count: u32,
+    /// What follows it, after it was decided.
+    pub(crate) after: After,
+    /// The number of the present count, or follow-up.
+    pub(crate) at: u32,
+    /// The present slice of its domain.
+    pub(crate) slice: u8,
+    /// The lines of the present count in the slices before this one.
+    pub(crate) lines: u64,
+}
+
+impl Work {
+    /// No work.
+    pub(crate) fn none() -> Work
+        ensures counts { result.counts ≡ None }
+        ensures after { result.after.items ≡ [] }
+    {
+        Work::following(After::new())
+    }
+
+    /// The domain and the RMID of the present count.
+    pub(crate) fn need(&self) -> (u8, u16)
+        requires looks { IsSome self.now.counts }
+        requires within { IfSome self.now.counts (λ counts. self.now.at < length counts) }
+        ensures { IfSome self.now.counts (λ counts. slice_get counts self.now.at ≡ Some result) }
+    {
+        match &self.counts {
+            Some(counts) => counts.at(self.at),
+            None => unreachable!(),
+        }
+    }
+
+    /// What follows a command that was decided.
+    pub(crate) fn following(after: After) -> Work
+        ensures counts { result.counts ≡ None }
+        ensures after { result.after ≡ after }
+        ensures at { result.at ≡ 0 }
+        ensures slice { result.slice ≡ 0 }
+    {
+        Work {
+            counts: None,
+            count: 0,
+            after,
+            at: 0,
+            slice: 0,
+            lines: 0,
+        }
+    }
+
+    /// Goes on to the next slice of the present follow-up, which is entered in so many, and after the last to the next follow-up.
+    pub(crate) fn follow_on(&mut self, slices: u8)
+        requires at { self.old.at < 2 ^ 31 }
+        requires slice { self.old.slice < slices }
+        ensures { FollowsOn slices self.old self.new }
+    {
+        self.slice += 1;
+        if self.slice == slices {
+            self.slice = 0;
+            self.at += 1;
+        }
+    }
+}

@@ -1,0 +1,9 @@
+pub mod Lengths
+pub mod Opening
+pub mod Orders
+pub mod Scripts
+pub mod Sizes
+pub mod Steps
+pub mod Texts
+pub mod Threads
+pub mod Words
