@@ -4,8 +4,8 @@ sweeps in turn over twelve groups, by one of 4,096 declared tasks and by all of 
 
 usage: accesses.py PROGRAM      PROGRAM is the built program, after `make demo`: crates/resctrl_sim/out/resctrl_sim
 
-Prints a table: what was played, accesses, bytes of script, seconds of processor time, accesses a second, and the highest
-memory in MB. Run it on an idle machine.
+Prints a table: what was played, accesses, bytes of script, seconds of processor time in the program and in the system for it, the
+highest memory in MB, page faults, and instructions where `perf stat` counts them. Run it on an idle machine.
 """
 import random
 

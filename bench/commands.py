@@ -5,7 +5,8 @@ usage: commands.py PROGRAM      PROGRAM is the built program, after `make demo`:
 
 The commands make and remove groups, write and read their `schemata` and `mode`, and read `size`, `bit_usage` and
 `last_cmd_status`; some are refused, as two groups want the same ways. Prints a table: commands, bytes of script, seconds of
-processor time, commands a second, and the highest memory in MB. Run it on an idle machine.
+processor time in the program and in the system for it, the highest memory in MB, page faults, and instructions where `perf stat`
+counts them. Run it on an idle machine.
 """
 import random
 

@@ -4,8 +4,8 @@
 
 usage: occupancy.py PROGRAM      PROGRAM is the built program, after `make demo`: crates/resctrl_sim/out/resctrl_sim
 
-Prints a table: what was played, commands, bytes of script, seconds of processor time, commands a second, and the highest
-memory in MB. The first row fills the cache alone, as the others do first. The machine has eight RMIDs, since a read and a
+Prints a table: what was played, commands, bytes of script, seconds of processor time in the program and in the system for it, the
+highest memory in MB, page faults, and instructions where `perf stat` counts them. The first row fills the cache alone, as the others do first. The machine has eight RMIDs, since a read and a
 removal weigh as much as all RMIDs of the machine. Run it on an idle machine.
 """
 from timing import table

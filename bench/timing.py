@@ -1,30 +1,67 @@
 """What the benchmarks share: a script is written, played, and told as a row of a table."""
 import os
+import re
 import subprocess
 import sys
 import tempfile
+from collections import namedtuple
+
+# The seconds of processor time in the program and in the system for it, the highest memory in MB, the page faults, the instructions
+# in millions where the machine counts them (else None), and the exit status.
+Measured = namedtuple("Measured", "user system memory faults instructions status")
+
+HEAD = "script              count     bytes   user  system   MB   faults  M instructions  status"
+
+
+def count_instructions(program, path):
+    """Millions of instructions of one play of a script, by `perf stat`, and None where that is not there or does not count them."""
+    words = ["perf", "stat", "-x", ",", "-e", "instructions:u", program, "step"]
+    try:
+        with open(path) as script:
+            told = subprocess.run(words, stdin=script, stdout=subprocess.DEVNULL, stderr=subprocess.PIPE, text=True).stderr
+    except FileNotFoundError:
+        return None
+    found = re.search(r"^(\d+),", told, re.MULTILINE)
+    return int(found[1]) / 1e6 if found else None
 
 
 def measure(program, path):
-    """The seconds of processor time and the highest memory in MB of one play of a script."""
+    """One play of a script, and a second one that counts instructions."""
     with open(path) as script:
         child = subprocess.Popen([program, "step"], stdin=script, stdout=subprocess.DEVNULL)
         _, status, used = os.wait4(child.pid, 0)
-    if status != 0:
-        sys.exit(f"{program} ended with {status}")
-    return used.ru_utime + used.ru_stime, used.ru_maxrss / 1024
+    return Measured(
+        used.ru_utime,
+        used.ru_stime,
+        used.ru_maxrss / 1024,
+        used.ru_minflt,
+        count_instructions(program, path),
+        os.waitstatus_to_exitcode(status),
+    )
 
 
-def table(usage, rows):
-    """Plays each script and prints its row. A row is a name, how many things are played, and what writes so many to a file."""
+def row(name, count, size, it):
+    """A row of the table."""
+    instructions = "-" if it.instructions is None else f"{it.instructions:.0f}"
+    return (
+        f"{name:16}  {count:8}  {size:8}  {it.user:5.2f}  {it.system:6.2f}  {it.memory:4.0f}  {it.faults:7}"
+        f"  {instructions:>14}  {it.status:6}"
+    )
+
+
+def table(usage, rows, statuses=(0,)):
+    """Plays each script and prints its row. A row is a name, how many things are played, and what writes so many to a file. A play
+    that ends with another status than these ends the benchmark.
+    """
     if len(sys.argv) != 2:
         sys.exit(usage)
-    print("script       count     bytes  seconds  a second    MB")
+    print(HEAD)
     with tempfile.TemporaryDirectory() as folder:
         path = os.path.join(folder, "script")
         for name, count, write in rows:
             with open(path, "w") as script:
                 write(script, count)
-            seconds, memory = measure(sys.argv[1], path)
-            size = os.path.getsize(path)
-            print(f"{name:9}  {count:8}  {size:8}  {seconds:7.2f}  {count / seconds:8.0f}  {memory:4.0f}")
+            it = measure(sys.argv[1], path)
+            print(row(name, count, os.path.getsize(path), it), flush=True)
+            if it.status not in statuses:
+                sys.exit(f"{sys.argv[1]} ended with {it.status}")

@@ -37,7 +37,7 @@ touched_state old line changed = record { shape = old.shape; rmids = old.rmids; 
 Adds-hit : (old : CacheValue) (tag : Tag) (line way : ℕ) (changed : List (Option Place))
     → IsFormed old.shape old.rmids old.clock old.places → IsOwn old.shape (line % old.shape.sets) → old.floor ≤ tag.epoch
     → Touches (set_in old.places (line % old.shape.sets)) changed tag.mask (touching tag line old.clock) (Hit way)
-    → Adds old (touched_state old line changed) tag.epoch (Access tag.owner tag.rmid tag.mask line true way)
+    → Adds old (touched_state old line changed) tag.epoch (Access true way tag.owner tag.rmid tag.mask line)
 Adds-hit old tag line way changed formed own late touched thread op history stands =
     let s0 : ℕ = line % old.shape.sets in
     let places : List (Option Place) = set_in old.places s0 in
@@ -58,7 +58,7 @@ Adds-hit old tag line way changed formed own late touched thread op history stan
 Adds-fill : (old : CacheValue) (tag : Tag) (line way : ℕ) (changed : List (Option Place))
     → IsFormed old.shape old.rmids old.clock old.places → IsOwn old.shape (line % old.shape.sets) → old.floor ≤ tag.epoch
     → Touches (set_in old.places (line % old.shape.sets)) changed tag.mask (touching tag line old.clock) (Filled way)
-    → Adds old (touched_state old line changed) tag.epoch (Access tag.owner tag.rmid tag.mask line false way)
+    → Adds old (touched_state old line changed) tag.epoch (Access false way tag.owner tag.rmid tag.mask line)
 Adds-fill old tag line way changed formed own late touched thread op history stands =
     let s0 : ℕ = line % old.shape.sets in
     let m : Shape = old.shape in

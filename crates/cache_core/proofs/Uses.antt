@@ -77,11 +77,11 @@ pub StandsFor-use : (old : CacheValue) (changed : List (Option Place)) (history 
     → ((w : ℕ) → resident_in changed w ≡ cond (not hit && (way == w)) (Some (record { line = line; rmid = rmid })) (resident_in (set_in old.places (line % old.shape.sets)) w))
     → ((w : ℕ) → stamp_in changed w ≡ cond (way == w) old.clock (stamp_in (set_in old.places (line % old.shape.sets)) w))
     → StandsFor old history
-    → MayHappen old.shape history epoch (Access owner rmid mask line hit way)
-    → StandsFor (record { shape = old.shape; rmids = old.rmids; places = slice_set old.places (line % old.shape.sets) changed; floor = old.floor; clock = old.clock + 1 }) (history ++ entry thread op epoch (Access owner rmid mask line hit way) ∷ [])
+    → MayHappen old.shape history epoch (Access hit way owner rmid mask line)
+    → StandsFor (record { shape = old.shape; rmids = old.rmids; places = slice_set old.places (line % old.shape.sets) changed; floor = old.floor; clock = old.clock + 1 }) (history ++ entry thread op epoch (Access hit way owner rmid mask line) ∷ [])
 StandsFor-use old changed history thread op epoch owner rmid mask line way hit formed own residents stamps stands may =
     let m : Shape = old.shape in
-    let e : SliceEntry = entry thread op epoch (Access owner rmid mask line hit way) in
+    let e : SliceEntry = entry thread op epoch (Access hit way owner rmid mask line) in
     let s0 : ℕ = line % m.sets in
     let r : Resident = record { line = line; rmid = rmid } in
     let count : length old.places ≡ m.sets = formed.count in

@@ -17,7 +17,7 @@ AreAlike m holds other = (set way : ℕ) → IsOwn m set → way < m.ways → ho
 
 -- whether this empties every place: a flush, and a lock before it loads its region
 abbrev pub empties : What → Bool
-empties (Access owner rmid mask line hit way) = false
+empties (Access hit way owner rmid mask line) = false
 empties Raise = false
 empties Flush = true
 empties (Lock mask first_line) = true

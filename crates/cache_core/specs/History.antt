@@ -47,7 +47,7 @@ last_place p (e ∷ es) = if nat_lt 0 (last_place p es) then last_place p es + 1
 
 -- whether this decides what a place holds: a flush, a lock, or a fill of the place
 abbrev pub decides : Shape → ℕ → ℕ → What → Bool
-decides m set way (Access owner rmid mask line hit at) = not hit && (line % m.sets == set) && (at == way)
+decides m set way (Access hit at owner rmid mask line) = not hit && (line % m.sets == set) && (at == way)
 decides m set way Raise = false
 decides m set way Flush = true
 decides m set way (Lock mask first_line) = true
@@ -55,7 +55,7 @@ decides m set way (Look rmid lines) = false
 
 -- what it leaves in the place: a fill its line, a flush nothing, a lock one line of the region in each way of its mask
 abbrev pub left_by : Shape → ℕ → ℕ → What → Option Resident
-left_by m set way (Access owner rmid mask line hit at) = Some (record { line = line; rmid = rmid })
+left_by m set way (Access hit at owner rmid mask line) = Some (record { line = line; rmid = rmid })
 left_by m set way Raise = None
 left_by m set way Flush = None
 left_by m set way (Lock mask first_line) =
@@ -68,7 +68,7 @@ held m entries set way = option_and_then (λ (e : SliceEntry). left_by m set way
 
 -- whether this uses a place: an access there, hit or fill, or a lock that loads it
 abbrev pub uses : Shape → ℕ → ℕ → What → Bool
-uses m set way (Access owner rmid mask line hit at) = (line % m.sets == set) && (at == way)
+uses m set way (Access hit at owner rmid mask line) = (line % m.sets == set) && (at == way)
 uses m set way Raise = false
 uses m set way Flush = false
 uses m set way (Lock mask first_line) = has_way mask way
@@ -80,7 +80,7 @@ used m entries set way = last_place (λ (e : SliceEntry). uses m set way e.what)
 
 -- whether this sets the floor
 abbrev pub sets_floor : What → Bool
-sets_floor (Access owner rmid mask line hit at) = false
+sets_floor (Access hit at owner rmid mask line) = false
 sets_floor Raise = true
 sets_floor Flush = true
 sets_floor (Lock mask first_line) = true
@@ -111,7 +111,7 @@ valid_of m entries = places_where m (λ o. is_some o) entries
 -- What may follow these entries. An access of an epoch below the floor is stale, and makes no entry. A hit or fill is what
 -- the set answers; a look tells the number of lines.
 abbrev pub MayHappen : Shape → List SliceEntry → ℕ → What → Type 0
-MayHappen m before epoch (Access owner rmid mask line hit way) =
+MayHappen m before epoch (Access hit way owner rmid mask line) =
     (floor_of before ≤ epoch) × IsOutcome m.ways mask (held m before (line % m.sets)) (used m before (line % m.sets)) line hit way
 MayHappen m before epoch Raise = floor_of before ≤ epoch
 MayHappen m before epoch Flush = floor_of before ≤ epoch

@@ -32,8 +32,8 @@ Adds old new epoch what = (thread op : ℕ) (history : List SliceEntry) → Stan
 
 -- What an access does: nothing below the floor, and else one entry, with the hit and the way that are answered.
 abbrev pub Accesses : CacheValue → CacheValue → Tag → ℕ → Touched → Type 0
-Accesses old new tag line (Hit way) = Adds old new tag.epoch (Access tag.owner tag.rmid tag.mask line true way)
-Accesses old new tag line (Filled way) = Adds old new tag.epoch (Access tag.owner tag.rmid tag.mask line false way)
+Accesses old new tag line (Hit way) = Adds old new tag.epoch (Access true way tag.owner tag.rmid tag.mask line)
+Accesses old new tag line (Filled way) = Adds old new tag.epoch (Access false way tag.owner tag.rmid tag.mask line)
 Accesses old new tag line (Stale floor) = (new ≡ old) × (floor ≡ old.floor)
 
 -- the access was below the floor

@@ -7,12 +7,12 @@ use rc_base::Gid;
 pub enum What {
     /// An access hit the line in this way, or filled it there for its RMID, within its owner's mask.
     Access {
+        hit: bool,
+        way: u8,
         owner: Gid,
         rmid: u16,
         mask: u32,
         line: u64,
-        hit: bool,
-        way: u8,
     },
     /// A command changed a mask or a mode: tags that are older are stale.
     Raise,
@@ -30,7 +30,8 @@ pub enum What {
     },
 }
 
-/// One step in a slice, with the thread and the number of the op that made it.
+/// One step in a slice, with the thread and the number of the op that made it. Fields lie in memory in the order in which they
+/// stand; in this one an entry takes 40 bytes.
 #[derive(Clone, Copy, Debug, PartialEq, Eq)]
 pub struct SliceEntry {
     /// The thread, counted from 0 through the whole script.

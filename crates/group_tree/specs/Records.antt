@@ -57,6 +57,10 @@ abbrev pub is_other : Option Gid → Group → Bool
 is_other None g = true
 is_other (Some gid) g = not (has_gid gid g)
 
+-- whether a group is another control group than this one
+abbrev pub is_other_control : Option Gid → Group → Bool
+is_other_control gid g = is_other gid g && is_control g.kind
+
 -- whether a group is another control group than this one, and in this mode
 abbrev pub is_other_in : Option Gid → Mode → Group → Bool
 is_other_in gid mode g = is_other gid g && has_mode mode g

@@ -1,6 +1,6 @@
 //! The record of one group.
 ghost use Rattle.std.specs.Prelude.{◌≡◌, ◌<◌};
-ghost use Rattle.group_tree.specs.Records.{blank, has_gid, has_mode, has_name, is_control_named, is_monitor_named, is_other, is_other_in, mask_in};
+ghost use Rattle.group_tree.specs.Records.{blank, has_gid, has_name, is_control_named, is_monitor_named, is_other, is_other_control, mask_in};
 
 use crate::group_kind::GroupKind;
 use path_names::NameId;
@@ -76,11 +76,11 @@ impl Group {
         }
     }
 
-    /// Whether it is another control group than this one, and in this mode.
-    pub(crate) fn is_other_in(&self, gid: Option<Gid>, mode: Mode) -> bool
-        ensures { result ≡ is_other_in gid mode self.now }
+    /// Whether it is another control group than this one.
+    pub(crate) fn is_other_control(&self, gid: Option<Gid>) -> bool
+        ensures { result ≡ is_other_control gid self.now }
     {
-        self.is_other(gid) && self.has_mode(mode)
+        self.is_other(gid) && self.kind.is_control()
     }
 
     // Whether it is another group than this one, as every group is where none is named.
@@ -91,13 +91,6 @@ impl Group {
             Some(gid) => !self.has_gid(gid),
             None => true,
         }
-    }
-
-    // Whether it is a control group in this mode.
-    fn has_mode(&self, mode: Mode) -> bool
-        ensures { result ≡ has_mode mode self.now }
-    {
-        self.kind.is_control() && self.mode == mode
     }
 
     /// Its mask in a domain.

@@ -12,12 +12,12 @@ use crate::edit::{put, take_out};
 use crate::group::Group;
 use crate::lookup::{find_control, find_gid, find_monitor};
 use crate::opening::default_group;
-use crate::union::union_of_others;
+use crate::union::use_by_others;
 use arrayvec::ArrayVec;
 use machine::Machine;
 use mode_rules::DomainUse;
 use path_names::NameId;
-use rc_base::{Gid, Mode, NoMemory};
+use rc_base::{Gid, NoMemory};
 use std::marker::Model;
 
 /// How many groups there are at most: 64 with a class, 8 that are pseudo-locked, and 256 with an RMID.
@@ -139,11 +139,6 @@ impl Groups {
         ensures { IsUseByOthers self.now gid domain result }
     {
         let groups = self.records.as_slice();
-        DomainUse {
-            hardware: self.shareable,
-            shared: union_of_others(groups, gid, Mode::Shareable, domain),
-            exclusive: union_of_others(groups, gid, Mode::Exclusive, domain),
-            region: union_of_others(groups, gid, Mode::Locked, domain),
-        }
+        use_by_others(groups, gid, domain, self.shareable)
     }
 }

@@ -104,7 +104,7 @@ IsPlain-place_text m line hit way =
 -- what happened
 IsPlain-what_text : (m : Parameters) (what : What) → IsPlain (what_text m what)
 unfolding escape_byte
-IsPlain-what_text m (whats.Access owner rmid mask line hit way) =
+IsPlain-what_text m (whats.Access hit way owner rmid mask line) =
     IsPlain-append (tag_text m owner.0 rmid mask) (place_text m line hit way) (IsPlain-append (owner_text owner.0 rmid) (mask_text m mask) (IsPlain-owner_text owner.0 rmid) (IsPlain-mask_text m mask)) (IsPlain-place_text m line hit way)
 IsPlain-what_text m whats.Raise = refl
 IsPlain-what_text m whats.Flush = refl

@@ -1,9 +1,11 @@
 pub mod Domains
 pub mod FirstComponent
 pub mod FixedEntries
+pub mod NameIndex
 pub mod NameTable
 pub mod NamedPaths
 pub mod PathCounts
+pub mod NameTexts
 pub mod Pieces
 pub mod Walks
 pub mod laws

@@ -1,6 +1,9 @@
 pub mod Components
 pub mod Domains
 pub mod Interned
+pub mod NameIndex
+pub mod NameList
+pub mod NameTexts
 pub mod NamesIn
 pub mod PathTable
 pub mod Reading

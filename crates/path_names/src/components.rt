@@ -73,8 +73,9 @@ fn are_visible(name: &[u8]) -> bool
 }
 
 // Whether this is `.` or `..`.
+#[tactic(auto, using(crate::proofs::FixedEntries::is_text_lengths))]
 fn is_dots(name: &[u8]) -> bool
     ensures { result ≡ is_dots name.now }
 {
-    is_text(name, b".") || is_text(name, b"..")
+    name.len() <= 2 && (is_text(name, b".") || is_text(name, b".."))
 }

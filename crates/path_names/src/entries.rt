@@ -33,13 +33,21 @@ pub(crate) fn entry(dir: DirRef, name: &[u8], domains: u8) -> Option<PathRef>
     }
 }
 
+// Whether a name is this one. Most differ in length, which is seen without a look at the bytes.
+#[tactic(auto, using(crate::proofs::FixedEntries::is_text_lengths))]
+fn is_name(name: &[u8], known: &[u8]) -> bool
+    ensures { result ≡ is_text name.now known.now }
+{
+    name.len() == known.len() && is_text(name, known)
+}
+
 // The fixed entry of this name, of a directory that has no domains.
 #[tactic(auto, using(crate::proofs::FixedEntries::looking))]
 fn fixed_entry(dir: DirRef, name: &[u8]) -> Option<PathRef>
     ensures { result ≡ entry_among dir name.now (fixed_in dir) }
 {
     for fixed in fixed_in(dir) {
-        if is_text(name, fixed.name()) {
+        if is_name(name, fixed.name()) {
             return Some(fixed.path(dir));
         }
     }

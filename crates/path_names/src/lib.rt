@@ -6,6 +6,8 @@ pub mod dirs;
 pub mod entries;
 pub mod files;
 pub mod fixed;
+mod name_index;
+mod name_list;
 pub mod names;
 pub mod path_ref;
 pub mod path_text;

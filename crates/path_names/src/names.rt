@@ -3,7 +3,8 @@ ghost use Rattle.std.specs.Prelude.{◌≡◌, ◌-◌, ◌^◌, ◌<◌, [], le
 ghost use Rattle.std.specs.List.{slice_get};
 ghost use Rattle.path_names.specs.Interned.{id_of, interned, number_of};
 
-use indexmap::IndexSet;
+use crate::name_index::NameIndex;
+use crate::name_list::NameList;
 use rc_base::NoMemory;
 use std::alloc::Global;
 use std::marker::Model;
@@ -15,20 +16,21 @@ pub struct NameId(pub u32);
 /// Names in the order in which they came, each once. Contracts see the list of them.
 #[derive(Drop)]
 pub struct Names {
-    names: IndexSet<Vec<u8>>,
-    alloc: Global,
+    list: NameList,
+    index: NameIndex,
 }
 
 impl Model for Names {
-    ghost use Rattle.std.specs.Prelude.{List, ℕ, map, vec_items};
-    ghost use Rattle.std.specs.List.{IsDistinct};
-    ghost use Rattle.std.specs.Str.{bytes_eq};
+    ghost use Rattle.std.specs.Prelude.{List, ℕ};
 
     ghost Value = { List (List ℕ) };
 
-    ghost view = { λ n. map vec_items n.names.keys };
+    ghost use Rattle.path_names.specs.NameIndex.{number_at, AreNumbered};
+    ghost use Rattle.path_names.specs.NameList.{names_of};
 
-    ghost invariant = { λ n. IsDistinct bytes_eq (map vec_items n.names.keys) };
+    ghost view = { λ n. names_of n.list };
+
+    ghost invariant = { λ n. AreNumbered (names_of n.list) (number_at n.index) };
 }
 
 impl Names {
@@ -37,8 +39,8 @@ impl Names {
         ensures { IfOk result (λ names. names ≡ []) }
     {
         Ok(Names {
-            names: IndexSet::new(alloc),
-            alloc,
+            list: NameList::create(alloc),
+            index: NameIndex::create(alloc),
         })
     }
 
@@ -51,12 +53,14 @@ impl Names {
         ensures within { IfOk result (λ id. id.0 < length self.new) }
         ensures err { OnErr result (self.new ≡ self.old) }
     {
-        if let Some(i) = self.names.get_index_of(name) {
-            return Ok(NameId(i as u32));
+        if let Some(number) = self.index.get(name) {
+            return Ok(NameId(number));
         }
-        let owned = Vec::from_slice(self.alloc, name)?;
-        let (i, _) = self.names.insert_full(owned)?;
-        Ok(NameId(i as u32))
+        self.list.reserve(name)?;
+        let number = self.list.len() as u32;
+        self.index.insert(name, number)?;
+        self.list.push(name);
+        Ok(NameId(number))
     }
 
     /// The name of this number.
@@ -65,9 +69,6 @@ impl Names {
         ensures name { slice_get self.now id.0 ≡ Some result.now }
         ensures only { number_of result.now self.now ≡ id.0 }
     {
-        match self.names.get_index(id.0 as usize) {
-            Some(name) => name.as_slice(),
-            None => unreachable!(),
-        }
+        self.list.get(id.0 as usize)
     }
 }

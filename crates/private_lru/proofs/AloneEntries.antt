@@ -32,7 +32,7 @@ unwrap_or-position p xs = elim (cases_Bool (nat_lt (position_or_len p xs) (lengt
 
 -- another's use is no access of the group
 is_own-other_use : (group : ℕ) (window : List SliceEntry) (what : What) → is_other_use group window what ≡ true → is_own group what ≡ false
-is_own-other_use group window (Access owner rmid mask line hit way) other = elim (cases_Bool (owner.0 == group)) [
+is_own-other_use group window (Access hit way owner rmid mask line) other = elim (cases_Bool (owner.0 == group)) [
   | inl own ↦ absurd (false≢true (rw own at other))
   | inr foreign ↦ foreign
 ]
@@ -90,7 +90,7 @@ covered-filter sets group opening window false is =
 
 -- an access of the group that hit is one of its accesses
 is_own-hit : (group : ℕ) (what : What) → is_own_hit group what ≡ true → is_own group what ≡ true
-is_own-hit group (Access owner rmid mask line hit way) is = (and_parts (owner.0 == group) hit is).0
+is_own-hit group (Access hit way owner rmid mask line) is = (and_parts (owner.0 == group) hit is).0
 is_own-hit group Raise is = is
 is_own-hit group Flush is = is
 is_own-hit group (Lock mask first_line) is = is

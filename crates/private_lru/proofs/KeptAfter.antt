@@ -26,7 +26,7 @@ use Rattle.private_lru.proofs.WayLines.{line_in, Some-same}
 
 -- an entry of the window before which no other user was seen
 abbrev pub Fits : ℕ → ℕ → (ℕ → Type 0) → What → Type 0
-Fits group mask Own (Access owner rmid its line hit way) = MatchBool (owner.0 == group) ((its ≡ mask) × Own line) (overlaps its mask ≡ false × (Own line → ⊥))
+Fits group mask Own (Access hit way owner rmid its line) = MatchBool (owner.0 == group) ((its ≡ mask) × Own line) (overlaps its mask ≡ false × (Own line → ⊥))
 Fits group mask Own Raise = Unit {0}
 Fits group mask Own Flush = ⊥
 Fits group mask Own (Lock others first_line) = ⊥
@@ -81,20 +81,20 @@ KeepsAfter-unchanged m mask set Own history e back keep idle keeps =
 -- an access uses its way and leaves its line there
 held-access : (m : Shape) (history : List SliceEntry) (thread op epoch : ℕ) (owner : Gid) (rmid its line way set : ℕ) (hit : Bool) → (line % m.sets == set) ≡ true
     → IsOutcome m.ways its (held m history set) (used m history set) line hit way
-    → line_in (held m (history ++ entry thread op epoch (Access owner rmid its line hit way) ∷ []) set way) ≡ Some line
+    → line_in (held m (history ++ entry thread op epoch (Access hit way owner rmid its line) ∷ []) set way) ≡ Some line
 held-access m history thread op epoch owner rmid its line way set true at outcome =
-    ap line_in (held-push m history (entry thread op epoch (Access owner rmid its line true way)) set way) ∙ outcome.1
+    ap line_in (held-push m history (entry thread op epoch (Access true way owner rmid its line)) set way) ∙ outcome.1
 held-access m history thread op epoch owner rmid its line way set false at outcome =
     let there : (way == way) ≡ true = eq-eqb way way refl in
-    ap line_in (held-push m history (entry thread op epoch (Access owner rmid its line false way)) set way) ∙ rw (at, there) refl
+    ap line_in (held-push m history (entry thread op epoch (Access false way owner rmid its line)) set way) ∙ rw (at, there) refl
 
 -- an access more
 KeepsAfter-access : (m : Shape) (narrow : m.ways ≤ 64) (group mask set : ℕ) (Own : ℕ → Type 0) (history : List SliceEntry) (thread op epoch : ℕ) (owner : Gid) (rmid its line way : ℕ) (hit : Bool) (back : List ℕ)
-    → MayHappen m history epoch (Access owner rmid its line hit way) → Fits group mask Own (Access owner rmid its line hit way)
+    → MayHappen m history epoch (Access hit way owner rmid its line) → Fits group mask Own (Access hit way owner rmid its line)
     → KeepsAfter m mask Own set history back
-    → KeepsAfter m mask Own set (history ++ entry thread op epoch (Access owner rmid its line hit way) ∷ []) (reverse (item_of m.sets group set (Access owner rmid its line hit way)) ++ back)
+    → KeepsAfter m mask Own set (history ++ entry thread op epoch (Access hit way owner rmid its line) ∷ []) (reverse (item_of m.sets group set (Access hit way owner rmid its line)) ++ back)
 KeepsAfter-access m narrow group mask set Own history thread op epoch owner rmid its line way hit back may fits keeps =
-    let e : SliceEntry = entry thread op epoch (Access owner rmid its line hit way) in
+    let e : SliceEntry = entry thread op epoch (Access hit way owner rmid its line) in
     elim (cases_Bool (line % m.sets == set)) [
       | inr c ↦
           let none : ((owner.0 == group) && (line % m.sets == set)) ≡ false = and-right_false (owner.0 == group) _ c in
@@ -137,7 +137,7 @@ KeepsAfter-push : (m : Shape) (narrow : m.ways ≤ 64) (group mask set : ℕ) (O
     → MayHappen m history epoch what → Fits group mask Own what
     → KeepsAfter m mask Own set history back
     → KeepsAfter m mask Own set (history ++ entry thread op epoch what ∷ []) (reverse (item_of m.sets group set what) ++ back)
-KeepsAfter-push m narrow group mask set Own history thread op epoch (Access owner rmid its line hit way) back may fits keeps = KeepsAfter-access m narrow group mask set Own history thread op epoch owner rmid its line way hit back may fits keeps
+KeepsAfter-push m narrow group mask set Own history thread op epoch (Access hit way owner rmid its line) back may fits keeps = KeepsAfter-access m narrow group mask set Own history thread op epoch owner rmid its line way hit back may fits keeps
 KeepsAfter-push m narrow group mask set Own history thread op epoch Raise back may fits keeps = KeepsAfter-unchanged m mask set Own history (entry thread op epoch Raise) back (λ _. refl) (λ _. refl) keeps
 KeepsAfter-push m narrow group mask set Own history thread op epoch Flush back may fits keeps = absurd fits
 KeepsAfter-push m narrow group mask set Own history thread op epoch (Lock others first_line) back may fits keeps = absurd fits
@@ -161,7 +161,7 @@ KeepsAfter-append m narrow group mask set Own history (e ∷ es) back goes fits 
 pub KeepsAfter-opening : (m : Shape) (narrow : m.ways ≤ 64) (group mask set : ℕ) (Own : ℕ → Type 0) (history : List SliceEntry) (thread op epoch : ℕ) (what : What)
     → set < m.sets → Opens mask what → ((x : ℕ) → Own x → Loads m what x → ⊥)
     → KeepsAfter m mask Own set (history ++ entry thread op epoch what ∷ []) []
-KeepsAfter-opening m narrow group mask set Own history thread op epoch (Access owner rmid its line hit way) inside opens free = absurd opens
+KeepsAfter-opening m narrow group mask set Own history thread op epoch (Access hit way owner rmid its line) inside opens free = absurd opens
 KeepsAfter-opening m narrow group mask set Own history thread op epoch Raise inside opens free = absurd opens
 KeepsAfter-opening m narrow group mask set Own history thread op epoch Flush inside opens free =
     let e : SliceEntry = entry thread op epoch Flush in

@@ -17,7 +17,7 @@ Uses group entries x = uses_line group entries x ≡ true
 
 -- an access of another owner to this line
 abbrev pub is_use_of_other : ℕ → ℕ → What → Bool
-is_use_of_other group x (Access owner rmid mask line hit way) = not (owner.0 == group) && (line == x)
+is_use_of_other group x (Access hit way owner rmid mask line) = not (owner.0 == group) && (line == x)
 is_use_of_other group x what = false
 
 -- a lock puts the line into a place
@@ -30,7 +30,7 @@ Loads m what x = ⊥
 
 -- a line that is put into a place is one of the region
 pub loads-place : (m : Shape) (what : What) (x : ℕ) → m.ways ≤ 64 → Loads m what x → loads m.sets what x ≡ true
-loads-place m (Access owner rmid mask line hit way) x narrow l = absurd l
+loads-place m (Access hit way owner rmid mask line) x narrow l = absurd l
 loads-place m Raise x narrow l = absurd l
 loads-place m Flush x narrow l = absurd l
 loads-place m (Look rmid lines) x narrow l = absurd l
@@ -89,7 +89,7 @@ pub record IsCovered (m : Shape) (group : ℕ) (opening : What) (window earlier 
 
 -- a use of a loaded line
 is_loaded_use-loads : (m : Shape) (group x : ℕ) (opening what : What) → is_use group x what ≡ true → loads m.sets opening x ≡ true → is_loaded_use m.sets group opening what ≡ true
-is_loaded_use-loads m group x opening (Access owner rmid mask line hit way) used loaded =
+is_loaded_use-loads m group x opening (Access hit way owner rmid mask line) used loaded =
     let parts = and_parts (owner.0 == group) (line == x) used in
     let same : line ≡ x = eqb-true line x parts.1 in
     rw (parts.0, ap (loads m.sets opening) same ∙ loaded) refl
@@ -100,7 +100,7 @@ is_loaded_use-loads m group x opening (Look rmid lines) used loaded = absurd (fa
 
 -- a use of another of the group's lines
 is_other_use-line : (group x : ℕ) (window : List SliceEntry) (what : What) → is_use_of_other group x what ≡ true → Uses group window x → is_other_use group window what ≡ true
-is_other_use-line group x window (Access owner rmid mask line hit way) other uses =
+is_other_use-line group x window (Access hit way owner rmid mask line) other uses =
     let parts = and_parts (not (owner.0 == group)) (line == x) other in
     let same : line ≡ x = eqb-true line x parts.1 in
     rw (parts.0, ap (uses_line group window) same ∙ uses) refl

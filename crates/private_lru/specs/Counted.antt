@@ -9,7 +9,7 @@ use Rattle.private_lru.specs.Private.{private_hit}
 
 -- an access of the group that hit
 abbrev pub is_own_hit : ℕ → What → Bool
-is_own_hit group (Access owner rmid mask line hit way) = (owner.0 == group) && hit
+is_own_hit group (Access hit way owner rmid mask line) = (owner.0 == group) && hit
 is_own_hit group what = false
 
 -- how many of these entries are accesses of the group
@@ -22,7 +22,7 @@ hits_of_group group entries = count_by (λ (e : SliceEntry). is_own_hit group e.
 
 -- an access of the group that hits in a private cache which has seen these earlier accesses to its set
 abbrev pub is_private_hit : ℕ → ℕ → ℕ → List SliceEntry → What → Bool
-is_private_hit sets group ways earlier (Access owner rmid mask line hit way) = (owner.0 == group) && private_hit ways (items sets group (line % sets) earlier) line
+is_private_hit sets group ways earlier (Access hit way owner rmid mask line) = (owner.0 == group) && private_hit ways (items sets group (line % sets) earlier) line
 is_private_hit sets group ways earlier what = false
 
 -- how many of these hit in a private cache which has seen some earlier ones

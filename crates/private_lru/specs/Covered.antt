@@ -10,12 +10,12 @@ use Rattle.cbm.specs.Masks.{ways_of}
 
 -- an access of the group
 abbrev pub is_own : ℕ → What → Bool
-is_own group (Access owner rmid mask line hit way) = owner.0 == group
+is_own group (Access hit way owner rmid mask line) = owner.0 == group
 is_own group what = false
 
 -- an access of the group to this line
 abbrev pub is_use : ℕ → ℕ → What → Bool
-is_use group x (Access owner rmid mask line hit way) = (owner.0 == group) && (line == x)
+is_use group x (Access hit way owner rmid mask line) = (owner.0 == group) && (line == x)
 is_use group x what = false
 
 -- whether the group accesses the line somewhere in these entries
@@ -31,12 +31,12 @@ loads sets what x = false
 
 -- an access of the group to a line that the opening of the window loaded
 abbrev pub is_loaded_use : ℕ → ℕ → What → What → Bool
-is_loaded_use sets group opening (Access owner rmid mask line hit way) = (owner.0 == group) && loads sets opening line
+is_loaded_use sets group opening (Access hit way owner rmid mask line) = (owner.0 == group) && loads sets opening line
 is_loaded_use sets group opening what = false
 
 -- an access of another owner to a line that the group accesses somewhere in the window
 abbrev pub is_other_use : ℕ → List SliceEntry → What → Bool
-is_other_use group window (Access owner rmid mask line hit way) = not (owner.0 == group) && uses_line group window line
+is_other_use group window (Access hit way owner rmid mask line) = not (owner.0 == group) && uses_line group window line
 is_other_use group window what = false
 
 -- An access that stands after these entries of the window is covered where no other user of a line of the group's stands at
@@ -62,7 +62,7 @@ covered sets group opening window = covered_after sets group opening window [] w
 
 -- the line of an access of the group to this set
 abbrev pub item_of : ℕ → ℕ → ℕ → What → List ℕ
-item_of sets group set (Access owner rmid mask line hit way) = if (owner.0 == group) && (line % sets == set) then line ∷ [] else []
+item_of sets group set (Access hit way owner rmid mask line) = if (owner.0 == group) && (line % sets == set) then line ∷ [] else []
 item_of sets group set what = []
 
 -- the lines that the group accesses in this set, in order
@@ -71,7 +71,7 @@ items sets group set entries = flat_map (λ (e : SliceEntry). item_of sets group
 
 -- whether an access of the group to this set hit
 abbrev pub hit_of : ℕ → ℕ → ℕ → What → List Bool
-hit_of sets group set (Access owner rmid mask line hit way) = if (owner.0 == group) && (line % sets == set) then hit ∷ [] else []
+hit_of sets group set (Access hit way owner rmid mask line) = if (owner.0 == group) && (line % sets == set) then hit ∷ [] else []
 hit_of sets group set what = []
 
 -- whether each access of the group to this set hit, in order

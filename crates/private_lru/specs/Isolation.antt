@@ -20,14 +20,14 @@ Opens mask what = ⊥
 -- an entry that leaves the ways of the mask to the group: it empties nothing, the group's accesses have the mask, and another
 -- owner's have masks with no way of it
 abbrev pub Respects : ℕ → ℕ → What → Type 0
-Respects group mask (Access owner rmid its line hit way) = MatchBool (owner.0 == group) (its ≡ mask) (overlaps its mask ≡ false)
+Respects group mask (Access hit way owner rmid its line) = MatchBool (owner.0 == group) (its ≡ mask) (overlaps its mask ≡ false)
 Respects group mask Raise = Unit {0}
 Respects group mask (Look rmid lines) = Unit {0}
 Respects group mask what = ⊥
 
 -- an access of the group hits just where it does in a private cache that has seen the group's earlier accesses to the set
 abbrev pub HitsAsPrivate : ℕ → ℕ → ℕ → List SliceEntry → What → Type 0
-HitsAsPrivate sets group ways earlier (Access owner rmid mask line hit way) =
+HitsAsPrivate sets group ways earlier (Access hit way owner rmid mask line) =
     (owner.0 == group) ≡ true → hit ≡ private_hit ways (items sets group (line % sets) earlier) line
 HitsAsPrivate sets group ways earlier what = Unit {0}
 

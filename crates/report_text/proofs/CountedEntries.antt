@@ -43,7 +43,7 @@ module _ (m : Shape) (base old new : OccupancyValue) (e : SliceEntry) (es : List
       HasCounted-alike m base old later all (λ s w own there. sym (held-cons m e es s w fills ∙ (ap (λ o. option_or (later s w) o) (nothing s w) ∙ option_or-none (later s w)))) before
 
   -- a hit
-  pub HasCounted-hit : (owner : Gid) (rmid mask line way : ℕ) → e.what ≡ Access owner rmid mask line true way → HasCounted m base later old → HasCounted m base all old
+  pub HasCounted-hit : (owner : Gid) (rmid mask line way : ℕ) → e.what ≡ Access true way owner rmid mask line → HasCounted m base later old → HasCounted m base all old
   HasCounted-hit owner rmid mask line way is before =
       HasCounted-same (λ s w. ap (λ (x : What). cond (decides m s w x) (left_by m s w x) None) is) before
 
@@ -60,7 +60,7 @@ module _ (m : Shape) (base old new : OccupancyValue) (e : SliceEntry) (es : List
   HasCounted-flush is before = HasCounted-same (λ s w. ap (λ (x : What). cond (decides m s w x) (left_by m s w x) None) is) before
 
   -- a fill
-  pub HasCounted-fill : (owner : Gid) (rmid mask line way : ℕ) → e.what ≡ Access owner rmid mask line false way → AddsPlaces m old new rmid (λ s w. (line % m.sets == s) && (way == w))
+  pub HasCounted-fill : (owner : Gid) (rmid mask line way : ℕ) → e.what ≡ Access false way owner rmid mask line → AddsPlaces m old new rmid (λ s w. (line % m.sets == s) && (way == w))
       → HasCounted m base later old → HasCounted m base all new
   HasCounted-fill owner rmid mask line way is adds before =
       let lines : ℕ → ℕ → Resident = λ s w. record { line = line; rmid = rmid } in

@@ -2,6 +2,7 @@
 use Rattle.std.proofs.Common.{◌≡◌, ℕ, ◌<◌, List, length, map, take, get_or, Option, None, Some, refl, sym, ap, ◌∙◌, subst, arith}
 use Rattle.std.proofs.Math.ListN.{get_or-map}
 use Rattle.std.specs.List.{All}
+use Rattle.std.specs.Prelude.{IsTrue, is_some}
 use Rattle.std.proofs.lemmas.List.{length-map, take-map}
 use Rattle.std.proofs.lemmas.Option.{slice_get-get_or}
 use Rattle.machine.specs.Ranges.{InRange}
@@ -21,8 +22,13 @@ use Rattle.tree_law.specs.Refusals.{Refusal, reply_of}
 use Rattle.tree_law.specs.State.{State, opening}
 use Rattle.tree_law.specs.Steps.{needs, next, refusal}
 
+-- a command is there
+pub is_some-command : (P : Op → Type 0) (o : Option Op) → IsCommandThat P o → IsTrue (is_some o)
+is_some-command P None there = absurd there
+is_some-command P (Some op) there = refl
+
 -- what is said of a command is said of the op that is there
-IsCommandThat-some : (P : Op → Type 0) (o : Option Op) (op : Op) → IsCommandThat P o → o ≡ Some op → P op
+pub IsCommandThat-some : (P : Op → Type 0) (o : Option Op) (op : Op) → IsCommandThat P o → o ≡ Some op → P op
 IsCommandThat-some P None op there same = absurd there
 IsCommandThat-some P (Some c) op there same = subst P (let e : c ≡ op = cc in e) there.1
 

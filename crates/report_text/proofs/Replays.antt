@@ -48,7 +48,7 @@ AreKnownGroups-made_by names s (ops.List path) reply known = AreKnownGroups-nil 
 AreKnownGroups-made_by names s (ops.Flush domain) reply known = AreKnownGroups-nil names
 AreKnownGroups-made_by names s ops.Tick reply known = AreKnownGroups-nil names
 AreKnownGroups-made_by names s (ops.Access task cpu addr) reply known = AreKnownGroups-nil names
-AreKnownGroups-made_by names s (ops.Touch path offset task cpu) reply known = AreKnownGroups-nil names
+AreKnownGroups-made_by names s (ops.Touch cpu path task offset) reply known = AreKnownGroups-nil names
 
 -- and those of before
 pub AreKnownGroups-append : (names : List (List ℕ)) (made more : List Made) → AreKnownGroups names made → AreKnownGroups names more → AreKnownGroups names (made ++ more)

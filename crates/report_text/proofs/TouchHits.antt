@@ -88,13 +88,13 @@ ByKind-of_command A C (ops.Rmdir path) is h = h
 ByKind-of_command A C (ops.Write path text) is h = h
 ByKind-of_command A C (ops.Read path) is h = h
 ByKind-of_command A C (ops.List path) is h = h
-ByKind-of_command A C (ops.Touch path offset task cpu) is h = h
+ByKind-of_command A C (ops.Touch cpu path task offset) is h = h
 ByKind-of_command A C (ops.Flush domain) is h = h
 ByKind-of_command A C ops.Tick is h = h
 
 -- what a slice decides leaves an access one
 is_access-undecided : (what : What) → is_access (undecided what) ≡ is_access what
-is_access-undecided (whats.Access owner rmid mask line hit way) = refl
+is_access-undecided (whats.Access hit way owner rmid mask line) = refl
 is_access-undecided whats.Raise = refl
 is_access-undecided whats.Flush = refl
 is_access-undecided (whats.Lock mask first_line) = refl

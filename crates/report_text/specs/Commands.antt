@@ -38,7 +38,7 @@ outcome_text (e ∷ es) = if is_hit e.what then codes " hit" else codes " miss"
 
 -- the result of an op in a line: the reply, and after that of an accepted touch what its access was
 abbrev pub result_text : JournalsValue → ℕ → ℕ → Op → Reply → List ℕ
-result_text j thread number (ops.Touch path offset task cpu) replies.Ok = codes "ok" ++ outcome_text (accesses_by j thread number)
+result_text j thread number (ops.Touch cpu path task offset) replies.Ok = codes "ok" ++ outcome_text (accesses_by j thread number)
 result_text j thread number op reply = reply_text reply
 
 -- the text that an accepted read or list gave from the counts of lines that it was given, line by line

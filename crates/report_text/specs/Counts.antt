@@ -10,17 +10,17 @@ use Rattle.script_ops.specs.Values.{ScriptValue}
 
 -- an access of this group
 abbrev pub is_access_of : ℕ → What → Bool
-is_access_of gid (Access owner rmid mask line hit way) = owner.0 == gid
+is_access_of gid (Access hit way owner rmid mask line) = owner.0 == gid
 is_access_of gid what = false
 
 -- an access
 abbrev pub is_access : What → Bool
-is_access (Access owner rmid mask line hit way) = true
+is_access (Access hit way owner rmid mask line) = true
 is_access what = false
 
 -- a hit
 abbrev pub is_hit : What → Bool
-is_hit (Access owner rmid mask line hit way) = hit
+is_hit (Access hit way owner rmid mask line) = hit
 is_hit what = false
 
 -- how many entries of all slices pass a test

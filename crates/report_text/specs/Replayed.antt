@@ -1,9 +1,11 @@
 -- What is seen of a tree that is taken through its history once more.
-use Rattle.std.specs.Prelude.{ℕ, ◌<◌, ◌≤◌, ◌^◌, ◌≡◌, List, All, length}
+use Rattle.std.specs.Prelude.{ℕ, ◌<◌, ◌≤◌, ◌^◌, ◌≡◌, List, All, Some, length}
 use Rattle.tree_core.specs.Named.{AreNamed}
 use Rattle.machine.specs.declared.parameters.Parameters.{Parameters}
 use Rattle.report_text.specs.declared.made.Made.{Made}
 use Rattle.run_law.specs.TreeHistory.{IsCommandThat, TreeEntryValue}
+use Rattle.script_ops.specs.Canonical.{IsNamed, IsShort}
+use Rattle.script_ops.specs.Fits.{Fits}
 use Rattle.script_ops.specs.Values.{ScriptValue, op_at}
 use Rattle.script_ops.specs.declared.op.Op.{Op}
 use Rattle.tree_law.specs.State.{State, tasks_of}
@@ -42,3 +44,10 @@ IsCounted script s e = IsCommandThat (λ op. length e.looks ≡ length (needs sc
 -- the same, and it was answered as this state answers it
 abbrev pub IsAnswered : ScriptValue → State → TreeEntryValue → Type 0
 IsAnswered script s e = IsCommandThat (IsAnsweredAs script.machine s e) (op_at script e.thread e.op)
+
+-- this op of a thread is there, and it keeps to the script
+pub record IsOpOf (script : ScriptValue) (thread number : ℕ) (op : Op) : Type 0 where
+  pub there : op_at script thread number ≡ Some op
+  pub named : IsNamed (length script.names) op
+  pub short : IsShort script.names op
+  pub fit : Fits script.machine script.tasks op

@@ -42,7 +42,7 @@ look_text rmid lines = codes "look rmid " ++ decimal rmid ++ codes " lines " ++ 
 
 -- what happened
 abbrev pub what_text : Parameters → What → List ℕ
-what_text m (whats.Access owner rmid mask line hit way) = tag_text m owner.0 rmid mask ++ place_text m line hit way
+what_text m (whats.Access hit way owner rmid mask line) = tag_text m owner.0 rmid mask ++ place_text m line hit way
 what_text m whats.Raise = codes "raise"
 what_text m whats.Flush = codes "flush"
 what_text m (whats.Lock mask first_line) = lock_text m mask first_line

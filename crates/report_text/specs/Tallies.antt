@@ -1,5 +1,5 @@
 -- The accesses, hits and misses of each group and of all groups.
-use Rattle.std.specs.Prelude.{◌≡◌, ℕ, ◌+◌, ◌≤◌, Bool, not, ◌&&◌, if◌then◌else◌, List, ◌++◌, codes, count_by, decimal, nat_eq, unwrap_or}
+use Rattle.std.specs.Prelude.{◌≡◌, ℕ, ◌+◌, ◌≤◌, Bool, not, ◌==◌, ◌&&◌, if◌then◌else◌, List, ◌++◌, codes, count_by, decimal, nat_eq, unwrap_or}
 use Rattle.std.specs.Map.{lookup}
 use Rattle.lists.specs.Sums.{one_if, sum_below}
 use Rattle.cache_core.specs.declared.entry.SliceEntry.{SliceEntry}
@@ -7,6 +7,7 @@ use Rattle.cache_core.specs.declared.entry.What.{What}
 use Rattle.cache_core.specs.declared.entry.What.TheVariants.{Access}
 use Rattle.report_text.specs.Counts.{is_access, is_access_of, is_hit}
 use Rattle.report_text.specs.declared.counts.Counts.{Counts}
+use Rattle.report_text.specs.declared.streak.Streak.{Streak}
 use Rattle.run_law.specs.Journals.{JournalsValue, slice_at}
 
 -- the counts of groups by their gids, and those of all groups together
@@ -22,13 +23,25 @@ nothing = record { accesses = 0; hits = 0; misses = 0 }
 abbrev pub at : TallyValue → ℕ → Counts
 at t gid = unwrap_or (lookup (nat_eq gid) t.groups) nothing
 
+-- counts together
+abbrev pub added : Counts → Counts → Counts
+added c d = record { accesses = c.accesses + d.accesses; hits = c.hits + d.hits; misses = c.misses + d.misses }
+
+-- the counts of a group, with the accesses of a streak that is not in the tally yet
+abbrev pub at_with : TallyValue → Streak → ℕ → Counts
+at_with t s gid = if s.gid == gid then added (at t gid) s.counts else at t gid
+
+-- those of all groups
+abbrev pub all_with : TallyValue → Streak → Counts
+all_with t s = added t.all s.counts
+
 -- one access more
 abbrev pub with_access : Bool → Counts → Counts
 with_access hit c = record { accesses = c.accesses + 1; hits = c.hits + one_if hit; misses = c.misses + one_if (not hit) }
 
 -- counts with this entry, where it is an access that passes the test
 abbrev pub counted : (What → Bool) → Counts → What → Counts
-counted p c (Access owner rmid mask line hit way) = if p (Access owner rmid mask line hit way) then with_access hit c else c
+counted p c (Access hit way owner rmid mask line) = if p (Access hit way owner rmid mask line) then with_access hit c else c
 counted p c what = c
 
 -- counts with the accesses of these entries that pass the test
@@ -53,10 +66,10 @@ pub record AreAtMost (most : ℕ) (c : Counts) : Type 0 where
   pub hits : c.hits ≤ most
   pub misses : c.misses ≤ most
 
--- all counts of a tally are
-pub record IsFew (most : ℕ) (t : TallyValue) : Type 0 where
-  pub groups : (gid : ℕ) → AreAtMost most (at t gid)
-  pub all : AreAtMost most t.all
+-- all counts of a tally and a streak are
+pub record IsFewWith (most : ℕ) (t : TallyValue) (s : Streak) : Type 0 where
+  pub groups : (gid : ℕ) → AreAtMost most (at_with t s gid)
+  pub all : AreAtMost most (all_with t s)
 
 -- the accesses of each group and of all in the first slices
 pub record IsTallyOf (j : JournalsValue) (slices : ℕ) (t : TallyValue) : Type 0 where

@@ -49,5 +49,5 @@ TellTouches j hits = (k : ℕ) (h : TreeEntryValue) → At j.tree k h → TellsT
 
 -- whether an op is a touch that was accepted
 abbrev pub is_accepted_touch : Op → Reply → Bool
-is_accepted_touch (Touch path offset task cpu) Ok = true
+is_accepted_touch (Touch cpu path task offset) Ok = true
 is_accepted_touch op reply = false

@@ -1,9 +1,9 @@
 //! The lines of commands.
-ghost use Rattle.std.specs.Prelude.{◌≡◌, ◌+◌, ◌<◌, ◌≤◌, ◌^◌, ◌∷◌, [], ◌++◌, All, IfOk, OnOk, codes, decimal, length, None, Some};
+ghost use Rattle.std.specs.Prelude.{◌≡◌, ◌+◌, ◌<◌, ◌≤◌, ◌^◌, ◌∷◌, [], ◌++◌, All, IfOk, IsTrue, OnOk, codes, decimal, is_some, length, None, Some};
 ghost use Rattle.file_view.specs.Texts.{text_of};
 ghost use Rattle.report_text.specs.Commands.{barred, command_line, command_lines, op_said, read_lines, result_text};
 ghost use Rattle.report_text.specs.Made.{made_by, made_from};
-ghost use Rattle.report_text.specs.Replayed.{AreKnownGroups, HasFewLooks, IsAnswered, IsAnsweredAs, IsCounted, IsReplay};
+ghost use Rattle.report_text.specs.Replayed.{AreKnownGroups, HasFewLooks, IsAnsweredAs, IsCounted, IsOpOf, IsReplay};
 ghost use Rattle.report_text.specs.Touches.{TellsTouch};
 ghost use Rattle.run_law.specs.Entries.{entry_value};
 ghost use Rattle.run_law.specs.Runs.{IsRun};
@@ -126,20 +126,44 @@ fn push_command(
     journals: &Journals,
     k: u64,
     entry: &TreeEntry,
+    op: &Op,
     hit: Option<bool>,
 ) -> Result<(), NoMemory>
     requires replay { IsReplay script.now replay.old }
     requires hit { TellsTouch journals.now (entry_value entry.now) hit }
-    requires answered { IsAnswered script.now replay.old.tree.state (entry_value entry.now) }
+    requires op { IsOpOf script.now entry.now.thread entry.now.op op.now }
+    requires answered { IsAnsweredAs script.now.machine replay.old.tree.state (entry_value entry.now) op.now }
     requires counts { All (λ n. n ≤ 2 ^ 32) entry.now.looks.numbers }
     ensures text { OnOk result (report.new ≡ report.old ++ command_line script.now journals.now replay.old.tree.state k (entry_value entry.now)) }
     ensures kept { replay.new ≡ replay.old }
 {
     push_place(report, k, entry)?;
+    push_op_said(report, replay, script, journals, op, entry, hit)
+}
+
+// The op of an entry.
+fn op_of<'a>(script: &'a Script, entry: &TreeEntry) -> &'a Op
+    requires { IsTrue (is_some (op_at script.now entry.now.thread entry.now.op)) }
+    ensures { IsOpOf script.now entry.now.thread entry.now.op result.now }
+{
     match script.op(entry.thread, entry.op) {
-        Some(op) => push_op_said(report, replay, script, journals, op, entry, hit),
+        Some(op) => op,
         None => unreachable!(),
     }
+}
+
+// Takes this op of an entry once more.
+fn take_op(replay: &mut Replay, script: &Script, entry: &TreeEntry, op: &Op) -> Result<(), NoMemory>
+    requires replay { IsReplay script.now replay.old }
+    requires op { IsOpOf script.now entry.now.thread entry.now.op op.now }
+    requires looks { length entry.now.looks.numbers ≡ length (needs script.now.machine replay.old.tree.state op.now) }
+    requires epoch { replay.old.tree.epoch < MOST_WEIGHT }
+    ensures replay { OnOk result (IsReplay script.now replay.new) }
+    ensures state { OnOk result (replay.new.tree.state ≡ state_after script.now.machine replay.old.tree.state entry.now.looks.numbers (op_at script.now entry.now.thread entry.now.op)) }
+    ensures epoch { OnOk result (replay.new.tree.epoch ≡ replay.old.tree.epoch + 1) }
+    ensures made { OnOk result (replay.new.made ≡ replay.old.made ++ made_by replay.old.tree.state (op_at script.now entry.now.thread entry.now.op) entry.now.reply) }
+{
+    replay.take(op, entry.looks.items(), entry.reply)
 }
 
 /// Takes the op of an entry once more.
@@ -152,10 +176,7 @@ pub(crate) fn take(replay: &mut Replay, script: &Script, entry: &TreeEntry) -> R
     ensures epoch { OnOk result (replay.new.tree.epoch ≡ replay.old.tree.epoch + 1) }
     ensures made { OnOk result (replay.new.made ≡ replay.old.made ++ made_by replay.old.tree.state (op_at script.now entry.now.thread entry.now.op) entry.now.reply) }
 {
-    match script.op(entry.thread, entry.op) {
-        Some(op) => replay.take(op, entry.looks.items(), entry.reply),
-        None => unreachable!(),
-    }
+    take_op(replay, script, entry, op_of(script, entry))
 }
 
 /// Adds the lines of the commands, with what they read. The control groups that they made.
@@ -177,8 +198,18 @@ pub(crate) fn push_commands(
     let mut replay = Replay::create(alloc, script)?;
     for (k, entry) in tree.iter().enumerate() {
         let hit = touches.hit(k);
-        push_command(report, &mut replay, script, journals, k as u64, entry, hit)?;
-        take(&mut replay, script, entry)?;
+        let op = op_of(script, entry);
+        push_command(
+            report,
+            &mut replay,
+            script,
+            journals,
+            k as u64,
+            entry,
+            op,
+            hit,
+        )?;
+        take_op(&mut replay, script, entry, op)?;
     }
     Ok(replay.into_made())
 }

@@ -13,11 +13,20 @@ use crate::line_counts::{Occupancy, has_way};
 use cache_core::{SliceEntry, What};
 use machine::Machine;
 
-// Whether a set is of slice i.
+// The set of a line. There are as many sets as a power of two, so that nothing is divided.
+fn set_of(machine: &Machine, line: u64) -> u32
+    ensures set { result ≡ line % machine.now.sets }
+    ensures below { result < machine.now.sets }
+{
+    (line & u64::from(machine.sets - 1)) as u32
+}
+
+// Whether a set is of slice i. The slices of a cache are a power of two as well.
 fn is_of_slice(machine: &Machine, i: u32, set: u32) -> bool
     ensures { result ≡ is_own (shape_in (parameters_of machine.now) i) set }
 {
-    set % u32::from(machine.slices) == i % u32::from(machine.slices)
+    let last = u32::from(machine.slices - 1);
+    set & last == i & last
 }
 
 impl Occupancy {
@@ -27,7 +36,7 @@ impl Occupancy {
         requires few { IsAtMost MOST_COUNT self.old }
         ensures { AddsPlaces (shape_in (parameters_of machine.now) i) self.old self.new rmid (λ s w. (line % machine.now.sets == s) && (way == w)) }
     {
-        let set = machine.set_of(line);
+        let set = set_of(machine, line);
         if is_of_slice(machine, i, set) && way < machine.ways {
             self.put(set, way, rmid);
         }

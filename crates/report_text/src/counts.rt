@@ -1,6 +1,6 @@
 //! Counts of accesses, hits and misses.
 ghost use Rattle.std.specs.Prelude.{◌≡◌, ◌++◌, ◌^◌, OnOk};
-ghost use Rattle.report_text.specs.Tallies.{AreAtMost, counts_told, with_access};
+ghost use Rattle.report_text.specs.Tallies.{AreAtMost, added, counts_told, with_access};
 
 use crate::buffer::ReportText;
 use rc_base::NoMemory;
@@ -25,6 +25,7 @@ impl Counts {
     };
 
     /// One access more.
+    #[inline]
     pub(crate) fn with_access(self, hit: bool) -> Counts
         requires { AreAtMost (2 ^ 63) self }
         ensures { result ≡ with_access hit self }
@@ -33,6 +34,18 @@ impl Counts {
             accesses: self.accesses + 1,
             hits: self.hits + u64::from(hit),
             misses: self.misses + u64::from(!hit),
+        }
+    }
+
+    /// These and others together.
+    pub(crate) fn added(self, other: Counts) -> Counts
+        requires { AreAtMost (2 ^ 63) (added self other) }
+        ensures { result ≡ added self other }
+    {
+        Counts {
+            accesses: self.accesses + other.accesses,
+            hits: self.hits + other.hits,
+            misses: self.misses + other.misses,
         }
     }
 }

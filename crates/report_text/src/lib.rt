@@ -16,6 +16,7 @@ mod replay;
 pub mod report;
 mod results;
 mod slice_lines;
+mod streak;
 mod tally;
 mod touches;
 mod windows;

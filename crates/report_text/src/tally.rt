@@ -1,9 +1,10 @@
 //! The accesses, hits and misses of each group and of all groups.
 ghost use Rattle.std.specs.Prelude.{◌≡◌, ℕ, ◌+◌, ◌*◌, ◌<◌, ◌≤◌, ◌^◌, length, IfOk, OnOk};
 ghost use Rattle.report_text.specs.Counts.{is_access, is_access_of};
-ghost use Rattle.report_text.specs.Tallies.{AreAtMost, IsFew, IsTallyOf, at, counted, counted_all, nothing, with_access};
+ghost use Rattle.report_text.specs.Tallies.{AreAtMost, IsFewWith, IsTallyOf, added, all_with, at, at_with, counted, counted_all, nothing, with_access};
 
 use crate::counts::Counts;
+use crate::streak::Streak;
 use cache_core::{SliceEntry, What};
 use indexmap::IndexMap;
 use rc_base::NoMemory;
@@ -52,42 +53,60 @@ impl Tally {
         self.all
     }
 
-    // Counts an access of a group.
-    fn count(&mut self, gid: u32, hit: bool) -> Result<(), NoMemory>
-        requires { IsFew (2 ^ 63) self.old }
-        ensures own { OnOk result (at self.new gid ≡ with_access hit (at self.old gid)) }
+    // Adds accesses of a group.
+    fn add(&mut self, gid: u32, counts: Counts) -> Result<(), NoMemory>
+        requires group { AreAtMost (2 ^ 63) (added (at self.old gid) counts) }
+        requires all { AreAtMost (2 ^ 63) (added self.old.all counts) }
+        ensures own { OnOk result (at self.new gid ≡ added (at self.old gid) counts) }
         ensures others { OnOk result ((other : ℕ) → (other ≡ gid → ⊥) → at self.new other ≡ at self.old other) }
-        ensures all { OnOk result (self.new.all ≡ with_access hit self.old.all) }
+        ensures all { OnOk result (self.new.all ≡ added self.old.all counts) }
     {
-        let counts = self.of(gid).with_access(hit);
-        self.groups.insert(gid, counts)?;
-        self.all = self.all.with_access(hit);
+        let sum = self.of(gid).added(counts);
+        self.groups.insert(gid, sum)?;
+        self.all = self.all.added(counts);
         Ok(())
     }
 
-    // Counts an entry, where it is an access.
-    fn add(&mut self, what: &What) -> Result<(), NoMemory>
-        requires { IsFew (2 ^ 63) self.old }
-        ensures groups { OnOk result ((gid : ℕ) → at self.new gid ≡ counted (is_access_of gid) (at self.old gid) what.now) }
-        ensures all { OnOk result (self.new.all ≡ counted is_access self.old.all what.now) }
+    // The streak with one access more. One of another group begins a new streak, and the last one is added.
+    #[inline]
+    fn take_access(&mut self, streak: Streak, gid: u32, hit: bool) -> Result<Streak, NoMemory>
+        requires { IsFewWith (2 ^ 63) self.old streak }
+        ensures own { IfOk result (λ s. at_with self.new s gid ≡ with_access hit (at_with self.old streak gid)) }
+        ensures others { IfOk result (λ s. (other : ℕ) → (other ≡ gid → ⊥) → at_with self.new s other ≡ at_with self.old streak other) }
+        ensures all { IfOk result (λ s. all_with self.new s ≡ with_access hit (all_with self.old streak)) }
+    {
+        if streak.gid == gid {
+            return Ok(streak.with_access(hit));
+        }
+        self.add(streak.gid, streak.counts)?;
+        Ok(Streak::of(gid).with_access(hit))
+    }
+
+    // The streak with an entry more, where it is an access.
+    #[inline]
+    fn take(&mut self, streak: Streak, what: &What) -> Result<Streak, NoMemory>
+        requires { IsFewWith (2 ^ 63) self.old streak }
+        ensures groups { IfOk result (λ s. (gid : ℕ) → at_with self.new s gid ≡ counted (is_access_of gid) (at_with self.old streak gid) what.now) }
+        ensures all { IfOk result (λ s. all_with self.new s ≡ counted is_access (all_with self.old streak) what.now) }
     {
         match what {
-            What::Access { owner, hit, .. } => self.count(owner.0, *hit),
-            _ => Ok(()),
+            What::Access { owner, hit, .. } => self.take_access(streak, owner.0, *hit),
+            _ => Ok(streak),
         }
     }
 
-    // Counts the entries of a slice.
-    fn add_all(&mut self, entries: &[SliceEntry]) -> Result<(), NoMemory>
-        requires { IsFew (31 * 2 ^ 58) self.old }
-        ensures groups { OnOk result ((gid : ℕ) → at self.new gid ≡ counted_all (is_access_of gid) (at self.old gid) entries.now) }
-        ensures all { OnOk result (self.new.all ≡ counted_all is_access self.old.all entries.now) }
+    // The streak after the entries of a slice. The streaks before it are added.
+    fn take_all(&mut self, streak: Streak, entries: &[SliceEntry]) -> Result<Streak, NoMemory>
+        requires { IsFewWith (31 * 2 ^ 58) self.old streak }
+        ensures groups { IfOk result (λ s. (gid : ℕ) → at_with self.new s gid ≡ counted_all (is_access_of gid) (at_with self.old streak gid) entries.now) }
+        ensures all { IfOk result (λ s. all_with self.new s ≡ counted_all is_access (all_with self.old streak) entries.now) }
         ensures few { length entries.now < 2 ^ 58 }
     {
+        let mut last = streak;
         for entry in entries {
-            self.add(&entry.what)?;
+            last = self.take(last, &entry.what)?;
         }
-        Ok(())
+        Ok(last)
     }
 
     /// The counts in the slices of a run, of which there are so many.
@@ -97,9 +116,11 @@ impl Tally {
         ensures { IfOk result (λ t. IsTallyOf journals.now slices t) }
     {
         let mut tally = Tally::create(alloc);
+        let mut streak = Streak::of(0);
         for i in 0..slices {
-            tally.add_all(journals.slice(i))?;
+            streak = tally.take_all(streak, journals.slice(i))?;
         }
+        tally.add(streak.gid, streak.counts)?;
         Ok(tally)
     }
 }

@@ -30,7 +30,7 @@ impl Model for Touches {
 }
 
 impl Touches {
-    /// The touches of a run, in one pass over the entries of its slices. NoMemory where the system is out of memory.
+    /// The touches of a run, in one pass over the entries of its slices where there are commands. NoMemory where the system is out of memory.
     pub fn of(alloc: Global, script: &Script, journals: &Journals) -> Result<Touches, NoMemory>
         requires run { IsRun script.now journals.now }
         ensures count { IfOk result (λ t. length t ≡ length journals.now.tree) }
@@ -38,6 +38,9 @@ impl Touches {
     {
         let tree = journals.tree();
         let mut hits = vec![in alloc; None; tree.len()]?;
+        if tree.is_empty() {
+            return Ok(Touches { hits });
+        }
         for i in 0..slices_of(script) {
             note_all(&mut hits, tree, journals.slice(i));
         }

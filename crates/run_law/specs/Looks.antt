@@ -16,7 +16,7 @@ use Rattle.tree_law.specs.Steps.{needs}
 
 -- the number of a look of this RMID
 abbrev pub look_number : ℕ → What → Option ℕ
-look_number rmid (whats.Access owner r mask line hit way) = None
+look_number rmid (whats.Access hit way owner r mask line) = None
 look_number rmid whats.Raise = None
 look_number rmid whats.Flush = None
 look_number rmid (whats.Lock mask first_line) = None

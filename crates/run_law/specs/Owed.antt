@@ -17,7 +17,7 @@ use Rattle.tree_law.specs.declared.follow.Follow.TheVariants as follows
 
 -- an entry but for what the slice itself decides: the hit and the way of an access, and the number of a look
 abbrev pub undecided : What → What
-undecided (whats.Access owner rmid mask line hit way) = whats.Access owner rmid mask line false 0
+undecided (whats.Access hit way owner rmid mask line) = whats.Access false 0 owner rmid mask line
 undecided whats.Raise = whats.Raise
 undecided whats.Flush = whats.Flush
 undecided (whats.Lock mask first_line) = whats.Lock mask first_line
@@ -43,7 +43,7 @@ abbrev pub what_of : Follow → What
 what_of (follows.Raise domain) = whats.Raise
 what_of (follows.Flush domain) = whats.Flush
 what_of (follows.Lock domain mask first_line) = whats.Lock mask first_line
-what_of (follows.Touch tag line) = whats.Access tag.owner tag.rmid tag.mask line false 0
+what_of (follows.Touch tag line) = whats.Access false 0 tag.owner tag.rmid tag.mask line
 
 -- whether a follow-up is entered in slice i: a touch in the slice of its line in its tag's domain, and the others in each
 -- slice of their domain
@@ -70,4 +70,4 @@ owed_by_command script tree i k op =
 unfoldable pub owed_by_access : ScriptValue → List TreeEntryValue → ℕ → ℕ → ℕ → ℕ → Owed
 owed_by_access script tree epoch task cpu addr =
     let owned = resolve script.machine (tree_after script (take epoch tree)) task cpu in
-    record { epoch = epoch; what = whats.Access owned.owner owned.rmid owned.mask (line_of addr) false 0 }
+    record { epoch = epoch; what = whats.Access false 0 owned.owner owned.rmid owned.mask (line_of addr) }

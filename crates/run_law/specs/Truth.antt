@@ -30,7 +30,7 @@ pub record IsOwed (script : ScriptValue) (tree : List TreeEntryValue) (i : ℕ) 
 
 -- whether an entry with this content, of this op, is the Access of an access
 abbrev pub is_of_access : Op → What → Bool
-is_of_access (Access task cpu addr) (whats.Access owner rmid mask line hit way) = true
+is_of_access (Access task cpu addr) (whats.Access hit way owner rmid mask line) = true
 is_of_access op what = false
 
 -- The Access of an access has an epoch that the tree had, and the line of its address with the owner, the RMID and the mask

@@ -35,7 +35,7 @@ use Rattle.run_windows.proofs.StepFollows.{IsGivenFollow, IsRegionOf, IsResolved
 
 -- An entry of a domain's slice says what a state gives: an access an owner with a mask, a lock the region.
 abbrev pub IsGiven : Parameters → ℕ → State → What → Type 0
-IsGiven m domain s (whats.Access owner rmid mask line hit way) = IsResolved m s domain owner mask
+IsGiven m domain s (whats.Access hit way owner rmid mask line) = IsResolved m s domain owner mask
 IsGiven m domain s (whats.Lock mask first_line) = IsRegionOf s domain mask first_line
 IsGiven m domain s whats.Raise = Unit {0}
 IsGiven m domain s whats.Flush = Unit {0}
@@ -43,7 +43,7 @@ IsGiven m domain s (whats.Look rmid lines) = Unit {0}
 
 -- what the slice decides says nothing of it
 undecided-given : (m : Parameters) (domain : ℕ) (s : State) (what : What) → IsGiven m domain s (undecided what) → IsGiven m domain s what
-undecided-given m domain s (whats.Access owner rmid mask line hit way) given = given
+undecided-given m domain s (whats.Access hit way owner rmid mask line) given = given
 undecided-given m domain s whats.Raise given = tt
 undecided-given m domain s whats.Flush given = tt
 undecided-given m domain s (whats.Lock mask first_line) given = given
@@ -156,12 +156,12 @@ domain_of-access script j i p e task cpu addr lawful run within there is =
 
 -- the owner and the mask of an access
 abbrev owner_in : Gid → What → Gid
-owner_in d (whats.Access owner rmid mask line hit way) = owner
+owner_in d (whats.Access hit way owner rmid mask line) = owner
 owner_in d what = d
 
 -- the mask of an access
 abbrev mask_in_access : What → ℕ
-mask_in_access (whats.Access owner rmid mask line hit way) = mask
+mask_in_access (whats.Access hit way owner rmid mask line) = mask
 mask_in_access what = 0
 
 -- an entry that pays for an access
@@ -174,7 +174,7 @@ IsTrueAccess-given script j i e task cpu addr exists domain paid = by_what e.wha
     s = state_at script j e.epoch
 
     by_what : (what : What) → undecided what ≡ (owed_by_access script j.tree e.epoch task cpu addr).what → IsGiven script.machine (domain_in script.machine i) s what
-    by_what (whats.Access owner rmid mask line hit way) is = record {
+    by_what (whats.Access hit way owner rmid mask line) is = record {
       task = task;
       cpu = cpu;
       exists = exists;

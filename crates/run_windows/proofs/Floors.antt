@@ -14,7 +14,7 @@ use Rattle.run_windows.proofs.Epochs.{At-within}
 
 -- an access
 abbrev pub is_access : What → Bool
-is_access (Access owner rmid mask line hit way) = true
+is_access (Access hit way owner rmid mask line) = true
 is_access what = false
 
 -- the floor is no less than the epoch of an entry that sets it
@@ -25,7 +25,7 @@ floor_of-at (e ∷ es) (suc k) d within sets = let rest : (get_or es k d).epoch 
 
 -- an access is not below the floor
 floor_of-le : (m : Shape) (before : List SliceEntry) (epoch : ℕ) (what : What) → is_access what ≡ true → MayHappen m before epoch what → floor_of before ≤ epoch
-floor_of-le m before epoch (Access owner rmid mask line hit way) access may = may.0
+floor_of-le m before epoch (Access hit way owner rmid mask line) access may = may.0
 floor_of-le m before epoch Raise access may = absurd (false≢true access)
 floor_of-le m before epoch Flush access may = absurd (false≢true access)
 floor_of-le m before epoch (Lock mask first_line) access may = absurd (false≢true access)
@@ -47,7 +47,7 @@ epoch-le m es q p earlier e legal first second before sets access =
 
 -- what empties a slice sets its floor
 pub sets_floor-empties : (what : What) → empties what ≡ true → sets_floor what ≡ true
-sets_floor-empties (Access owner rmid mask line hit way) h = h
+sets_floor-empties (Access hit way owner rmid mask line) h = h
 sets_floor-empties Raise h = refl
 sets_floor-empties Flush h = refl
 sets_floor-empties (Lock mask first_line) h = refl

@@ -31,7 +31,7 @@ use Rattle.run_windows.proofs.StepFollows.{IsRegionOf}
 
 -- what an entry says in a state with the region
 spares-given : (m : Parameters) (s : State) (domain : ℕ) (r : Region) (what : What) → IsSound m s → HasRegion domain r s → empties what ≡ false → IsGiven m domain s what → Spares r.mask what
-spares-given m s domain r (Access owner rmid its line hit way) sound there goes_on given =
+spares-given m s domain r (Access hit way owner rmid its line) sound there goes_on given =
     ap (λ k. overlaps k r.mask) given.mask_is ∙ mask_of_group-region m s sound domain r (owner_of s given.task given.cpu) there (owner_of-counted m s sound given.task given.cpu given.exists)
 spares-given m s domain r Raise sound there goes_on given = tt
 spares-given m s domain r Flush sound there goes_on given = absurd (true≢false goes_on)

@@ -156,7 +156,7 @@ module _ (m : Parameters) (s : State) (few : m.domains ≤ 8) where
   after_accepted-few k (ops.Write path text) = write-few path text
   after_accepted-few k (ops.Flush None) = each-few (λ d. follows.Flush d)
   after_accepted-few k (ops.Flush (Some domain)) = omega arith
-  after_accepted-few k (ops.Touch path offset task cpu) = at (touch.touched s path)
+  after_accepted-few k (ops.Touch cpu path task offset) = at (touch.touched s path)
     where
       at : (o : Option _) → length (touch.follow m s k offset task cpu o) ≤ 8
       at None = omega arith

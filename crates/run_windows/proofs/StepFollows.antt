@@ -131,7 +131,7 @@ after_accepted-given : (m : Parameters) (s : State) (k : ℕ) (op : Op) (looks :
 after_accepted-given m s k (ops.Rmdir path) looks reply fits within = map-raise_given m _ (range_with_len 0 m.domains)
 after_accepted-given m s k (ops.Write path text) looks reply fits within = λ i d lt. status-given m (write.accepted m s path text looks) reply (get_or (write.after m s path text) i d) (write-given m s path text looks within i d lt)
 after_accepted-given m s k (ops.Flush domain) looks reply fits within = flush-given m s domain
-after_accepted-given m s k (ops.Touch path offset task cpu) looks reply fits within = touch-given m s k path offset task cpu fits.1
+after_accepted-given m s k (ops.Touch cpu path task offset) looks reply fits within = touch-given m s k path offset task cpu fits.1
 after_accepted-given m s k op looks reply fits within = All-nil (IsGivenFollow m _)
 
 -- What follows a command that fits says what the state after it gives.

@@ -29,7 +29,7 @@ use Rattle.run_windows.proofs.Owners.{IsValid-exclusive, mask_of_group-exclusive
 
 -- what an entry says in a state in which the group is exclusive
 respects-given : (m : Parameters) (s : State) (domain : ℕ) (group : Gid) (mask : ℕ) (what : What) → IsSound m s → domain < m.domains → (is_access what ≡ true → IsExclusive domain group mask s) → empties what ≡ false → IsGiven m domain s what → Respects group.0 mask what
-respects-given m s domain group mask (Access owner rmid its line hit way) sound exists exclusive goes_on given =
+respects-given m s domain group mask (Access hit way owner rmid its line) sound exists exclusive goes_on given =
     let holds = mask_of_group-exclusive m s sound domain group (owner_of s given.task given.cpu) mask exists (exclusive refl) (owner_of-counted m s sound given.task given.cpu given.exists) in
     subst (λ (o : Gid). MatchBool (o.0 == group.0) (its ≡ mask) (overlaps its mask ≡ false)) (sym given.owner_is)
     (subst (λ k. MatchBool ((owner_of s given.task given.cpu).0 == group.0) (k ≡ mask) (overlaps k mask ≡ false)) (sym given.mask_is) holds)
@@ -40,7 +40,7 @@ respects-given m s domain group mask (Look rmid lines) sound exists exclusive go
 
 -- an entry that empties the slice in such a state
 opens-given : (m : Parameters) (s : State) (domain : ℕ) (group : Gid) (mask : ℕ) (what : What) → IsSound m s → IsExclusive domain group mask s → empties what ≡ true → IsGiven m domain s what → Opens mask what
-opens-given m s domain group mask (Access owner rmid its line hit way) sound exclusive empty given = absurd (false≢true empty)
+opens-given m s domain group mask (Access hit way owner rmid its line) sound exclusive empty given = absurd (false≢true empty)
 opens-given m s domain group mask Raise sound exclusive empty given = absurd (false≢true empty)
 opens-given m s domain group mask Flush sound exclusive empty given = tt
 opens-given m s domain group mask (Lock others first_line) sound exclusive empty given = ap (λ k. overlaps k mask) (sym given.mask_is) ∙ overlaps-region m s sound domain group mask given.region given.there exclusive

@@ -31,7 +31,7 @@ no_stay = record { gid = record { 0 = 0 }; mask = 0; last = 0 }
 
 -- and past the end of a list of entries
 abbrev pub no_entry : SliceEntry
-no_entry = record { thread = 0; op = 0; epoch = 0; what = Access (record { 0 = 0 }) 0 0 0 false 0 }
+no_entry = record { thread = 0; op = 0; epoch = 0; what = Access false 0 (record { 0 = 0 }) 0 0 0 }
 
 module _ (script : ScriptValue) (j : JournalsValue) where
   -- the entries of a slice

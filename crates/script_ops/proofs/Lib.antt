@@ -1,3 +1,4 @@
+pub mod Decimals
 pub mod FirstLine
 pub mod Threads
 pub mod laws

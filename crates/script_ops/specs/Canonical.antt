@@ -27,7 +27,7 @@ op_text names (ops.Flush None) = codes "flush"
 op_text names (ops.Flush (Some domain)) = codes "flush " ++ decimal domain
 op_text names ops.Tick = codes "tick"
 op_text names (ops.Access task cpu addr) = codes "access " ++ decimal task ++ codes " " ++ decimal cpu ++ codes " " ++ decimal addr
-op_text names (ops.Touch path offset task cpu) = codes "touch " ++ path_text names path ++ codes " " ++ decimal offset ++ codes " " ++ decimal task ++ codes " " ++ decimal cpu
+op_text names (ops.Touch cpu path task offset) = codes "touch " ++ path_text names path ++ codes " " ++ decimal offset ++ codes " " ++ decimal task ++ codes " " ++ decimal cpu
 
 -- the numbers of the names in an op
 abbrev pub op_ids : Op → List ℕ
@@ -39,7 +39,7 @@ op_ids (ops.List path) = path_ids path
 op_ids (ops.Flush domain) = []
 op_ids ops.Tick = []
 op_ids (ops.Access task cpu addr) = []
-op_ids (ops.Touch path offset task cpu) = path_ids path
+op_ids (ops.Touch cpu path task offset) = path_ids path
 
 -- the numbers of the names of components in an op
 abbrev pub op_component_ids : Op → List ℕ
@@ -51,7 +51,7 @@ op_component_ids (ops.List path) = component_ids path
 op_component_ids (ops.Flush domain) = []
 op_component_ids ops.Tick = []
 op_component_ids (ops.Access task cpu addr) = []
-op_component_ids (ops.Touch path offset task cpu) = component_ids path
+op_component_ids (ops.Touch cpu path task offset) = component_ids path
 
 -- an op whose components have short names
 abbrev pub IsShort : List (List ℕ) → Op → Type 0

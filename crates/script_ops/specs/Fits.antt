@@ -11,7 +11,7 @@ use Rattle.script_ops.specs.declared.op.Op.TheVariants as ops
 -- its address is below 2 ^ 48, and its text is no longer than a script allows.
 abbrev pub Fits : Parameters → List ℕ → Op → Type 0
 Fits m tasks (ops.Access task cpu addr) = Contains tasks task × (cpu < m.cpus) × (addr < 2 ^ 48)
-Fits m tasks (ops.Touch path offset task cpu) = Contains tasks task × (cpu < m.cpus)
+Fits m tasks (ops.Touch cpu path task offset) = Contains tasks task × (cpu < m.cpus)
 Fits m tasks (ops.Flush (Some domain)) = domain < m.domains
 Fits m tasks (ops.Write path text) = length text ≤ MOST_TEXT_BYTES
 Fits m tasks (ops.Read (File (MonDomain holder domain) kind)) = domain < m.domains

@@ -36,7 +36,7 @@ weight_of m (ops.List path) = 1
 weight_of m (ops.Flush domain) = slices_of m + 1
 weight_of m ops.Tick = looks_weight m
 weight_of m (ops.Access task cpu addr) = 1
-weight_of m (ops.Touch path offset task cpu) = 2
+weight_of m (ops.Touch cpu path task offset) = 2
 
 -- what ops weigh together
 abbrev pub weights_of : Parameters → List Op → ℕ

@@ -5,10 +5,11 @@ use rc_base::NoMemory;
 use std::alloc::Global;
 use std::marker::Model;
 
-/// A text of an op. Contracts see its bytes.
+/// A text of an op. Contracts see its bytes. It takes one pointer, since a script of millions of accesses has room for a text in
+/// each of its ops.
 #[derive(Drop)]
 pub struct Bytes {
-    text: Vec<u8>,
+    text: Box<Vec<u8>>,
 }
 
 impl Model for Bytes {
@@ -16,7 +17,7 @@ impl Model for Bytes {
 
     ghost Value = { List ℕ };
 
-    ghost view = { λ b. b.text.items };
+    ghost view = { λ b. b.text.value.items };
 }
 
 impl Bytes {
@@ -24,15 +25,15 @@ impl Bytes {
     pub fn copy(alloc: Global, text: &[u8]) -> Result<Bytes, NoMemory>
         ensures { IfOk result (λ b. b ≡ text.now) }
     {
-        let text = Vec::from_slice(alloc, text)?;
-        Ok(Bytes { text })
+        Bytes::from_vec(alloc, Vec::from_slice(alloc, text)?)
     }
 
     /// These bytes.
-    pub fn from_vec(text: Vec<u8>) -> Bytes
-        ensures { result ≡ text.items }
+    pub fn from_vec(alloc: Global, text: Vec<u8>) -> Result<Bytes, NoMemory>
+        ensures { IfOk result (λ b. b ≡ text.items) }
     {
-        Bytes { text }
+        let text = Box::new(alloc, text)?;
+        Ok(Bytes { text })
     }
 
     /// The bytes.

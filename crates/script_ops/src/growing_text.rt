@@ -1,15 +1,14 @@
 //! A text that grows.
-ghost use Rattle.std.specs.Prelude.{◌≡◌, [], ◌++◌, IfOk, OnOk, decimal, length};
+ghost use Rattle.std.specs.Prelude.{◌≡◌, ◌+◌, ◌≤◌, [], ◌∷◌, ◌++◌, IfOk, OnOk, decimal, length, vec_len, vec_capacity};
 ghost use Rattle.path_names.specs.NamesIn.{path_ids, AreKnown};
 ghost use Rattle.path_names.specs.PathTexts.{path_text};
 
-use num_text::push_dec;
 use path_names::{Names, PathRef, push_path};
-use rc_base::{NoMemory, TextBuf};
+use rc_base::NoMemory;
 use std::alloc::Global;
 use std::marker::Model;
 
-// Room for the decimal text of any number below 2^64.
+// The most digits of a number below 2^64.
 const DECIMAL_BYTES: usize = 20;
 
 /// A text that grows. Contracts see its bytes. An error of its calls is out of memory, after which a part of what was to be
@@ -17,18 +16,42 @@ const DECIMAL_BYTES: usize = 20;
 #[derive(Drop)]
 pub struct GrowingText {
     text: Vec<u8>,
-    digits: TextBuf,
 }
 
 impl Model for GrowingText {
-    ghost use Rattle.std.specs.Prelude.{◌≡◌, ◌≤◌, List, ℕ, []};
-    ghost use Rattle.script_ops.specs.declared.growing_text.TheConstants.{DECIMAL_BYTES};
+    ghost use Rattle.std.specs.Prelude.{List, ℕ};
 
     ghost Value = { List ℕ };
 
     ghost view = { λ t. t.text.items };
+}
 
-    ghost invariant = { λ t. (t.digits.bytes ≡ []) × (DECIMAL_BYTES ≤ t.digits.spare) };
+// Makes room for so many bytes more.
+#[inline]
+fn make_room(text: &mut Vec<u8>, bytes: usize) -> Result<(), NoMemory>
+    ensures items { text.new.items ≡ text.old.items }
+    ensures room { OnOk result (vec_len text.new + bytes ≤ vec_capacity text.new) }
+{
+    if text.capacity() - text.len() >= bytes {
+        return Ok(());
+    }
+    text.reserve(bytes)?;
+    Ok(())
+}
+
+// Adds the digits of a number, for which there is room.
+fn push_digits(text: &mut Vec<u8>, n: u64)
+    requires { vec_len text.old + length (decimal n) ≤ vec_capacity text.old }
+    ensures items { text.new.items ≡ text.old.items ++ decimal n }
+    ensures len { vec_len text.new ≡ vec_len text.old + length (decimal n) }
+    ensures capacity { vec_capacity text.new ≡ vec_capacity text.old }
+{
+    if n < 10 {
+        text.push_reserved(b'0' + n as u8);
+    } else {
+        push_digits(text, n / 10);
+        text.push_reserved(b'0' + (n % 10) as u8);
+    }
 }
 
 impl GrowingText {
@@ -36,9 +59,8 @@ impl GrowingText {
     pub fn create(alloc: Global) -> Result<GrowingText, NoMemory>
         ensures { IfOk result (λ t. t ≡ []) }
     {
-        let digits = TextBuf::with_room(alloc, DECIMAL_BYTES)?;
         let text = Vec::new(alloc);
-        Ok(GrowingText { text, digits })
+        Ok(GrowingText { text })
     }
 
     /// The bytes.
@@ -49,26 +71,41 @@ impl GrowingText {
     }
 
     /// Adds these bytes.
+    #[inline]
     pub fn push(&mut self, piece: &[u8]) -> Result<(), NoMemory>
         ensures { OnOk result (self.new ≡ self.old ++ piece.now) }
     {
-        match self.text.extend_from_slice(piece) {
-            Ok(()) => Ok(()),
-            Err(_) => Err(NoMemory),
+        match piece {
+            [byte] => self.push_byte(*byte),
+            _ => self.push_piece(piece),
         }
+    }
+
+    // Adds one byte.
+    #[inline]
+    fn push_byte(&mut self, byte: u8) -> Result<(), NoMemory>
+        ensures { OnOk result (self.new ≡ self.old ++ byte ∷ []) }
+    {
+        make_room(&mut self.text, 1)?;
+        self.text.push_reserved(byte);
+        Ok(())
+    }
+
+    // Adds any number of bytes.
+    fn push_piece(&mut self, piece: &[u8]) -> Result<(), NoMemory>
+        ensures { OnOk result (self.new ≡ self.old ++ piece.now) }
+    {
+        self.text.extend_from_slice(piece)?;
+        Ok(())
     }
 
     /// Adds a number in decimal.
     pub fn push_decimal(&mut self, n: u64) -> Result<(), NoMemory>
         ensures { OnOk result (self.new ≡ self.old ++ decimal n) }
     {
-        push_dec(n, &mut self.digits);
-        let added = self.text.extend_from_slice(self.digits.bytes());
-        self.digits.clear();
-        match added {
-            Ok(()) => Ok(()),
-            Err(_) => Err(NoMemory),
-        }
+        make_room(&mut self.text, DECIMAL_BYTES)?;
+        push_digits(&mut self.text, n);
+        Ok(())
     }
 
     /// Adds the canonical text of a path.

@@ -3,7 +3,8 @@
 use crate::bytes::Bytes;
 use path_names::PathRef;
 
-/// One op of a thread: a file command or a memory access (this project's profile). All but `Access` are commands.
+/// One op of a thread: a file command or a memory access (this project's profile). All but `Access` are commands. Fields lie in
+/// memory in the order in which they stand here; in this one an op takes 48 bytes.
 #[derive(Drop)]
 pub enum Op {
     /// `mkdir PATH`: makes a group.
@@ -41,9 +42,9 @@ pub enum Op {
     },
     /// `touch PATH OFFSET TASK CPU`: a task that runs on a CPU uses a byte of a group's pseudo-locked region.
     Touch {
-        path: PathRef,
-        offset: u64,
-        task: u32,
         cpu: u8,
+        path: PathRef,
+        task: u32,
+        offset: u64,
     },
 }

@@ -94,9 +94,9 @@ find-argument_fault kinds.Touch s rest =
     rw h (touch_last s t.1.at task t.1.task t.1.cpu found)))))
   where
     -- a touch weighs the same whatever its task
-    touch_last : (s : ReaderState) (at task named cpu : ℕ) (found : Option Named) → cond (is_over_at s (λ path. ops.Touch path at named cpu) found) (Some TooLarge) None ≡ fault_of (or_fault found TooLarge >>= λ p. with_op (with_names s p.1) (ops.Touch p.0 at task cpu))
+    touch_last : (s : ReaderState) (at task named cpu : ℕ) (found : Option Named) → cond (is_over_at s (λ path. ops.Touch cpu path named at) found) (Some TooLarge) None ≡ fault_of (or_fault found TooLarge >>= λ p. with_op (with_names s p.1) (ops.Touch cpu p.0 task at))
     touch_last s at task named cpu None = refl
-    touch_last s at task named cpu (Some p) = cond-with_ops (with_names s p.1) 2 (ops.Touch p.0 at task cpu ∷ [])
+    touch_last s at task named cpu (Some p) = cond-with_ops (with_names s p.1) 2 (ops.Touch cpu p.0 task at ∷ [])
 
 -- the faults of a line that is no comment
 find-said_fault : (s : ReaderState) (words : List (List ℕ)) (rest : List ℕ) → find (said_fault s words rest) (NoMachine ∷ UnknownWord ∷ OutOfPlace ∷ argument_faults) ≡ fault_of (said_by s words rest)

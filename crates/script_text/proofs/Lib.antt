@@ -4,8 +4,10 @@ pub mod FaultOrder
 pub mod FirstWord
 pub mod FitOps
 pub mod Guards
+pub mod KindNames
 pub mod Limits
 pub mod NextLine
+pub mod NumberReading
 pub mod PathNames
 pub mod Places
 pub mod Readiness

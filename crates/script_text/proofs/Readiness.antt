@@ -171,7 +171,7 @@ IsReady-means kinds.Touch s rest stands sound ready =
     IfOk-or_fault IsReady (named_in s t.0) BadPath _ (λ found h.
     IfOk-or_fault IsReady (task_of s.tasks t.1.task) UnknownTask _ (λ task g.
     IfOk-or_fault IsReady found TooLarge _ (λ p i.
-    IsReady-with_path s (λ path. ops.Touch path t.1.at task t.1.cpu) p stands sound ready.fit (AddsShort-named s.machine.domains s.names t.0 p (h ∙ ap Some i)) (task_of-declared s.tasks t.1.task task g, touch_of-fits s.machine (words rest) t e) (λ path. refl)))))
+    IsReady-with_path s (λ path. ops.Touch t.1.cpu path task t.1.at) p stands sound ready.fit (AddsShort-named s.machine.domains s.names t.0 p (h ∙ ap Some i)) (task_of-declared s.tasks t.1.task task g, touch_of-fits s.machine (words rest) t e) (λ path. refl)))))
 
 -- after any words
 IsReady-said_by : (s : ReaderState) (words : List (List ℕ)) (rest : List ℕ) → IsSound s → IsReady s → IfOk (said_by s words rest) IsReady

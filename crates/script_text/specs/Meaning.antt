@@ -133,7 +133,7 @@ means kinds.Touch s rest = do
   found ← or_fault (named_in s t.0) BadPath
   task ← or_fault (task_of s.tasks t.1.task) UnknownTask
   p ← or_fault found TooLarge
-  with_op (with_names s p.1) (ops.Touch p.0 t.1.at task t.1.cpu)
+  with_op (with_names s p.1) (ops.Touch t.1.cpu p.0 task t.1.at)
 
 -- what a line means that begins with this word
 unfoldable pub word_means : ReaderState → List ℕ → List ℕ → Result ReaderState LineFault

@@ -96,7 +96,7 @@ argument_fault kinds.Sweep s rest TooLarge = passes (λ (w : Sweep). is_over s w
 argument_fault kinds.Touch s rest BadArgument = is_none (touch_of s.machine (words rest))
 argument_fault kinds.Touch s rest BadPath = passes (λ (t : List ℕ × Use). no_path s t.0) (touch_of s.machine (words rest))
 argument_fault kinds.Touch s rest UnknownTask = passes (λ (t : List ℕ × Use). no_task s t.1.task) (touch_of s.machine (words rest))
-argument_fault kinds.Touch s rest TooLarge = passes (λ (t : List ℕ × Use). path_over s (λ path. ops.Touch path t.1.at t.1.task t.1.cpu) t.0) (touch_of s.machine (words rest))
+argument_fault kinds.Touch s rest TooLarge = passes (λ (t : List ℕ × Use). path_over s (λ path. ops.Touch t.1.cpu path t.1.task t.1.at) t.0) (touch_of s.machine (words rest))
 argument_fault kind s rest fault = false
 
 -- the faults of a line that begins with this word

@@ -13,6 +13,9 @@ use crate::reader::Reader;
 use crate::tasks::declared_task;
 use script_ops::Op;
 
+// What an access weighs on any machine.
+const ACCESS_WEIGHT: u64 = 1;
+
 impl Reader {
     /// `access TASK CPU ADDR`
     #[tactic(auto, unfolding(crate::specs::Meaning::means))]
@@ -40,7 +43,7 @@ impl Reader {
         };
         let cpu = used.cpu;
         let addr = used.at;
-        self.push(Op::Access { task, cpu, addr })
+        self.push_weighing(Op::Access { task, cpu, addr }, ACCESS_WEIGHT)
     }
 
     /// `sweep TASK CPU ADDR COUNT STRIDE`

@@ -33,6 +33,16 @@ fn first_byte(text: &[u8]) -> Option<(u8, &[u8])>
     Some((*byte, rest))
 }
 
+// The text of these bytes.
+fn boxed(alloc: Global, bytes: Vec<u8>) -> Result<Bytes, LineError>
+    ensures { Unescapes result (Some bytes.items) }
+{
+    match Bytes::from_vec(alloc, bytes) {
+        Ok(text) => Ok(text),
+        Err(_) => Err(LineError::NoMemory),
+    }
+}
+
 /// A text with its escapes read.
 pub fn unescape(alloc: Global, text: &[u8]) -> Result<Bytes, LineError>
     ensures { Unescapes result (unescaped text.now) }
@@ -41,7 +51,7 @@ pub fn unescape(alloc: Global, text: &[u8]) -> Result<Bytes, LineError>
     let mut left = text;
     'bytes: loop {
         if left.is_empty() {
-            return Ok(Bytes::from_vec(bytes));
+            return boxed(alloc, bytes);
         }
         let Some((byte, rest)) = first_byte(left) else {
             return Err(LineError::Fault(LineFault::BadEscape));

@@ -1,6 +1,6 @@
 //! The kinds of line.
 ghost use Rattle.std.specs.Prelude.{◌≡◌};
-ghost use Rattle.script_text.specs.Kinds.{part_kind, command_kind, access_kind, kind_of, may_stand};
+ghost use Rattle.script_text.specs.Kinds.{kind_name, kind_with, kind_with_t, kind_of, may_stand};
 
 use rc_base::is_text;
 
@@ -39,75 +39,94 @@ pub enum Kind {
     Touch,
 }
 
-#[tactic(auto, unfolding(crate::specs::Kinds::part_kind))]
-fn part_kind(word: &[u8]) -> Option<Kind>
-    ensures { result ≡ part_kind word.now }
-{
-    if is_text(word, b"machine") {
-        Some(Kind::Machine)
-    } else if is_text(word, b"tasks") {
-        Some(Kind::Tasks)
-    } else if is_text(word, b"phase") {
-        Some(Kind::Phase)
-    } else if is_text(word, b"order") {
-        Some(Kind::Order)
-    } else if is_text(word, b"thread") {
-        Some(Kind::Thread)
-    } else {
-        None
+impl Kind {
+    // The word that a line of this kind begins with.
+    fn name(self) -> &'static [u8]
+        ensures { result.now ≡ kind_name self }
+    {
+        match self {
+            Kind::Machine => b"machine",
+            Kind::Tasks => b"tasks",
+            Kind::Phase => b"phase",
+            Kind::Order => b"order",
+            Kind::Thread => b"thread",
+            Kind::Mkdir => b"mkdir",
+            Kind::Rmdir => b"rmdir",
+            Kind::Write => b"write",
+            Kind::Read => b"read",
+            Kind::List => b"list",
+            Kind::Flush => b"flush",
+            Kind::Tick => b"tick",
+            Kind::Access => b"access",
+            Kind::Sweep => b"sweep",
+            Kind::Touch => b"touch",
+        }
     }
 }
 
-#[tactic(auto, unfolding(crate::specs::Kinds::command_kind))]
-fn command_kind(word: &[u8]) -> Option<Kind>
-    ensures { result ≡ command_kind word.now }
+// The only kind whose word can begin with a `t` and this byte.
+fn kind_with_t(second: u8) -> Kind
+    ensures { result ≡ kind_with_t second }
 {
-    if is_text(word, b"mkdir") {
-        Some(Kind::Mkdir)
-    } else if is_text(word, b"rmdir") {
-        Some(Kind::Rmdir)
-    } else if is_text(word, b"write") {
-        Some(Kind::Write)
-    } else if is_text(word, b"read") {
-        Some(Kind::Read)
-    } else if is_text(word, b"list") {
-        Some(Kind::List)
-    } else if is_text(word, b"flush") {
-        Some(Kind::Flush)
-    } else if is_text(word, b"tick") {
-        Some(Kind::Tick)
+    if second == b'a' {
+        Kind::Tasks
+    } else if second == b'h' {
+        Kind::Thread
+    } else if second == b'i' {
+        Kind::Tick
     } else {
-        None
+        Kind::Touch
     }
 }
 
-#[tactic(auto, unfolding(crate::specs::Kinds::access_kind))]
-fn access_kind(word: &[u8]) -> Option<Kind>
-    ensures { result ≡ access_kind word.now }
+// The only kind whose word can begin with these two bytes.
+fn kind_with(first: u8, second: u8) -> Kind
+    ensures { result ≡ kind_with first second }
 {
-    if is_text(word, b"access") {
-        Some(Kind::Access)
-    } else if is_text(word, b"sweep") {
-        Some(Kind::Sweep)
-    } else if is_text(word, b"touch") {
-        Some(Kind::Touch)
+    if first == b'a' {
+        Kind::Access
+    } else if first == b'm' {
+        if second == b'a' {
+            Kind::Machine
+        } else {
+            Kind::Mkdir
+        }
+    } else if first == b'r' {
+        if second == b'e' {
+            Kind::Read
+        } else {
+            Kind::Rmdir
+        }
+    } else if first == b't' {
+        kind_with_t(second)
+    } else if first == b'w' {
+        Kind::Write
+    } else if first == b'l' {
+        Kind::List
+    } else if first == b'f' {
+        Kind::Flush
+    } else if first == b's' {
+        Kind::Sweep
+    } else if first == b'p' {
+        Kind::Phase
     } else {
-        None
+        Kind::Order
     }
 }
 
 /// The kind of a line that begins with this word.
-#[tactic(auto, unfolding(crate::specs::Kinds::kind_of))]
 pub fn kind_named(word: &[u8]) -> Option<Kind>
     ensures { result ≡ kind_of word.now }
 {
-    if let Some(kind) = part_kind(word) {
-        return Some(kind);
+    let [first, second, ..] = word else {
+        return None;
+    };
+    let kind = kind_with(*first, *second);
+    if is_text(word, kind.name()) {
+        Some(kind)
+    } else {
+        None
     }
-    if let Some(kind) = command_kind(word) {
-        return Some(kind);
-    }
-    access_kind(word)
 }
 
 /// Whether such a line may stand here.

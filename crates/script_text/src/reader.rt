@@ -4,6 +4,8 @@ ghost use Rattle.script_text.specs.States.{state_of, close_thread, close_phase, 
 ghost use Rattle.script_text.specs.Reading.{Reads, finished, nothing_read, script_in};
 ghost use Rattle.path_names.specs.NamesIn.{AreKnown};
 ghost use Rattle.script_ops.specs.Canonical.{op_ids};
+ghost use Rattle.script_ops.specs.Weights.{weight_of as op_weight};
+ghost use Rattle.machine.specs.Maps.{parameters_of};
 ghost use Rattle.script_text.specs.Meaning.{with_op, with_ops, sweep_ops, Means};
 ghost use Rattle.path_names.specs.declared.paths.TheConstants.{MOST_PATH_NAMES};
 
@@ -103,7 +105,6 @@ impl Reader {
     }
 
     /// Adds an op to the open thread.
-    #[tactic(auto, using(crate::proofs::Limits::keeping))]
     pub fn push(&mut self, op: Op) -> Result<(), LineError>
         requires limits { InLimits 1 1 MOST_PATH_NAMES (state_of self.old) }
         requires known { AreKnown (length self.old.names) (op_ids op) }
@@ -111,6 +112,18 @@ impl Reader {
         ensures sound { OnOk result (IsSound (state_of self.new)) }
     {
         let weight = weight_of(&self.machine, &op);
+        self.push_weighing(op, weight)
+    }
+
+    /// The same of an op whose weight is known.
+    #[tactic(auto, using(crate::proofs::Limits::keeping))]
+    pub fn push_weighing(&mut self, op: Op, weight: u64) -> Result<(), LineError>
+        requires limits { InLimits 1 1 MOST_PATH_NAMES (state_of self.old) }
+        requires known { AreKnown (length self.old.names) (op_ids op) }
+        requires weight { weight ≡ op_weight (parameters_of self.old.machine) op }
+        ensures said { Means result (state_of self.new) (with_op (state_of self.old) op) }
+        ensures sound { OnOk result (IsSound (state_of self.new)) }
+    {
         let total = match self.weight.checked_add(weight) {
             Some(total) if total <= MOST_WEIGHT => total,
             _ => return Err(LineError::Fault(LineFault::TooLarge)),

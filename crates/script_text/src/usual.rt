@@ -1,5 +1,5 @@
 //! Access lines in their usual form, read in one pass over their bytes.
-ghost use Rattle.std.specs.Prelude.{◌≡◌, ◌+◌, ◌*◌, ◌<◌, IfSome, false};
+ghost use Rattle.std.specs.Prelude.{◌≡◌, ◌+◌, ◌*◌, ◌<◌, ◌++◌, IfSome, false, codes};
 ghost use Rattle.std.specs.Char.{is_digit};
 ghost use Rattle.machine.specs.Maps.{parameters_of};
 ghost use Rattle.script_text.specs.Usual.{BeginsWithNumber, BeginsWithAccess, use_by};
@@ -19,19 +19,33 @@ fn number_before(text: &[u8], end: u8) -> Option<(u64, &[u8])>
     ensures { IfSome result (λ p. BeginsWithNumber text.now end p.0 p.1.now) }
 {
     let mut n: u64 = 0;
-    for (i, b) in text.iter().enumerate() {
-        let Some(digit) = char::from(*b).to_digit(10) else {
-            if i == 0 || *b != end {
+    let mut left = text;
+    'digits: loop {
+        let [byte, rest @ ..] = left else {
+            return None;
+        };
+        let Some(digit) = char::from(*byte).to_digit(10) else {
+            if left.len() == text.len() || *byte != end {
                 return None;
             }
-            return Some((n, &text[i + 1..]));
+            return Some((n, rest));
         };
         let Some(more) = with_digit(n, digit) else {
             return None;
         };
         n = more;
+        left = rest;
     }
-    None
+}
+
+// What stands after the word that an access line begins with, and its space.
+fn after_kind(text: &[u8]) -> Option<&[u8]>
+    ensures { IfSome result (λ rest. text.now ≡ codes "access " ++ rest.now) }
+{
+    match text {
+        [b'a', b'c', b'c', b'e', b's', b's', b' ', rest @ ..] => Some(rest),
+        _ => None,
+    }
 }
 
 /// The task, the CPU and the address of an access line that a text begins with, and what stands after the line. None says
@@ -39,7 +53,7 @@ fn number_before(text: &[u8], end: u8) -> Option<(u64, &[u8])>
 pub fn usual_access(text: &[u8]) -> Option<(u64, u64, u64, &[u8])>
     ensures { IfSome result (λ p. BeginsWithAccess text.now p.0 p.1 p.2 p.3.now) }
 {
-    let rest = text.strip_prefix(b"access ")?;
+    let rest = after_kind(text)?;
     let (task, rest) = number_before(rest, b' ')?;
     let (cpu, rest) = number_before(rest, b' ')?;
     let (addr, rest) = number_before(rest, b'\n')?;

@@ -117,3 +117,12 @@ module _ (script : ScriptValue) (t : ℕ) (old new : MachineValue) (so_far : IsR
   turned last before below there =
       let now : turns_left script last t ≡ 3 * (count - (n + 1)) + turns_from script last (op_at script t (n + 1)) Ready = turns_at script last t (record { next = n + 1; place = Ready }) (op_at script t (n + 1)) there refl in
       omega (arith, before, now, turns_ready script last (op_at script t (n + 1)), below)
+
+-- a thread before an op that has come further is nearer to its end
+pub onward : (script : ScriptValue) (t m : ℕ) (old new : MachineValue) → (thread_at old t).place ≡ Ready → (thread_at old t).next < length (ops_of script t) → (thread_at old t).next < m
+    → thread_at new t ≡ (record { next = m; place = Ready }) → turns_left script new t < turns_left script old t
+onward script t m old new place below further there =
+    let n : ℕ = (thread_at old t).next in
+    let before = turns_by script old t (op_at script t n) Ready place refl in
+    let now = turns_at script new t (record { next = m; place = Ready }) (op_at script t m) there refl in
+    omega (arith, before, now, turns_ready script old (op_at script t n), turns_ready script new (op_at script t m), below, further)

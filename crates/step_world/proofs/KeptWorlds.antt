@@ -62,7 +62,7 @@ IsAtWork-other script old new t u op lists work (Looking made) apart so_far step
     record {
       found = is.found;
       looked = others_looked script u t op old new is.found apart so_far step is.looked;
-      counts = is.counts ∙ ap (λ hs. Some (needs script.machine (tree_after script hs) op)) (sym tree);
+      counts = λ some. is.counts some ∙ ap (λ hs. Some (needs script.machine (tree_after script hs) op)) (sym tree);
       number = subst (λ hs. work.count ≡ length (needs script.machine (tree_after script hs) op)) (sym tree) is.number;
       few = is.few;
       made = is.made;

@@ -28,10 +28,12 @@ pub mod NextRooms
 pub mod OpQuotas
 pub mod OpeningWorlds
 pub mod Openings
+pub mod PassedWorlds
 pub mod PhaseSteps
 pub mod PhaseThreads
 pub mod Plays
 pub mod PresentThreads
+pub mod ReachedSlices
 pub mod RoomLeft
 pub mod RoomSums
 pub mod Schedules

@@ -46,7 +46,7 @@ module _ (m : Parameters) (range : InRange m) where
   quota_light i (ops.Read path) = read_light path
   quota_light i (ops.Flush domain) = omega arith
   quota_light i ops.Tick = omega (arith, looks_light)
-  quota_light i (ops.Touch path offset task cpu) = omega arith
+  quota_light i (ops.Touch cpu path task offset) = omega arith
   quota_light i op = omega arith
 
   -- so do the ops of a thread

@@ -60,7 +60,7 @@ take_looked script t op old new place free takes so_far =
 
 -- what pays for a look is a look
 look_is : (w : What) (rmid : ℕ) → undecided w ≡ whats.Look rmid 0 → (lines : ℕ) × (w ≡ whats.Look rmid lines)
-look_is (whats.Access owner r mask line hit way) rmid h = absurd cc
+look_is (whats.Access hit way owner r mask line) rmid h = absurd cc
 look_is whats.Raise rmid h = absurd cc
 look_is whats.Flush rmid h = absurd cc
 look_is (whats.Lock mask first_line) rmid h = absurd cc

@@ -68,7 +68,7 @@ module _ (script : ScriptValue) (t : ℕ) (op : Op) (old : World) (world : IsWor
         record {
           found = its.found ++ here ∷ [];
           looked = looked;
-          counts = on.counts ∙ (its.counts ∙ ap (λ hs. Some (needs script.machine (tree_after script hs) op)) (sym tree));
+          counts = λ some. on.counts ∙ (its.counts (omega (arith, some, on.count)) ∙ ap (λ hs. Some (needs script.machine (tree_after script hs) op)) (sym tree));
           number = on.count ∙ (its.number ∙ ap (λ hs. length (needs script.machine (tree_after script hs) op)) (sym tree));
           few = omega (arith, on.count, its.few);
           made = let product : new.work.at * script.machine.slices ≡ old.work.at * script.machine.slices = ap (λ k. k * script.machine.slices) at in omega (arith, length_push its.found here, its.made, product, slice);
@@ -90,7 +90,7 @@ module _ (script : ScriptValue) (t : ℕ) (op : Op) (old : World) (world : IsWor
         record {
           found = its.found ++ here ∷ [];
           looked = looked;
-          counts = on.counts ∙ (its.counts ∙ ap (λ hs. Some (needs script.machine (tree_after script hs) op)) (sym tree));
+          counts = λ some. on.counts ∙ (its.counts (omega (arith, some, on.count)) ∙ ap (λ hs. Some (needs script.machine (tree_after script hs) op)) (sym tree));
           number = on.count ∙ (its.number ∙ ap (λ hs. length (needs script.machine (tree_after script hs) op)) (sym tree));
           few = omega (arith, on.count, its.few);
           made = let product : new.work.at * script.machine.slices ≡ old.work.at * script.machine.slices + script.machine.slices = ap (λ k. k * script.machine.slices) at ∙ omega arith in omega (arith, length_push its.found here, its.made, product, slice, end);

@@ -181,7 +181,7 @@ module _ (m : Parameters) (s : State) (i k : ℕ) where
   makes-accepted (ops.Read path) exist distinct = omega (arith, looks-read path exist distinct)
   makes-accepted (ops.Flush domain) exist distinct = omega (arith, follows-flush domain)
   makes-accepted ops.Tick exist distinct = omega (arith, looks-few m i k (needs_accepted m s ops.Tick) exist distinct)
-  makes-accepted (ops.Touch path offset task cpu) exist distinct = omega (arith, follows-touch path offset task cpu)
+  makes-accepted (ops.Touch cpu path task offset) exist distinct = omega (arith, follows-touch path offset task cpu)
   makes-accepted op exist distinct = omega arith
 
   -- what a command makes

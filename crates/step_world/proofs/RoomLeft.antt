@@ -1,10 +1,12 @@
 -- What a slice of a world needs for an entry more: room in its list, and a clock that does not overflow.
-use Rattle.std.proofs.Common.{◌≡◌, ℕ, ◌<◌, length, take, get_or, Some, sym, ap, ◌∙◌, subst, arith}
+use Rattle.std.proofs.Common.{◌≡◌, ℕ, ◌<◌, length, take, get_or, Some, inl, inr, sym, ap, ◌∙◌, subst, arith}
 use Rattle.std.specs.Prelude.{◌%◌, ◌^◌}
 use Rattle.std.proofs.Math.Nat.{mod-eq_of_lt}
+use Rattle.std.proofs.lemmas.Bool.{cases_lt}
 use Rattle.std.proofs.lemmas.Nat.{mod_below}
 use Rattle.std.proofs.lemmas.Option.{slice_get_within}
 use Rattle.cache_core.specs.History.{IsOwn}
+use Rattle.cbm.proofs.laws.Validity.{checked-zero}
 use Rattle.machine.proofs.laws.Domains.{domain_of-lt}
 use Rattle.machine.proofs.laws.Slices.{slice_number-mod}
 use Rattle.machine.specs.Maps.{domain_of, line_of, set_of, slice_of}
@@ -34,10 +36,18 @@ use Rattle.step_world.specs.Slices.{SliceValue}
 use Rattle.step_world.specs.Worlds.{IsWorldOf, machine_of}
 use Rattle.step_world.specs.declared.place.Place.TheVariants.{Tagged}
 use Rattle.step_world.specs.declared.world.World.{World}
-use Rattle.tree_core.proofs.Assignments.{mask-valid}
 use Rattle.tree_law.proofs.laws.Access.{resolve-good}
 use Rattle.tree_law.specs.LawsAccess.{IsGood}
+use Rattle.tree_law.specs.Masks.{IsValid}
 use Rattle.tree_law.specs.Resolving.{resolve}
+use Rattle.tree_law.specs.Space.{geometry_of}
+
+-- a mask that is valid has a way
+some-valid : (m : Parameters) (mask : ℕ) → IsValid m mask → 0 < mask
+some-valid m mask valid = elim (cases_lt 0 mask) [
+  | inl lt ↦ lt
+  | inr le ↦ (let none : mask ≡ 0 = omega arith in absurd (let e = checked-zero (geometry_of m) mask none ∙ valid.faultless in cc))
+]
 
 module _ (script : ScriptValue) (w : World) (world : IsWorldOf script w) (i : ℕ) (d : SliceValue) (there : i < length w.slices.items) where
   -- a slice's list
@@ -95,9 +105,9 @@ module _ (script : ScriptValue) (t task cpu addr : ℕ) (tag : Tag) (w : World) 
 
   pub mask-some : 0 < tag.mask % 2 ^ script.machine.ways
   mask-some =
-      let valid = mask-valid script.machine (resolve script.machine (tree_after script (take tag.epoch (machine_of w).journals.tree)) task cpu).mask good.mask in
+      let some = some-valid script.machine (resolve script.machine (tree_after script (take tag.epoch (machine_of w).journals.tree)) task cpu).mask good.mask in
       let is : tag.mask ≡ (resolve script.machine (tree_after script (take tag.epoch (machine_of w).journals.tree)) task cpu).mask = ap (λ (x : Tag). x.mask) (known script t task cpu addr tag w world next place).is in
-      mod-some_way tag.mask script.machine.ways (omega (arith, is, valid.0)) (subst (λ k. k < 2 ^ script.machine.ways) (sym is) valid.1)
+      mod-some_way tag.mask script.machine.ways (omega (arith, is, some)) (subst (λ k. k < 2 ^ script.machine.ways) (sym is) good.mask.bounded)
 
   -- the slice has room for it
   pub room-touch : (i : ℕ) (d : SliceValue) → i < length w.slices.items → i ≡ slice_of_line script.machine tag.domain (line_of addr) → length (get_or w.slices.items i d).entries < (get_or w.slices.items i d).room

@@ -1,21 +1,26 @@
 -- An access of a world reads its tag.
-use Rattle.std.proofs.Common.{◌≡◌, ℕ, false, length, get_or, Some, None, refl, sym, ap, ◌∙◌, subst}
+use Rattle.std.proofs.Common.{◌≡◌, ℕ, false, length, map, get_or, Some, None, refl, sym, ap, ◌∙◌, subst}
 use Rattle.machine.specs.Maps.{domain_of}
 use Rattle.rc_base.specs.declared.names.Tag.{Tag}
+use Rattle.run_law.specs.Entries.{entry_value}
 use Rattle.run_law.specs.Growth.{tag_of}
 use Rattle.run_law.specs.Ops.{is_command}
 use Rattle.run_law.specs.TreeHistory.{tree_after}
+use Rattle.script_ops.specs.Fits.{Fits}
 use Rattle.script_ops.specs.Values.{ScriptValue}
 use Rattle.script_ops.specs.declared.op.Op.TheVariants as ops
 use Rattle.step_world.proofs.KeptWorlds.{IsWorldOf-step, Leaves, moves-leaves}
+use Rattle.step_world.proofs.SoundStates.{Fits-tree_after}
 use Rattle.step_world.proofs.StepRows.{step_tags}
 use Rattle.step_world.specs.Answers.{HasNext, HasTagged}
 use Rattle.step_world.specs.Machine.{Moves, Steps, Tags, thread_at}
+use Rattle.step_world.specs.Passing.{IsResolved}
 use Rattle.step_world.specs.Worlds.{AreInPlay, KeepsLists, IsWorldOf, machine_of}
 use Rattle.step_world.specs.declared.place.Place.TheVariants.{Ready, Tagged}
 use Rattle.step_world.specs.declared.place.Thread.{Thread}
 use Rattle.step_world.specs.declared.world.World.{World}
 use Rattle.tree_law.specs.Resolving.{Owned, resolve}
+use Rattle.tree_law.specs.State.{tasks_of}
 use Rattle.step_world.proofs.TakenWorlds.{IsQuiet, journals-quiet, leaves-quiet, lists-quiet, one_op, tree-quiet, within-next}
 
 -- a tag is what its parts are
@@ -28,15 +33,6 @@ same_tag a b e o c r m d =
     ∙ (ap (λ x. record { epoch = b.epoch; owner = b.owner; class = b.class; rmid = b.rmid; mask = x; domain = a.domain }) m
     ∙ ap (λ x. record { epoch = b.epoch; owner = b.owner; class = b.class; rmid = b.rmid; mask = b.mask; domain = x }) d))))
 
--- what the tree answers
-pub record IsResolved (old : World) (task cpu : ℕ) (tag : Tag) : Type 0 where
-  pub epoch : tag.epoch ≡ old.tree.epoch
-  pub owner : tag.owner ≡ (resolve old.tree.machine old.tree.state task cpu).owner
-  pub class : tag.class ≡ (resolve old.tree.machine old.tree.state task cpu).class
-  pub rmid : tag.rmid ≡ (resolve old.tree.machine old.tree.state task cpu).rmid
-  pub mask : tag.mask ≡ (resolve old.tree.machine old.tree.state task cpu).mask
-  pub domain : tag.domain ≡ domain_of old.tree.machine cpu
-
 -- the tag that the tree gives
 tag-resolved : (script : ScriptValue) (old : World) (task cpu : ℕ) (tag : Tag) → IsWorldOf script old → IsResolved old task cpu tag
     → tag ≡ tag_of script.machine (tree_after script (machine_of old).journals.tree) (length (machine_of old).journals.tree) task cpu
@@ -47,6 +43,13 @@ tag-resolved script old task cpu tag world is =
     (is.epoch ∙ world.tree.epoch) (is.owner ∙ ap (λ (o : Owned). o.owner) same) (is.class ∙ ap (λ (o : Owned). o.class) same) (is.rmid ∙ ap (λ (o : Owned). o.rmid) same) (is.mask ∙ ap (λ (o : Owned). o.mask) same)
     (is.domain ∙ ap (λ m. domain_of m cpu) world.tree.machine)
 
+-- the access fits the tree
+pub access-fits : (script : ScriptValue) (w : World) (t task cpu addr : ℕ) → IsWorldOf script w → HasNext script (machine_of w) t (ops.Access task cpu addr) → Fits w.tree.machine (tasks_of w.tree.state) (ops.Access task cpu addr)
+access-fits script w t task cpu addr world next =
+    subst (λ m. Fits m (tasks_of w.tree.state) (ops.Access task cpu addr)) (sym world.tree.machine) (subst (λ s. Fits script.machine (tasks_of s) (ops.Access task cpu addr)) (sym world.tree.state)
+    (Fits-tree_after script (map entry_value w.commands.items) t (thread_at (machine_of w) t).next (ops.Access task cpu addr) world.lawful next.is))
+
+-- its tag is read
 pub tagged : (script : ScriptValue) (t n task cpu addr : ℕ) (tag : Tag) (old new : World) → IsWorldOf script old → HasNext script (machine_of old) t (ops.Access task cpu addr) → n ≡ (thread_at (machine_of old) t).next
     → (thread_at (machine_of old) t).place ≡ Ready → old.holder ≡ None → IsResolved old task cpu tag → IsQuiet t (record { next = n; place = Tagged tag }) old new → new.slices.items ≡ old.slices.items → new.holder ≡ old.holder
     → IsWorldOf script new × HasTagged script t tag.epoch (ops.Access task cpu addr) (machine_of old) (machine_of new)

@@ -94,7 +94,7 @@ module _ (script : ScriptValue) (t : ℕ) (now : Thread) (old new : World) (worl
 
 -- the new work of a command that has taken the tree
 pub record BeginsWork (op : Op) (old new : World) : Type 0 where
-  pub counts : new.work.counts ≡ Some (needs old.tree.machine old.tree.state op)
+  pub counts : 0 < new.work.count → new.work.counts ≡ Some (needs old.tree.machine old.tree.state op)
   pub number : new.work.count ≡ length (needs old.tree.machine old.tree.state op)
   pub few : new.work.count < 2 ^ 32
   pub at : new.work.at ≡ 0
@@ -141,7 +141,7 @@ took script t n op old new world next number place free command quiet slices hol
           subst (λ c. IsLookingAt script (machine_of new) t c (get_or new.lists.items t d) new.work) its (record {
             found = [];
             looked = looked;
-            counts = work.counts ∙ ap (λ ns. Some ns) same;
+            counts = λ some. work.counts some ∙ ap (λ ns. Some ns) same;
             number = work.number ∙ ap length same;
             few = work.few;
             made = let zero_times : 0 * script.machine.slices ≡ 0 = omega arith in let none : new.work.at * script.machine.slices ≡ 0 = ap (λ k. k * script.machine.slices) work.at ∙ zero_times in omega (arith, none, work.slice);

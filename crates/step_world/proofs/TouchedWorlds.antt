@@ -66,27 +66,27 @@ module _ (script : ScriptValue) (t task cpu addr : ℕ) (tag : Tag) (old : World
   -- its entry pays what it owes
   pub pays : (n line : ℕ) (hit : Bool) (way : ℕ) → n ≡ (thread_at (machine_of old) t).next → line ≡ line_of addr
       → PaysJob t (thread_at (machine_of old) t).next (record { slice = slice_of_line script.machine tag.domain (line_of addr); owed = owed_by_access script (machine_of old).journals.tree tag.epoch task cpu addr })
-      (entry t n tag.epoch (whats.Access tag.owner tag.rmid tag.mask line hit way))
+      (entry t n tag.epoch (whats.Access hit way tag.owner tag.rmid tag.mask line))
   unfolding owed_by_access
   pays n line hit way number is =
       let its : tag ≡ tag_of script.machine (tree_after script (take tag.epoch (machine_of old).journals.tree)) tag.epoch task cpu = known.is in
       record {
         thread = refl;
         op = number;
-        owed = ap (λ o. record { epoch = tag.epoch; what = whats.Access o tag.rmid tag.mask line false 0 }) (ap (λ (x : Tag). x.owner) its)
-            ∙ (ap (λ r. record { epoch = tag.epoch; what = whats.Access (tag_of script.machine (tree_after script (take tag.epoch (machine_of old).journals.tree)) tag.epoch task cpu).owner r tag.mask line false 0 }) (ap (λ (x : Tag). x.rmid) its)
-            ∙ (ap (λ m. record { epoch = tag.epoch; what = whats.Access (tag_of script.machine (tree_after script (take tag.epoch (machine_of old).journals.tree)) tag.epoch task cpu).owner (tag_of script.machine (tree_after script (take tag.epoch (machine_of old).journals.tree)) tag.epoch task cpu).rmid m line false 0 }) (ap (λ (x : Tag). x.mask) its)
-            ∙ ap (λ l. record { epoch = tag.epoch; what = whats.Access (tag_of script.machine (tree_after script (take tag.epoch (machine_of old).journals.tree)) tag.epoch task cpu).owner (tag_of script.machine (tree_after script (take tag.epoch (machine_of old).journals.tree)) tag.epoch task cpu).rmid (tag_of script.machine (tree_after script (take tag.epoch (machine_of old).journals.tree)) tag.epoch task cpu).mask l false 0 }) is));
+        owed = ap (λ o. record { epoch = tag.epoch; what = whats.Access false 0 o tag.rmid tag.mask line }) (ap (λ (x : Tag). x.owner) its)
+            ∙ (ap (λ r. record { epoch = tag.epoch; what = whats.Access false 0 (tag_of script.machine (tree_after script (take tag.epoch (machine_of old).journals.tree)) tag.epoch task cpu).owner r tag.mask line }) (ap (λ (x : Tag). x.rmid) its)
+            ∙ (ap (λ m. record { epoch = tag.epoch; what = whats.Access false 0 (tag_of script.machine (tree_after script (take tag.epoch (machine_of old).journals.tree)) tag.epoch task cpu).owner (tag_of script.machine (tree_after script (take tag.epoch (machine_of old).journals.tree)) tag.epoch task cpu).rmid m line }) (ap (λ (x : Tag). x.mask) its)
+            ∙ ap (λ l. record { epoch = tag.epoch; what = whats.Access false 0 (tag_of script.machine (tree_after script (take tag.epoch (machine_of old).journals.tree)) tag.epoch task cpu).owner (tag_of script.machine (tree_after script (take tag.epoch (machine_of old).journals.tree)) tag.epoch task cpu).rmid (tag_of script.machine (tree_after script (take tag.epoch (machine_of old).journals.tree)) tag.epoch task cpu).mask l }) is));
       }
 
   -- a hit or a fill
   pub used : (new : World) (n i line : ℕ) (hit : Bool) (way : ℕ) (s : SliceValue) → n ≡ (thread_at (machine_of old) t).next → line ≡ line_of addr → i ≡ slice_of_line script.machine tag.domain (line_of addr)
       → i < length old.slices.items → IsQuiet t (record { next = n + 1; place = Ready }) old new → new.slices.items ≡ set old.slices.items i s → new.holder ≡ old.holder → new.work ≡ old.work
-      → Grows (entry t n tag.epoch (whats.Access tag.owner tag.rmid tag.mask line hit way)) (get_or old.slices.items i s) s
+      → Grows (entry t n tag.epoch (whats.Access hit way tag.owner tag.rmid tag.mask line)) (get_or old.slices.items i s) s
       → IsWorldOf script new × HasUsed script t hit way (ops.Access task cpu addr) (machine_of old) (machine_of new)
   used new n i line hit way s number line_is slice there quiet slices holder work grows =
       let now : Thread = record { next = n + 1; place = Ready } in
-      let e : SliceEntry = entry t n tag.epoch (whats.Access tag.owner tag.rmid tag.mask line hit way) in
+      let e : SliceEntry = entry t n tag.epoch (whats.Access hit way tag.owner tag.rmid tag.mask line) in
       let within = within-next script old t (ops.Access task cpu addr) world next in
       let leaves : Leaves t now old new = leaves-quiet script t now old new world within quiet (λ u apart held. (sym holder ∙ held, work)) in
       let moves : Moves t now (machine_of old) (machine_of new) = moves-leaves t now old new within leaves in

@@ -45,7 +45,7 @@ Counts lines what = (rmid : ℕ) × (what ≡ whats.Look rmid lines)
 
 -- an entry is an access that hit or filled this way
 abbrev pub Uses : Bool → ℕ → What → Type 0
-Uses hit way what = (owner : _) × (rmid mask line : ℕ) × (what ≡ whats.Access owner rmid mask line hit way)
+Uses hit way what = (owner : _) × (rmid mask line : ℕ) × (what ≡ whats.Access hit way owner rmid mask line)
 
 -- the thread took the tree
 pub record HasTaken (t : ℕ) (op : Op) (old new : MachineValue) : Type 0 where

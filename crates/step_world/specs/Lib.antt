@@ -6,6 +6,7 @@ pub mod Looked
 pub mod Machine
 pub mod Moments
 pub mod Openings
+pub mod Passing
 pub mod Play
 pub mod Quotas
 pub mod Slices

@@ -32,7 +32,7 @@ command_quota m (ops.Write path text) = write_quota path
 command_quota m (ops.Read path) = read_quota m path
 command_quota m (ops.Flush domain) = 1
 command_quota m ops.Tick = m.rmids
-command_quota m (ops.Touch path offset task cpu) = 1
+command_quota m (ops.Touch cpu path task offset) = 1
 command_quota m op = 0
 
 -- the greatest number of entries that an op can make in slice i: an access one, in the slice of its line

@@ -37,8 +37,8 @@ pub record Grows (e : SliceEntry) (old new : SliceValue) : Type 0 where
 
 -- the slice has made the access of an op with this tag: a hit or a fill is one entry more, and a stale tag leaves all as it was
 abbrev pub TouchesLine : ℕ → ℕ → Tag → ℕ → SliceValue → SliceValue → Touched → Type 0
-TouchesLine thread op tag line old new (Hit way) = Grows (entry thread op tag.epoch (whats.Access tag.owner tag.rmid tag.mask line true way)) old new
-TouchesLine thread op tag line old new (Filled way) = Grows (entry thread op tag.epoch (whats.Access tag.owner tag.rmid tag.mask line false way)) old new
+TouchesLine thread op tag line old new (Hit way) = Grows (entry thread op tag.epoch (whats.Access true way tag.owner tag.rmid tag.mask line)) old new
+TouchesLine thread op tag line old new (Filled way) = Grows (entry thread op tag.epoch (whats.Access false way tag.owner tag.rmid tag.mask line)) old new
 TouchesLine thread op tag line old new (Stale floor) = (new ≡ old) × (floor ≡ old.cache.floor) × (tag.epoch < floor)
 
 -- the slice has noted a look of an op at an RMID, with the lines that its cache holds

@@ -1,5 +1,5 @@
 -- How the thread that holds the tree lets go, and how a thread comes to its end.
-use Rattle.std.specs.Prelude.{◌≡◌, ℕ, ◌+◌, ◌-◌, ◌*◌, ◌⊎◌, if◌then◌else◌, nat_lt, List, length, replicate, Option, Some, None}
+use Rattle.std.specs.Prelude.{◌≡◌, ℕ, ◌+◌, ◌-◌, ◌*◌, ◌<◌, ◌⊎◌, if◌then◌else◌, nat_lt, List, length, replicate, Option, Some, None}
 use Rattle.run_law.specs.Jobs.{jobs_of}
 use Rattle.run_law.specs.TreeHistory.{TreeEntryValue}
 use Rattle.script_ops.specs.Values.{ScriptValue, op_at, ops_of}
@@ -62,3 +62,11 @@ turns_from script s op place = 2
 -- and from its end
 abbrev pub turns_left : ScriptValue → MachineValue → ℕ → ℕ
 turns_left script s t = 3 * (length (ops_of script t) - (thread_at s t).next) + turns_from script s (op_at script t (thread_at s t).next) (thread_at s t).place
+
+-- a thread steps while nobody holds the tree at first and at last, and it is nearer to its end
+pub record TakesTurn (script : ScriptValue) (t : ℕ) (old new : MachineValue) : Type 0 where
+  pub count : ℕ
+  pub steps : StepsOf script (replicate count t) old new
+  pub nearer : turns_left script new t < turns_left script old t
+  pub free : new.holder ≡ None
+  pub phase : new.phase ≡ old.phase

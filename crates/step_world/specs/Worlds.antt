@@ -102,7 +102,7 @@ found_at slices found q number = sum_below number (λ x. slice_index_or found (q
 pub record IsLookingAt (script : ScriptValue) (s : MachineValue) (t : ℕ) (op : Op) (lists : List Looks) (work : Work) : Type 0 where
   pub found : List ℕ
   pub looked : HasLooked script s t op found
-  pub counts : work.counts ≡ Some (needs script.machine (tree_after script s.journals.tree) op)
+  pub counts : 0 < work.count → work.counts ≡ Some (needs script.machine (tree_after script s.journals.tree) op)
   pub number : work.count ≡ length (needs script.machine (tree_after script s.journals.tree) op)
   pub few : work.count < 2 ^ 32
   pub made : length found ≡ work.at * script.machine.slices + work.slice

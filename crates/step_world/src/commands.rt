@@ -103,7 +103,7 @@ pub(crate) fn decide(
         reply,
         looks,
     });
-    world.work = Work::following(after);
+    world.work.follow_with(after);
     settle(world, t, n, made);
     reply
 }

@@ -7,6 +7,7 @@ mod commands;
 mod fresh;
 pub mod look_lists;
 mod opening;
+mod passing;
 pub mod place;
 mod playback;
 mod quotas;

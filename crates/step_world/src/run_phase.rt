@@ -1,14 +1,17 @@
 //! One phase of a script.
-ghost use Rattle.std.specs.Prelude.{◌≡◌, ◌<◌, length, None, is_some};
+ghost use Rattle.std.specs.Prelude.{◌≡◌, ◌<◌, length, None, option_copied, slice_get};
 ghost use Rattle.run_law.specs.Ops.{phase_in};
-ghost use Rattle.script_ops.specs.Values.{op_at};
+ghost use Rattle.script_ops.specs.Values.{ops_of};
+ghost use Rattle.step_world.specs.Answers.{HasNext};
 ghost use Rattle.step_world.specs.Machine.{thread_at};
 ghost use Rattle.step_world.specs.Play.{EndInTurn, PlaysPhaseBy, StepsOf, threads_of_phase};
-ghost use Rattle.step_world.specs.Turns.{EndsThread, HasLetGo};
+ghost use Rattle.step_world.specs.Turns.{EndsThread, HasLetGo, TakesTurn};
 ghost use Rattle.step_world.specs.Worlds.{IsWorldOf, machine_of};
 
+use crate::passing::pass_all;
+use crate::place::Place;
 use crate::world::World;
-use script_ops::Script;
+use script_ops::{Op, Script};
 
 // These threads take a step each.
 fn step_in_order(world: &mut World, script: &Script, order: &[u32])
@@ -35,12 +38,32 @@ fn let_go(world: &mut World, script: &Script)
     }
 }
 
-// Whether a thread has an op to do.
-fn has_op(world: &World, script: &Script, t: u32) -> bool
-    requires { t < length world.now.threads.items }
-    ensures { result ≡ is_some (op_at script.now t (thread_at (machine_of world.now) t).next) }
+// A thread that has this op to do takes a turn: accesses that come next, or its command, or one more step.
+fn take_turn(world: &mut World, script: &Script, t: u32, ops: &[Op], op: &Op)
+    requires world { IsWorldOf script.now world.old }
+    requires ops { ops.now ≡ ops_of script.now t }
+    requires next { HasNext script.now (machine_of world.old) t op.now }
+    requires free { world.old.holder ≡ None }
+    ensures world { IsWorldOf script.now world.new }
+    ensures turn { TakesTurn script.now t (machine_of world.old) (machine_of world.new) }
 {
-    script.op(t, world.threads[t as usize].next).is_some()
+    match (op, world.threads[t as usize].place) {
+        (Op::Access { task, cpu, .. }, Place::Ready) => {
+            pass_all(world, script, t, ops, *task, *cpu);
+        }
+        _ => {
+            world.step(script, t);
+            let_go(world, script);
+        }
+    }
+}
+
+// The next op of a thread, which has these ops.
+fn next_op<'o>(world: &World, ops: &'o [Op], t: u32) -> Option<&'o Op>
+    requires { t < length world.now.threads.items }
+    ensures { option_copied result ≡ slice_get ops.now (thread_at (machine_of world.now) t).next }
+{
+    ops.get(world.threads[t as usize].next as usize)
 }
 
 // A thread steps to its end.
@@ -54,9 +77,9 @@ fn end_thread(world: &mut World, script: &Script, t: u32)
     ensures free { world.new.holder ≡ None }
     ensures phase { world.new.phase ≡ world.old.phase }
 {
-    while has_op(world, script, t) {
-        world.step(script, t);
-        let_go(world, script);
+    let ops = script.ops(t);
+    while let Some(op) = next_op(world, ops, t) {
+        take_turn(world, script, t, ops, op);
     }
 }
 

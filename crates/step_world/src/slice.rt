@@ -32,7 +32,7 @@ impl Model for Slice {
 
 // The entry of an access.
 fn access_entry(thread: u32, op: u32, tag: &Tag, line: u64, hit: bool, way: u8) -> SliceEntry
-    ensures { result ≡ entry_of thread op tag.now.epoch (whats.Access tag.now.owner tag.now.rmid tag.now.mask line hit way) }
+    ensures { result ≡ entry_of thread op tag.now.epoch (whats.Access hit way tag.now.owner tag.now.rmid tag.now.mask line) }
 {
     SliceEntry {
         thread,

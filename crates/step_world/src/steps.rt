@@ -8,12 +8,10 @@ ghost use Rattle.step_world.specs.Worlds.{IsWorldOf, machine_of};
 ghost use Rattle.step_world.specs.declared.place.Place.TheVariants.{Ready, Tagged};
 
 use crate::place::{Place, Thread};
-use crate::work::Work;
 use crate::world::World;
 use cache_core::Touched;
 use rc_base::Tag;
 use script_ops::{Op, Script};
-use tree_core::After;
 
 /// Puts a thread where it is now.
 pub(crate) fn move_to(threads: &mut Vec<Thread>, t: u32, next: u32, place: Place)
@@ -35,15 +33,7 @@ pub(crate) fn take(world: &mut World, script: &Script, t: u32, n: u32, op: &Op)
     ensures took { HasTaken t op.now (machine_of world.old) (machine_of world.new) }
 {
     let counts = world.tree.counts(op);
-    let count = counts.len();
-    world.work = Work {
-        counts: Some(counts),
-        count,
-        after: After::new(),
-        at: 0,
-        slice: 0,
-        lines: 0,
-    };
+    world.work.look_for(counts);
     world.holder = Some(t);
     move_to(&mut world.threads, t, n, Place::Looking { made: 0 });
 }

@@ -27,7 +27,14 @@ impl Work {
         ensures counts { result.counts ≡ None }
         ensures after { result.after.items ≡ [] }
     {
-        Work::following(After::new())
+        Work {
+            counts: None,
+            count: 0,
+            after: After::new(),
+            at: 0,
+            slice: 0,
+            lines: 0,
+        }
     }
 
     /// The domain and the RMID of the present count.
@@ -42,21 +49,37 @@ impl Work {
         }
     }
 
-    /// What follows a command that was decided.
-    pub(crate) fn following(after: After) -> Work
-        ensures counts { result.counts ≡ None }
-        ensures after { result.after ≡ after }
-        ensures at { result.at ≡ 0 }
-        ensures slice { result.slice ≡ 0 }
+    /// A command needs these counts. Where it needs none, nothing is copied.
+    pub(crate) fn look_for(&mut self, counts: Counts)
+        ensures counts { 0 < self.new.count → self.new.counts ≡ Some counts }
+        ensures count { self.new.count ≡ length counts }
+        ensures few { self.new.count < 2 ^ 32 }
+        ensures at { self.new.at ≡ 0 }
+        ensures slice { self.new.slice ≡ 0 }
+        ensures lines { self.new.lines ≡ 0 }
     {
-        Work {
-            counts: None,
-            count: 0,
-            after,
-            at: 0,
-            slice: 0,
-            lines: 0,
+        self.count = counts.len();
+        if self.count > 0 {
+            self.counts = Some(counts);
         }
+        self.at = 0;
+        self.slice = 0;
+        self.lines = 0;
+    }
+
+    /// This follows the command, which was decided. Where nothing does, nothing is copied.
+    pub(crate) fn follow_with(&mut self, after: After)
+        ensures after { self.new.after.items ≡ after.items }
+        ensures at { self.new.at ≡ 0 }
+        ensures slice { self.new.slice ≡ 0 }
+    {
+        if after.is_empty() {
+            self.after.clear();
+        } else {
+            self.after = after;
+        }
+        self.at = 0;
+        self.slice = 0;
     }
 
     /// Goes on to the next slice of the present follow-up, which is entered in so many, and after the last to the next follow-up.

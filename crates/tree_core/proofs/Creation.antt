@@ -1,5 +1,5 @@
 -- What making a control group answers and leaves.
-use Rattle.std.proofs.Common.{◌≡◌, ℕ, ◌+◌, ◌≤◌, cond, eqb, List, [], ◌∷◌, ◌++◌, length, find, Option, None, Some, inl, inr, refl, sym, subst, ap, ◌∙◌, arith}
+use Rattle.std.proofs.Common.{◌≡◌, ℕ, ◌+◌, ◌≤◌, Bool, true, false, cond, eqb, List, [], ◌∷◌, ◌++◌, length, find, Option, None, Some, is_some, inl, inr, refl, sym, subst, ap, ◌∙◌, arith}
 use Rattle.group_tree.specs.Lists.{GroupList}
 use Rattle.group_tree.specs.declared.group.Group.{Group}
 use Rattle.hw_ids.specs.Classes.{Classes}
@@ -16,7 +16,7 @@ use Rattle.rc_base.specs.declared.replies.Why.TheVariants.{OutOfRmids, RmidsBusy
 use Rattle.script_ops.specs.declared.op.Op.TheVariants.{Mkdir}
 use Rattle.tree_core.proofs.FreeIds.{free_class-lowest, free_class-none, free_rmid-lowest, free_rmid-none}
 use Rattle.tree_core.proofs.Outcomes.{needs-nothing, next-accepted}
-use Rattle.tree_core.proofs.Refusals.{IsRefused, IsRefused-no_class, IsRefused-no_rmid, IsRefused-no_space, refusal-no_lack}
+use Rattle.tree_core.proofs.Refusals.{IsRefused, IsRefused-no_class, IsRefused-no_rmid, refusal-no_lack}
 use Rattle.tree_core.proofs.Returns.{AreTaken-same_members}
 use Rattle.tree_core.proofs.Soundness.{IsSound-from_status}
 use Rattle.tree_law.proofs.laws.Steps.{next-sound}
@@ -24,7 +24,7 @@ use Rattle.tree_core.proofs.TakenIds.{AreTaken-push}
 use Rattle.tree_core.specs.Kept.{Keeps}
 use Rattle.tree_core.specs.Places.{place_reasons}
 use Rattle.tree_core.specs.Tables.{Tables}
-use Rattle.tree_core.specs.Taking.{ClassTaken, ClassesStay, NoIds, NoneTaken, RmidTaken, RmidsStay}
+use Rattle.tree_core.specs.Taking.{ClassTaken, ClassesStay, HasClass, NoIds, RmidTaken, RmidsStay}
 use Rattle.tree_law.specs.Sound.{IsSound}
 use Rattle.tree_law.specs.Space.{free_class, free_rmid, full_domain}
 use Rattle.tree_law.specs.State.{Outcome, State}
@@ -40,16 +40,19 @@ module _ {m : Parameters} {t : Tables} {s : State} {epoch : ℕ} (keeps : Keeps 
   -- ---- a control group that is refused
 
   -- where no ids are taken, the reason is the reply
-  pub IsRefused-no_ids : (name : NameId) (full : Option ℕ) (reply : Reply) → find (against m s (Dir (Ctrl name))) place_reasons ≡ None → full ≡ full_domain m s → NoIds t.classes t.rmids full reply → IsRefused m s (Dir (Ctrl name)) reply
-  IsRefused-no_ids name full reply none is_full (inl (spent, is)) = subst (IsRefused m s (Dir (Ctrl name))) (sym is) (IsRefused-no_class m s name none (free_class-none m s t.classes t.rmids keeps.stands.taken spent))
-  IsRefused-no_ids name full reply none is_full (inr (some, lack)) = at full is_full lack
-    where
-      class_is : free_class m s ≡ Some some.0
-      class_is = free_class-lowest m s t.classes t.rmids some.0 keeps.stands.taken some.1
+  pub IsRefused-no_ids : (name : NameId) (reply : Reply) → find (against m s (Dir (Ctrl name))) place_reasons ≡ None → full_domain m s ≡ None → NoIds t.classes t.rmids reply → IsRefused m s (Dir (Ctrl name)) reply
+  IsRefused-no_ids name reply none space (inl (spent, is)) = subst (IsRefused m s (Dir (Ctrl name))) (sym is) (IsRefused-no_class m s name none (free_class-none m s t.classes t.rmids keeps.stands.taken spent))
+  IsRefused-no_ids name reply none space (inr (some, lack)) =
+      let class_is : free_class m s ≡ Some some.0 = free_class-lowest m s t.classes t.rmids some.0 keeps.stands.taken some.1 in
+      subst (IsRefused m s (Dir (Ctrl name))) (sym (lack.1 ∙ ap (λ (limbo : List ℕ). lack_reply limbo) keeps.stands.limbo))
+      (IsRefused-no_rmid m s name some.0 none class_is space (free_rmid-none m s t.classes t.rmids keeps.stands.taken (sym keeps.stands.limbo) lack.0))
 
-      at : (f : Option ℕ) → f ≡ full_domain m s → NoneTaken t.rmids f reply → IsRefused m s (Dir (Ctrl name)) reply
-      at (Some domain) is said = subst (IsRefused m s (Dir (Ctrl name))) (sym said) (IsRefused-no_space m s name some.0 domain none class_is (sym is))
-      at None is said = subst (IsRefused m s (Dir (Ctrl name))) (sym (said.1 ∙ ap (λ (limbo : List ℕ). lack_reply limbo) keeps.stands.limbo)) (IsRefused-no_rmid m s name some.0 none class_is (sym is) (free_rmid-none m s t.classes t.rmids keeps.stands.taken (sym keeps.stands.limbo) said.0))
+  -- ---- whether a class is free
+
+  -- the table tells it as the state does
+  pub is_some-free_class : (free : Bool) → HasClass t.classes free → free ≡ is_some (free_class m s)
+  is_some-free_class true some = sym (ap is_some (free_class-lowest m s t.classes t.rmids some.0 keeps.stands.taken some.1))
+  is_some-free_class false none = sym (ap is_some (free_class-none m s t.classes t.rmids keeps.stands.taken none))
 
   -- ids that were given back
   pub Keeps-same_ids : (classes : Classes) (rmids : MonitoringIds) → ClassesStay t.classes classes → RmidsStay t.rmids rmids → Keeps m (record t { classes = classes; rmids = rmids }) s epoch

@@ -1,5 +1,5 @@
 -- A record that takes the place of another: the ids that are taken, and what the type keeps.
-use Rattle.std.proofs.Common.{◌≡◌, ℕ, ◌<◌, ◌≤◌, Bool, true, false, not, ◌&&◌, ◌||◌, cond, List, [], ◌∷◌, length, find, get_or, take, Option, Some, refl, sym, subst, ap, ap₂, ◌∙◌, arith}
+use Rattle.std.proofs.Common.{◌≡◌, ℕ, ◌<◌, ◌≤◌, Bool, true, false, not, ◌&&◌, ◌||◌, cond, List, [], ◌∷◌, length, find, get_or, take, Option, Some, refl, sym, subst, ap, ap₂, ◌∙◌}
 use Rattle.std.specs.List.{AllPairs, list_any}
 use Rattle.std.proofs.lemmas.List.Folds.{list_any_none}
 use Rattle.group_tree.specs.Lists.{GroupList, has_group, replaced}

@@ -1,5 +1,5 @@
 -- What stands against the masks that a group kept in pseudo-locksetup, domain by domain.
-use Rattle.std.proofs.Common.{◌≡◌, ℕ, suc, ◌+◌, ◌<◌, ◌≤◌, List, [], drop, drop-cons, length, get_or, is_some, Bool, true, false, Option, None, Some, refl, sym, ap, ap₂, ◌∙◌, arith, zero-add}
+use Rattle.std.proofs.Common.{◌≡◌, ℕ, suc, ◌+◌, ◌<◌, ◌≤◌, drop, drop-cons, get_or, is_some, true, false, Option, None, Some, refl, sym, ap, ap₂, ◌∙◌, arith, zero-add}
 use Rattle.std.specs.List.{range_with_len}
 use Rattle.std.specs.Option.{option_map, option_or}
 use Rattle.std.proofs.lemmas.List.{drop_all}

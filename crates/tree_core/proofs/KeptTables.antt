@@ -1,18 +1,14 @@
 -- What the type of the tree keeps, by its parts.
-use Rattle.std.proofs.Common.{◌≡◌, ◌≢◌, ℕ, ◌+◌, ◌<◌, true, false, List, [], ◌∷◌, length, find, get_or, Option, None, Some, IsSome, IfSome, refl, sym, subst, ap, ◌∙◌, arith}
+use Rattle.std.proofs.Common.{◌≡◌, ◌≢◌, ℕ, ◌+◌, ◌<◌, true, List, [], ◌∷◌, length, find, get_or, Option, None, Some, IfSome, refl, sym, subst, ap, ◌∙◌, arith}
 use Rattle.std.specs.Prelude.{IsSomeAnd}
 use Rattle.std.specs.List.{slice_get}
 use Rattle.std.proofs.lemmas.Bool.{eq-eqb}
 use Rattle.std.proofs.lemmas.List.Folds.{list_any_at}
-use Rattle.group_tree.specs.Records.{blank, has_gid, is_control}
+use Rattle.group_tree.specs.Records.{blank, has_gid}
 use Rattle.group_tree.specs.declared.group.Group.{Group}
-use Rattle.group_tree.specs.declared.group_kind.GroupKind.{GroupKind}
-use Rattle.group_tree.specs.declared.group_kind.GroupKind.TheVariants.{Control, Monitor}
 use Rattle.hw_ids.specs.Ids.{contains}
 use Rattle.machine.specs.declared.parameters.Parameters.{Parameters}
 use Rattle.rc_base.specs.declared.names.Gid.{Gid}
-use Rattle.rc_base.specs.declared.names.Mode.{Mode}
-use Rattle.rc_base.specs.declared.names.Mode.TheVariants.{Shareable, Exclusive, LockSetup, Locked}
 use Rattle.lists.proofs.Tests.{IsFound, IsFound-all, find-found}
 use Rattle.rc_base.specs.declared.replies.Reply.{Reply}
 use Rattle.tree_law.proofs.laws.Steps.{status-sound}
@@ -20,9 +16,8 @@ use Rattle.tree_core.specs.Given.{MayGive}
 use Rattle.tree_core.specs.Kept.{IsKept, Keeps}
 use Rattle.tree_core.specs.Tables.{Tables}
 use Rattle.tree_core.specs.Values.{TreeValue}
-use Rattle.tree_law.specs.Counted.{is_counted_mode}
 use Rattle.tree_law.specs.Existing.{group_of}
-use Rattle.tree_law.specs.Sound.{HasIds, HasIdsOf, IsDefault, IsUsed}
+use Rattle.tree_law.specs.Sound.{HasIds, IsDefault, IsUsed}
 use Rattle.tree_law.specs.Space.{is_id}
 use Rattle.tree_law.specs.State.{State}
 

@@ -1,5 +1,5 @@
 -- The lock of a region: the group that locks it, and the place of the region.
-use Rattle.std.proofs.Common.{◌≡◌, ◌≢◌, ℕ, ◌<◌, Bool, true, false, not, cond, eqb, List, length, find, get_or, set, slice_set, take, Option, None, Some, Result, Ok, Err, refl, sym, subst, ap, ◌∙◌, arith}
+use Rattle.std.proofs.Common.{◌≡◌, ◌≢◌, ℕ, ◌<◌, Bool, true, false, not, cond, eqb, List, length, find, get_or, set, slice_set, take, Option, None, Some, Result, Ok, Err, refl, sym, ap, ◌∙◌, arith}
 use Rattle.std.specs.Option.{option_map_or}
 use Rattle.std.proofs.Math.Seq.{take-set-lt}
 use Rattle.std.proofs.lemmas.Bool.{eqb-true}
@@ -18,7 +18,6 @@ use Rattle.mode_rules.specs.declared.overlap.Overlap.TheVariants as overlap
 use Rattle.pseudo_lock.specs.Regions.{region_in}
 use Rattle.pseudo_lock.specs.declared.region.Region.{Region}
 use Rattle.rc_base.specs.declared.names.Gid.{Gid}
-use Rattle.rc_base.specs.declared.names.Mode.{Mode}
 use Rattle.rc_base.specs.declared.names.Mode.TheVariants.{LockSetup}
 use Rattle.tree_core.proofs.Assignments.{mask-valid}
 use Rattle.tree_core.proofs.KeptTables.{IsDefault-first, length-positive}

@@ -82,7 +82,7 @@ module _ {m : Parameters} {t : Tables} {s : State} {epoch : ℕ} (keeps : Keeps 
     IsRefused-limbo false is = IsRefused-by m s (Dir (Mon owner name)) (plain RmidsBusy) is
 
     -- without a free RMID it is refused
-    pub IsRefused-no_rmid : (rmids' : MonitoringIds) (reply : Reply) → TakesRmid t.rmids rmids' None (Err reply) → IsRefused m s (Dir (Mon owner name)) reply
+    pub IsRefused-no_rmid : (rmids' : MonitoringIds) (reply : Reply) → TakesRmid t.rmids rmids' (Err reply) → IsRefused m s (Dir (Mon owner name)) reply
     IsRefused-no_rmid rmids' reply taken =
         let none = free_rmid-none m s t.classes t.rmids keeps.stands.taken (sym keeps.stands.limbo) taken.1.0 in
         let said : reply ≡ cond (eqb (length s.limbo) 0) (refused OutOfRmids 0) (refused RmidsBusy 0) = taken.1.1 ∙ ap (λ (limbo : List ℕ). cond (eqb (length limbo) 0) (refused OutOfRmids 0) (refused RmidsBusy 0)) keeps.stands.limbo in

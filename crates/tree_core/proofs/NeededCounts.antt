@@ -65,4 +65,4 @@ needs_accepted-none m s (ops.Mkdir path) other = refl
 needs_accepted-none m s (ops.List path) other = refl
 needs_accepted-none m s (ops.Flush domain) other = refl
 needs_accepted-none m s (ops.Access task cpu addr) other = refl
-needs_accepted-none m s (ops.Touch path offset task cpu) other = refl
+needs_accepted-none m s (ops.Touch cpu path task offset) other = refl

@@ -1,7 +1,6 @@
 -- The opening tree is one that the type keeps.
 use Rattle.std.proofs.Common.{◌≡◌, ℕ, ◌≤◌, List, [], ◌∷◌, length, map, take, replicate, Option, None, refl, sym, subst, ap, arith}
 use Rattle.std.specs.List.Sorted.{IsStrictlyIncreasing}
-use Rattle.std.proofs.lemmas.List.Elements.{All-cons}
 use Rattle.cpu_binding.specs.Groups as cpu_groups
 use Rattle.cpu_binding.specs.declared.groups.CpuGroups.{CpuGroups}
 use Rattle.group_tree.specs.Lists.{GroupList}

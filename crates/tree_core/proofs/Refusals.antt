@@ -89,13 +89,25 @@ refusal-lacks_of m s name none = refusal-in_place m s (Dir (Ctrl name)) none
 pub IsRefused-no_class : (m : Parameters) (s : State) (name : NameId) → find (against m s (Dir (Ctrl name))) place_reasons ≡ None → free_class m s ≡ None → IsRefused m s (Dir (Ctrl name)) (refused OutOfClosids 0)
 IsRefused-no_class m s name none class = IsRefused-by m s (Dir (Ctrl name)) (plain OutOfClosids) (refusal-lacks_of m s name none ∙ rw class refl)
 
--- and so it is where a domain is full
-pub IsRefused-no_space : (m : Parameters) (s : State) (name : NameId) (class domain : ℕ) → find (against m s (Dir (Ctrl name))) place_reasons ≡ None → free_class m s ≡ Some class → full_domain m s ≡ Some domain
+-- and so it is where the classes tell that none is free
+pub IsRefused-spent : (m : Parameters) (s : State) (name : NameId) → find (against m s (Dir (Ctrl name))) place_reasons ≡ None → is_some (free_class m s) ≡ false → IsRefused m s (Dir (Ctrl name)) (refused OutOfClosids 0)
+IsRefused-spent m s name none spent = IsRefused-no_class m s name none (at (free_class m s) spent)
+  where
+    at : (o : Option ℕ) → is_some o ≡ false → o ≡ None
+    at None is = refl
+    at (Some x) is = absurd (let none : true ≡ false = is in cc)
+
+-- where a class is free it is refused where a domain is full
+pub IsRefused-no_space : (m : Parameters) (s : State) (name : NameId) (domain : ℕ) → find (against m s (Dir (Ctrl name))) place_reasons ≡ None → is_some (free_class m s) ≡ true → full_domain m s ≡ Some domain
     → IsRefused m s (Dir (Ctrl name)) (refused NoSpace domain)
-IsRefused-no_space m s name class domain none is_class is_full = IsRefused-by m s (Dir (Ctrl name)) (record { why = NoSpace; arg = domain })
+IsRefused-no_space m s name domain none some is_full = IsRefused-by m s (Dir (Ctrl name)) (record { why = NoSpace; arg = domain })
     (refusal-lacks_of m s name none
-    ∙ ap₂ (λ (a b : Option ℕ). lacks_of m s (is_none a) (is_some b) (is_none (free_rmid m s)) (eqb (length s.limbo) 0)) is_class is_full
+    ∙ ap₂ (λ (a : Bool) (b : Option ℕ). lacks_of m s a (is_some b) (is_none (free_rmid m s)) (eqb (length s.limbo) 0)) (is_none-false (free_class m s) some) is_full
     ∙ ap (λ (full : Option ℕ). Some (record { why = NoSpace; arg = unwrap_or full 0 })) is_full)
+  where
+    is_none-false : (o : Option ℕ) → is_some o ≡ true → is_none o ≡ false
+    is_none-false (Some x) is = refl
+    is_none-false None is = absurd (let some : false ≡ true = is in cc)
 
 -- where RMIDs are lacking, the limbo tells the reply
 IsRefused-lack_of_rmids : (m : Parameters) (s : State) (name : NameId) (limbo : Bool) → refusal m s (Mkdir (Dir (Ctrl name))) ≡ lacks_of m s false false true limbo → IsRefused m s (Dir (Ctrl name)) (cond limbo (refused OutOfRmids 0) (refused RmidsBusy 0))

@@ -1,5 +1,5 @@
 -- How many groups there are, and that one more has a place.
-use Rattle.std.proofs.Common.{◌≡◌, ◌≢◌, ℕ, zero, suc, ◌+◌, ◌<◌, ◌≤◌, Bool, true, false, cond, eqb, List, [], ◌∷◌, length, map, filter, get_or, Option, None, Some, IsSome, IfSome, refl, sym, subst, ap, ◌∙◌, arith, length-append}
+use Rattle.std.proofs.Common.{◌≡◌, ◌≢◌, ℕ, zero, suc, ◌+◌, ◌<◌, ◌≤◌, Bool, true, false, cond, eqb, List, [], ◌∷◌, length, filter, get_or, Option, None, Some, IsSome, IfSome, refl, sym, subst, ap, ◌∙◌, arith, length-append}
 use Rattle.std.specs.Prelude.{IsSomeAnd}
 use Rattle.std.specs.List.{All, AllPairs, flat_map, list_any, slice_get}
 use Rattle.std.specs.Option.{option_map, option_to_list}
@@ -8,7 +8,7 @@ use Rattle.std.proofs.lemmas.List.Folds.{Any-from_list_any, list_any_none}
 use Rattle.std.proofs.lemmas.Map.Keys.{IsDistinct-from_apart}
 use Rattle.std.proofs.lemmas.Map.Steps.{length-le_from_distinct_below}
 use Rattle.group_tree.specs.Lists.{has_group}
-use Rattle.group_tree.specs.Records.{has_gid, has_mode, is_control, is_mode}
+use Rattle.group_tree.specs.Records.{has_gid, has_mode}
 use Rattle.group_tree.specs.declared.group.Group.{Group}
 use Rattle.group_tree.specs.declared.group_kind.GroupKind.{GroupKind}
 use Rattle.group_tree.specs.declared.group_kind.GroupKind.TheVariants.{Control, Monitor}
@@ -16,12 +16,10 @@ use Rattle.lists.proofs.Pairs.{All-flat_map, AllAcross, AllPairs-flat_map, AllPa
 use Rattle.machine.specs.Ranges.{InRange}
 use Rattle.machine.specs.declared.parameters.Parameters.{Parameters}
 use Rattle.pseudo_lock.specs.declared.region.Region.{Region}
-use Rattle.rc_base.specs.declared.names.Gid.{Gid}
 use Rattle.rc_base.specs.declared.names.Mode.{Mode}
 use Rattle.rc_base.specs.declared.names.Mode.TheVariants.{Shareable, Exclusive, LockSetup, Locked}
 use Rattle.tree_core.specs.Kept.{Keeps}
 use Rattle.tree_core.specs.Tables.{Tables}
-use Rattle.tree_law.specs.Freeing.{rmids_of}
 use Rattle.tree_law.specs.Regions.{HasOneRegion, has_region_of}
 use Rattle.tree_law.specs.Sound.{Differ, HasIds, HasIdsOf, IsDefault, IsUsed}
 use Rattle.tree_law.specs.State.{State}

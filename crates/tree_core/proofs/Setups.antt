@@ -1,6 +1,6 @@
 -- Entering and leaving pseudo-locksetup.
-use Rattle.std.proofs.Common.{◌≡◌, ◌≢◌, ℕ, zero, suc, ◌<◌, ◌≤◌, Bool, true, false, not, ◌||◌, ◌&&◌, cond, eqb, List, [], ◌∷◌, length, filter, map, find, get_or, is_some, Option, None, Some, IsNone, IfSome, Result, Ok, Err, is_none, inl, inr, refl, sym, subst, ap, ap₂, ◌∙◌, arith}
-use Rattle.std.specs.List.{All, AllPairs, slice_get}
+use Rattle.std.proofs.Common.{◌≡◌, ◌≢◌, ℕ, zero, suc, ◌<◌, Bool, true, false, not, ◌||◌, ◌&&◌, cond, eqb, List, [], ◌∷◌, length, filter, map, find, get_or, is_some, Option, None, Some, IsNone, is_none, inl, inr, refl, sym, subst, ap, ap₂, ◌∙◌, arith}
+use Rattle.std.specs.List.{All, slice_get}
 use Rattle.std.specs.Option.{option_or, option_to_list}
 use Rattle.std.proofs.lemmas.Bool.{cases_lt, eqb-true, eq-eqb, ne_eqb}
 use Rattle.std.proofs.lemmas.Nat.Bits.{bit_at-lt, bit_at-zero, same_from_bits}
@@ -18,12 +18,11 @@ use Rattle.hw_ids.specs.MonitoringIds.{MonitoringIds}
 use Rattle.lists.proofs.Pairs.{AllPairs-one}
 use Rattle.lists.proofs.Tests.{find-found}
 use Rattle.machine.specs.declared.parameters.Parameters.{Parameters}
-use Rattle.mode_rules.specs.Setup.{Holdings, entry_refusal}
+use Rattle.mode_rules.specs.Setup.{entry_refusal}
 use Rattle.rc_base.specs.Replies.{refused}
 use Rattle.rc_base.specs.declared.names.Mode.{Mode}
 use Rattle.rc_base.specs.declared.names.Mode.TheVariants.{Shareable, Exclusive, LockSetup, Locked}
-use Rattle.rc_base.specs.declared.replies.Why.{Why}
-use Rattle.rc_base.specs.declared.replies.Why.TheVariants.{DefaultGroup, HasMonGroups, HasTasks, HasCpus, OutOfRmids, RmidsBusy}
+use Rattle.rc_base.specs.declared.replies.Why.TheVariants.{DefaultGroup, OutOfRmids, RmidsBusy}
 use Rattle.rc_base.specs.declared.names.Gid.{Gid}
 use Rattle.task_binding.specs.Bindings as bindings
 use Rattle.task_binding.specs.declared.binding.Binding.{Binding}
@@ -166,7 +165,7 @@ module _ {m : Parameters} {t : Tables} {s : State} {epoch : ℕ} (keeps : Keeps 
   rmid_refusal-taken rmids' rmid taken = ap (λ (o : Option ℕ). cond (is_none o) (Some (plain (cond (eqb (length s.limbo) 0) OutOfRmids RmidsBusy))) None) (free_rmid-taken rmids' rmid taken)
 
   -- where none is free, the limbo tells the reply
-  pub rmid_refusal-none : (reply : Reply) → NoneTaken t.rmids None reply → (r : Refusal) × (modes.rmid_refusal m s ≡ Some r) × (reply ≡ reply_of (Some r))
+  pub rmid_refusal-none : (reply : Reply) → NoneTaken t.rmids reply → (r : Refusal) × (modes.rmid_refusal m s ≡ Some r) × (reply ≡ reply_of (Some r))
   rmid_refusal-none reply none = (
     plain (cond (eqb (length s.limbo) 0) OutOfRmids RmidsBusy),
     ap (λ (o : Option ℕ). cond (is_none o) (Some (plain (cond (eqb (length s.limbo) 0) OutOfRmids RmidsBusy))) None) (free_rmid-none m s t.classes t.rmids keeps.stands.taken (sym keeps.stands.limbo) none.0),

@@ -1,5 +1,5 @@
 -- What a touch answers, and what follows it.
-use Rattle.std.proofs.Common.{◌≡◌, ◌≢◌, ℕ, zero, suc, ◌+◌, ◌-◌, ◌/◌, ◌^◌, ◌<◌, ◌≤◌, Bool, true, false, not, cond, eqb, leb, ltb, List, [], ◌∷◌, Option, None, Some, refl, sym, subst, ap, ap₂, ◌∙◌, arith}
+use Rattle.std.proofs.Common.{◌≡◌, ◌≢◌, ℕ, zero, suc, ◌+◌, ◌-◌, ◌/◌, ◌^◌, ◌<◌, ◌≤◌, Bool, true, false, cond, ltb, List, [], ◌∷◌, Option, None, Some, refl, sym, subst, ap, ◌∙◌, arith}
 use Rattle.std.specs.List.{All}
 use Rattle.std.proofs.lemmas.Bool.{eq-eqb, ltb-true, ne_eqb, le-leb, lt-leb}
 use Rattle.cbm.specs.Masks.{ways_of}
@@ -16,44 +16,43 @@ use Rattle.script_ops.specs.declared.limits.TheConstants.{MOST_WEIGHT}
 use Rattle.script_ops.specs.declared.op.Op.TheVariants as ops
 use Rattle.tree_law.proofs.laws.Lines.{first_line-bounded}
 use Rattle.tree_law.specs.LawsFollows.{IsLawful}
-use Rattle.tree_law.specs.Refusals.{Refusal, plain}
+use Rattle.tree_law.specs.Refusals.{plain}
 use Rattle.tree_law.specs.Resolving.{Owned, resolve}
 use Rattle.tree_law.specs.Sound.{IsSound}
 use Rattle.tree_law.specs.State.{State}
 use Rattle.tree_law.specs.Steps.{after, refusal}
 use Rattle.tree_law.specs.commands.Touch as touch
-use Rattle.tree_law.specs.declared.follow.Follow.{Follow}
 use Rattle.tree_law.specs.declared.follow.Follow.TheVariants.{Touch}
 use Rattle.tree_core.proofs.Outcomes.{after-accepted}
 
 module _ (m : Parameters) (s : State) (path : PathRef) (offset task cpu : ℕ) where
-  refusal-region : (o : Option (ℕ × Region)) → touch.touched s path ≡ o → refusal m s (ops.Touch path offset task cpu) ≡ touch.against_region m offset cpu o
+  refusal-region : (o : Option (ℕ × Region)) → touch.touched s path ≡ o → refusal m s (ops.Touch cpu path task offset) ≡ touch.against_region m offset cpu o
   unfolding refusal touch.refusal
   refusal-region o is = ap (touch.against_region m offset cpu) is
 
   -- no region is touched
-  pub refusal-nowhere : touch.touched s path ≡ None → refusal m s (ops.Touch path offset task cpu) ≡ Some (plain NoSuchPath)
+  pub refusal-nowhere : touch.touched s path ≡ None → refusal m s (ops.Touch cpu path task offset) ≡ Some (plain NoSuchPath)
   refusal-nowhere none = refusal-region None none
 
   module _ (r : Region) (is : touch.touched s path ≡ Some (r.domain, r)) where
     -- the offset is past the region
-    pub refusal-past : bytes_of m (ways_of r.mask) ≤ offset → refusal m s (ops.Touch path offset task cpu) ≡ Some (plain PastRegion)
+    pub refusal-past : bytes_of m (ways_of r.mask) ≤ offset → refusal m s (ops.Touch cpu path task offset) ≡ Some (plain PastRegion)
     refusal-past past = refusal-region (Some (r.domain, r)) is ∙ rw (le-leb (bytes_of m (ways_of r.mask)) offset past) refl
 
     module _ (within : offset < bytes_of m (ways_of r.mask)) where
       -- the CPU is at another domain
-      pub refusal-cpu : domain_of m cpu ≢ r.domain → refusal m s (ops.Touch path offset task cpu) ≡ Some (plain WrongCpu)
+      pub refusal-cpu : domain_of m cpu ≢ r.domain → refusal m s (ops.Touch cpu path task offset) ≡ Some (plain WrongCpu)
       refusal-cpu other = refusal-region (Some (r.domain, r)) is ∙ rw (lt-leb (bytes_of m (ways_of r.mask)) offset within, ne_eqb (domain_of m cpu) r.domain other) refl
 
       module _ (here : domain_of m cpu ≡ r.domain) where
         -- nothing is against it
-        pub refusal-none : refusal m s (ops.Touch path offset task cpu) ≡ None
+        pub refusal-none : refusal m s (ops.Touch cpu path task offset) ≡ None
         refusal-none = refusal-region (Some (r.domain, r)) is ∙ rw (lt-leb (bytes_of m (ways_of r.mask)) offset within, eq-eqb (domain_of m cpu) r.domain here) refl
 
         -- one access follows
-        pub after-touch : (k : ℕ) → after m s k (ops.Touch path offset task cpu) ≡ Touch (touch.tag_of (resolve m s task cpu) (domain_of m cpu) (k + 1)) (r.first_line + offset / 64) ∷ []
+        pub after-touch : (k : ℕ) → after m s k (ops.Touch cpu path task offset) ≡ Touch (touch.tag_of (resolve m s task cpu) (domain_of m cpu) (k + 1)) (r.first_line + offset / 64) ∷ []
         unfolding touch.after
-        after-touch k = after-accepted m s k (ops.Touch path offset task cpu) refusal-none ∙ ap (touch.follow m s k offset task cpu) is
+        after-touch k = after-accepted m s k (ops.Touch cpu path task offset) refusal-none ∙ ap (touch.follow m s k offset task cpu) is
 
 -- a tag, by its parts
 tag : ℕ → Gid → ℕ → ℕ → ℕ → ℕ → Tag

@@ -1,5 +1,5 @@
 -- A place for a group that no directory of a group has: an RMID is looked for, and no group is made.
-use Rattle.std.proofs.Common.{◌≡◌, ◌≢◌, ℕ, ◌<◌, ◌≤◌, Bool, true, false, not, ◌&&◌, ◌||◌, cond, eqb, ltb, List, find, length, Option, None, Some, is_none, is_some, refl, sym, subst, ap, ap₂, ◌∙◌, arith}
+use Rattle.std.proofs.Common.{◌≡◌, ◌≢◌, ℕ, Bool, true, false, not, ◌&&◌, ◌||◌, cond, List, find, Option, None, Some, is_none, is_some, refl, sym, ap, ap₂, ◌∙◌, arith}
 use Rattle.std.specs.Option.{option_map}
 use Rattle.std.proofs.lemmas.Bool.{le-ltb}
 use Rattle.group_tree.specs.Records.{blank}
@@ -8,11 +8,9 @@ use Rattle.hw_ids.specs.Ids as ids
 use Rattle.hw_ids.specs.Ids.{contains, with_id}
 use Rattle.hw_ids.specs.MonitoringIds.{MonitoringIds, after_free}
 use Rattle.machine.specs.declared.parameters.Parameters.{Parameters}
-use Rattle.path_names.specs.declared.dirs.DirRef.{DirRef}
 use Rattle.path_names.specs.declared.dirs.DirRef.TheVariants.{Root, Info, InfoL3, InfoL3Mon, Ctrl, MonGroups, Mon, MonData, MonDomain}
 use Rattle.path_names.specs.declared.path_ref.PathRef.{PathRef}
 use Rattle.path_names.specs.declared.path_ref.PathRef.TheVariants.{Dir, File, Free, Nowhere}
-use Rattle.rc_base.specs.declared.replies.Why.{Why}
 use Rattle.rc_base.specs.declared.replies.Why.TheVariants.{Locking, NoSpace, OutOfClosids, OutOfRmids, RmidsBusy}
 use Rattle.script_ops.specs.declared.op.Op.TheVariants.{Mkdir}
 use Rattle.std.proofs.lemmas.Bool.{eq-eqb}

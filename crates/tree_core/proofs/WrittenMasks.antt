@@ -23,11 +23,10 @@ use Rattle.tree_law.specs.Places.{control_at}
 use Rattle.tree_law.specs.Refusals.{Refusal, plain, reply_of}
 use Rattle.tree_law.specs.Sound.{IsSound}
 use Rattle.tree_law.specs.State.{State}
-use Rattle.tree_law.specs.Steps.{accepted, after, after_accepted, left, refusal}
+use Rattle.tree_law.specs.Steps.{accepted, after, left, refusal}
 use Rattle.tree_law.specs.commands.Schemata as schemata
 use Rattle.tree_law.specs.commands.Schemata.{is_locked, schemata_read}
 use Rattle.tree_law.specs.commands.Write as write
-use Rattle.tree_law.specs.declared.follow.Follow.{Follow}
 
 -- what is against the path is against the command
 pub refusal-write_path : (m : Parameters) (s : State) (path : PathRef) (text : List ℕ) (why : Why) → find (write.against s path) write.reasons ≡ Some why → refusal m s (Write path text) ≡ Some (plain why)

@@ -1,5 +1,5 @@
 -- What a write of `mode` answers and leaves.
-use Rattle.std.proofs.Common.{◌≡◌, ℕ, ◌*◌, ◌≤◌, Bool, true, false, cond, List, [], length, find, map, Option, None, Some, is_some, refl, sym, subst, ap, ap₂, ◌∙◌}
+use Rattle.std.proofs.Common.{◌≡◌, ℕ, ◌*◌, ◌≤◌, Bool, true, false, cond, List, [], length, find, map, Option, None, Some, refl, sym, subst, ap, ap₂, ◌∙◌}
 use Rattle.std.specs.List.{range_with_len}
 use Rattle.std.specs.Option.{option_map_or, option_or}
 use Rattle.group_tree.specs.declared.group.Group.{Group}
@@ -32,7 +32,6 @@ use Rattle.tree_law.specs.Steps.{accepted, after, left, needs, needs_accepted, r
 use Rattle.tree_law.specs.commands.Mode as modes
 use Rattle.tree_law.specs.commands.Schemata.{is_locked}
 use Rattle.tree_law.specs.commands.Write as write
-use Rattle.tree_law.specs.declared.follow.Follow.{Follow}
 use Rattle.tree_law.specs.declared.follow.Follow.TheVariants.{Raise}
 
 -- ---- what a text asks of a group

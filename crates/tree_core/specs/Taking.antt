@@ -1,5 +1,5 @@
 -- Taking the ids of a new group.
-use Rattle.std.specs.Prelude.{◌≡◌, ◌⊎◌, ℕ, ◌==◌, if◌then◌else◌, List, length, Option, Some, None, Result, Ok, Err}
+use Rattle.std.specs.Prelude.{◌≡◌, ◌⊎◌, ℕ, ◌==◌, Bool, true, false, if◌then◌else◌, List, length, Result, Ok, Err}
 use Rattle.hw_ids.specs.Classes as classes
 use Rattle.hw_ids.specs.Classes.{Classes}
 use Rattle.hw_ids.specs.Ids.{contains, with_id}
@@ -7,7 +7,7 @@ use Rattle.hw_ids.specs.MonitoringIds as rmids
 use Rattle.hw_ids.specs.MonitoringIds.{MonitoringIds}
 use Rattle.rc_base.specs.Replies.{refused}
 use Rattle.rc_base.specs.declared.replies.Reply.{Reply}
-use Rattle.rc_base.specs.declared.replies.Why.TheVariants.{NoSpace, OutOfClosids, OutOfRmids, RmidsBusy}
+use Rattle.rc_base.specs.declared.replies.Why.TheVariants.{OutOfClosids, OutOfRmids, RmidsBusy}
 use Rattle.tree_core.specs.declared.taking.NewIds.{NewIds}
 
 -- two sets of ids have the same members
@@ -23,15 +23,14 @@ pub record RmidTaken (old new : MonitoringIds) (rmid : ℕ) : Type 0 where
   pub lowest : rmids.IsLowestFree old rmid
   pub taken : new ≡ record old { taken = with_id rmid old.taken }
 
--- why none is taken: some domain has no space, or no RMID is free
-abbrev pub NoneTaken : MonitoringIds → Option ℕ → Reply → Type 0
-NoneTaken old (Some domain) reply = reply ≡ refused NoSpace domain
-NoneTaken old None reply = rmids.NoneFree old × (reply ≡ rmid_reply old)
+-- why none is taken: no RMID is free
+abbrev pub NoneTaken : MonitoringIds → Reply → Type 0
+NoneTaken old reply = rmids.NoneFree old × (reply ≡ rmid_reply old)
 
 -- the RMID that was taken, or why none was
-abbrev pub TakesRmid : MonitoringIds → MonitoringIds → Option ℕ → Result ℕ Reply → Type 0
-TakesRmid old new full (Ok rmid) = (full ≡ None) × RmidTaken old new rmid
-TakesRmid old new full (Err reply) = (new ≡ old) × NoneTaken old full reply
+abbrev pub TakesRmid : MonitoringIds → MonitoringIds → Result ℕ Reply → Type 0
+TakesRmid old new (Ok rmid) = RmidTaken old new rmid
+TakesRmid old new (Err reply) = (new ≡ old) × NoneTaken old reply
 
 -- the lowest free class is taken
 pub record ClassTaken (old new : Classes) (class : ℕ) : Type 0 where
@@ -43,14 +42,19 @@ pub record ClassesStay (old new : Classes) : Type 0 where
   pub count : new.count ≡ old.count
   pub members : SameMembers old.taken new.taken
 
--- why no ids are taken: no class is free, or one is and the rest is lacking
-abbrev pub NoIds : Classes → MonitoringIds → Option ℕ → Reply → Type 0
-NoIds old ids full reply = (classes.NoneFree old × (reply ≡ refused OutOfClosids 0)) ⊎ (((class : ℕ) × classes.IsLowestFree old class) × NoneTaken ids full reply)
+-- whether a class is free
+abbrev pub HasClass : Classes → Bool → Type 0
+HasClass old true = (class : ℕ) × classes.IsLowestFree old class
+HasClass old false = classes.NoneFree old
+
+-- why no ids are taken: no class is free, or one is and the RMID is lacking
+abbrev pub NoIds : Classes → MonitoringIds → Reply → Type 0
+NoIds old ids reply = (classes.NoneFree old × (reply ≡ refused OutOfClosids 0)) ⊎ (((class : ℕ) × classes.IsLowestFree old class) × NoneTaken ids reply)
 
 -- the ids that were taken, or why none were
-abbrev pub TakesIds : Classes → Classes → MonitoringIds → MonitoringIds → Option ℕ → Result NewIds Reply → Type 0
-TakesIds old new ids ids' full (Ok new_ids) = ClassTaken old new new_ids.class × (full ≡ None) × RmidTaken ids ids' new_ids.rmid
-TakesIds old new ids ids' full (Err reply) = ClassesStay old new × (ids' ≡ ids) × NoIds old ids full reply
+abbrev pub TakesIds : Classes → Classes → MonitoringIds → MonitoringIds → Result NewIds Reply → Type 0
+TakesIds old new ids ids' (Ok new_ids) = ClassTaken old new new_ids.class × RmidTaken ids ids' new_ids.rmid
+TakesIds old new ids ids' (Err reply) = ClassesStay old new × (ids' ≡ ids) × NoIds old ids reply
 
 -- the same RMIDs are taken and in limbo as before
 pub record RmidsStay (old new : MonitoringIds) : Type 0 where

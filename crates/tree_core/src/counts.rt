@@ -41,17 +41,6 @@ impl Counts {
         }
     }
 
-    /// No counts.
-    pub(crate) fn none() -> Counts
-        ensures { result ≡ [] }
-    {
-        Counts {
-            rmids: RmidList::new(),
-            first: 0,
-            domains: 1,
-        }
-    }
-
     /// How many counts there are.
     pub fn len(&self) -> u32
         ensures { result ≡ length self.now }

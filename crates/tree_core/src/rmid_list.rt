@@ -20,8 +20,8 @@ pub(crate) fn only(rmid: Option<u16>) -> RmidList
     rmids
 }
 
-// Adds this RMID, where there is one.
-fn push_some(rmids: &mut RmidList, rmid: Option<u16>)
+/// Adds this RMID, where there is one.
+pub(crate) fn push_some(rmids: &mut RmidList, rmid: Option<u16>)
     requires room { length (rmids.old.items ++ option_to_list rmid) ≤ 256 }
     ensures { rmids.new.items ≡ rmids.old.items ++ option_to_list rmid }
 {

@@ -17,6 +17,7 @@ mod joining;
 mod leaving;
 mod lock;
 mod mkdir;
+mod mkdir_control;
 mod mkdir_monitor;
 mod mode;
 mod needs;

@@ -108,7 +108,7 @@ second_script =
     ∷ (record { op = ops.Write (paths.File (dirs.Ctrl (nid 3)) kinds.Schemata) (codes "L3:0=38 "); looks = [] })
     ∷ (record { op = ops.Write (paths.File (dirs.Ctrl (nid 1)) kinds.Schemata) (codes "L3: "); looks = [] })
     ∷ (record { op = ops.Write (paths.File (dirs.Ctrl (nid 1)) kinds.Cpus) ([]); looks = [] })
-    ∷ (record { op = ops.Touch (paths.Dir (dirs.Ctrl (nid 2))) 64 2 3; looks = [] })
+    ∷ (record { op = ops.Touch 3 (paths.Dir (dirs.Ctrl (nid 2))) 2 64; looks = [] })
     ∷ (record { op = ops.Rmdir (paths.Dir (dirs.Ctrl (nid 1))); looks = 0 ∷ [] })
     ∷ []
 

@@ -26,7 +26,7 @@ refusal m s (ops.Rmdir path) = rmdir.refusal s path
 refusal m s (ops.Write path text) = write.refusal m s path text
 refusal m s (ops.Read path) = read.refusal s path
 refusal m s (ops.List path) = read.list_refusal s path
-refusal m s (ops.Touch path offset task cpu) = touch.refusal m s path offset cpu
+refusal m s (ops.Touch cpu path task offset) = touch.refusal m s path offset cpu
 refusal m s op = None
 
 -- the counts that an accepted command needs, as pairs of a domain and an RMID
@@ -76,7 +76,7 @@ abbrev pub after_accepted : Parameters → State → ℕ → Op → List Follow
 after_accepted m s k (ops.Rmdir path) = map (λ d. follows.Raise d) (range_with_len 0 m.domains)
 after_accepted m s k (ops.Write path text) = write.after m s path text
 after_accepted m s k (ops.Flush domain) = flush.after m domain
-after_accepted m s k (ops.Touch path offset task cpu) = touch.after m s k path offset task cpu
+after_accepted m s k (ops.Touch cpu path task offset) = touch.after m s k path offset task cpu
 after_accepted m s k op = []
 
 unfoldable pub after : Parameters → State → ℕ → Op → List Follow

@@ -29,7 +29,7 @@ or-false false b none = (refl, none)
 
 -- an entry that decides, and does not empty every place, puts a line there
 is_some-left_by : (m : Shape) (set way : ℕ) (what : What) → empties what ≡ false → decides m set way what ≡ true → is_some (left_by m set way what) ≡ true
-is_some-left_by m set way (Access owner rmid mask line hit at) fills is = refl
+is_some-left_by m set way (Access hit at owner rmid mask line) fills is = refl
 is_some-left_by m set way Raise fills is = absurd cc
 is_some-left_by m set way Flush fills is = absurd cc
 is_some-left_by m set way (Lock mask first_line) fills is = absurd cc
@@ -92,7 +92,7 @@ held-cons m e es set way fills =
 
 -- an entry that empties every place decides of each
 decides-empties : (m : Shape) (set way : ℕ) (what : What) → empties what ≡ true → decides m set way what ≡ true
-decides-empties m set way (Access owner rmid mask line hit at) is = absurd cc
+decides-empties m set way (Access hit at owner rmid mask line) is = absurd cc
 decides-empties m set way Raise is = absurd cc
 decides-empties m set way Flush is = refl
 decides-empties m set way (Lock mask first_line) is = refl

@@ -49,7 +49,7 @@ module _ (sets group : ℕ) (opening : What) (window : List SliceEntry) where
   module _ (ways set : ℕ) (isolated : IsIsolated sets group ways opening window) where
     -- an access of another, or no access
     hits_after-other : (earlier lines : List ℕ) (what : What) (hits : List Bool) → is_own group what ≡ false → hits ≡ hits_after ways (earlier ++ item_of sets group set what) lines → hits ≡ hits_after ways earlier lines
-    hits_after-other earlier lines (Access owner rmid mask line hit way) hits other is = rw append-nil at (rw other at is)
+    hits_after-other earlier lines (Access hit way owner rmid mask line) hits other is = rw append-nil at (rw other at is)
     hits_after-other earlier lines Raise hits other is = rw append-nil at is
     hits_after-other earlier lines Flush hits other is = rw append-nil at is
     hits_after-other earlier lines (Lock mask first_line) hits other is = rw append-nil at is
@@ -58,7 +58,7 @@ module _ (sets group : ℕ) (opening : What) (window : List SliceEntry) where
     -- an access of the group
     hits_after-own : (earlier : List SliceEntry) (lines : List ℕ) (what : What) (hits : List Bool) → is_own group what ≡ true → HitsAsPrivate sets group ways earlier what
         → hits ≡ hits_after ways (items sets group set earlier ++ item_of sets group set what) lines → hit_of sets group set what ++ hits ≡ hits_after ways (items sets group set earlier) (item_of sets group set what ++ lines)
-    hits_after-own earlier lines (Access owner rmid mask line hit way) hits own private is = elim (cases_Bool (line % sets == set)) [
+    hits_after-own earlier lines (Access hit way owner rmid mask line) hits own private is = elim (cases_Bool (line % sets == set)) [
       | inl here ↦
           let same : line % sets ≡ set = eqb-true (line % sets) set here in
           let first : hit ≡ private_hit ways (items sets group set earlier) line = private own ∙ ap (λ s. private_hit ways (items sets group s earlier) line) same in
@@ -113,7 +113,7 @@ module _ (sets group : ℕ) (opening : What) (window : List SliceEntry) where
     -- an access of the group hits where it does in a private cache
     is_own_hit-private : (earlier seen : List SliceEntry) (what : What) → is_own group what ≡ true → HitsAsPrivate sets group ways earlier what → ((s : ℕ) → items sets group s seen ≡ items sets group s earlier)
         → is_own_hit group what ≡ is_private_hit sets group ways seen what
-    is_own_hit-private earlier seen (Access owner rmid mask line hit way) own private same = rw own (private own ∙ ap (λ l. private_hit ways l line) (sym (same (line % sets))))
+    is_own_hit-private earlier seen (Access hit way owner rmid mask line) own private same = rw own (private own ∙ ap (λ l. private_hit ways l line) (sym (same (line % sets))))
     is_own_hit-private earlier seen Raise own private same = refl
     is_own_hit-private earlier seen Flush own private same = refl
     is_own_hit-private earlier seen (Lock mask first_line) own private same = refl
@@ -121,7 +121,7 @@ module _ (sets group : ℕ) (opening : What) (window : List SliceEntry) where
 
     -- what is no access of the group has none of its lines
     item_of-other : (s : ℕ) (what : What) → is_own group what ≡ false → item_of sets group s what ≡ []
-    item_of-other s (Access owner rmid mask line hit way) other = rw other refl
+    item_of-other s (Access hit way owner rmid mask line) other = rw other refl
     item_of-other s Raise other = refl
     item_of-other s Flush other = refl
     item_of-other s (Lock mask first_line) other = refl

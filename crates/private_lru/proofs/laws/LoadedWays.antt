@@ -35,12 +35,12 @@ KeepsLoaded-undecided m mask first_line history e idle keeps set way within has 
 
 -- one entry more
 KeepsLoaded-push : (m : Shape) (narrow : m.ways ≤ 64) (mask first_line : ℕ) (history : List SliceEntry) (thread op epoch : ℕ) (what : What) → MayHappen m history epoch what → Spares mask what → KeepsLoaded m mask first_line history → KeepsLoaded m mask first_line (history ++ entry thread op epoch what ∷ [])
-KeepsLoaded-push m narrow mask first_line history thread op epoch (Access owner rmid its line true way) may spares keeps = KeepsLoaded-undecided m mask first_line history (entry thread op epoch (Access owner rmid its line true way)) (λ set v within has. refl) keeps
-KeepsLoaded-push m narrow mask first_line history thread op epoch (Access owner rmid its line false way) may spares keeps =
+KeepsLoaded-push m narrow mask first_line history thread op epoch (Access true way owner rmid its line) may spares keeps = KeepsLoaded-undecided m mask first_line history (entry thread op epoch (Access true way owner rmid its line)) (λ set v within has. refl) keeps
+KeepsLoaded-push m narrow mask first_line history thread op epoch (Access false way owner rmid its line) may spares keeps =
     let victim = may.1.1 in
     let lt : way < m.ways = victim.within in
     let off : has_way mask way ≡ false = has_way-apart its mask way spares (omega arith) victim.allowed in
-    KeepsLoaded-undecided m mask first_line history (entry thread op epoch (Access owner rmid its line false way))
+    KeepsLoaded-undecided m mask first_line history (entry thread op epoch (Access false way owner rmid its line))
     (λ set v within has. and-third_false true (line % m.sets == set) (way == v) (ne_eqb way v (λ e. true≢false (sym has ∙ (ap (λ w. has_way mask w) (sym e) ∙ off))))) keeps
 KeepsLoaded-push m narrow mask first_line history thread op epoch Raise may spares keeps = KeepsLoaded-undecided m mask first_line history (entry thread op epoch Raise) (λ set v within has. refl) keeps
 KeepsLoaded-push m narrow mask first_line history thread op epoch Flush may spares keeps = absurd spares
@@ -57,8 +57,8 @@ mod-line n first_line set k whole below =
 
 -- an access hits where the ways keep their lines
 HitsLoaded-kept : (m : Shape) (narrow : m.ways ≤ 64) (mask first_line : ℕ) (small : mask < 2 ^ m.ways) (history : List SliceEntry) (epoch : ℕ) (what : What) → first_line % m.sets ≡ 0 → MayHappen m history epoch what → KeepsLoaded m mask first_line history → HitsLoaded m.sets (Lock mask first_line) what
-HitsLoaded-kept m narrow mask first_line small history epoch (Access owner rmid its line true way) whole may keeps = λ l. refl
-HitsLoaded-kept m narrow mask first_line small history epoch (Access owner rmid its line false way) whole may keeps = λ is.
+HitsLoaded-kept m narrow mask first_line small history epoch (Access true way owner rmid its line) whole may keeps = λ l. refl
+HitsLoaded-kept m narrow mask first_line small history epoch (Access false way owner rmid its line) whole may keeps = λ is.
     let l = place-loads m mask first_line line narrow small is in
     let set : line % m.sets ≡ l.0 = ap (λ x. x % m.sets) l.5 ∙ mod-line m.sets first_line l.0 (ways_below mask l.1) whole l.2 in
     let holds : line_in (held m history (line % m.sets) l.1) ≡ Some line =

@@ -29,7 +29,7 @@ GoesOn-rest m before (x ∷ xs) ys goes = subst (λ b. GoesOn (EntryMayFollow m)
 -- an entry of the window that uses no line of the group's for another
 Fits-respects : (group mask : ℕ) (Own : ℕ → Type 0) (what : What) → Respects group mask what → ((x : ℕ) → Own x → is_use_of_other group x what ≡ false) → ((x : ℕ) → is_use group x what ≡ true → Own x)
     → Fits group mask Own what
-Fits-respects group mask Own (Access owner rmid its line hit way) respects alone own =
+Fits-respects group mask Own (Access hit way owner rmid its line) respects alone own =
     let same : (line == line) ≡ true = eq-eqb line line refl in
     elim (cases_Bool (owner.0 == group)) [
       | inl o ↦ let mine : Own line = own line (rw (o, same) refl) in let m : its ≡ mask = rw o at respects in rw o (m, mine)
@@ -52,7 +52,7 @@ HitsAsPrivate-kept : (m : Shape) (group mask : ℕ) (Own : ℕ → Type 0) (hist
     → MayHappen m (history ++ earlier) epoch what → Respects group mask what → ((x : ℕ) → is_use group x what ≡ true → Own x)
     → ((set : ℕ) → set < m.sets → KeepsAfter m mask Own set (history ++ earlier) (reverse (items m.sets group set earlier) ++ []))
     → HitsAsPrivate m.sets group (ways_below mask m.ways) earlier what
-HitsAsPrivate-kept m group mask Own history earlier epoch (Access owner rmid its line hit way) some may respects own keeps = λ o.
+HitsAsPrivate-kept m group mask Own history earlier epoch (Access hit way owner rmid its line) some may respects own keeps = λ o.
     let set : ℕ = line % m.sets in
     let same : (line == line) ≡ true = eq-eqb line line refl in
     let mine : Own line = own line (rw (o, same) refl) in

@@ -30,7 +30,7 @@ module _ (m : Parameters) (range : InRange m) (i thread op rmid : ℕ) where
   -- the number of one look
   look_number-few : (before : List SliceEntry) (epoch : ℕ) (made : Bool) (what : What) (rest : Option ℕ) → MayHappen (shape_in m i) before epoch what → IfSome rest IsFew → IfSome (first_of (cond made (look_number rmid what) None) rest) IsFew
   look_number-few before epoch false what rest may few = few
-  look_number-few before epoch true (whats.Access owner r mask line hit way) rest may few = few
+  look_number-few before epoch true (whats.Access hit way owner r mask line) rest may few = few
   look_number-few before epoch true whats.Raise rest may few = few
   look_number-few before epoch true whats.Flush rest may few = few
   look_number-few before epoch true (whats.Lock mask first_line) rest may few = few

@@ -33,7 +33,7 @@ not_look t n e none rmid = elim (cases_Bool (is_made_by t n e)) [ inl mine ↦ r
 
 -- an entry is a look where what it pays is one
 pub look_by_owed : (rmid : ℕ) (w : What) → look_number rmid (undecided w) ≡ None → look_number rmid w ≡ None
-look_by_owed rmid (whats.Access owner r mask line hit way) none = refl
+look_by_owed rmid (whats.Access hit way owner r mask line) none = refl
 look_by_owed rmid whats.Raise none = refl
 look_by_owed rmid whats.Flush none = refl
 look_by_owed rmid (whats.Lock mask first_line) none = refl

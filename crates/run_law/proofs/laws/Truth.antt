@@ -26,7 +26,7 @@ IsTrueTo script tree i e (Some op) =
 owed_by_access-paid : (script : ScriptValue) (tree : List TreeEntryValue) (epoch task cpu addr : ℕ) (what : What) → is_of_access (Access task cpu addr) what ≡ false
     → undecided what ≡ (owed_by_access script tree epoch task cpu addr).what → ⊥
 unfolding owed_by_access
-owed_by_access-paid script tree epoch task cpu addr (whats.Access owner rmid mask line hit way) apart is = absurd (let wrong : true ≡ false = apart in cc)
+owed_by_access-paid script tree epoch task cpu addr (whats.Access hit way owner rmid mask line) apart is = absurd (let wrong : true ≡ false = apart in cc)
 owed_by_access-paid script tree epoch task cpu addr whats.Raise apart is = cc
 owed_by_access-paid script tree epoch task cpu addr whats.Flush apart is = cc
 owed_by_access-paid script tree epoch task cpu addr (whats.Lock mask first_line) apart is = cc

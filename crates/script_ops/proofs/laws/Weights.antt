@@ -42,7 +42,7 @@ weight_of-some m (ops.List path) = omega arith
 weight_of-some m (ops.Flush domain) = omega arith
 weight_of-some m ops.Tick = omega arith
 weight_of-some m (ops.Access task cpu addr) = omega arith
-weight_of-some m (ops.Touch path offset task cpu) = omega arith
+weight_of-some m (ops.Touch cpu path task offset) = omega arith
 
 -- ops weigh as many as they are, or more
 pub length-weights_of : (m : Parameters) (ops : List Op) → length ops ≤ weights_of m ops

@@ -1,7 +1,5 @@
 //! mkdir: making a group.
-ghost use Rattle.std.specs.Prelude.{◌≡◌, ◌≤◌, ◌<◌, ◌^◌, ◌-◌, ℕ, List, None, Some, false, find};
-ghost use Rattle.path_names.specs.declared.dirs.DirRef.TheVariants.{Ctrl};
-ghost use Rattle.path_names.specs.declared.path_ref.PathRef.TheVariants.{Dir};
+ghost use Rattle.std.specs.Prelude.{◌≡◌, ◌≤◌, ◌<◌, ◌^◌, ◌-◌, ℕ, List, None, false, find};
 ghost use Rattle.script_ops.specs.declared.op.Op.TheVariants.{Mkdir};
 ghost use Rattle.tree_core.specs.Directories.{path_of};
 ghost use Rattle.tree_core.specs.Places.{place_reasons};
@@ -13,10 +11,9 @@ ghost use Rattle.tree_law.specs.commands.Mkdir.{against};
 use super::Tree;
 use crate::group_dir::{GroupDir, group_dir};
 use crate::places::is_in_place;
-use crate::taking::{NewIds, take_ids, take_rmid};
-use group_tree::{Group, GroupKind};
-use path_names::{NameId, PathRef};
-use rc_base::{Gid, Mode, Reply, Why};
+use crate::taking::take_rmid;
+use path_names::PathRef;
+use rc_base::{Reply, Why};
 
 impl Tree {
     /// Makes a group at this path, and sets the last status.
@@ -67,7 +64,7 @@ impl Tree {
             (refusal self.old.machine self.old.state (Mkdir path)) }
         ensures epoch { self.new.epoch ≡ self.old.epoch }
     {
-        match take_rmid(&mut self.rmids, None) {
+        match take_rmid(&mut self.rmids) {
             Ok(rmid) => {
                 self.rmids.free(rmid, 0);
                 Reply::Ok
@@ -107,54 +104,5 @@ impl Tree {
         } else {
             None
         }
-    }
-
-    // Makes a control group, against whose place nothing is.
-    fn make_control(&mut self, name: NameId) -> Reply
-        requires place { find (against self.old.machine self.old.state (Dir (Ctrl name))) place_reasons ≡ None }
-        requires gids { self.old.state.next_gid ≤ self.old.epoch }
-        requires epoch { self.old.epoch < 2 ^ 32 - 1 }
-        ensures machine { self.new.machine ≡ self.old.machine }
-        ensures reply { result
-            ≡ reply_of (refusal self.old.machine self.old.state (Mkdir (Dir (Ctrl name)))) }
-        ensures state { (looks : List ℕ) → self.new.state
-            ≡ next_if self.old.machine self.old.state (Mkdir (Dir (Ctrl name))) looks
-            (refusal self.old.machine self.old.state (Mkdir (Dir (Ctrl name)))) }
-        ensures epoch { self.new.epoch ≡ self.old.epoch }
-    {
-        let masks = self.initial_masks();
-        let full = self.full_domain();
-        match take_ids(&mut self.classes, &mut self.rmids, full) {
-            Ok(ids) => {
-                let group = control_group(Gid(self.next_gid), name, ids, masks);
-                self.groups.insert(group);
-                self.next_gid += 1;
-                Reply::Ok
-            }
-            Err(reply) => reply,
-        }
-    }
-}
-
-// A shareable control group.
-fn control_group(gid: Gid, name: NameId, ids: NewIds, masks: [u32; 8]) -> Group
-    ensures { result ≡ record {
-      gid = gid;
-      name = Some name;
-      kind = GroupKind.Control;
-      mode = Mode.Shareable;
-      class = Some ids.class;
-      rmid = Some ids.rmid;
-      masks = masks;
-    } }
-{
-    Group {
-        gid,
-        name: Some(name),
-        kind: GroupKind::Control,
-        mode: Mode::Shareable,
-        class: Some(ids.class),
-        rmid: Some(ids.rmid),
-        masks,
     }
 }

@@ -34,7 +34,7 @@ impl Tree {
         if self.is_closed_control(parent) {
             return Reply::refused(Why::Locking, 0);
         }
-        match take_rmid(&mut self.rmids, None) {
+        match take_rmid(&mut self.rmids) {
             Ok(rmid) => {
                 let group = monitor_group(Gid(self.next_gid), name, parent, rmid);
                 self.groups.insert(group);

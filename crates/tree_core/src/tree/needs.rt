@@ -1,8 +1,9 @@
 //! The counts of lines that a command needs.
-ghost use Rattle.std.specs.Prelude.{◌≡◌, ◌<◌, All, Some, length, slice_get};
+ghost use Rattle.std.specs.Prelude.{◌≡◌, ◌+◌, ◌<◌, ◌≤◌, ◌^◌, [], All, Some, length, slice_get};
+ghost use Rattle.std.specs.List.{flat_map};
 ghost use Rattle.script_ops.specs.Fits.{Fits};
 ghost use Rattle.script_ops.specs.declared.op.Op.TheVariants as ops;
-ghost use Rattle.tree_law.specs.Freeing.{counts_of};
+ghost use Rattle.tree_core.specs.RmidLists.{counts_in};
 ghost use Rattle.tree_law.specs.LawsCounts.{CanLook};
 ghost use Rattle.tree_law.specs.State.{tasks_of};
 ghost use Rattle.tree_law.specs.Steps.{needs};
@@ -10,7 +11,7 @@ ghost use Rattle.tree_law.specs.Steps.{needs};
 use super::Tree;
 use crate::counts::Counts;
 use crate::places::counted_at;
-use crate::rmid_list::RmidList;
+use crate::rmid_list::{RmidList, push_some};
 use path_names::PathRef;
 use script_ops::Op;
 
@@ -43,39 +44,74 @@ impl Tree {
     {
         // What the type keeps makes these domains and RMIDs of the machine.
         let _ = &self.machine;
-        self.needed(op)
+        let mut rmids = RmidList::new();
+        let (first, domains) = self.needed(op, &mut rmids);
+        Counts::of(rmids, first, domains)
     }
 
-    // The counts that a command needs.
-    fn needed(&self, op: &Op) -> Counts
-        ensures { result ≡ needs self.now.machine self.now.state op.now }
+    // Lists the RMIDs whose counts a command needs, and says in which domains: the first, and how many.
+    fn needed(&self, op: &Op, rmids: &mut RmidList) -> (u8, u8)
+        requires { rmids.old.items ≡ [] }
+        ensures needs { flat_map (counts_in result.0 result.1) rmids.new.items ≡ needs self.now.machine self.now.state op.now }
+        ensures some { 0 < result.1 }
+        ensures fit { result.0 + result.1 ≤ 2 ^ 8 }
     {
         match op {
-            Op::Rmdir { path } => self.in_each_domain(self.freed_at(*path)),
-            Op::Write { path, text } => self.in_each_domain(self.freed_by_write(
-                *path,
-                text.as_slice(),
-            )),
-            Op::Tick => self.in_each_domain(self.limbo()),
-            Op::Read { path } => self.read_counts(*path),
-            _ => Counts::none(),
+            Op::Rmdir { path } => self.needed_by_rmdir(*path, rmids),
+            Op::Write { path, text } => self.needed_by_write(*path, text.as_slice(), rmids),
+            Op::Tick => self.needed_by_tick(rmids),
+            Op::Read { path } => self.needed_by_read(*path, rmids),
+            _ => (0, 1),
         }
     }
 
-    // The counts of each of these RMIDs in each domain.
-    fn in_each_domain(&self, rmids: RmidList) -> Counts
-        ensures { result ≡ counts_of self.now.machine rmids.items }
+    // The same for a removal.
+    fn needed_by_rmdir(&self, path: PathRef, rmids: &mut RmidList) -> (u8, u8)
+        requires { rmids.old.items ≡ [] }
+        ensures needs { flat_map (counts_in result.0 result.1) rmids.new.items ≡ needs self.now.machine self.now.state (ops.Rmdir path) }
+        ensures some { 0 < result.1 }
+        ensures fit { result.0 + result.1 ≤ 2 ^ 8 }
     {
-        Counts::of(rmids, 0, self.machine.domains)
+        self.push_freed_at(path, rmids);
+        (0, self.machine.domains)
     }
 
-    // The counts that a read needs.
-    fn read_counts(&self, path: PathRef) -> Counts
-        ensures { result ≡ needs self.now.machine self.now.state (ops.Read path) }
+    // The same for a write.
+    fn needed_by_write(&self, path: PathRef, text: &[u8], rmids: &mut RmidList) -> (u8, u8)
+        requires { rmids.old.items ≡ [] }
+        ensures needs { flat_map (counts_in result.0 result.1) rmids.new.items
+            ≡ needs self.now.machine self.now.state (ops.Write path text.now) }
+        ensures some { 0 < result.1 }
+        ensures fit { result.0 + result.1 ≤ 2 ^ 8 }
+    {
+        push_some(rmids, self.freed_by_write(path, text));
+        (0, self.machine.domains)
+    }
+
+    // The same for a tick.
+    fn needed_by_tick(&self, rmids: &mut RmidList) -> (u8, u8)
+        requires { rmids.old.items ≡ [] }
+        ensures needs { flat_map (counts_in result.0 result.1) rmids.new.items ≡ needs self.now.machine self.now.state ops.Tick }
+        ensures some { 0 < result.1 }
+        ensures fit { result.0 + result.1 ≤ 2 ^ 8 }
+    {
+        self.push_limbo(rmids);
+        (0, self.machine.domains)
+    }
+
+    // The same for a read.
+    fn needed_by_read(&self, path: PathRef, rmids: &mut RmidList) -> (u8, u8)
+        requires { rmids.old.items ≡ [] }
+        ensures needs { flat_map (counts_in result.0 result.1) rmids.new.items ≡ needs self.now.machine self.now.state (ops.Read path) }
+        ensures some { 0 < result.1 }
+        ensures fit { result.0 + result.1 ≤ 2 ^ 8 }
     {
         match counted_at(path) {
-            Some((holder, domain)) => Counts::of(self.held_rmids(holder), domain, 1),
-            None => Counts::none(),
+            Some((holder, domain)) => {
+                self.push_held(holder, rmids);
+                (domain, 1)
+            }
+            None => (0, 1),
         }
     }
 }

@@ -17,6 +17,7 @@ use crate::freeing::free_all;
 use crate::group_dir::{GroupDir, group_dir};
 use crate::places::is_group_directory;
 use crate::removal::remove_monitors;
+use crate::rmid_list::RmidList;
 use path_names::{NameId, Owner, PathRef};
 use rc_base::{Reply, Why};
 
@@ -79,7 +80,8 @@ impl Tree {
         ensures state { self.new.state ≡ accepted self.old.machine self.old.state (Rmdir (path_of dir)) looks.now }
         ensures epoch { self.new.epoch ≡ self.old.epoch }
     {
-        let freed = self.freed(dir);
+        let mut freed = RmidList::new();
+        self.push_freed(dir, &mut freed);
         match dir {
             GroupDir::Control(name) => self.remove_control(name, freed.as_slice(), looks),
             GroupDir::Monitor(owner, name) => self.remove_monitor(

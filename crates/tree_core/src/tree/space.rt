@@ -1,5 +1,5 @@
 //! The ways of a new group.
-ghost use Rattle.std.specs.Prelude.{◌≡◌, ◌<◌};
+ghost use Rattle.std.specs.Prelude.{◌≡◌, ◌<◌, None, Some, IfOk, IfErr, OnOk};
 ghost use Rattle.tree_law.specs.Space.{full_domain, initial_mask};
 ghost use Rattle.tree_law.specs.commands.Mkdir.{initial_masks};
 
@@ -16,26 +16,19 @@ impl Tree {
         initial_mask(&used, &self.machine.geometry())
     }
 
-    /// The least domain without space for a new group.
-    pub(crate) fn full_domain(&self) -> Option<u8>
-        ensures { result ≡ full_domain self.now.machine self.now.state }
-    {
-        for domain in 0..self.machine.domains {
-            if self.initial_mask(domain).is_none() {
-                return Some(domain);
-            }
-        }
-        None
-    }
-
-    /// A new group's mask in each domain, and 0 where there is no space or no such domain.
-    pub(crate) fn initial_masks(&self) -> [u32; 8]
-        ensures { result ≡ initial_masks self.now.machine self.now.state }
+    /// A new group's mask in each domain, and 0 where there is no such domain, or the least domain without space for it.
+    pub(crate) fn new_masks(&self) -> Result<[u32; 8], u8>
+        ensures space { OnOk result (full_domain self.now.machine self.now.state ≡ None) }
+        ensures masks { IfOk result (λ masks. masks ≡ initial_masks self.now.machine self.now.state) }
+        ensures full { IfErr result (λ domain. full_domain self.now.machine self.now.state ≡ Some domain) }
     {
         let mut masks = [0; 8];
         for domain in 0..self.machine.domains {
-            masks[domain as usize] = self.initial_mask(domain).unwrap_or(0);
+            let Some(mask) = self.initial_mask(domain) else {
+                return Err(domain);
+            };
+            masks[domain as usize] = mask;
         }
-        masks
+        Ok(masks)
     }
 }

@@ -29,9 +29,9 @@ impl Tree {
         requires cpu { cpu < self.now.machine.cpus }
         requires locks { self.now.state.locks < MOST_WEIGHT }
         ensures reply { result.0
-            ≡ reply_of (refusal self.now.machine self.now.state (Touch path offset task cpu)) }
+            ≡ reply_of (refusal self.now.machine self.now.state (Touch cpu path task offset)) }
         ensures after { (k : ℕ) → k + 1 ≡ self.now.epoch
-            → result.1.items ≡ after self.now.machine self.now.state k (Touch path offset task cpu) }
+            → result.1.items ≡ after self.now.machine self.now.state k (Touch cpu path task offset) }
         ensures domains { All (λ f. follow_domain f < self.now.machine.domains) result.1.items }
         ensures ready { All (IsReady self.now.machine) result.1.items }
     {

@@ -104,7 +104,7 @@ impl Tree {
         ensures domains { All (λ f. follow_domain f < self.old.machine.domains) result.1.items }
         ensures ready { All (IsReady self.old.machine) result.1.items }
     {
-        match take_rmid(&mut self.rmids, None) {
+        match take_rmid(&mut self.rmids) {
             Ok(rmid) => {
                 self.groups.replace(Group {
                     mode,

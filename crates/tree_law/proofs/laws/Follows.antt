@@ -174,7 +174,7 @@ module _ (m : Parameters) (s : State) (range : InRange m) where
   after_accepted-good k (ops.Rmdir path) fits free = Raise-good_all
   after_accepted-good k (ops.Write path text) fits free = write-good path text
   after_accepted-good k (ops.Flush domain) fits free = flush-good domain fits
-  after_accepted-good k (ops.Touch path offset task cpu) fits free = touch-good k path offset task cpu fits.1 free
+  after_accepted-good k (ops.Touch cpu path task offset) fits free = touch-good k path offset task cpu fits.1 free
   after_accepted-good k op fits free = All-nil IsGoodFollow
 
 -- what follows a command that fits is of domains of the machine, and lawful

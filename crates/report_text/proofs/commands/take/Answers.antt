@@ -1,11 +1,12 @@
-use Rattle.report_text.proofs.Replays.{Fits-replay, IsReplay-next}
-use Rattle.report_text.proofs.Pieces.{OnOk-map_three}
+use Rattle.std.proofs.Common.{◌≡◌, length}
+use Rattle.report_text.proofs.Entries.{IsCommandThat-some, is_some-command}
+use Rattle.script_ops.specs.Values.{op_at}
+use Rattle.tree_law.specs.Steps.{needs}
 use Rattle.report_text.proofs.commands.take.Goals as goal
 
-pub take-requires-clause-fits : goal.take-requires-clause-fits
-take-requires-clause-fits c = Fits-replay c.args.script.now c.args.replay.now c.in-Some.op.now c.requires.replay c.in-Some.ensures.fit
+pub op_of-requires : goal.op_of-requires
+op_of-requires c = is_some-command _ (op_at c.args.script.now c.args.entry.now.thread c.args.entry.now.op) c.requires.counted
 
-pub returns-clause-replay : goal.returns-clause-replay
-returns-clause-replay c =
-    let did = c.take.ensures in
-    OnOk-map_three c.take.result (λ machine state made. IsReplay-next c.args.script.now c.args.replay.now c.take.new.self c.in-Some.op.now c.items.result.now c.args.entry.now.reply c.requires.replay c.in-Some.ensures.named c.in-Some.ensures.short machine state made) did.machine did.state did.made
+pub take_op-requires-clause-looks : goal.take_op-requires-clause-looks
+take_op-requires-clause-looks c =
+    IsCommandThat-some (λ op. length c.args.entry.now.looks.numbers ≡ length (needs c.args.script.now.machine c.args.replay.now.tree.state op)) (op_at c.args.script.now c.args.entry.now.thread c.args.entry.now.op) c.op_of.result.now c.requires.counted c.op_of.ensures.there

@@ -1,6 +1,5 @@
 use Rattle.std.proofs.Common.{◌≡◌, ◌+◌, ◌<◌, length, map, get_or, All, refl, sym, ap, ◌∙◌, subst, arith}
 use Rattle.std.proofs.lemmas.List.{length-map}
-use Rattle.arrayvec.specs.ArrayVec.{ArrayVec}
 use Rattle.run_law.specs.Entries.{entry_value}
 use Rattle.script_ops.specs.Fits.{Fits}
 use Rattle.step_world.proofs.CommandRooms.{commands-less, commands-light}
@@ -16,7 +15,6 @@ use Rattle.step_world.specs.Worlds.{machine_of, rooms_from}
 use Rattle.tree_core.specs.Follows.{IsReady}
 use Rattle.tree_law.specs.State.{tasks_of}
 use Rattle.tree_law.specs.Steps.{follow_domain, needs, next}
-use Rattle.tree_law.specs.declared.follow.Follow.{Follow}
 
 pub apply-reply-requires-clause-fits : goal.apply-reply-requires-clause-fits
 apply-reply-requires-clause-fits c =
@@ -61,7 +59,7 @@ returns c =
     let op = c.args.op.now in
     let had = c.index_mut.result.now in
     let told = c.apply-reply.ensures in
-    let begun = c.following-world.ensures in
+    let begun = c.follow_with.ensures in
     let its = looking script c.args.t c.args.made op w r.world r.next r.place had in
     let parts = list-parts script c.args.t c.args.made op w r.world r.next r.place (get_or w.lists.items c.args.t had) its r.all c.take-looks.new.self c.take-looks.result (sym c.index_mut.ensures.value ∙ c.take-looks.ensures) in
     let numbers : c.items.result.now ≡ its.numbers = c.items.ensures ∙ parts.0 in
@@ -72,9 +70,9 @@ returns c =
       reply = told.reply ∙ ap (λ ns. (next w.tree.machine w.tree.state op ns).reply) numbers;
       state = told.state ∙ ap (λ ns. (next w.tree.machine w.tree.state op ns).state) numbers;
       epoch = told.epoch;
-      after = ap (λ (a : ArrayVec Follow). a.items) begun.after ∙ told.after;
-      domains = subst (λ (a : ArrayVec Follow). All (λ f. follow_domain f < w.tree.machine.domains) a.items) (sym begun.after) told.domains;
-      ready = subst (λ (a : ArrayVec Follow). All (IsReady w.tree.machine) a.items) (sym begun.after) told.ready;
+      after = begun.after ∙ told.after;
+      domains = subst (λ fs. All (λ f. follow_domain f < w.tree.machine.domains) fs) (sym begun.after) told.domains;
+      ready = subst (λ fs. All (IsReady w.tree.machine) fs) (sym begun.after) told.ready;
       at = begun.at;
       slice = begun.slice;
       commands = c.push_reserved.ensures.items;

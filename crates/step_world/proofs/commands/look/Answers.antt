@@ -11,14 +11,14 @@ pub need-domain-requires-clause-looks : goal.need-domain-requires-clause-looks
 need-domain-requires-clause-looks c =
     let r = c.requires in
     let its = looking c.args.script.now c.args.t c.args.made c.args.op.now c.args.world.now r.world r.next r.place [] in
-    subst (λ (o : Option (List (ℕ × ℕ))). IsSome o) (sym its.counts) refl
+    subst (λ (o : Option (List (ℕ × ℕ))). IsSome o) (sym (its.counts (omega (arith, r.more)))) refl
 
 pub need-domain-requires-clause-within : goal.need-domain-requires-clause-within
 need-domain-requires-clause-within c =
     let r = c.requires in
     let w = c.args.world.now in
     let its = looking c.args.script.now c.args.t c.args.made c.args.op.now w r.world r.next r.place [] in
-    subst (λ (o : Option (List (ℕ × ℕ))). IfSome o (λ counts. w.work.at < length counts)) (sym its.counts) (omega (arith, r.more, its.number))
+    subst (λ (o : Option (List (ℕ × ℕ))). IfSome o (λ counts. w.work.at < length counts)) (sym (its.counts (omega (arith, r.more)))) (omega (arith, r.more, its.number))
 
 pub slice_number-slice-requires-clause-domain_there : goal.slice_number-slice-requires-clause-domain_there
 slice_number-slice-requires-clause-domain_there c =
@@ -26,7 +26,7 @@ slice_number-slice-requires-clause-domain_there c =
     let w = c.args.world.now in
     let its = looking c.args.script.now c.args.t c.args.made c.args.op.now w r.world r.next r.place [] in
     let need : slice_get (now_needs c.args.script.now c.args.t c.args.made c.args.op.now w r.world r.next r.place) w.work.at ≡ Some c.need-domain.result =
-    subst (λ (o : Option (List (ℕ × ℕ))). IfSome o (λ counts. slice_get counts w.work.at ≡ Some c.need-domain.result)) its.counts c.need-domain.ensures in
+    subst (λ (o : Option (List (ℕ × ℕ))). IfSome o (λ counts. slice_get counts w.work.at ≡ Some c.need-domain.result)) (its.counts (omega (arith, r.more))) c.need-domain.ensures in
     omega (arith, ap (λ (m : Parameters). m.domains) c.machine-m.ensures, (can-look c.args.script.now c.args.t c.args.made c.args.op.now w r.world r.next r.place w.work.at c.need-domain.result need).0)
 
 pub slice_number-slice-requires-clause-slice_there : goal.slice_number-slice-requires-clause-slice_there
@@ -44,7 +44,7 @@ look-lines-requires-clause-rmid c =
     let its = looking c.args.script.now c.args.t c.args.made c.args.op.now w r.world r.next r.place [] in
     let there : i < length w.slices.items = omega (arith, c.slice_number-slice.ensures.within, ap slice_count c.machine-m.ensures, r.world.slices.count) in
     let need : slice_get (now_needs c.args.script.now c.args.t c.args.made c.args.op.now w r.world r.next r.place) w.work.at ≡ Some c.need-domain.result =
-    subst (λ (o : Option (List (ℕ × ℕ))). IfSome o (λ counts. slice_get counts w.work.at ≡ Some c.need-domain.result)) its.counts c.need-domain.ensures in
+    subst (λ (o : Option (List (ℕ × ℕ))). IfSome o (λ counts. slice_get counts w.work.at ≡ Some c.need-domain.result)) (its.counts (omega (arith, r.more))) c.need-domain.ensures in
     omega (
       arith,
       ap (λ (x : SliceValue). x.cache.rmids) c.index_mut.ensures.value,
@@ -63,7 +63,7 @@ look-lines-requires-clause-room c =
     let there : i < length w.slices.items = omega (arith, c.slice_number-slice.ensures.within, ap slice_count c.machine-m.ensures, r.world.slices.count) in
     let number : i ≡ slice_number m c.need-domain.result.0 w.work.slice = c.slice_number-slice.ensures.number ∙ ap (λ p. slice_number p c.need-domain.result.0 w.work.slice) c.machine-m.ensures in
     let need : slice_get (now_needs c.args.script.now c.args.t c.args.made c.args.op.now w r.world r.next r.place) w.work.at ≡ Some c.need-domain.result =
-    subst (λ (o : Option (List (ℕ × ℕ))). IfSome o (λ counts. slice_get counts w.work.at ≡ Some c.need-domain.result)) its.counts c.need-domain.ensures in
+    subst (λ (o : Option (List (ℕ × ℕ))). IfSome o (λ counts. slice_get counts w.work.at ≡ Some c.need-domain.result)) (its.counts (omega (arith, r.more))) c.need-domain.ensures in
     subst (λ (x : SliceValue). length x.entries < x.room) (sym c.index_mut.ensures.value)
     (room-look c.args.script.now c.args.t c.args.made c.args.op.now w r.world r.next r.place (get_or w.lists.items c.args.t []) its c.need-domain.result s need i number there)
 
@@ -120,7 +120,7 @@ returns c =
     let there : i < length w.slices.items = omega (arith, c.slice_number-slice.ensures.within, ap slice_count c.machine-m.ensures, r.world.slices.count) in
     let number : i ≡ slice_number m c.need-domain.result.0 w.work.slice = c.slice_number-slice.ensures.number ∙ ap (λ p. slice_number p c.need-domain.result.0 w.work.slice) c.machine-m.ensures in
     let need : slice_get (now_needs c.args.script.now c.args.t c.args.made c.args.op.now w r.world r.next r.place) w.work.at ≡ Some c.need-domain.result =
-    subst (λ (o : Option (List (ℕ × ℕ))). IfSome o (λ counts. slice_get counts w.work.at ≡ Some c.need-domain.result)) its.counts c.need-domain.ensures in
+    subst (λ (o : Option (List (ℕ × ℕ))). IfSome o (λ counts. slice_get counts w.work.at ≡ Some c.need-domain.result)) (its.counts (omega (arith, r.more))) c.need-domain.ensures in
     let done = looked c.args.script.now c.args.t c.args.made c.args.op.now w r.world r.next r.place _ c.args.n i c.look-lines.result c.epoch.result c.machine-m.result.now.slices c.need-domain.result c.look-lines.new.self
     c.index_mut.result.now c.index_mut-2.result.now c.count_on.new.lists r.number need (ap (λ (p : Parameters). p.slices) c.machine-m.ensures) number there c.index_mut.ensures.value c.epoch.ensures c.look-lines.ensures
     c.index_mut-2.ensures.value c.count_on.ensures refl refl refl refl refl refl refl c.move_to.ensures in

@@ -1,40 +1,44 @@
-use Rattle.std.proofs.Common.{sym, ◌∙◌, ◌+◌}
+use Rattle.std.proofs.Common.{◌≡◌, ◌+◌, Some, None, sym, ap, ◌∙◌, subst}
+use Rattle.std.specs.Prelude.{is_some, slice_get}
+use Rattle.script_ops.specs.Values.{op_at}
 use Rattle.step_world.proofs.PhaseSteps.{StepsOf-more}
-use Rattle.step_world.proofs.Turns.{ended-none, turn}
-use Rattle.step_world.proofs.Plays.{step_phase}
+use Rattle.step_world.proofs.Turns.{ended-none}
 use Rattle.step_world.proofs.run_phase.end_thread.Goals as goal
 use Rattle.step_world.specs.Machine.{thread_at}
 use Rattle.step_world.specs.Worlds.{machine_of}
+use Rattle.step_world.specs.declared.place.Thread.{Thread}
 
-pub loop-world-smaller : goal.loop-world-smaller
-loop-world-smaller c =
-    let script = c.args.script.now in
-    let t = c.args.t in
-    let now = machine_of c.loop-world.world in
-    let inv = c.loop-world.invariant in
-    (turn script t now (machine_of c.step.new.self) (machine_of c.let_go.new.world) inv.world.so_far inv.world.within inv.free (c.requires.present ∙ sym inv.phase) (sym c.has_op.ensures ∙ c.loop-world-test.true) c.step.ensures.steps c.let_go.ensures.lets_go).0
-
-pub loop-world-preserved : goal.loop-world-preserved
-loop-world-preserved c =
-    let script = c.args.script.now in
-    let t = c.args.t in
-    let now = machine_of c.loop-world.world in
-    let last = machine_of c.let_go.new.world in
-    let inv = c.loop-world.invariant in
-    let more = (turn script t now (machine_of c.step.new.self) last inv.world.so_far inv.world.within inv.free (c.requires.present ∙ sym inv.phase) (sym c.has_op.ensures ∙ c.loop-world-test.true) c.step.ensures.steps c.let_go.ensures.lets_go).1 in
+pub take_turn-requires-clause-next : goal.take_turn-requires-clause-next
+take_turn-requires-clause-next c =
+    let inv = c.loop-op.invariant in
     record {
-      world = c.let_go.ensures.world;
-      steps = (inv.steps.0 + more.0, StepsOf-more script t inv.steps.0 more.0 (machine_of c.args.world.now) now last inv.steps.1 more.1);
-      free = c.let_go.ensures.free;
-      phase = c.let_go.ensures.phase ∙ (step_phase script t now (machine_of c.step.new.self) c.step.ensures.steps ∙ inv.phase);
-      count = c.let_go.ensures.world.threads ∙ sym c.requires.world.threads;
+      present = c.requires.present ∙ sym inv.phase;
+      is = subst (λ os. slice_get os (thread_at (machine_of c.loop-op.world) c.args.t).next ≡ Some c.in-Some.op.now) c.ops-ops.ensures.ops (sym c.in-Some.ensures);
+    }
+
+pub loop-op-smaller : goal.loop-op-smaller
+loop-op-smaller c = c.take_turn.ensures.turn.nearer
+
+pub loop-op-preserved : goal.loop-op-preserved
+loop-op-preserved c =
+    let script = c.args.script.now in
+    let inv = c.loop-op.invariant in
+    let turn = c.take_turn.ensures.turn in
+    record {
+      world = c.take_turn.ensures.world;
+      steps = (inv.steps.0 + turn.count, StepsOf-more script c.args.t inv.steps.0 turn.count (machine_of c.args.world.now) (machine_of c.loop-op.world) (machine_of c.take_turn.new.world) inv.steps.1 turn.steps);
+      free = turn.free;
+      phase = turn.phase ∙ inv.phase;
+      count = c.take_turn.ensures.world.threads ∙ sym c.requires.world.threads;
     }
 
 pub returns-clause-ends : goal.returns-clause-ends
 returns-clause-ends c =
-    let inv = c.loop-world.invariant in
+    let inv = c.loop-op.invariant in
+    let v : Thread = thread_at (machine_of c.loop-op.world) c.args.t in
+    let none : op_at c.args.script.now c.args.t v.next ≡ None = subst (λ os. slice_get os v.next ≡ None) c.ops-ops.ensures.ops (sym c.in_default.ensures) in
     record {
       count = inv.steps.0;
       steps = inv.steps.1;
-      ended = ended-none c.args.script.now c.args.t (thread_at (machine_of c.loop-world.world) c.args.t) (inv.world.within c.args.t) (sym c.has_op.ensures ∙ c.loop-world-test.false);
+      ended = ended-none c.args.script.now c.args.t v (inv.world.within c.args.t) (ap is_some none);
     }

@@ -4,8 +4,8 @@ use Rattle.step_world.specs.Turns.{turns_left}
 use Rattle.step_world.specs.Worlds.{IsWorldOf, machine_of}
 use Rattle.step_world.proofs.run_phase.end_thread.Given as goal
 
-abbrev pub invariant-loop-world : goal.invariant-loop-world
-invariant-loop-world l = record {
+abbrev pub invariant-loop-op : goal.invariant-loop-op
+invariant-loop-op l = record {
   world : IsWorldOf l.script l.world;
   steps : (n : ℕ) × StepsOf l.script (replicate n l.t) (machine_of l.initial.world) (machine_of l.world);
   free : l.world.holder ≡ None;
@@ -13,5 +13,5 @@ invariant-loop-world l = record {
   count : length l.world.threads.items ≡ length l.initial.world.threads.items;
 }
 
-abbrev pub decreases-loop-world : goal.decreases-loop-world
-decreases-loop-world l = turns_left l.script (machine_of l.world) l.t
+abbrev pub decreases-loop-op : goal.decreases-loop-op
+decreases-loop-op l = turns_left l.script (machine_of l.world) l.t

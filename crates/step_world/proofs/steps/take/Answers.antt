@@ -1,4 +1,4 @@
-use Rattle.std.proofs.Common.{ap, length, map, refl, sym, subst, Some, ◌∙◌, arith}
+use Rattle.std.proofs.Common.{ap, length, map, refl, sym, subst, Some, ◌∙◌}
 use Rattle.run_law.specs.Entries.{entry_value}
 use Rattle.script_ops.specs.Fits.{Fits}
 use Rattle.step_world.proofs.SoundStates.{Fits-tree_after}
@@ -20,13 +20,14 @@ counts-counts-requires c =
 
 pub returns-clause-world : goal.returns-clause-world
 returns-clause-world c =
+    let told = c.look_for.ensures in
     (took c.args.script.now c.args.t c.args.n c.args.op.now c.args.world.now _ c.requires.world c.requires.next c.requires.number c.requires.place c.requires.free c.requires.command
     (record { tree = refl; commands = refl; lists = refl; closing = refl; phase = refl; threads = c.move_to.ensures }) refl refl
     (record {
-      counts = ap (λ x. Some x) c.counts-counts.ensures.needs;
-      number = c.len-count.ensures ∙ ap length c.counts-counts.ensures.needs;
-      few = omega arith;
-      at = refl;
-      slice = refl;
-      lines = refl;
+      counts = λ some. told.counts some ∙ ap (λ x. Some x) c.counts-counts.ensures.needs;
+      number = told.count ∙ ap length c.counts-counts.ensures.needs;
+      few = told.few;
+      at = told.at;
+      slice = told.slice;
+      lines = told.lines;
     })).0

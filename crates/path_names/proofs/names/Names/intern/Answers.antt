@@ -1,55 +1,53 @@
-use Rattle.std.proofs.Common.{◌≡◌, ℕ, List, false, Some, Global, Vec, map, vec_items, subst, sym, ap, ◌∙◌}
-use Rattle.std.specs.List.{list_any, slice_get, IsDistinct}
+use Rattle.std.proofs.Common.{◌≡◌, ℕ, List, [], ◌∷◌, ◌++◌, length, Some, None, cond, subst, ap, ◌∙◌}
 use Rattle.std.specs.Str.{bytes_eq}
 use Rattle.path_names.specs.declared.names.NameId.{NameId}
-use Rattle.path_names.specs.Interned.{interned, number_of}
-use Rattle.path_names.proofs.NameTable.{list_any-map, map-inserted, interned-known, slice_get-interned, position_or_len-position, position_or_len-map, IsDistinct-inserted}
+use Rattle.path_names.specs.NameIndex.{number_at}
+use Rattle.path_names.specs.NameList.{names_of}
+use Rattle.path_names.proofs.NameTable.{Numbered, Numbered-known, Numbered-new, AreNumbered-push}
 use Rattle.path_names.proofs.names.Names.intern.Goals as goal
 
 abbrev numbered : ℕ → NameId
 numbered n = record { 0 = n }
 
-number_of-known : (c : goal.In-Some) → c.in-Some.i ≡ number_of c.args.name.now c.args.self.now
-number_of-known c =
-    let at = position_or_len-position {K = Vec ℕ Global} (λ x. bytes_eq c.args.name.now x.items) c.self.inside.names.keys c.in-Some.i c.in-Some.ensures.index in
-    subst (λ (names : List (List ℕ)). c.in-Some.i ≡ number_of c.args.name.now names) c.self.view_is (at ∙ sym (position_or_len-map vec_items c.args.name.now c.self.inside.names.keys))
-
-interned-same : (c : goal.In-Some) → c.args.self.now ≡ interned c.args.name.now c.args.self.now
-interned-same c = subst (λ (names : List (List ℕ)). names ≡ interned c.args.name.now names) c.self.view_is
-    (interned-known (map vec_items c.self.inside.names.keys) c.args.name.now (list_any-map vec_items c.args.name.now c.self.inside.names.keys ∙ sym c.in-Some.ensures.found))
+known : (c : goal.In-Some) → Numbered c.args.self.now c.args.name.now c.in-Some.number c.args.self.now
+known c = subst (λ (names : List (List ℕ)). Numbered names c.args.name.now c.in-Some.number names) c.self.view_is
+    (Numbered-known (names_of c.self.inside.list) (number_at c.self.inside.index) c.self.invariant c.args.name.now c.in-Some.number c.in-Some.ensures)
 
 pub returns-in-Some-clause-id : goal.returns-in-Some-clause-id
-returns-in-Some-clause-id c = ap numbered (number_of-known c)
+returns-in-Some-clause-id c = ap numbered (known c).place
 
 pub returns-in-Some-clause-kept : goal.returns-in-Some-clause-kept
-returns-in-Some-clause-kept c = interned-same c
+returns-in-Some-clause-kept c = (known c).known
 
 pub returns-in-Some-clause-named : goal.returns-in-Some-clause-named
-returns-in-Some-clause-named c = subst (λ n. slice_get c.args.self.now n ≡ Some c.args.name.now) (sym (number_of-known c))
-    (subst (λ (names : List (List ℕ)). slice_get names (number_of c.args.name.now c.args.self.now) ≡ Some c.args.name.now) (sym (interned-same c)) (slice_get-interned c.args.name.now c.args.self.now))
+returns-in-Some-clause-named c = (known c).named
 
--- what was copied is new
-list_any-unknown : (c : goal.In_ok-i) → list_any (λ (x : Vec ℕ Global). bytes_eq c.in_ok-owned.owned.items x.items) c.self.inside.names.keys ≡ false
-list_any-unknown c = subst (λ (name : List ℕ). list_any (λ (x : Vec ℕ Global). bytes_eq name x.items) c.self.inside.names.keys ≡ false) (sym c.in_ok-owned.ensures.items) (sym c.in_default.ensures.found)
+-- the name was not known
+none : (c : goal.After-push) → None ≡ number_at c.self.inside.index c.args.name.now
+none c = c.in_default.ensures
 
-number_of-new : (c : goal.In_ok-i) → c.in_ok-i.i ≡ number_of c.args.name.now c.args.self.now
-number_of-new c = subst (λ (names : List (List ℕ)). c.in_ok-i.i ≡ number_of c.args.name.now names) c.self.view_is
-    (c.in_ok-i.ensures.index ∙ sym (position_or_len-map vec_items c.in_ok-owned.owned.items c.self.inside.names.keys) ∙ ap (λ name. number_of name (map vec_items c.self.inside.names.keys)) c.in_ok-owned.ensures.items)
+-- the names after it came
+names_after : (c : goal.After-push) → names_of c.push.new.self ≡ names_of c.self.inside.list ++ c.args.name.now ∷ []
+names_after c = c.push.ensures ∙ ap (λ (names : List (List ℕ)). names ++ c.args.name.now ∷ []) c.in_ok-reserve.ensures.same
 
-map-insert_full : (c : goal.In_ok-i) → map vec_items c.insert_full.new.self.keys ≡ interned c.args.name.now c.args.self.now
-map-insert_full c = subst (λ (names : List (List ℕ)). map vec_items c.insert_full.new.self.keys ≡ interned c.args.name.now names) c.self.view_is
-    (ap (λ (keys : List (Vec ℕ Global)). map vec_items keys) c.in_ok-i.ensures.keys ∙ map-inserted vec_items c.self.inside.names.keys c.in_ok-owned.owned (list_any-unknown c) ∙ ap (λ name. interned name (map vec_items c.self.inside.names.keys)) c.in_ok-owned.ensures.items)
+-- its number
+number_is : (c : goal.After-push) → c.len-number.result ≡ length (names_of c.self.inside.list)
+number_is c = c.len-number.ensures ∙ ap (λ (names : List (List ℕ)). length names) c.in_ok-reserve.ensures.same
+
+new : (c : goal.After-push) → Numbered c.args.self.now c.args.name.now c.len-number.result (names_of c.push.new.self)
+new c = subst (λ (names : List (List ℕ)). Numbered names c.args.name.now c.len-number.result (names_of c.push.new.self)) c.self.view_is
+    (rw (names_after c, number_is c) (Numbered-new (names_of c.self.inside.list) (number_at c.self.inside.index) c.self.invariant c.args.name.now (none c)))
 
 pub invariant_of-self-2 : goal.invariant_of-self-2
-invariant_of-self-2 c = subst (λ (keys : List (Vec ℕ Global)). IsDistinct bytes_eq (map vec_items keys)) (sym c.in_ok-i.ensures.keys)
-    (IsDistinct-inserted vec_items c.self.inside.names.keys c.in_ok-owned.owned c.self.invariant (list_any-unknown c))
+invariant_of-self-2 c = rw (names_after c)
+    (AreNumbered-push (names_of c.self.inside.list) (number_at c.self.inside.index) (number_at c.insert.new.self) c.args.name.now c.self.invariant (none c)
+    (λ other. c.in_ok-insert.ensures.ok other ∙ ap (λ (i : ℕ). cond (bytes_eq c.args.name.now other) (Some i) (number_at c.self.inside.index other)) (number_is c)))
 
 pub returns-clause-id : goal.returns-clause-id
-returns-clause-id c = ap numbered (number_of-new c)
+returns-clause-id c = ap numbered (new c).place
 
 pub returns-clause-kept : goal.returns-clause-kept
-returns-clause-kept c = map-insert_full c
+returns-clause-kept c = (new c).known
 
 pub returns-clause-named : goal.returns-clause-named
-returns-clause-named c = subst (λ n. slice_get (map vec_items c.insert_full.new.self.keys) n ≡ Some c.args.name.now) (sym (number_of-new c))
-    (subst (λ (names : List (List ℕ)). slice_get names (number_of c.args.name.now c.args.self.now) ≡ Some c.args.name.now) (sym (map-insert_full c)) (slice_get-interned c.args.name.now c.args.self.now))
+returns-clause-named c = (new c).named

@@ -5,16 +5,16 @@ use Rattle.report_text.proofs.CountedEntries.{HasCounted-fill, HasCounted-flush,
 use Rattle.run_law.specs.Slices.{shape_in}
 use Rattle.report_text.proofs.line_counts.Occupancy.take.Goals as goal
 
-pub returns-in-Access-default-default-default-default-true-default-clause-counted : goal.returns-in-Access-default-default-default-default-true-default-clause-counted
-returns-in-Access-default-default-default-default-true-default-clause-counted c = λ base es fills before.
-    let at = c.in-Access-default-default-default-default-true-default in
-    let is : c.args.entry.now.what ≡ Access at.owner at.rmid at.mask at.line true at.way = cc in
+pub returns-in-Access-true-default-default-default-default-default-clause-counted : goal.returns-in-Access-true-default-default-default-default-default-clause-counted
+returns-in-Access-true-default-default-default-default-default-clause-counted c = λ base es fills before.
+    let at = c.in-Access-true-default-default-default-default-default in
+    let is : c.args.entry.now.what ≡ Access true at.way at.owner at.rmid at.mask at.line = cc in
     HasCounted-hit (shape_in (parameters_of c.args.machine.now) c.args.i) base c.args.self.now c.args.self.now c.args.entry.now es fills at.owner at.rmid at.mask at.line at.way is before
 
 pub returns-in-Access-clause-counted : goal.returns-in-Access-clause-counted
 returns-in-Access-clause-counted c = λ base es fills before.
     let at = c.in-Access in
-    let is : c.args.entry.now.what ≡ Access at.owner at.rmid at.mask at.line false at.way = cc in
+    let is : c.args.entry.now.what ≡ Access false at.way at.owner at.rmid at.mask at.line = cc in
     HasCounted-fill (shape_in (parameters_of c.args.machine.now) c.args.i) base c.args.self.now c.fill.new.self c.args.entry.now es fills at.owner at.rmid at.mask at.line at.way is c.fill.ensures before
 
 pub returns-in-Lock-clause-counted : goal.returns-in-Lock-clause-counted

@@ -1,6 +1,5 @@
-use Rattle.std.proofs.Common.{◌≡◌, Option, Some, sym, ap, ◌∙◌, rules}
+use Rattle.std.proofs.Common.{◌≡◌, Some, sym, ◌∙◌}
 use Rattle.lists.proofs.Options.{option_map-none, option_map-some}
-use Rattle.rc_base.specs.declared.names.Mode.{Mode}
 use Rattle.rc_base.specs.declared.replies.Why.TheVariants.{GroupLocked, UnknownMode}
 use Rattle.tree_core.proofs.WrittenModes.{is_present-is, refusal-locked, refusal-turn_some, refusal-unknown}
 use Rattle.tree_core.specs.Modes.{against_turn}

@@ -1,4 +1,4 @@
-use Rattle.std.proofs.Common.{◌≡◌, ℕ, List, [], Option, Ok, Err, sym, subst, ap, ap₂, ◌∙◌}
+use Rattle.std.proofs.Common.{◌≡◌, List, [], Option, Ok, Err, sym, subst, ap, ap₂, ◌∙◌}
 use Rattle.tree_core.proofs.WrittenMasks.{accepted-Ok, after-Ok, refusal-locked, refusal-unlocked}
 use Rattle.tree_core.specs.CpuFiles.{unless}
 use Rattle.tree_core.specs.Values.{TreeValue}

@@ -1,4 +1,4 @@
-use Rattle.std.proofs.Common.{◌≡◌, ℕ, ◌*◌, List, [], length, Option, None, Some, Ok, sym, subst, ap, ap₂, ◌∙◌}
+use Rattle.std.proofs.Common.{ℕ, ◌*◌, List, [], length, Option, Ok, sym, subst, ap, ap₂, ◌∙◌}
 use Rattle.rc_base.specs.declared.names.Mode.{Mode}
 use Rattle.tree_core.proofs.Setups.{gid-turning}
 use Rattle.tree_core.proofs.WrittenModes as written

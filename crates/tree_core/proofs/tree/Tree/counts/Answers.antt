@@ -1,4 +1,4 @@
-use Rattle.std.proofs.Common.{ℕ, List, sym, subst}
+use Rattle.std.proofs.Common.{ℕ, List, sym, subst, ◌∙◌}
 use Rattle.std.specs.List.{All}
 use Rattle.tree_core.proofs.KeptTables.{Keeps-of}
 use Rattle.tree_core.proofs.ReadCounts.{NamesDomain-fits}
@@ -13,4 +13,4 @@ returns-clause-exist c =
     let t = c.self.inside in
     let m = c.args.self.now.machine in let s = c.args.self.now.state in
     let keeps = Keeps-of (tables t.groups t.tasks t.cpus t.classes t.rmids t.regions) c.self.view_is c.self.invariant in
-    subst (λ (xs : List (ℕ × ℕ)). All (CanLook m) xs) (sym c.needed.ensures) (needs-exist m s c.args.op.now keeps.sound (NamesDomain-fits m (tasks_of s) c.args.op.now c.requires.fits))
+    subst (λ (xs : List (ℕ × ℕ)). All (CanLook m) xs) (sym (c.of.ensures ∙ c.needed-first.ensures.needs)) (needs-exist m s c.args.op.now keeps.sound (NamesDomain-fits m (tasks_of s) c.args.op.now c.requires.fits))

@@ -1,5 +1,4 @@
-use Rattle.std.proofs.Common.{◌≡◌, ◌≢◌, ◌*◌, ◌||◌, not, ◌&&◌, ℕ, List, length, find, None, Some, refl, sym, subst, ap, ap₂, ◌∙◌}
-use Rattle.std.specs.Option.{option_to_list}
+use Rattle.std.proofs.Common.{◌≡◌, ◌*◌, not, ◌&&◌, ℕ, List, length, find, None, Some, refl, sym, subst, ap, ap₂, ◌∙◌}
 use Rattle.group_tree.specs.Records.{has_gid}
 use Rattle.group_tree.specs.declared.group.Group.{Group}
 use Rattle.hw_ids.specs.Ids.{contains}

@@ -1,4 +1,4 @@
-use Rattle.std.proofs.Common.{◌≡◌, List, ℕ, Option, None, Some, Ok, sym, subst, ap, ◌∙◌}
+use Rattle.std.proofs.Common.{Option, Ok, sym, subst, ap, ◌∙◌}
 use Rattle.rc_base.specs.declared.names.Mode.{Mode}
 use Rattle.tree_core.proofs.WrittenModes as written
 use Rattle.tree_core.specs.Modes.{AsksMode, Stays, TurnsTo}
@@ -8,7 +8,7 @@ use Rattle.tree_core.proofs.tree.Tree.freed_by_mode.Goals as goal
 pub returns-in_default : goal.returns-in_default
 returns-in_default c =
     let m = c.args.self.now.machine in let s = c.args.self.now.state in
-    written.needs-nowhere m s c.args.dir c.args.text.now c.requires.writable (sym c.control_at.ensures ∙ c.in_default.is) ∙ ap (counts_of m) (sym c.new.ensures)
+    written.needs-nowhere m s c.args.dir c.args.text.now c.requires.writable (sym c.control_at.ensures ∙ c.in_default.is)
 
 pub returns-in-Ok-Some : goal.returns-in-Ok-Some
 returns-in-Ok-Some c =
@@ -20,9 +20,9 @@ pub returns-in-Ok-None : goal.returns-in-Ok-None
 returns-in-Ok-None c =
     let m = c.args.self.now.machine in let s = c.args.self.now.state in let g = c.in-Some.group in
     let stays : Stays g c.args.text.now = subst (λ (o : Option Mode). AsksMode m s g c.args.text.now (Ok o)) c.in-Ok-None.field-0-is c.in-Ok-None.ensures in
-    written.needs-mode_none m s c.args.dir c.args.text.now c.requires.writable g (sym c.in-Some.ensures) (written.freed-stays m s g c.args.text.now stays) ∙ ap (counts_of m) (sym c.new-in-Ok-None.ensures)
+    written.needs-mode_none m s c.args.dir c.args.text.now c.requires.writable g (sym c.in-Some.ensures) (written.freed-stays m s g c.args.text.now stays)
 
 pub returns-in-Err : goal.returns-in-Err
 returns-in-Err c =
     let m = c.args.self.now.machine in let s = c.args.self.now.state in let g = c.in-Some.group in
-    written.needs-mode_refused m s c.args.dir c.args.text.now c.requires.writable g (sym c.in-Some.ensures) c.in-Err.ensures.reason c.in-Err.ensures.is ∙ ap (counts_of m) (sym c.new-in-Err.ensures)
+    written.needs-mode_refused m s c.args.dir c.args.text.now c.requires.writable g (sym c.in-Some.ensures) c.in-Err.ensures.reason c.in-Err.ensures.is

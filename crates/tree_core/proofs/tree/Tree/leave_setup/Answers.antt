@@ -16,9 +16,7 @@ use Rattle.tree_law.specs.Places.{with_record}
 use Rattle.tree_law.specs.Refusals.{Refusal, reply_of}
 use Rattle.tree_law.specs.Sound.{IsSound}
 use Rattle.tree_law.specs.Space.{free_rmid}
-use Rattle.tree_law.specs.State.{State}
 use Rattle.tree_law.specs.commands.Mode.{rmid_refusal}
-use Rattle.tree_law.specs.declared.follow.Follow.{Follow}
 use Rattle.tree_law.specs.declared.follow.Follow.TheVariants.{Raise}
 use Rattle.tree_core.proofs.tree.Tree.leave_setup.Goals as goal
 
@@ -38,7 +36,7 @@ invariant_of-self c =
     let rmids = c.take_rmid.new.rmids in let rmid = c.in-Ok.rmid in
     let new = record g { mode = c.args.mode; rmid = Some rmid } in
     let there : find (has_gid g.gid) s.groups ≡ Some g = subst (λ (v : TreeValue). find (has_gid g.gid) v.state.groups ≡ Some g) (sym c.self.view_is) c.requires.there in
-    let took = c.in-Ok.ensures.1 in
+    let took = c.in-Ok.ensures in
     let free = setups.free_rmid-taken keeps rmids rmid took in
     let none = setups.rmid_refusal-taken keeps rmids rmid took in
     let law : IsSound m (with_record s (record g { mode = c.args.mode; rmid = free_rmid m s })) = subst (λ (v : TreeValue). rmid_refusal v.machine v.state ≡ None → IsSound v.machine (with_record v.state (record g { mode = c.args.mode; rmid = free_rmid v.machine v.state }))) (sym c.self.view_is) c.requires.sound none in
@@ -56,7 +54,7 @@ returns-in-Ok-clause-reply c =
     let s = state_of m (tables t.groups t.tasks t.cpus t.classes t.rmids t.regions) t.status t.next_gid in
     let keeps = Keeps-from_IsKept c.self.invariant in
     let g = c.args.group.now in
-    let rmids = c.take_rmid.new.rmids in let rmid = c.in-Ok.rmid in let took = c.in-Ok.ensures.1 in
+    let rmids = c.take_rmid.new.rmids in let rmid = c.in-Ok.rmid in let took = c.in-Ok.ensures in
     let none = setups.rmid_refusal-taken keeps rmids rmid took in
     subst (λ (v : TreeValue). replies.Ok ≡ reply_of (rmid_refusal v.machine v.state)) c.self.view_is (ap reply_of (sym none))
 
@@ -67,7 +65,7 @@ returns-in-Ok-clause-state c =
     let s = state_of m (tables t.groups t.tasks t.cpus t.classes t.rmids t.regions) t.status t.next_gid in
     let keeps = Keeps-from_IsKept c.self.invariant in
     let g = c.args.group.now in
-    let rmids = c.take_rmid.new.rmids in let rmid = c.in-Ok.rmid in let took = c.in-Ok.ensures.1 in
+    let rmids = c.take_rmid.new.rmids in let rmid = c.in-Ok.rmid in let took = c.in-Ok.ensures in
     let none = setups.rmid_refusal-taken keeps rmids rmid took in
     let new = record g { mode = c.args.mode; rmid = Some rmid } in
     let free = setups.free_rmid-taken keeps rmids rmid took in
@@ -84,7 +82,7 @@ returns-in-Ok-clause-after c =
     let s = state_of m (tables t.groups t.tasks t.cpus t.classes t.rmids t.regions) t.status t.next_gid in
     let keeps = Keeps-from_IsKept c.self.invariant in
     let g = c.args.group.now in
-    let rmids = c.take_rmid.new.rmids in let rmid = c.in-Ok.rmid in let took = c.in-Ok.ensures.1 in
+    let rmids = c.take_rmid.new.rmids in let rmid = c.in-Ok.rmid in let took = c.in-Ok.ensures in
     let none = setups.rmid_refusal-taken keeps rmids rmid took in
     subst (λ (v : TreeValue). c.raise_all.result.items ≡ unless (rmid_refusal v.machine v.state) [] (map (λ d. Raise d) (range_with_len 0 v.machine.domains))) c.self.view_is
     (c.raise_all.ensures.raises ∙ sym (ap (λ (o : Option Refusal). unless o [] (map (λ d. Raise d) (range_with_len 0 m.domains))) none))

@@ -24,7 +24,6 @@ use Rattle.tree_core.specs.Values.{TreeValue}
 use Rattle.tree_law.specs.Counted.{is_counted_mode}
 use Rattle.tree_law.specs.Sound.{IsSound}
 use Rattle.tree_law.specs.Space.{geometry_of, used_in}
-use Rattle.tree_law.specs.State.{State}
 use Rattle.tree_law.specs.commands.Schemata.{locked, region_for, with_region}
 use Rattle.tree_core.proofs.tree.Tree.lock.Goals as goal
 

@@ -1,117 +1,13 @@
-use Rattle.std.proofs.Common.{◌≡◌, ◌+◌, ◌≤◌, Option, None, find, refl, sym, subst, ap, ◌∙◌, ◌++◌, ◌∷◌, []}
-use Rattle.group_tree.specs.Lists.{has_group}
-use Rattle.group_tree.specs.declared.group.Group.{Group}
-use Rattle.hw_ids.specs.MonitoringIds.{MonitoringIds}
-use Rattle.machine.specs.Maps.{parameters_of}
-use Rattle.path_names.specs.declared.dirs.DirRef.TheVariants.{Ctrl}
-use Rattle.path_names.specs.declared.path_ref.PathRef.TheVariants.{Dir}
-use Rattle.rc_base.specs.declared.replies.Reply.TheVariants as replies
-use Rattle.script_ops.specs.declared.op.Op.TheVariants.{Mkdir}
-use Rattle.tree_core.proofs.Creation as creation
-use Rattle.tree_core.proofs.KeptTables.{IsKept-from_Keeps, Keeps-from_IsKept, State-same, contains-default_class}
-use Rattle.tree_core.proofs.Refusals.{IsRefused}
-use Rattle.tree_core.proofs.Returns.{RmidsStay-same}
-use Rattle.tree_core.proofs.Room.{has_group-next_gid, length-groups_lt}
-use Rattle.tree_core.specs.Kept.{IsKept}
-use Rattle.tree_core.specs.Places.{place_reasons}
-use Rattle.tree_core.specs.Tables.{state_of, tables}
-use Rattle.tree_core.specs.Values.{TreeValue}
-use Rattle.tree_law.specs.Refusals.{Refusal, reply_of}
-use Rattle.tree_law.specs.Space.{full_domain}
-use Rattle.tree_law.specs.State.{State}
-use Rattle.tree_law.specs.Steps.{next_if, refusal}
-use Rattle.tree_law.specs.commands.Mkdir.{against, initial_masks}
+use Rattle.std.proofs.Common.{sym, ◌∙◌}
+use Rattle.tree_core.proofs.Refusals.{IsRefused-spent}
 use Rattle.tree_core.proofs.tree.Tree.make_control.Goals as goal
 
-pub take_ids-requires : goal.take_ids-requires
-take_ids-requires c = record { default_class = contains-default_class (Keeps-from_IsKept c.self.invariant) }
+pub returns-else-has_class-clause-reply : goal.returns-else-has_class-clause-reply
+returns-else-has_class-clause-reply c =
+    let t = c.args.self.now in
+    c.refused.ensures ∙ (IsRefused-spent t.machine t.state c.args.name c.requires.place (sym c.has_class.ensures.free ∙ c.if-has_class.false)).reply
 
-pub insert-requires-clause-fresh : goal.insert-requires-clause-fresh
-insert-requires-clause-fresh c =
-    ap (λ (g : Group). has_group g.gid c.self.inside.groups.groups) c.control_group-group.ensures ∙ has_group-next_gid (Keeps-from_IsKept c.self.invariant)
-
-pub insert-requires-clause-place : goal.insert-requires-clause-place
-insert-requires-clause-place c = length-groups_lt (Keeps-from_IsKept c.self.invariant) c.self.inside.machine.in_range
-
-pub invariant_of-self : goal.invariant_of-self
-invariant_of-self c =
-    let t = c.self.inside in
-    let m = parameters_of t.machine in
-    let s = state_of m (tables t.groups t.tasks t.cpus t.classes t.rmids t.regions) t.status t.next_gid in
-    let keeps = Keeps-from_IsKept c.self.invariant in
-    let path = Dir (Ctrl c.args.name) in
-    let place : find (against m s path) place_reasons ≡ None = subst (λ (v : TreeValue). find (against v.machine v.state path) place_reasons ≡ None) (sym c.self.view_is) c.requires.place in
-    let space : full_domain m s ≡ None = subst (λ (v : TreeValue). full_domain v.machine v.state ≡ None) (sym c.self.view_is) (sym c.full_domain-full.ensures ∙ c.in-Ok.ensures.1) in
-    let masks : c.initial_masks-masks.result ≡ initial_masks m s = subst (λ (v : TreeValue). c.initial_masks-masks.result ≡ initial_masks v.machine v.state) (sym c.self.view_is) c.initial_masks-masks.ensures in
-    let gids : t.next_gid ≤ t.epoch = subst (λ (v : TreeValue). v.state.next_gid ≤ v.epoch) (sym c.self.view_is) c.requires.gids in
-    let ids = c.in-Ok.ids in
-    let new = creation.control_record keeps c.args.name ids.class ids.rmid c.take_ids.new.classes c.take_ids.new.rmids place space c.in-Ok.ensures.0 c.in-Ok.ensures.2 c.initial_masks-masks.result in
-    let after : c.insert.new.self.groups ≡ t.groups.groups ++ new ∷ [] = c.insert.ensures.last ∙ ap (λ (g : Group). t.groups.groups ++ g ∷ []) c.control_group-group.ensures in
-    let rmids = c.take_ids.new.rmids in
-    IsKept-from_Keeps (creation.Keeps-with_control keeps c.args.name ids.class ids.rmid c.take_ids.new.classes rmids place space c.in-Ok.ensures.0 c.in-Ok.ensures.2 c.initial_masks-masks.result c.insert.new.self _ t.machine.in_range masks after c.insert.ensures.kept gids
-    (State-same (record s { next_gid = s.next_gid + 1 }) c.insert.new.self.groups (t.groups.groups ++ new ∷ []) rmids.limbo t.rmids.limbo rmids.threshold t.rmids.threshold after (ap (λ (r : MonitoringIds). r.limbo) c.in-Ok.ensures.2.taken) (ap (λ (r : MonitoringIds). r.threshold) c.in-Ok.ensures.2.taken)))
-
-pub invariant_of-self-in-Err : goal.invariant_of-self-in-Err
-invariant_of-self-in-Err c =
-    let t = c.self.inside in
-    let m = parameters_of t.machine in
-    let rmids = c.take_ids.new.rmids in
-    subst (λ (s : State). IsKept m (tables t.groups t.tasks t.cpus c.take_ids.new.classes rmids t.regions) s t.epoch)
-    (State-same (state_of m (tables t.groups t.tasks t.cpus t.classes t.rmids t.regions) t.status t.next_gid) t.groups.groups t.groups.groups t.rmids.limbo rmids.limbo t.rmids.threshold rmids.threshold refl (sym (ap (λ (r : MonitoringIds). r.limbo) c.in-Err.ensures.1)) (sym (ap (λ (r : MonitoringIds). r.threshold) c.in-Err.ensures.1)))
-    (IsKept-from_Keeps (creation.Keeps-same_ids (Keeps-from_IsKept c.self.invariant) c.take_ids.new.classes rmids c.in-Err.ensures.0 (RmidsStay-same t.rmids rmids c.in-Err.ensures.1)))
-
-pub returns-in-Ok-clause-reply : goal.returns-in-Ok-clause-reply
-returns-in-Ok-clause-reply c =
-    let t = c.self.inside in
-    let m = parameters_of t.machine in
-    let s = state_of m (tables t.groups t.tasks t.cpus t.classes t.rmids t.regions) t.status t.next_gid in
-    let path = Dir (Ctrl c.args.name) in
-    let place : find (against m s path) place_reasons ≡ None = subst (λ (v : TreeValue). find (against v.machine v.state path) place_reasons ≡ None) (sym c.self.view_is) c.requires.place in
-    let space : full_domain m s ≡ None = subst (λ (v : TreeValue). full_domain v.machine v.state ≡ None) (sym c.self.view_is) (sym c.full_domain-full.ensures ∙ c.in-Ok.ensures.1) in
-    let accepted : refusal m s (Mkdir path) ≡ None = creation.refusal-none (Keeps-from_IsKept c.self.invariant) c.args.name c.in-Ok.ids.class c.in-Ok.ids.rmid c.take_ids.new.classes c.take_ids.new.rmids place space c.in-Ok.ensures.0 c.in-Ok.ensures.2 in
-    subst (λ (v : TreeValue). replies.Ok ≡ reply_of (refusal v.machine v.state (Mkdir path))) c.self.view_is (ap reply_of (sym accepted))
-
-pub returns-in-Ok-clause-state : goal.returns-in-Ok-clause-state
-returns-in-Ok-clause-state c = λ looks.
-    let t = c.self.inside in
-    let m = parameters_of t.machine in
-    let s = state_of m (tables t.groups t.tasks t.cpus t.classes t.rmids t.regions) t.status t.next_gid in
-    let keeps = Keeps-from_IsKept c.self.invariant in
-    let path = Dir (Ctrl c.args.name) in
-    let place : find (against m s path) place_reasons ≡ None = subst (λ (v : TreeValue). find (against v.machine v.state path) place_reasons ≡ None) (sym c.self.view_is) c.requires.place in
-    let space : full_domain m s ≡ None = subst (λ (v : TreeValue). full_domain v.machine v.state ≡ None) (sym c.self.view_is) (sym c.full_domain-full.ensures ∙ c.in-Ok.ensures.1) in
-    let masks : c.initial_masks-masks.result ≡ initial_masks m s = subst (λ (v : TreeValue). c.initial_masks-masks.result ≡ initial_masks v.machine v.state) (sym c.self.view_is) c.initial_masks-masks.ensures in
-    let ids = c.in-Ok.ids in
-    let rmids = c.take_ids.new.rmids in
-    let accepted : refusal m s (Mkdir path) ≡ None = creation.refusal-none keeps c.args.name ids.class ids.rmid c.take_ids.new.classes rmids place space c.in-Ok.ensures.0 c.in-Ok.ensures.2 in
-    let new = creation.control_record keeps c.args.name ids.class ids.rmid c.take_ids.new.classes rmids place space c.in-Ok.ensures.0 c.in-Ok.ensures.2 c.initial_masks-masks.result in
-    let after : c.insert.new.self.groups ≡ t.groups.groups ++ new ∷ [] = c.insert.ensures.last ∙ ap (λ (g : Group). t.groups.groups ++ g ∷ []) c.control_group-group.ensures in
-    subst (λ (v : TreeValue). state_of m (tables c.insert.new.self t.tasks t.cpus c.take_ids.new.classes rmids t.regions) t.status (t.next_gid + 1) ≡ next_if v.machine v.state (Mkdir path) looks (refusal v.machine v.state (Mkdir path))) c.self.view_is
-    (State-same (record s { next_gid = s.next_gid + 1 }) c.insert.new.self.groups (t.groups.groups ++ new ∷ []) rmids.limbo t.rmids.limbo rmids.threshold t.rmids.threshold after (ap (λ (r : MonitoringIds). r.limbo) c.in-Ok.ensures.2.taken) (ap (λ (r : MonitoringIds). r.threshold) c.in-Ok.ensures.2.taken)
-    ∙ creation.with_control-accepted keeps c.args.name ids.class ids.rmid c.take_ids.new.classes rmids place space c.in-Ok.ensures.0 c.in-Ok.ensures.2 c.initial_masks-masks.result looks masks
-    ∙ ap (λ (against : Option Refusal). next_if m s (Mkdir path) looks against) (sym accepted))
-
-pub returns-in-Err-clause-reply : goal.returns-in-Err-clause-reply
-returns-in-Err-clause-reply c =
-    let t = c.self.inside in
-    let m = parameters_of t.machine in
-    let s = state_of m (tables t.groups t.tasks t.cpus t.classes t.rmids t.regions) t.status t.next_gid in
-    let path = Dir (Ctrl c.args.name) in
-    let place : find (against m s path) place_reasons ≡ None = subst (λ (v : TreeValue). find (against v.machine v.state path) place_reasons ≡ None) (sym c.self.view_is) c.requires.place in
-    let full : c.full_domain-full.result ≡ full_domain m s = subst (λ (v : TreeValue). c.full_domain-full.result ≡ full_domain v.machine v.state) (sym c.self.view_is) c.full_domain-full.ensures in
-    let refused : IsRefused m s path c.in-Err.reply = creation.IsRefused-no_ids (Keeps-from_IsKept c.self.invariant) c.args.name c.full_domain-full.result c.in-Err.reply place full c.in-Err.ensures.2 in
-    subst (λ (v : TreeValue). c.in-Err.reply ≡ reply_of (refusal v.machine v.state (Mkdir path))) c.self.view_is refused.reply
-
-pub returns-in-Err-clause-state : goal.returns-in-Err-clause-state
-returns-in-Err-clause-state c = λ looks.
-    let t = c.self.inside in
-    let m = parameters_of t.machine in
-    let s = state_of m (tables t.groups t.tasks t.cpus t.classes t.rmids t.regions) t.status t.next_gid in
-    let path = Dir (Ctrl c.args.name) in
-    let rmids = c.take_ids.new.rmids in
-    let place : find (against m s path) place_reasons ≡ None = subst (λ (v : TreeValue). find (against v.machine v.state path) place_reasons ≡ None) (sym c.self.view_is) c.requires.place in
-    let full : c.full_domain-full.result ≡ full_domain m s = subst (λ (v : TreeValue). c.full_domain-full.result ≡ full_domain v.machine v.state) (sym c.self.view_is) c.full_domain-full.ensures in
-    let refused : IsRefused m s path c.in-Err.reply = creation.IsRefused-no_ids (Keeps-from_IsKept c.self.invariant) c.args.name c.full_domain-full.result c.in-Err.reply place full c.in-Err.ensures.2 in
-    subst (λ (v : TreeValue). state_of m (tables t.groups t.tasks t.cpus c.take_ids.new.classes rmids t.regions) t.status t.next_gid ≡ next_if v.machine v.state (Mkdir path) looks (refusal v.machine v.state (Mkdir path))) c.self.view_is
-    (State-same s t.groups.groups t.groups.groups rmids.limbo t.rmids.limbo rmids.threshold t.rmids.threshold refl (ap (λ (r : MonitoringIds). r.limbo) c.in-Err.ensures.1) (ap (λ (r : MonitoringIds). r.threshold) c.in-Err.ensures.1)
-    ∙ sym (refused.kept looks))
+pub returns-else-has_class-clause-state : goal.returns-else-has_class-clause-state
+returns-else-has_class-clause-state c = λ looks.
+    let t = c.args.self.now in
+    c.has_class.ensures.state ∙ sym ((IsRefused-spent t.machine t.state c.args.name c.requires.place (sym c.has_class.ensures.free ∙ c.if-has_class.false)).kept looks)

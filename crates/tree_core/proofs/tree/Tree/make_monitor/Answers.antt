@@ -54,11 +54,11 @@ invariant_of-self c =
     let not_closed : is_closed s parent ≡ false = subst (λ (v : TreeValue). is_closed v.state parent ≡ false) (sym c.self.view_is) (sym c.is_closed_control.ensures ∙ c.if-is_closed_control.false) in
     let rmid = c.in-Ok.rmid in
     let rmids = c.take_rmid.new.rmids in
-    let new = creation.monitor_record keeps c.args.owner c.args.name parent place is_owner not_closed rmid rmids c.in-Ok.ensures.1 in
+    let new = creation.monitor_record keeps c.args.owner c.args.name parent place is_owner not_closed rmid rmids c.in-Ok.ensures in
     let after : c.insert.new.self.groups ≡ t.groups.groups ++ new ∷ [] = c.insert.ensures.last ∙ ap (λ (g : Group). t.groups.groups ++ g ∷ []) c.monitor_group-group.ensures in
-    let same = State-same (record s { next_gid = s.next_gid + 1 }) c.insert.new.self.groups (t.groups.groups ++ new ∷ []) rmids.limbo t.rmids.limbo rmids.threshold t.rmids.threshold after (ap (λ (r : MonitoringIds). r.limbo) c.in-Ok.ensures.1.taken) (ap (λ (r : MonitoringIds). r.threshold) c.in-Ok.ensures.1.taken) in
+    let same = State-same (record s { next_gid = s.next_gid + 1 }) c.insert.new.self.groups (t.groups.groups ++ new ∷ []) rmids.limbo t.rmids.limbo rmids.threshold t.rmids.threshold after (ap (λ (r : MonitoringIds). r.limbo) c.in-Ok.ensures.taken) (ap (λ (r : MonitoringIds). r.threshold) c.in-Ok.ensures.taken) in
     let gids : t.next_gid ≤ t.epoch = subst (λ (v : TreeValue). v.state.next_gid ≤ v.epoch) (sym c.self.view_is) c.requires.gids in
-    IsKept-from_Keeps (creation.Keeps-with_monitor keeps c.args.owner c.args.name parent place is_owner not_closed rmid rmids c.in-Ok.ensures.1 c.insert.new.self _ t.machine.in_range after c.insert.ensures.kept gids same)
+    IsKept-from_Keeps (creation.Keeps-with_monitor keeps c.args.owner c.args.name parent place is_owner not_closed rmid rmids c.in-Ok.ensures c.insert.new.self _ t.machine.in_range after c.insert.ensures.kept gids same)
 
 pub returns-in-Ok-clause-reply : goal.returns-in-Ok-clause-reply
 returns-in-Ok-clause-reply c =
@@ -73,7 +73,7 @@ returns-in-Ok-clause-reply c =
     let not_closed : is_closed s parent ≡ false = subst (λ (v : TreeValue). is_closed v.state parent ≡ false) (sym c.self.view_is) (sym c.is_closed_control.ensures ∙ c.if-is_closed_control.false) in
     let rmid = c.in-Ok.rmid in
     let rmids = c.take_rmid.new.rmids in
-    let accepted = creation.refusal-none keeps c.args.owner c.args.name parent place is_owner not_closed rmid rmids c.in-Ok.ensures.1 in
+    let accepted = creation.refusal-none keeps c.args.owner c.args.name parent place is_owner not_closed rmid rmids c.in-Ok.ensures in
     subst (λ (v : TreeValue). replies.Ok ≡ reply_of (refusal v.machine v.state (Mkdir path))) c.self.view_is (ap reply_of (sym accepted))
 
 pub returns-in-Ok-clause-state : goal.returns-in-Ok-clause-state
@@ -89,12 +89,12 @@ returns-in-Ok-clause-state c = λ looks.
     let not_closed : is_closed s parent ≡ false = subst (λ (v : TreeValue). is_closed v.state parent ≡ false) (sym c.self.view_is) (sym c.is_closed_control.ensures ∙ c.if-is_closed_control.false) in
     let rmid = c.in-Ok.rmid in
     let rmids = c.take_rmid.new.rmids in
-    let accepted = creation.refusal-none keeps c.args.owner c.args.name parent place is_owner not_closed rmid rmids c.in-Ok.ensures.1 in
-    let new = creation.monitor_record keeps c.args.owner c.args.name parent place is_owner not_closed rmid rmids c.in-Ok.ensures.1 in
+    let accepted = creation.refusal-none keeps c.args.owner c.args.name parent place is_owner not_closed rmid rmids c.in-Ok.ensures in
+    let new = creation.monitor_record keeps c.args.owner c.args.name parent place is_owner not_closed rmid rmids c.in-Ok.ensures in
     let after : c.insert.new.self.groups ≡ t.groups.groups ++ new ∷ [] = c.insert.ensures.last ∙ ap (λ (g : Group). t.groups.groups ++ g ∷ []) c.monitor_group-group.ensures in
-    let same = State-same (record s { next_gid = s.next_gid + 1 }) c.insert.new.self.groups (t.groups.groups ++ new ∷ []) rmids.limbo t.rmids.limbo rmids.threshold t.rmids.threshold after (ap (λ (r : MonitoringIds). r.limbo) c.in-Ok.ensures.1.taken) (ap (λ (r : MonitoringIds). r.threshold) c.in-Ok.ensures.1.taken) in
+    let same = State-same (record s { next_gid = s.next_gid + 1 }) c.insert.new.self.groups (t.groups.groups ++ new ∷ []) rmids.limbo t.rmids.limbo rmids.threshold t.rmids.threshold after (ap (λ (r : MonitoringIds). r.limbo) c.in-Ok.ensures.taken) (ap (λ (r : MonitoringIds). r.threshold) c.in-Ok.ensures.taken) in
     subst (λ (v : TreeValue). state_of m (tables c.insert.new.self t.tasks t.cpus t.classes rmids t.regions) t.status (t.next_gid + 1) ≡ next_if v.machine v.state (Mkdir path) looks (refusal v.machine v.state (Mkdir path))) c.self.view_is
-    (same ∙ creation.with_monitor-accepted keeps c.args.owner c.args.name parent place is_owner not_closed rmid rmids c.in-Ok.ensures.1 looks
+    (same ∙ creation.with_monitor-accepted keeps c.args.owner c.args.name parent place is_owner not_closed rmid rmids c.in-Ok.ensures looks
     ∙ ap (λ (against : Option Refusal). next_if m s (Mkdir path) looks against) (sym accepted))
 
 pub returns-in-Err-clause-reply : goal.returns-in-Err-clause-reply

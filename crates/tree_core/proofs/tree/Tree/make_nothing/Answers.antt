@@ -1,4 +1,4 @@
-use Rattle.std.proofs.Common.{◌≡◌, ℕ, List, find, Option, None, Some, refl, sym, subst, ap, ap₂, ◌∙◌}
+use Rattle.std.proofs.Common.{◌≡◌, ℕ, List, find, None, sym, subst, ap, ap₂, ◌∙◌}
 use Rattle.hw_ids.specs.MonitoringIds.{MonitoringIds}
 use Rattle.machine.specs.Maps.{parameters_of}
 use Rattle.rc_base.specs.declared.replies.Reply.TheVariants as replies
@@ -12,14 +12,14 @@ use Rattle.tree_core.specs.Kept.{IsKept}
 use Rattle.tree_core.specs.Places.{place_reasons}
 use Rattle.tree_core.specs.Tables.{state_of, tables}
 use Rattle.tree_core.specs.Values.{TreeValue}
-use Rattle.tree_law.specs.Refusals.{Refusal, reply_of}
+use Rattle.tree_law.specs.Refusals.{reply_of}
 use Rattle.tree_law.specs.State.{State}
 use Rattle.tree_law.specs.Steps.{next_if, refusal}
 use Rattle.tree_law.specs.commands.Mkdir.{against}
 use Rattle.tree_core.proofs.tree.Tree.make_nothing.Goals as goal
 
 pub free-requires-clause-not_default : goal.free-requires-clause-not_default
-free-requires-clause-not_default c = unmade.rmid-not_zero (Keeps-from_IsKept c.self.invariant) c.take_rmid.new.rmids c.in-Ok.rmid c.in-Ok.ensures.1
+free-requires-clause-not_default c = unmade.rmid-not_zero (Keeps-from_IsKept c.self.invariant) c.take_rmid.new.rmids c.in-Ok.rmid c.in-Ok.ensures
 
 pub invariant_of-self : goal.invariant_of-self
 invariant_of-self c =
@@ -28,7 +28,7 @@ invariant_of-self c =
     let s = state_of m (tables t.groups t.tasks t.cpus t.classes t.rmids t.regions) t.status t.next_gid in
     let keeps = Keeps-from_IsKept c.self.invariant in
     let path = c.args.path in
-    let stay = unmade.RmidsStay-returned keeps c.take_rmid.new.rmids c.in-Ok.rmid c.in-Ok.ensures.1 c.free.new.self c.free.ensures in
+    let stay = unmade.RmidsStay-returned keeps c.take_rmid.new.rmids c.in-Ok.rmid c.in-Ok.ensures c.free.new.self c.free.ensures in
     let same = ap₂ (λ (ids : List ℕ) (n : ℕ). record s { limbo = ids; threshold = n }) stay.limbo stay.threshold in
     subst (λ (x : State). IsKept m (tables t.groups t.tasks t.cpus t.classes c.free.new.self t.regions) x t.epoch) (sym same)
     (IsKept-from_Keeps (Keeps-same_ids keeps t.classes c.free.new.self (ClassesStay-same t.classes) stay))
@@ -42,7 +42,7 @@ returns-in-Ok-clause-reply c =
     let path = c.args.path in
     let place : find (against m s path) place_reasons ≡ None = subst (λ (v : TreeValue). find (against v.machine v.state path) place_reasons ≡ None) (sym c.self.view_is) c.requires.place in
     let is = unmade.refusal-nameless m s path c.requires.nameless place in
-    let none = rmid_refusal-taken keeps c.take_rmid.new.rmids c.in-Ok.rmid c.in-Ok.ensures.1 in
+    let none = rmid_refusal-taken keeps c.take_rmid.new.rmids c.in-Ok.rmid c.in-Ok.ensures in
     subst (λ (v : TreeValue). replies.Ok ≡ reply_of (refusal v.machine v.state (Mkdir path))) c.self.view_is (sym (ap reply_of (is ∙ none)))
 
 pub returns-in-Ok-clause-state : goal.returns-in-Ok-clause-state
@@ -54,9 +54,9 @@ returns-in-Ok-clause-state c = λ looks.
     let path = c.args.path in
     let place : find (against m s path) place_reasons ≡ None = subst (λ (v : TreeValue). find (against v.machine v.state path) place_reasons ≡ None) (sym c.self.view_is) c.requires.place in
     let is = unmade.refusal-nameless m s path c.requires.nameless place in
-    let stay = unmade.RmidsStay-returned keeps c.take_rmid.new.rmids c.in-Ok.rmid c.in-Ok.ensures.1 c.free.new.self c.free.ensures in
+    let stay = unmade.RmidsStay-returned keeps c.take_rmid.new.rmids c.in-Ok.rmid c.in-Ok.ensures c.free.new.self c.free.ensures in
     let same = ap₂ (λ (ids : List ℕ) (n : ℕ). record s { limbo = ids; threshold = n }) stay.limbo stay.threshold in
-    let none = rmid_refusal-taken keeps c.take_rmid.new.rmids c.in-Ok.rmid c.in-Ok.ensures.1 in
+    let none = rmid_refusal-taken keeps c.take_rmid.new.rmids c.in-Ok.rmid c.in-Ok.ensures in
     subst (λ (v : TreeValue). state_of m (tables t.groups t.tasks t.cpus t.classes c.free.new.self t.regions) t.status t.next_gid ≡ next_if v.machine v.state (Mkdir path) looks (refusal v.machine v.state (Mkdir path))) c.self.view_is
     (same ∙ sym (ap (next_if m s (Mkdir path) looks) (is ∙ none) ∙ unmade.accepted-nameless m s path c.requires.nameless looks))
 

@@ -96,29 +96,29 @@ returns-in-Tick-clause-after c =
 pub touch-requires-clause-task : goal.touch-requires-clause-task
 touch-requires-clause-task c =
     let m = c.args.self.now.machine in let s = c.args.self.now.state in
-    let fits : Fits m (tasks_of s) (ops.Touch c.in-Touch.path c.in-Touch.offset c.in-Touch.task c.in-Touch.cpu) = subst (Fits m (tasks_of s)) c.in-Touch.is c.requires.fits in
+    let fits : Fits m (tasks_of s) (ops.Touch c.in-Touch.cpu c.in-Touch.path c.in-Touch.task c.in-Touch.offset) = subst (Fits m (tasks_of s)) c.in-Touch.is c.requires.fits in
     subst (λ (x : State). Contains (tasks_of x) c.in-Touch.task) (sym c.count.ensures.state) fits.0
 
 pub touch-requires-clause-cpu : goal.touch-requires-clause-cpu
 touch-requires-clause-cpu c =
     let m = c.args.self.now.machine in let s = c.args.self.now.state in
-    let fits : Fits m (tasks_of s) (ops.Touch c.in-Touch.path c.in-Touch.offset c.in-Touch.task c.in-Touch.cpu) = subst (Fits m (tasks_of s)) c.in-Touch.is c.requires.fits in
+    let fits : Fits m (tasks_of s) (ops.Touch c.in-Touch.cpu c.in-Touch.path c.in-Touch.task c.in-Touch.offset) = subst (Fits m (tasks_of s)) c.in-Touch.is c.requires.fits in
     subst (λ (n : Parameters). c.in-Touch.cpu < n.cpus) (sym c.count.ensures.machine) fits.1
 
 pub returns-in-Touch-clause-reply : goal.returns-in-Touch-clause-reply
 returns-in-Touch-clause-reply c =
-    let m = c.args.self.now.machine in let s = c.args.self.now.state in let op = ops.Touch c.in-Touch.path c.in-Touch.offset c.in-Touch.task c.in-Touch.cpu in
+    let m = c.args.self.now.machine in let s = c.args.self.now.state in let op = ops.Touch c.in-Touch.cpu c.in-Touch.path c.in-Touch.task c.in-Touch.offset in
     c.touch.ensures.reply ∙ ap₂ (λ (n : Parameters) (x : State). reply_of (refusal n x op)) c.count.ensures.machine c.count.ensures.state
     ∙ sym (ap (λ (o : Op). (next m s o c.args.looks.now).reply) c.in-Touch.is ∙ reply-next m s op c.args.looks.now)
 
 pub returns-in-Touch-clause-state : goal.returns-in-Touch-clause-state
 returns-in-Touch-clause-state c =
-    let m = c.args.self.now.machine in let s = c.args.self.now.state in let op = ops.Touch c.in-Touch.path c.in-Touch.offset c.in-Touch.task c.in-Touch.cpu in
+    let m = c.args.self.now.machine in let s = c.args.self.now.state in let op = ops.Touch c.in-Touch.cpu c.in-Touch.path c.in-Touch.task c.in-Touch.offset in
     c.count.ensures.state ∙ sym (ap (λ (o : Op). (next m s o c.args.looks.now).state) c.in-Touch.is ∙ state-quiet m s op c.args.looks.now refl refl (λ x. refl))
 
 pub returns-in-Touch-clause-after : goal.returns-in-Touch-clause-after
 returns-in-Touch-clause-after c =
-    let m = c.args.self.now.machine in let s = c.args.self.now.state in let k = c.args.self.now.epoch in let op = ops.Touch c.in-Touch.path c.in-Touch.offset c.in-Touch.task c.in-Touch.cpu in
+    let m = c.args.self.now.machine in let s = c.args.self.now.state in let k = c.args.self.now.epoch in let op = ops.Touch c.in-Touch.cpu c.in-Touch.path c.in-Touch.task c.in-Touch.offset in
     c.touch.ensures.after k (sym c.count.ensures.epoch) ∙ ap₂ (λ (n : Parameters) (x : State). after n x k op) c.count.ensures.machine c.count.ensures.state ∙ ap (after m s k) (sym c.in-Touch.is)
 
 pub returns-in-Access-clause-reply : goal.returns-in-Access-clause-reply

@@ -1,4 +1,4 @@
-use Rattle.std.proofs.Common.{◌≡◌, sym, subst, ap, ap₂, ◌∙◌}
+use Rattle.std.proofs.Common.{sym, subst, ap, ap₂, ◌∙◌}
 use Rattle.machine.specs.Ranges.{InRange}
 use Rattle.rc_base.specs.declared.replies.Reply.{Reply}
 use Rattle.tree_core.proofs.FoundGroups.{find-control_at, is_control-control_at}

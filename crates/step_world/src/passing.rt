@@ -1,0 +1,75 @@
+//! Accesses that read their tag and go to their slice in one go, while nobody holds the tree.
+ghost use Rattle.std.specs.Prelude.{◌≡◌, ◌<◌, ℕ, IfSome, Some, length, slice_get};
+ghost use Rattle.machine.specs.Maps.{parameters_of};
+ghost use Rattle.machine.specs.Slices.{slice_count, slice_of_line};
+ghost use Rattle.script_ops.specs.Values.{ops_of};
+ghost use Rattle.script_ops.specs.declared.op.Op.TheVariants.{Access};
+ghost use Rattle.step_world.specs.Passing.{CanPass, HasPassed, IsBefore};
+ghost use Rattle.step_world.specs.Turns.{TakesTurn};
+ghost use Rattle.step_world.specs.Worlds.{IsWorldOf, machine_of};
+
+use crate::place::Place;
+use crate::steps::move_to;
+use crate::world::World;
+use machine::Machine;
+use rc_base::Tag;
+use script_ops::{Op, Script};
+
+// The number of the slice of a line in a domain. Where a cache has one slice, it takes no division.
+fn line_slice(m: &Machine, domain: u8, line: u64) -> usize
+    requires { domain < m.now.domains }
+    ensures number { result ≡ slice_of_line (parameters_of m.now) domain line }
+    ensures within { result < slice_count (parameters_of m.now) }
+{
+    if m.slices == 1 {
+        m.slice_number(domain, 0)
+    } else {
+        m.line_slice(domain, line)
+    }
+}
+
+// An access reads its tag, which is this one, and goes to its slice with it: two steps, and the tag is never stale.
+fn pass(world: &mut World, script: &Script, t: u32, n: u32, tag: &Tag, addr: u64)
+    requires world { IsWorldOf script.now world.old }
+    requires can { CanPass script.now world.old t n addr tag.now }
+    ensures world { IsWorldOf script.now world.new }
+    ensures passed { HasPassed script.now t n world.old world.new }
+{
+    let line = addr / 64;
+    let slice = line_slice(script.machine(), tag.domain, line);
+    world.slices[slice].access(t, n, tag, line);
+    move_to(&mut world.threads, t, n + 1, Place::Ready);
+}
+
+// The address of the op of this number, where it is an access of this task on this CPU.
+fn address_at(ops: &[Op], n: u32, task: u32, cpu: u8) -> Option<u64>
+    ensures is { IfSome result (λ addr. slice_get ops.now n ≡ Some (Access task cpu addr)) }
+    ensures there { (addr : ℕ) → slice_get ops.now n ≡ Some (Access task cpu addr) → result ≡ Some addr }
+{
+    match ops.get(n as usize) {
+        Some(
+            Op::Access {
+                task: of,
+                cpu: on,
+                addr,
+            },
+        ) if *of == task && *on == cpu => Some(*addr),
+        _ => None,
+    }
+}
+
+/// The accesses of a task on a CPU that come next pass, each with the same tag: the tree stays as it is meanwhile.
+pub(crate) fn pass_all(world: &mut World, script: &Script, t: u32, ops: &[Op], task: u32, cpu: u8)
+    requires world { IsWorldOf script.now world.old }
+    requires ops { ops.now ≡ ops_of script.now t }
+    requires before { IsBefore script.now t task cpu (machine_of world.old) }
+    ensures world { IsWorldOf script.now world.new }
+    ensures turn { TakesTurn script.now t (machine_of world.old) (machine_of world.new) }
+{
+    let tag = world.tree.resolve(task, cpu);
+    let mut n = world.threads[t as usize].next;
+    while let Some(addr) = address_at(ops, n, task, cpu) {
+        pass(world, script, t, n, &tag, addr);
+        n += 1;
+    }
+}
