@@ -51,17 +51,21 @@ def reads_of_all(script, count):
 
 def falling_ids(script, count):
     """A line of tasks whose ids fall: too many, which is told once the line was read."""
-    script.write("machine\ntasks " + " ".join(str(task) for task in range(count, 0, -1)) + "\n")
+    script.write("machine\ntasks")
+    script.writelines(f" {task}" for task in range(count, 0, -1))
+    script.write("\n")
 
 
 def names(script, count):
     """Groups of different names, most of which are refused."""
-    script.write(head("machine") + "".join(f"mkdir /{name:x}\n" for name in range(count)))
+    script.write(head("machine"))
+    script.writelines(f"mkdir /{name:x}\n" for name in range(count))
 
 
 def names_alike(script, count):
     """Names of 255 bytes that differ in their last ones alone."""
-    script.write(head("machine") + "".join(f"mkdir /{'n' * 245}{name:010}\n" for name in range(count)))
+    script.write(head("machine"))
+    script.writelines(f"mkdir /{'n' * 245}{name:010}\n" for name in range(count))
 
 
 def scattered(script, count):
@@ -71,9 +75,9 @@ def scattered(script, count):
 
 def orders(script, count):
     """The longest list of an order, over sixteen threads."""
-    order = " ".join(str(number * 7 % 16) for number in range(count))
-    threads = "thread\n" + f"sweep 1 0 0 {count // 16} 64\n"
-    script.write(f"machine sets=4096 ways=8\ntasks 1\nphase\norder {order}\n" + threads * 16)
+    script.write("machine sets=4096 ways=8\ntasks 1\nphase\norder")
+    script.writelines(f" {number * 7 % 16}" for number in range(count))
+    script.write("\n" + f"thread\nsweep 1 0 0 {count // 16} 64\n" * 16)
 
 
 ROWS = (

@@ -33,7 +33,7 @@ eqb-decimal : (c k : ℕ) → k < 48 → digit_value c < 10 → eqb c k ≡ fals
 eqb-decimal c k low digit = ne_eqb c k (λ e. omega (arith, e, low, (digit_from_value c digit).0))
 
 -- no digit is a blank
-is_blank-decimal : (c : ℕ) → digit_value c < 10 → is_blank c ≡ false
+pub is_blank-decimal : (c : ℕ) → digit_value c < 10 → is_blank c ≡ false
 is_blank-decimal c digit = rw (eqb-decimal c 32 (omega arith) digit, eqb-decimal c 9 (omega arith) digit) refl
 
 -- no digit is a bad byte
@@ -44,7 +44,7 @@ is_bad-decimal c digit =
 
 module _ (p : ℕ → Bool) where
   -- a test that no digit passes
-  list_any-decimal : ((c : ℕ) → digit_value c < 10 → p c ≡ false) → (cs : List ℕ) → AllDigits 10 cs → list_any p cs ≡ false
+  pub list_any-decimal : ((c : ℕ) → digit_value c < 10 → p c ≡ false) → (cs : List ℕ) → AllDigits 10 cs → list_any p cs ≡ false
   list_any-decimal h [] all = refl
   list_any-decimal h (c ∷ cs) all = rw (h c all.0) (list_any-decimal h cs all.1)
 
@@ -61,7 +61,7 @@ module _ (p : ℕ → Bool) where
 -- ---- words
 
 -- a word, a blank and the rest
-words-piece : (x rest : List ℕ) → 0 < length x → list_any is_blank x ≡ false → words (x ++ 32 ∷ rest) ≡ x ∷ words rest
+pub words-piece : (x rest : List ℕ) → 0 < length x → list_any is_blank x ≡ false → words (x ++ 32 ∷ rest) ≡ x ∷ words rest
 words-piece x rest some none = ap (filter is_some_word) (slice_split-piece is_blank x 32 rest none refl) ∙ filter-some_word x (slice_split is_blank rest) some
 
 -- the last word

@@ -8,6 +8,7 @@ pub mod KindNames
 pub mod Limits
 pub mod NextLine
 pub mod NumberReading
+pub mod OrderNumbers
 pub mod PathNames
 pub mod Places
 pub mod Readiness

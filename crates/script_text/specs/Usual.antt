@@ -1,14 +1,17 @@
--- Access lines in their usual form: `access DEC DEC DEC` with one space between and a newline after, and nothing else.
+-- Lines in their usual form: `access DEC DEC DEC` with one space between and a newline after, and nothing else; and the
+-- numbers of an order.
 use Rattle.std.specs.Prelude.{◌≡◌, ℕ, ◌^◌, ◌<◌, nat_lt, List, [], ◌∷◌, ◌++◌, length, codes, Option, Some, None, Result, Ok, Err, if◌then◌else◌}
 use Rattle.std.specs.Borrow.{Bor}
 use Rattle.std.specs.Str.Lines.{lines}
 use Rattle.std.specs.Str.Parse.{digits_value, AllDigits}
+use Rattle.num_text.specs.Numbers.{dec_of, below}
 use Rattle.machine.specs.declared.parameters.Parameters.{Parameters}
 use Rattle.script_text.specs.declared.fault.LineFault.{LineFault}
 use Rattle.script_text.specs.declared.fault.LineFault.TheVariants.{BadArgument, UnknownTask}
 use Rattle.script_text.specs.declared.fault.LineError.{LineError}
 use Rattle.script_text.specs.declared.arguments.Use.{Use}
 use Rattle.script_ops.specs.declared.op.Op.TheVariants as ops
+use Rattle.script_text.specs.Lines.{words}
 use Rattle.script_text.specs.Meaning.{◌>>=◌, or_fault, with_op, line_meaning, Fails}
 use Rattle.script_text.specs.States.{ReaderState}
 use Rattle.script_text.specs.Tasks.{task_of}
@@ -31,6 +34,26 @@ pub record BeginsWithAccess (text : List ℕ) (task cpu addr : ℕ) (rest : List
   pub task_number : BeginsWithNumber after_kind 32 task after_task
   pub cpu_number : BeginsWithNumber after_task 32 cpu after_cpu
   pub addr_number : BeginsWithNumber after_cpu 10 addr rest
+
+-- A text's first word spells this number of an order, and after it come the words of this text.
+pub record BeginsWithOrderNumber (text : List ℕ) (n : ℕ) (rest : List ℕ) : Type 0 where
+  pub word : List ℕ
+  pub first : words text ≡ word ∷ words rest
+  pub number : below (2 ^ 32) (dec_of word) ≡ Some n
+  pub shorter : length rest < length text
+
+-- A text's first word spells no number of an order.
+pub record BeginsWithNoOrderNumber (text : List ℕ) : Type 0 where
+  pub word : List ℕ
+  pub more : List (List ℕ)
+  pub first : words text ≡ word ∷ more
+  pub number : below (2 ^ 32) (dec_of word) ≡ None
+
+-- A function read the number that a text's first word is; none where no word is left, and a fault where it is no number.
+abbrev pub TakesOrderNumber : Result (Option (ℕ × Bor (List ℕ))) LineFault → List ℕ → Type 0
+TakesOrderNumber (Ok None) text = words text ≡ []
+TakesOrderNumber (Ok (Some p)) text = BeginsWithOrderNumber text p.0 p.1.now
+TakesOrderNumber (Err f) text = (f ≡ BadArgument) × BeginsWithNoOrderNumber text
 
 -- the use of an access line of these numbers
 abbrev pub use_by : Parameters → ℕ → ℕ → ℕ → Option Use

@@ -1,12 +1,11 @@
 //! The arguments of a line.
-ghost use Rattle.std.specs.Prelude.{◌≡◌, ◌<◌, ◌+◌, ◌*◌, ◌-◌, ◌^◌, IfSome, MatchOption, None, Some, []};
+ghost use Rattle.std.specs.Prelude.{◌≡◌, ◌<◌, ◌+◌, ◌*◌, ◌-◌, ◌^◌, IfSome, MatchOption, None, Some};
 ghost use Rattle.num_text.specs.Numbers.{dec_of, below};
 ghost use Rattle.machine.specs.Maps.{parameters_of};
 ghost use Rattle.script_text.specs.Lines.{words};
-ghost use Rattle.script_text.specs.Arguments.{access_of, flush_of, sweep_of, touch_of, order_of, order_from, use_of, cpu_of, addr_of, Orders};
+ghost use Rattle.script_text.specs.Arguments.{access_of, flush_of, sweep_of, touch_of, use_of, cpu_of, addr_of};
 
-use crate::fault::{LineError, LineFault};
-use crate::words::{five_words, four_words, next_word, no_word, one_word, three_words};
+use crate::words::{five_words, four_words, no_word, one_word, three_words};
 use machine::Machine;
 use num_text::{read_dec, read_dec_capped, read_num};
 
@@ -113,39 +112,4 @@ pub fn touch_args<'a>(m: &Machine, text: &'a [u8]) -> Option<(&'a [u8], Use)>
     let words = four_words(text)?;
     let used = one_use(m, words.2, words.3, read_num(words.1))?;
     Some((words.0, used))
-}
-
-// A number of an order.
-fn order_number(word: &[u8]) -> Option<u32>
-    ensures { result ≡ below (2 ^ 32) (dec_of word.now) }
-{
-    match read_dec(word) {
-        Some(n) if n < 1 << 32 => Some(n as u32),
-        _ => None,
-    }
-}
-
-/// One number or more, in a list that was empty.
-#[tactic(auto, unfolding(crate::specs::Arguments::order_from))]
-pub fn read_order(order: &mut Vec<u32>, text: &[u8]) -> Result<(), LineError>
-    requires { order.old.items ≡ [] }
-    ensures { Orders result order.new.items (order_of (words text.now)) }
-{
-    if no_word(text) {
-        return Err(LineError::Fault(LineFault::BadArgument));
-    }
-    let mut left = text;
-    'words: loop {
-        let Some((word, rest)) = next_word(left) else {
-            return Ok(());
-        };
-        let Some(number) = order_number(word) else {
-            return Err(LineError::Fault(LineFault::BadArgument));
-        };
-        match order.push(number) {
-            Ok(()) => {}
-            Err(_) => return Err(LineError::NoMemory),
-        }
-        left = rest;
-    }
 }

@@ -11,6 +11,7 @@ mod kind;
 pub mod laws;
 mod lines;
 mod machine_line;
+mod orders;
 mod paths;
 mod reader;
 mod reading;

@@ -4,10 +4,10 @@ ghost use Rattle.script_text.specs.States.{state_of, IsSound};
 ghost use Rattle.script_text.specs.Meaning.{means, Means};
 ghost use Rattle.script_text.specs.declared.kind.Kind.TheVariants as kinds;
 
-use crate::arguments::read_order;
 use crate::fault::{LineError, LineFault};
 use crate::kind::Place;
 use crate::machine_line::machine_args;
+use crate::orders::read_order;
 use crate::reader::Reader;
 use crate::tasks::{declare, is_too_many};
 use crate::words::no_word;

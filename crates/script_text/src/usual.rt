@@ -14,8 +14,8 @@ fn with_digit(n: u64, digit: u32) -> Option<u64>
     n.checked_mul(10)?.checked_add(u64::from(digit))
 }
 
-// The number that a text begins with, and what stands after the byte that ends it.
-fn number_before(text: &[u8], end: u8) -> Option<(u64, &[u8])>
+/// The number that a text begins with, and what stands after the byte that ends it. None says nothing of the text.
+pub fn number_before(text: &[u8], end: u8) -> Option<(u64, &[u8])>
     ensures { IfSome result (λ p. BeginsWithNumber text.now end p.0 p.1.now) }
 {
     let mut n: u64 = 0;

@@ -15,8 +15,8 @@ fn word_len(text: &[u8]) -> usize
     text.iter().take_while(|b| !is_blank(**b)).count()
 }
 
-// The text from its first word on.
-fn from_word(text: &[u8]) -> &[u8]
+/// The text from its first word on.
+pub fn from_word(text: &[u8]) -> &[u8]
     ensures { result.now ≡ from_word text.now }
 {
     &text[leading_blanks(text)..]
@@ -95,11 +95,22 @@ pub fn five_words(text: &[u8]) -> Option<(&[u8], &[u8], &[u8], &[u8], &[u8])>
     }
 }
 
-/// Whether a byte may not stand in a line.
+// Whether no line may have a byte.
+fn is_bad(byte: u8) -> bool
+    ensures { result ≡ is_bad byte }
+{
+    byte < b' ' && byte != b'\t' || byte > b'~'
+}
+
+/// Whether a text has a byte that no line may have. Each byte is read, so that many are tried at once.
 pub fn has_bad_byte(text: &[u8]) -> bool
     ensures { result ≡ list_any is_bad text.now }
 {
-    text.iter().any(|b| *b < 0x20 && *b != b'\t' || *b > 0x7e)
+    let mut bad = false;
+    for byte in text {
+        bad |= is_bad(*byte);
+    }
+    bad
 }
 
 /// Whether a line is a comment.

@@ -17,6 +17,7 @@ pub mod KeptSteps
 pub mod KeptWorlds
 pub mod LightRooms
 pub mod ListCounts
+pub mod ListedSteps
 pub mod LookSteps
 pub mod LookedCounts
 pub mod LookedWorlds

@@ -1,6 +1,7 @@
 pub mod Answers
 pub mod Caches
 pub mod Law
+pub mod Listed
 pub mod LookLists
 pub mod Looked
 pub mod Machine

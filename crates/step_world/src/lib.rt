@@ -5,6 +5,7 @@ pub mod action;
 mod closing;
 mod commands;
 mod fresh;
+mod listed;
 pub mod look_lists;
 mod opening;
 mod passing;

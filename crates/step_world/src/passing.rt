@@ -1,7 +1,5 @@
 //! Accesses that read their tag and go to their slice in one go, while nobody holds the tree.
-ghost use Rattle.std.specs.Prelude.{◌≡◌, ◌<◌, ℕ, IfSome, Some, length, slice_get};
-ghost use Rattle.machine.specs.Maps.{parameters_of};
-ghost use Rattle.machine.specs.Slices.{slice_count, slice_of_line};
+ghost use Rattle.std.specs.Prelude.{◌≡◌, ℕ, IfSome, Some, slice_get};
 ghost use Rattle.script_ops.specs.Values.{ops_of};
 ghost use Rattle.script_ops.specs.declared.op.Op.TheVariants.{Access};
 ghost use Rattle.step_world.specs.Passing.{CanPass, HasPassed, IsBefore};
@@ -9,24 +7,10 @@ ghost use Rattle.step_world.specs.Turns.{TakesTurn};
 ghost use Rattle.step_world.specs.Worlds.{IsWorldOf, machine_of};
 
 use crate::place::Place;
-use crate::steps::move_to;
+use crate::steps::{line_slice, move_to};
 use crate::world::World;
-use machine::Machine;
 use rc_base::Tag;
 use script_ops::{Op, Script};
-
-// The number of the slice of a line in a domain. Where a cache has one slice, it takes no division.
-fn line_slice(m: &Machine, domain: u8, line: u64) -> usize
-    requires { domain < m.now.domains }
-    ensures number { result ≡ slice_of_line (parameters_of m.now) domain line }
-    ensures within { result < slice_count (parameters_of m.now) }
-{
-    if m.slices == 1 {
-        m.slice_number(domain, 0)
-    } else {
-        m.line_slice(domain, line)
-    }
-}
 
 // An access reads its tag, which is this one, and goes to its slice with it: two steps, and the tag is never stale.
 fn pass(world: &mut World, script: &Script, t: u32, n: u32, tag: &Tag, addr: u64)

@@ -8,6 +8,7 @@ ghost use Rattle.step_world.specs.Play.{EndInTurn, PlaysPhaseBy, StepsOf, thread
 ghost use Rattle.step_world.specs.Turns.{EndsThread, HasLetGo, TakesTurn};
 ghost use Rattle.step_world.specs.Worlds.{IsWorldOf, machine_of};
 
+use crate::listed::{PhaseThreads, step_listed};
 use crate::passing::pass_all;
 use crate::place::Place;
 use crate::world::World;
@@ -15,13 +16,16 @@ use script_ops::{Op, Script};
 
 // These threads take a step each.
 fn step_in_order(world: &mut World, script: &Script, order: &[u32])
-    requires { IsWorldOf script.now world.old }
+    requires world { IsWorldOf script.now world.old }
+    requires phase { world.old.phase < length script.now.phases }
     ensures world { IsWorldOf script.now world.new }
     ensures steps { StepsOf script.now order.now (machine_of world.old) (machine_of world.new) }
     ensures phase { world.new.phase ≡ world.old.phase }
 {
+    let present = PhaseThreads::of(script, world.phase);
+    let mut known = None;
     for t in order {
-        world.step(script, *t);
+        step_listed(world, script, &present, *t, &mut known);
     }
 }
 

@@ -112,8 +112,8 @@ impl World {
         }
     }
 
-    // Does the next step of a thread that has a next op.
-    fn act(&mut self, script: &Script, t: u32, op: &Op) -> Stepped
+    /// Does the next step of a thread that has a next op.
+    pub(crate) fn act(&mut self, script: &Script, t: u32, op: &Op) -> Stepped
         requires world { IsWorldOf script.now self.old }
         requires next { HasNext script.now (machine_of self.old) t op.now }
         ensures world { IsWorldOf script.now self.new }

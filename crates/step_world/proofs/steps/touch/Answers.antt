@@ -94,7 +94,7 @@ returns-in-Stale c =
     let its = stale-touch c.args.script.now c.args.t c.args.task c.args.cpu c.args.addr c.args.tag w r.world r.next r.place _ c.args.n i line c.in-Stale.floor s c.access-touched.result r.number number there
     (record { tree = refl; commands = refl; lists = refl; phase = refl; threads = c.move_to.ensures; closing = refl }) refl refl refl c.in-Stale.is
     (subst (λ x. TouchesLine c.args.t c.args.n c.args.tag line x s c.access-touched.result) was c.access-touched.ensures) in
-    record { world = its.0; touched = its.1 }
+    record { world = its.0; touched = its.1; tree = refl }
 
 pub returns-in_default : goal.returns-in_default
 returns-in_default c =
@@ -111,4 +111,4 @@ returns-in_default c =
     let its = touched c.args.script.now c.args.t c.args.task c.args.cpu c.args.addr c.args.tag w r.world r.next r.place _ c.args.n i line s c.access-touched.result r.number refl number there
     (record { tree = refl; commands = refl; lists = refl; phase = refl; threads = c.move_to-in_default.ensures; closing = refl }) refl refl refl c.in_default.not-Stale
     (subst (λ x. TouchesLine c.args.t c.args.n c.args.tag line x s c.access-touched.result) was c.access-touched.ensures) in
-    record { world = its.0; touched = its.1 }
+    record { world = its.0; touched = its.1; tree = refl }

@@ -1,0 +1,17 @@
+-- What is found out once for all steps of an order list.
+use Rattle.std.specs.Prelude.{◌≡◌, ℕ, ◌+◌, ◌≤◌, IfSome, Option, length}
+use Rattle.script_ops.specs.Values.{ScriptValue, first_thread, phase_at, threads_of}
+use Rattle.step_world.specs.Passing.{IsResolved}
+use Rattle.step_world.specs.declared.listed.Known.{Known}
+use Rattle.step_world.specs.declared.listed.PhaseThreads.{PhaseThreads}
+use Rattle.step_world.specs.declared.world.World.{World}
+
+-- these are the threads of a phase
+pub record AreOf (script : ScriptValue) (phase : ℕ) (threads : PhaseThreads) : Type 0 where
+  pub first : threads.first ≡ first_thread script phase
+  pub count : threads.count ≡ length (phase_at script phase).threads
+  pub within : threads.first + threads.count ≤ length (threads_of script)
+
+-- what is known of the tree of a world is what it answers
+abbrev pub Knows : Option Known → World → Type 0
+Knows known w = IfSome known (λ k. IsResolved w k.task k.cpu k.tag)

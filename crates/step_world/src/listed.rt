@@ -1,0 +1,151 @@
+//! The steps of an order list.
+ghost use Rattle.std.specs.Prelude.{◌≡◌, ◌+◌, ◌<◌, ◌≤◌, ◌↔◌, None, IsTrue, length};
+ghost use Rattle.run_law.specs.Ops.{phase_in};
+ghost use Rattle.script_ops.specs.Fits.{Fits};
+ghost use Rattle.script_ops.specs.declared.op.Op.TheVariants as ops;
+ghost use Rattle.step_world.specs.Answers.{HasNext};
+ghost use Rattle.step_world.specs.Listed.{AreOf, Knows};
+ghost use Rattle.step_world.specs.Machine.{Steps, thread_at};
+ghost use Rattle.step_world.specs.Passing.{IsResolved};
+ghost use Rattle.step_world.specs.Worlds.{IsWorldOf, machine_of};
+ghost use Rattle.step_world.specs.declared.place.Place.TheVariants.{Ready};
+ghost use Rattle.tree_law.specs.State.{tasks_of};
+
+use crate::place::Place;
+use crate::steps::{move_to, touch};
+use crate::world::World;
+use rc_base::Tag;
+use script_ops::{Op, Script};
+
+/// The threads of a phase: the first of them, and how many there are.
+#[derive(Clone, Copy)]
+pub(crate) struct PhaseThreads {
+    first: u32,
+    count: u32,
+}
+
+impl PhaseThreads {
+    /// Those of this phase.
+    pub(crate) fn of(script: &Script, phase: u32) -> PhaseThreads
+        requires { phase < length script.now.phases }
+        ensures { AreOf script.now phase result }
+    {
+        PhaseThreads {
+            first: script.first_thread(phase),
+            count: script.thread_count(phase),
+        }
+    }
+
+    // Whether a thread is one of them.
+    fn has(&self, t: u32) -> bool
+        ensures { IsTrue result ↔ ((self.now.first ≤ t) × (t < self.now.first + self.now.count)) }
+    {
+        self.first <= t && t - self.first < self.count
+    }
+}
+
+/// The tag that the tree gives the accesses of a task on a CPU.
+#[derive(Clone, Copy)]
+pub(crate) struct Known {
+    task: u32,
+    cpu: u8,
+    tag: Tag,
+}
+
+// The tag of a task on a CPU. It is asked of the tree where it is not the one that is known, and is known then.
+fn know(world: &World, known: &mut Option<Known>, task: u32, cpu: u8) -> Tag
+    requires fits { Fits world.now.tree.machine (tasks_of world.now.tree.state) (ops.Access task cpu 0) }
+    requires known { Knows known.old world.now }
+    ensures tag { IsResolved world.now task cpu result }
+    ensures known { Knows known.new world.now }
+{
+    match *known {
+        Some(
+            Known {
+                task: of,
+                cpu: on,
+                tag,
+            },
+        ) if of == task && on == cpu => tag,
+        _ => {
+            let tag = world.tree.resolve(task, cpu);
+            *known = Some(Known { task, cpu, tag });
+            tag
+        }
+    }
+}
+
+// An access reads its tag, by what is known of the tree.
+fn read_known(
+    world: &mut World,
+    script: &Script,
+    t: u32,
+    n: u32,
+    task: u32,
+    cpu: u8,
+    addr: u64,
+    known: &mut Option<Known>,
+)
+    requires world { IsWorldOf script.now world.old }
+    requires next { HasNext script.now (machine_of world.old) t (ops.Access task cpu addr) }
+    requires number { n ≡ (thread_at (machine_of world.old) t).next }
+    requires place { (thread_at (machine_of world.old) t).place ≡ Ready }
+    requires free { world.old.holder ≡ None }
+    requires known { Knows known.old world.old }
+    ensures world { IsWorldOf script.now world.new }
+    ensures steps { Steps script.now t (machine_of world.old) (machine_of world.new) }
+    ensures known { Knows known.new world.new }
+{
+    let tag = know(world, known, task, cpu);
+    move_to(&mut world.threads, t, n, Place::Tagged { tag });
+}
+
+// A thread of the present phase takes a step. An access leaves the tree as it is, so that what is known of it stays true.
+fn step_present(world: &mut World, script: &Script, t: u32, known: &mut Option<Known>)
+    requires world { IsWorldOf script.now world.old }
+    requires present { phase_in script.now.phases t ≡ world.old.phase }
+    requires thread { t < length world.old.threads.items }
+    requires known { Knows known.old world.old }
+    ensures world { IsWorldOf script.now world.new }
+    ensures steps { Steps script.now t (machine_of world.old) (machine_of world.new) }
+    ensures known { Knows known.new world.new }
+{
+    let thread = world.threads[t as usize];
+    let n = thread.next;
+    let Some(op) = script.op(t, n) else {
+        return;
+    };
+    match (op, thread.place) {
+        (Op::Access { task, cpu, addr }, Place::Ready) if world.holder.is_none() => {
+            read_known(world, script, t, n, *task, *cpu, *addr, known);
+        }
+        (Op::Access { task, cpu, addr }, Place::Tagged { tag }) => {
+            touch(world, script, t, n, tag, *task, *cpu, *addr);
+        }
+        _ => {
+            world.act(script, t, op);
+            *known = None;
+        }
+    }
+}
+
+/// The thread of this number takes a step, where it is one of those of the present phase.
+pub(crate) fn step_listed(
+    world: &mut World,
+    script: &Script,
+    present: &PhaseThreads,
+    t: u32,
+    known: &mut Option<Known>,
+)
+    requires world { IsWorldOf script.now world.old }
+    requires phase { world.old.phase < length script.now.phases }
+    requires present { AreOf script.now world.old.phase present.now }
+    requires known { Knows known.old world.old }
+    ensures world { IsWorldOf script.now world.new }
+    ensures steps { Steps script.now t (machine_of world.old) (machine_of world.new) }
+    ensures known { Knows known.new world.new }
+{
+    if present.has(t) {
+        step_present(world, script, t, known);
+    }
+}
