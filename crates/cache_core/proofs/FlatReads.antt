@@ -55,6 +55,16 @@ HoldsLine-from_Holds row ways valid here lines line way is reads h = elim (cases
   | inr more ↦ absurd (beyond row way line (let count : length row ≡ ways = is.count in omega arith) h)
 ]
 
+-- a way of the flat vectors that holds a line has it
+pub line-from_Holds : (f : Flat) (set line way : ℕ) → set < length f.valid → Holds (resident_in (set_in (flat_sets f) set)) line way → slice_index f.lines (set * f.ways + way) ≡ line
+line-from_Holds f set line way within h =
+    let row : List (Option Place) = set_in (flat_sets f) set in
+    let is : IsRow row f.ways (slice_index f.valid set) (here_in f set) = IsRow-flat_sets f set within in
+    elim (cases_lt way f.ways) [
+      | inl less ↦ (some-line (has_way (slice_index f.valid set) way) (here_in f set way) line (ap (λ o. option_map (λ (r : Resident). r.line) (res o)) (sym (is.reads way less)) ∙ h)).1
+      | inr more ↦ absurd (beyond row way line (let count : length row ≡ f.ways = is.count in omega arith) h)
+    ]
+
 -- and the other way round
 pub Holds-from_HoldsLine : (row : List (Option Place)) (ways valid : ℕ) (here : ℕ → Place) (lines : List ℕ) (line way : ℕ) → IsRow row ways valid here → ((w : ℕ) → w < ways → slice_index lines w ≡ (here w).line)
     → way < ways → HoldsLine lines valid line way → Holds (resident_in row) line way

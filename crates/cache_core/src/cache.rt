@@ -155,6 +155,7 @@ impl Cache {
 
     /// Looks for the line in its set, and fills it into a way of the tag's mask where no way holds it. A tag that is older
     /// than the floor is stale, and then nothing changes.
+    #[inline(always)]
     pub fn access(&mut self, tag: &Tag, line: u64) -> Touched
         requires own { IsOwn self.old.shape (line % self.old.shape.sets) }
         requires mask { 0 < tag.now.mask % 2 ^ self.old.shape.ways }
@@ -189,11 +190,11 @@ fn own_sets(m: &Machine, shift: u32) -> u32
     ((m.sets - 1) >> shift) + 1
 }
 
-// The number of a line's set among those of its slice. Sets and slices are powers of two, so that nothing is divided.
+// The number of a line's set among those of its slice, of which there are as many as a power of two.
 fn own_set(m: &Machine, shift: u32, line: u64) -> u32
     requires shift { shift < 32 }
     requires slices { m.now.slices ≡ 2 ^ shift }
     ensures { result ≡ line % m.now.sets / m.now.slices }
 {
-    ((line & u64::from(m.sets - 1)) >> shift) as u32
+    m.set_of(line) >> shift
 }

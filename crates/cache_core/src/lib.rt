@@ -3,6 +3,7 @@
 
 pub mod cache;
 pub mod entry;
+mod line_table;
 mod loading;
 pub mod place;
 mod sets;

@@ -4,6 +4,7 @@ ghost use Rattle.cbm.specs.Masks.{has_way};
 ghost use Rattle.cache_core.specs.Fills.{Holds, IsVictim};
 ghost use Rattle.cache_core.specs.Places.{resident_in, stamp_in, place_in, set_in};
 
+use crate::line_table::LineTable;
 use crate::place::Place;
 use rc_base::NoMemory;
 use std::alloc::Global;
@@ -17,7 +18,7 @@ use std::marker::Model;
 pub struct Sets {
     ways: u8,
     valid: Vec<u32>,
-    lines: Vec<u64>,
+    lines: LineTable,
     used: Vec<u64>,
     rmids: Vec<u16>,
     filled: Vec<u32>,
@@ -30,9 +31,9 @@ impl Model for Sets {
 
     ghost Value = { List (List (Option Place)) };
 
-    ghost view = { λ s. flat_sets (record { ways = s.ways; valid = s.valid.items; lines = s.lines.items; used = s.used.items; rmids = s.rmids.items }) };
+    ghost view = { λ s. flat_sets (record { ways = s.ways; valid = s.valid.items; lines = s.lines; used = s.used.items; rmids = s.rmids.items }) };
 
-    ghost invariant = { λ s. IsFlat (record { ways = s.ways; valid = s.valid.items; lines = s.lines.items; used = s.used.items; rmids = s.rmids.items }) s.filled.items (vec_capacity s.filled) };
+    ghost invariant = { λ s. IsFlat (record { ways = s.ways; valid = s.valid.items; lines = s.lines; used = s.used.items; rmids = s.rmids.items }) s.filled.items (vec_capacity s.filled) };
 }
 
 impl Sets {
@@ -45,7 +46,7 @@ impl Sets {
     {
         let places = count as usize * ways as usize;
         let valid = vec![in alloc; 0; count as usize]?;
-        let lines = vec![in alloc; 0; places]?;
+        let lines = LineTable::create(alloc, places)?;
         let used = vec![in alloc; 0; places]?;
         let rmids = vec![in alloc; 0; places]?;
         let filled = Vec::with_capacity(alloc, count as usize)?;
@@ -64,7 +65,10 @@ impl Sets {
         requires { set < length self.now }
         ensures { MatchOption result ((way : ℕ) → Holds (resident_in (set_in self.now set)) line way → ⊥) (λ way. (way < length (set_in self.now set)) × Holds (resident_in (set_in self.now set)) line way) }
     {
-        let lines = part(&self.lines, set, self.ways);
+        if !self.lines.may_have(line) {
+            return None;
+        }
+        let lines = part(self.lines.lines(), set, self.ways);
         way_fill::find(lines, self.valid[set as usize], line)
     }
 
@@ -99,7 +103,7 @@ impl Sets {
         list_set(&mut self.filled, valid, set);
         let left = rmid_at(valid, way, self.rmids[at]);
         self.valid[set as usize] = with_way(valid, way);
-        self.lines[at] = place.line;
+        self.lines.put(at, place.line);
         self.used[at] = place.used;
         self.rmids[at] = place.rmid;
         left

@@ -12,6 +12,7 @@ use crate::touched::Touched;
 use occupancy::Counts;
 
 /// Looks for the line of a place in its set, and fills the place into a way of the mask where no way holds the line.
+#[inline(always)]
 pub fn touch(sets: &mut Sets, counts: &mut Counts, set: u32, mask: u32, place: Place) -> Touched
     requires set { set < length sets.old }
     requires mask { 0 < mask % 2 ^ length (set_in sets.old set) }

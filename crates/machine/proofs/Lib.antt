@@ -1,3 +1,3 @@
-pub mod Masks
-pub mod Slices
+mod Masks
+mod Powers
 pub mod laws

@@ -3,3 +3,4 @@ pub mod Domains
 pub mod EveryWay
 pub mod Ranges
 pub mod Slices
+pub mod WholeSets

@@ -104,21 +104,21 @@ impl Machine {
         (u16::from(cpu) * u16::from(self.domains) / u16::from(self.cpus)) as u8
     }
 
-    /// The set that a line belongs to.
+    /// The set that a line belongs to. Sets are a power of two, so that nothing is divided.
     pub fn set_of(&self, line: u64) -> u32
         ensures set { result ≡ set_of (parameters_of self.now) line }
         ensures below { result < self.now.sets }
     {
-        (line % u64::from(self.sets)) as u32
+        (line & u64::from(self.sets - 1)) as u32
     }
 
-    /// The slice that a line belongs to, which is that of its set.
+    /// The slice that a line belongs to, which is that of its set. Slices are a power of two too.
     pub fn slice_of(&self, line: u64) -> u8
         ensures slice { result ≡ slice_of (parameters_of self.now) (set_of (parameters_of self.now) line) }
         ensures line { result ≡ line % self.now.slices }
         ensures below { result < self.now.slices }
     {
-        (self.set_of(line) % u32::from(self.slices)) as u8
+        (line & u64::from(self.slices - 1)) as u8
     }
 
     /// The part of one cache that a mask allows, in bytes (kernel documentation, the file `size`).

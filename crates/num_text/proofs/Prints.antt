@@ -1,17 +1,8 @@
 -- What the code asks of a number that is printed: its front is smaller, and there is room for it.
-use Rattle.std.proofs.Common.{◌≡◌, ℕ, ◌-◌, ◌/◌, ◌^◌, ◌<◌, ◌≤◌, false, ◌++◌, length, replicate, ap, arith}
+use Rattle.std.proofs.Common.{ℕ, ◌/◌, ◌^◌, ◌<◌, ◌≤◌, length, arith}
 use Rattle.std.proofs.Math.Nat.{div-lt_self}
-use Rattle.std.specs.Fmt.{digits}
 use Rattle.num_text.specs.Printed.{filled}
-use Rattle.num_text.proofs.laws.Prints.{length-filled, length-hexadecimal}
-
--- with no width there are no zeros on the left
-pub filled-no_width : (base n : ℕ) → filled base 0 n ≡ digits base false n
-unfolding filled
-filled-no_width base n = ap (λ (k : ℕ). replicate {A = ℕ} k 48 ++ digits base false n) (none (length (digits base false n)))
-  where
-    none : (k : ℕ) → 0 - k ≡ 0
-    none k = omega arith
+use Rattle.num_text.proofs.laws.Prints.{filled-no_width, length-filled, length-hexadecimal}
 
 -- a digit fewer is a smaller number
 pub div-lt_number : (base n : ℕ) → 2 ≤ base → base ≤ n → n / base < n

@@ -2,6 +2,7 @@ pub mod Domains
 pub mod FirstComponent
 pub mod FixedEntries
 pub mod NameIndex
+pub mod NameKeys
 pub mod NameTable
 pub mod NamedPaths
 pub mod PathCounts

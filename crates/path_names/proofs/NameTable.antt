@@ -1,12 +1,13 @@
 -- Names of which each is kept once: what one more does, and the place of each.
-use Rattle.std.proofs.Common.{◌≡◌, ℕ, suc, ◌+◌, ◌<◌, Bool, true, false, cond, not, ◌||◌, List, [], ◌∷◌, ◌++◌, length, get_or, Option, Some, None, refl, sym, ap, ◌∙◌, subst, arith, position, ltb, ◌≤◌, length-append}
+use Rattle.std.proofs.Common.{◌≡◌, ℕ, suc, ◌+◌, ◌<◌, Bool, true, false, cond, not, ◌||◌, List, [], ◌∷◌, ◌++◌, length, get_or, Option, Some, None, unwrap_or, refl, sym, ap, ◌∙◌, subst, arith, position, ltb, ◌≤◌, length-append, length-take, get_or-take, take, add-one}
 use Rattle.std.specs.List.{list_any, position_or_len, slice_get, IsDistinct}
 use Rattle.std.specs.Str.{bytes_eq}
 use Rattle.std.specs.Cmp.{IsEquivalence}
 use Rattle.std.proofs.lemmas.Slice.Eq.{bytes_eq-Decides}
 use Rattle.std.proofs.lemmas.Bool.Decides.{same_from_decides}
 use Rattle.std.proofs.lemmas.Option.{slice_get_within, get_or_from_slice_get, same_Some, none-some}
-use Rattle.std.proofs.lemmas.List.Folds.{position_or_len_push}
+use Rattle.std.proofs.Math.Seq.{take-suc}
+use Rattle.std.proofs.lemmas.List.Folds.{position_or_len_push, list_any_none}
 use Rattle.std.proofs.lemmas.List.Sums.{position_or_len_is, prefix_len-le-length}
 use Rattle.std.proofs.lemmas.Grind.{common_steps}
 use Rattle.std.proofs.lemmas.Map.Keys.{apart_from_distinct, IsDistinct-push}
@@ -131,6 +132,27 @@ AreNumbered-push names number after name h none more =
       places = λ other. more other ∙ ap (λ (i : Option ℕ). cond (bytes_eq name other) (Some (length names)) i) (h.places other) ∙ sym (position-push name other names new);
     }
 
+-- a name is not among those before it, where each is kept once
+list_any-before : (names : List (List ℕ)) (i : ℕ) (name : List ℕ) → IsDistinct bytes_eq names → slice_get names i ≡ Some name → list_any (bytes_eq name) (take i names) ≡ false
+list_any-before names i name apart at =
+    let within : i < length names = slice_get_within names i name at in
+    list_any_none (bytes_eq name) (take i names) (λ k d below.
+    let before : k < i = omega (arith, below, length-take i names) in
+    let other : bytes_eq (get_or names k d) (get_or names i d) ≡ false = apart_from_distinct bytes_eq names k i d apart before within in
+    rw (get_or-take i names k d before) (IsEquivalence-bytes_eq.symm name (get_or names k d)
+    ∙ subst (λ n. bytes_eq (get_or names k d) n ≡ false) (get_or_from_slice_get names i name d at) other))
+
+-- one name of a list more, of which each is kept once
+pub AreNumbered-take : (names : List (List ℕ)) (i : ℕ) (number after : List ℕ → Option ℕ) (name : List ℕ) → IsDistinct bytes_eq names → slice_get names i ≡ Some name → AreNumbered (take i names) number
+    → ((other : List ℕ) → after other ≡ cond (bytes_eq name other) (Some i) (number other)) → AreNumbered (take (i + 1) names) after
+AreNumbered-take names i number after name apart at h more =
+    let within : i < length names = slice_get_within names i name at in
+    let count : length (take i names) ≡ i = omega (arith, length-take i names) in
+    let grown : take (i + 1) names ≡ take i names ++ name ∷ [] = rw add-one (take-suc names i [] within) ∙ ap (λ (n : List ℕ). take i names ++ n ∷ []) (get_or_from_slice_get names i name [] at) in
+    let none : None ≡ number name = sym (cases (take i names) number h name false (list_any-before names i name apart at)) in
+    rw grown (AreNumbered-push (take i names) number after name h none
+    (λ other. more other ∙ ap (λ (place : ℕ). cond (bytes_eq name other) (Some place) (number other)) (sym count)))
+
 -- What a search for a name and its keeping lead to: its number, and the names that are known then.
 pub record Numbered (names : List (List ℕ)) (name : List ℕ) (i : ℕ) (after : List (List ℕ)) : Type 0 where
   pub place : i ≡ number_of name names
@@ -155,3 +177,24 @@ pub Numbered-new : (names : List (List ℕ)) (number : List ℕ → Option ℕ) 
 Numbered-new names number h name none =
     let new : list_any (bytes_eq name) names ≡ false = list_any-unnumbered names number h name none in
     Numbered-from names name (length names) (names ++ name ∷ []) (sym (number_of-unknown name names new)) (rw new refl)
+
+-- a name that was known has its own number still
+pub AreNumbered-known : (names : List (List ℕ)) (number after : List ℕ → Option ℕ) (name : List ℕ) (n : ℕ) → AreNumbered names number → Some n ≡ number name
+    → ((other : List ℕ) → after other ≡ cond (bytes_eq name other) (Some n) (number other)) → AreNumbered names after
+AreNumbered-known names number after name n h own more = record { apart = h.apart; places = λ other. more other ∙ at other (bytes_eq name other) refl ∙ h.places other }
+  where
+    at : (other : List ℕ) (b : Bool) → bytes_eq name other ≡ b → cond b (Some n) (number other) ≡ number other
+    at other true same = own ∙ ap number ((bytes_eq-Decides name other).0 same)
+    at other false differ = refl
+
+-- the number of a name that has one, and else the next: it is the next one just where the name is new
+pub number-or_next : (names : List (List ℕ)) (number : List ℕ → Option ℕ) → AreNumbered names number → (name : List ℕ) (n next : ℕ) → next ≡ length names → n ≡ unwrap_or (number name) next
+    → (n ≡ next → None ≡ number name) × ((n ≡ next → ⊥) → Some n ≡ number name)
+number-or_next names number h name n next last is = at (number name) refl
+  where
+    at : (o : Option ℕ) → number name ≡ o → (n ≡ next → None ≡ number name) × ((n ≡ next → ⊥) → Some n ≡ number name)
+    at None none = ((λ same. sym none), λ differ. absurd (differ (is ∙ ap (λ (o : Option ℕ). unwrap_or o next) none)))
+    at (Some i) some =
+        let own : n ≡ i = is ∙ ap (λ (o : Option ℕ). unwrap_or o next) some in
+        let below : i < length names = slice_get_within names i name (Numbered-known names number h name i (sym some)).named in
+        ((λ same. absurd (omega (arith, own, below, same, last))), λ differ. ap (λ (k : ℕ). Some k) own ∙ sym some)

@@ -2,6 +2,7 @@ pub mod Components
 pub mod Domains
 pub mod Interned
 pub mod NameIndex
+pub mod NameKeys
 pub mod NameList
 pub mod NameTexts
 pub mod NamesIn

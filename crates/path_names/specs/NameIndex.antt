@@ -1,17 +1,23 @@
 -- The numbers of names.
-use Rattle.std.specs.Prelude.{◌≡◌, ℕ, List, Option}
+use Rattle.std.specs.Prelude.{◌≡◌, ℕ, List, Option, IfSome, if◌then◌else◌}
 use Rattle.std.specs.BTreeMap.{get_by}
 use Rattle.std.specs.Cmp.Lexicographic.{slice_cmp}
 use Rattle.std.specs.List.{IsDistinct, position}
 use Rattle.std.specs.Ordering.{nat_cmp}
 use Rattle.std.specs.Str.{bytes_eq}
+use Rattle.path_names.specs.NameKeys.{has_key, key_of}
 use Rattle.path_names.specs.declared.name_index.NameIndex.{NameIndex}
 
--- the number of a name, where it has one
+-- the number of a name, where it has one: that of its key, and of its bytes where it has no key
 abbrev pub number_at : NameIndex → List ℕ → Option ℕ
-number_at index name = get_by (λ key. slice_cmp nat_cmp name key.items) index.numbers
+number_at index name = if has_key name then get_by (nat_cmp (key_of name)) index.short else get_by (λ key. slice_cmp nat_cmp name key.items) index.long
 
 -- Names of which each is kept once, and their numbers, which are their places.
 pub record AreNumbered (names : List (List ℕ)) (number : List ℕ → Option ℕ) : Type 0 where
   pub apart : IsDistinct bytes_eq names
   pub places : (name : List ℕ) → number name ≡ position (bytes_eq name) names
+
+-- Names of which each is kept once, and their numbers where there is an index.
+pub record IsIndexed (names : List (List ℕ)) (index : Option NameIndex) : Type 0 where
+  pub apart : IsDistinct bytes_eq names
+  pub numbered : IfSome index (λ index. AreNumbered names (number_at index))

@@ -7,6 +7,7 @@ pub mod entries;
 pub mod files;
 pub mod fixed;
 mod name_index;
+mod name_key;
 mod name_list;
 pub mod names;
 pub mod path_ref;

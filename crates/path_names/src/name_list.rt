@@ -6,11 +6,14 @@ ghost use Rattle.path_names.specs.NameTexts.{EndsRise, EndsRise-prop, start_of};
 use rc_base::NoMemory;
 use std::alloc::Global;
 
+/// How many bytes the names of a list have at most in all: where each ends is kept in 32 bits.
+pub(crate) const MOST_LIST_BYTES: usize = u32::MAX as usize;
+
 /// Names in the order in which they came: their bytes without gaps, and where each ends.
 #[derive(Drop)]
 pub(crate) struct NameList {
     bytes: Vec<u8>,
-    ends: Vec<usize>,
+    ends: Vec<u32>,
     ghost rising: { EndsRise 0 ends.items (length bytes.items) } by { EndsRise-prop 0 ends.items (length bytes.items) },
 }
 
@@ -34,11 +37,15 @@ impl NameList {
         self.ends.len()
     }
 
-    /// Makes room for this name. An error leaves the names as they were.
+    /// Makes room for this name. An error leaves the names as they were; it comes too where they would have more than
+    /// `MOST_LIST_BYTES` bytes in all.
     pub(crate) fn reserve(&mut self, name: &[u8]) -> Result<(), NoMemory>
         ensures room { OnOk result (HasRoom self.new name.now) }
         ensures same { names_of self.new ≡ names_of self.old }
     {
+        if self.bytes.len() + name.len() > MOST_LIST_BYTES {
+            return Err(NoMemory);
+        }
         self.bytes.reserve(name.len())?;
         self.ends.reserve(1)?;
         Ok(())
@@ -50,7 +57,7 @@ impl NameList {
         ensures { names_of self.new ≡ names_of self.old ++ name.now ∷ [] }
     {
         let _ = self.bytes.extend_from_slice(name);
-        let _ = self.ends.push(self.bytes.len());
+        let _ = self.ends.push(self.bytes.len() as u32);
     }
 
     // Where the name at this place begins.
@@ -59,7 +66,11 @@ impl NameList {
         requires { place < vec_len self.now.ends }
         ensures { result ≡ start_of 0 self.now.ends.items place }
     {
-        if place == 0 { 0 } else { self.ends[place - 1] }
+        if place == 0 {
+            0
+        } else {
+            self.ends[place - 1] as usize
+        }
     }
 
     // Where the name at this place begins and ends.
@@ -70,7 +81,7 @@ impl NameList {
         ensures rising { result.0 ≤ result.1 }
         ensures within { result.1 ≤ vec_len self.now.bytes }
     {
-        (self.start(place), self.ends[place])
+        (self.start(place), self.ends[place] as usize)
     }
 
     /// The name at this place.

@@ -2,6 +2,8 @@
 ghost use Rattle.std.specs.Prelude.{◌≡◌, ◌-◌, ◌^◌, ◌<◌, [], length, Some, IfOk, OnOk, OnErr};
 ghost use Rattle.std.specs.List.{slice_get};
 ghost use Rattle.path_names.specs.Interned.{id_of, interned, number_of};
+ghost use Rattle.path_names.specs.NameIndex.{number_at, AreNumbered};
+ghost use Rattle.path_names.specs.NameList.{names_of};
 
 use crate::name_index::NameIndex;
 use crate::name_list::NameList;
@@ -17,7 +19,8 @@ pub struct NameId(pub u32);
 #[derive(Drop)]
 pub struct Names {
     list: NameList,
-    index: NameIndex,
+    index: Option<NameIndex>,
+    alloc: Global,
 }
 
 impl Model for Names {
@@ -25,12 +28,12 @@ impl Model for Names {
 
     ghost Value = { List (List ℕ) };
 
-    ghost use Rattle.path_names.specs.NameIndex.{number_at, AreNumbered};
+    ghost use Rattle.path_names.specs.NameIndex.{IsIndexed};
     ghost use Rattle.path_names.specs.NameList.{names_of};
 
     ghost view = { λ n. names_of n.list };
 
-    ghost invariant = { λ n. AreNumbered (names_of n.list) (number_at n.index) };
+    ghost invariant = { λ n. IsIndexed (names_of n.list) n.index };
 }
 
 impl Names {
@@ -40,11 +43,13 @@ impl Names {
     {
         Ok(Names {
             list: NameList::create(alloc),
-            index: NameIndex::create(alloc),
+            index: None,
+            alloc,
         })
     }
 
-    /// The number of this name, which is kept if it is new. Numbers that were given stay those of their names.
+    /// The number of this name, which is kept if it is new. Numbers that were given stay those of their names. It is out of
+    /// memory too where the names would have more than `u32::MAX` bytes in all.
     pub fn intern(&mut self, name: &[u8]) -> Result<NameId, NoMemory>
         requires { length self.old < 2 ^ 32 - 1 }
         ensures id { IfOk result (λ id. id ≡ id_of name.now self.old) }
@@ -53,14 +58,20 @@ impl Names {
         ensures within { IfOk result (λ id. id.0 < length self.new) }
         ensures err { OnErr result (self.new ≡ self.old) }
     {
-        if let Some(number) = self.index.get(name) {
-            return Ok(NameId(number));
+        if let Some(index) = &mut self.index {
+            return intern_by(index, &mut self.list, name);
         }
-        self.list.reserve(name)?;
-        let number = self.list.len() as u32;
-        self.index.insert(name, number)?;
-        self.list.push(name);
-        Ok(NameId(number))
+        let mut index = NameIndex::of(&self.list, self.alloc)?;
+        let id = intern_by(&mut index, &mut self.list, name)?;
+        self.index = Some(index);
+        Ok(id)
+    }
+
+    /// Lets go of what only `intern` needs. The next `intern` makes it anew, in the time of an `intern` of each name.
+    pub fn settle(&mut self)
+        ensures { self.new ≡ self.old }
+    {
+        self.index = None;
     }
 
     /// The name of this number.
@@ -71,4 +82,24 @@ impl Names {
     {
         self.list.get(id.0 as usize)
     }
+}
+
+// The number of this name, which is kept if it is new, by an index of the names.
+fn intern_by(index: &mut NameIndex, list: &mut NameList, name: &[u8]) -> Result<NameId, NoMemory>
+    requires numbered { AreNumbered (names_of list.old) (number_at index.old) }
+    requires few { length (names_of list.old) < 2 ^ 32 - 1 }
+    ensures id { IfOk result (λ id. id ≡ id_of name.now (names_of list.old)) }
+    ensures kept { OnOk result (names_of list.new ≡ interned name.now (names_of list.old)) }
+    ensures named { IfOk result (λ id. slice_get (names_of list.new) id.0 ≡ Some name.now) }
+    ensures within { IfOk result (λ id. id.0 < length (names_of list.new)) }
+    ensures err { OnErr result (names_of list.new ≡ names_of list.old) }
+    ensures numbered { AreNumbered (names_of list.new) (number_at index.new) }
+{
+    list.reserve(name)?;
+    let next = list.len() as u32;
+    let number = index.number_or(name, next)?;
+    if number == next {
+        list.push(name);
+    }
+    Ok(NameId(number))
 }

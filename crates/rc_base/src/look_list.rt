@@ -6,18 +6,22 @@ use std::alloc::Global;
 use std::marker::Model;
 
 /// Numbers of lines, one for each count that a command needs. Contracts see the numbers, and as `spare` how many more fit.
+/// Most commands need none, so a list with no room is one word and a pointer that is not there: 16 bytes.
 #[derive(Drop)]
 pub struct LookList {
-    items: Vec<u64>,
+    items: Option<Box<Vec<u64>>>,
 }
 
 impl Model for LookList {
-    ghost use Rattle.std.specs.Prelude.{◌-◌, vec_len, vec_capacity};
+    ghost use Rattle.std.specs.Prelude.{◌-◌, [], option_map, unwrap_or, vec_len, vec_capacity};
     ghost use Rattle.rc_base.specs.Buffers.{Looks};
 
     ghost Value = { Looks };
 
-    ghost view = { λ l. record { numbers = l.items.items; spare = vec_capacity l.items - vec_len l.items } };
+    ghost view = { λ l. record {
+      numbers = unwrap_or (option_map (λ b. b.value.items) l.items) [];
+      spare = unwrap_or (option_map (λ b. vec_capacity b.value - vec_len b.value) l.items) 0;
+    } };
 }
 
 impl LookList {
@@ -26,8 +30,13 @@ impl LookList {
         ensures empty { IfOk result (λ l. l.numbers ≡ []) }
         ensures room { IfOk result (λ l. n ≤ l.spare) }
     {
+        if n == 0 {
+            return Ok(LookList { items: None });
+        }
         let items = Vec::with_capacity(alloc, n as usize)?;
-        Ok(LookList { items })
+        Ok(LookList {
+            items: Some(Box::new(alloc, items)?),
+        })
     }
 
     /// Adds one number.
@@ -36,13 +45,19 @@ impl LookList {
         ensures numbers { self.new.numbers ≡ self.old.numbers ++ n ∷ [] }
         ensures spare { self.new.spare + 1 ≡ self.old.spare }
     {
-        self.items.push_reserved(n);
+        match &mut self.items {
+            Some(items) => items.push_reserved(n),
+            None => unreachable!(),
+        }
     }
 
     /// The numbers so far.
     pub fn items(&self) -> &[u64]
         ensures { result.now ≡ self.now.numbers }
     {
-        self.items.as_slice()
+        match &self.items {
+            Some(items) => items.as_slice(),
+            None => &[],
+        }
     }
 }

@@ -47,7 +47,7 @@ one_if-option_or p None b x none is = rw (is, none) (omega arith)
 one_if-option_or p (Some y) b x none is = omega arith
 
 -- the places that pass a test, where one more is given a line
-places_with-at : (m : Shape) (p : Option Resident → Bool) (holds : ℕ → ℕ → Option Resident) (lines : ℕ → ℕ → Resident) (set way : ℕ) → IsOwn m set → way < m.ways → p None ≡ false
+pub places_with-at : (m : Shape) (p : Option Resident → Bool) (holds : ℕ → ℕ → Option Resident) (lines : ℕ → ℕ → Resident) (set way : ℕ) → IsOwn m set → way < m.ways → p None ≡ false
     → places_with m p (with_lines (is_at set way) lines holds) ≡ places_with m p holds + cond (is_some (holds set way)) 0 (one_if (p (Some (lines set way))))
 places_with-at m p holds lines set way own inside none =
     places_with-changed m p holds (with_lines (is_at set way) lines holds) set way _ own inside

@@ -29,17 +29,17 @@ use Rattle.run_law.proofs.laws.Pairs.{both_eqb-same}
 use Rattle.script_ops.specs.Values.{ScriptValue, op_at}
 use Rattle.script_ops.specs.declared.op.Op.{Op}
 use Rattle.script_ops.specs.declared.op.Op.TheVariants as ops
-use Rattle.tree_law.specs.Steps.{after, needs}
+use Rattle.tree_law.specs.Steps.{after, needs, next}
 
 -- ---- lists by recursion
 
 -- what holds of the elements of two lists
-AllByRecursion-append : {X : Type 0} (P : X → Type 0) (xs ys : List X) → AllByRecursion P xs → AllByRecursion P ys → AllByRecursion P (xs ++ ys)
+pub AllByRecursion-append : {X : Type 0} (P : X → Type 0) (xs ys : List X) → AllByRecursion P xs → AllByRecursion P ys → AllByRecursion P (xs ++ ys)
 AllByRecursion-append P [] ys these those = those
 AllByRecursion-append P (x ∷ xs) ys these those = (these.0, AllByRecursion-append P xs ys these.1 those)
 
 -- and of those of many
-AllByRecursion-flat_map : {X Y : Type 0} (P : Y → Type 0) (f : X → List Y) → ((x : X) → AllByRecursion P (f x)) → (xs : List X) → AllByRecursion P (flat_map f xs)
+pub AllByRecursion-flat_map : {X Y : Type 0} (P : Y → Type 0) (f : X → List Y) → ((x : X) → AllByRecursion P (f x)) → (xs : List X) → AllByRecursion P (flat_map f xs)
 AllByRecursion-flat_map P f each [] = tt
 AllByRecursion-flat_map P f each (x ∷ xs) = AllByRecursion-append P (f x) (flat_map f xs) (each x) (AllByRecursion-flat_map P f each xs)
 
@@ -64,7 +64,7 @@ abbrev IsAccessAt : ℕ → Owed → Type 0
 IsAccessAt epoch o = is_access o.what ≡ true → o.epoch ≡ epoch
 
 -- one thing or none
-AllByRecursion-cond : {X : Type 0} (P : X → Type 0) (b : Bool) (x : X) → P x → AllByRecursion P (cond b (x ∷ []) [])
+pub AllByRecursion-cond : {X : Type 0} (P : X → Type 0) (b : Bool) (x : X) → P x → AllByRecursion P (cond b (x ∷ []) [])
 AllByRecursion-cond P true x holds = (holds, tt)
 AllByRecursion-cond P false x holds = tt
 
@@ -93,45 +93,57 @@ ByKind-of_command A C (ops.Flush domain) is h = h
 ByKind-of_command A C ops.Tick is h = h
 
 -- what a slice decides leaves an access one
-is_access-undecided : (what : What) → is_access (undecided what) ≡ is_access what
+pub is_access-undecided : (what : What) → is_access (undecided what) ≡ is_access what
 is_access-undecided (whats.Access hit way owner rmid mask line) = refl
 is_access-undecided whats.Raise = refl
 is_access-undecided whats.Flush = refl
 is_access-undecided (whats.Lock mask first_line) = refl
 is_access-undecided (whats.Look rmid lines) = refl
 
+-- what each entry of a command among these pays
+abbrev pub ArePaid : (Owed → Type 0) → TreeEntryValue → List SliceEntry → Type 0
+ArePaid P h es = AllByRecursion (λ (e : SliceEntry). is_made_by h.thread h.op e ≡ true → P (paid_by e)) es
+
 -- each access of a command among these entries has the epoch after it
 abbrev AreTouchesOf : ℕ → TreeEntryValue → List SliceEntry → Type 0
-AreTouchesOf k h es = AllByRecursion (λ (e : SliceEntry). is_made_by h.thread h.op e ≡ true → IsAccessAt (k + 1) (paid_by e)) es
+AreTouchesOf k h es = ArePaid (IsAccessAt (k + 1)) h es
 
--- those of a slice of a run
-AreTouchesOf-slice : (script : ScriptValue) (j : JournalsValue) (k i : ℕ) (h : TreeEntryValue) (op : Op) → At j.tree k h → IsTrue (is_command op) → Makes script j i h.thread h.op op (filter (is_made_by h.thread h.op) (slice_at j i))
-    → AreTouchesOf k h (slice_at j i)
-AreTouchesOf-slice script j k i h op there is makes =
+-- those of a slice of a run pay what the command owes
+ArePaid-slice : (P : Owed → Type 0) (script : ScriptValue) (j : JournalsValue) (k i : ℕ) (h : TreeEntryValue) (op : Op) → At j.tree k h → IsTrue (is_command op) → AllByRecursion P (owed_by_command script j.tree i k op)
+    → Makes script j i h.thread h.op op (filter (is_made_by h.thread h.op) (slice_at j i)) → ArePaid P h (slice_at j i)
+ArePaid-slice P script j k i h op there is owed makes =
     let paid = ByKind-of_command _ _ op is makes k h there (both_eqb-same h.thread h.thread h.op h.op refl refl) in
-    AllByRecursion-from_filter (λ (e : SliceEntry). IsAccessAt (k + 1) (paid_by e)) (is_made_by h.thread h.op) (slice_at j i)
-    (AllByRecursion-from_map (IsAccessAt (k + 1)) paid_by (filter (is_made_by h.thread h.op) (slice_at j i))
-    (subst (AllByRecursion (IsAccessAt (k + 1))) (sym paid) (AllByRecursion-owed script j.tree i k op)))
+    AllByRecursion-from_filter (λ (e : SliceEntry). P (paid_by e)) (is_made_by h.thread h.op) (slice_at j i)
+    (AllByRecursion-from_map P paid_by (filter (is_made_by h.thread h.op) (slice_at j i)) (subst (AllByRecursion P) (sym paid) owed))
 
--- the op of an entry of a legal history is a command
-command_at : (script : ScriptValue) (j : JournalsValue) (k : ℕ) (h : TreeEntryValue) → IsRun script j → At j.tree k h → (op : Op) × (op_at script h.thread h.op ≡ Some op) × IsTrue (is_command op)
+-- those of all slices
+pub ArePaid-run : (P : Owed → Type 0) (script : ScriptValue) (j : JournalsValue) (k : ℕ) (h : TreeEntryValue) (op : Op) → IsRun script j → At j.tree k h → op_at script h.thread h.op ≡ Some op → IsTrue (is_command op)
+    → ((i : ℕ) → AllByRecursion P (owed_by_command script j.tree i k op)) → AllByRecursion (ArePaid P h) j.slices
+ArePaid-run P script j k h op run there here is owed =
+    recursion_from_All (ArePaid P h) j.slices
+    (λ i d l.
+    let all : length j.slices ≡ script.machine.domains * script.machine.slices = run.all_slices in
+    subst (ArePaid P h) (get_or_default j.slices i [] d l) (ArePaid-slice P script j k i h op there is (owed i) (run.in_order.entries_once i h.thread h.op op (omega (arith, l, all)) here)))
+
+-- the op of an entry of a legal history is a command, and the entry has the reply that the state gives
+pub command_at : (script : ScriptValue) (j : JournalsValue) (k : ℕ) (h : TreeEntryValue) → IsRun script j → At j.tree k h
+    → (op : Op) × (op_at script h.thread h.op ≡ Some op) × IsTrue (is_command op) × (h.reply ≡ (next script.machine (tree_after script (take k j.tree)) op h.looks).reply)
 command_at script j k h run there =
     let within : k < length j.tree = slice_get_within j.tree k h there in
     let here : CommandMayFollow script (take k j.tree) (get_or j.tree k h) = EachFollows-at (CommandMayFollow script) j.tree k h run.tree_legal within in
-    of_op _ (op_at script h.thread h.op) refl (subst (CommandMayFollow script (take k j.tree)) (get_or_from_slice_get j.tree k h h there) here)
+    of_op (op_at script h.thread h.op) refl (subst (CommandMayFollow script (take k j.tree)) (get_or_from_slice_get j.tree k h h there) here)
   where
-    of_op : (P : Op → Type 0) (o : Option Op) → op_at script h.thread h.op ≡ o → IsCommandThat P o → (op : Op) × (op_at script h.thread h.op ≡ Some op) × IsTrue (is_command op)
-    of_op P None is may = absurd may
-    of_op P (Some op) is may = (op, is, may.0)
+    of_op : (o : Option Op) → op_at script h.thread h.op ≡ o
+        → IsCommandThat (λ (op : Op). (length h.looks ≡ length (needs script.machine (tree_after script (take k j.tree)) op)) × (h.reply ≡ (next script.machine (tree_after script (take k j.tree)) op h.looks).reply)) o
+        → (op : Op) × (op_at script h.thread h.op ≡ Some op) × IsTrue (is_command op) × (h.reply ≡ (next script.machine (tree_after script (take k j.tree)) op h.looks).reply)
+    of_op None is may = absurd may
+    of_op (Some op) is may = (op, is, may.0, may.1.1)
 
--- those of all slices
+-- the accesses of a command in a run have the epoch after it
 AreTouchesOf-run : (script : ScriptValue) (j : JournalsValue) (k : ℕ) (h : TreeEntryValue) → IsRun script j → At j.tree k h → AllByRecursion (AreTouchesOf k h) j.slices
 AreTouchesOf-run script j k h run there =
     let op = command_at script j k h run there in
-    recursion_from_All (AreTouchesOf k h) j.slices
-    (λ i d l.
-    let all : length j.slices ≡ script.machine.domains * script.machine.slices = run.all_slices in
-    subst (AreTouchesOf k h) (get_or_default j.slices i [] d l) (AreTouchesOf-slice script j k i h op.0 there op.2 (run.in_order.entries_once i h.thread h.op op.0 (omega (arith, l, all)) op.1)))
+    ArePaid-run (IsAccessAt (k + 1)) script j k h op.0 run there op.1 op.2 (λ i. AllByRecursion-owed script j.tree i k op.0)
 
 -- ---- what is told
 

@@ -7,13 +7,17 @@ use Rattle.cache_core.specs.declared.entry.What.{What}
 use Rattle.cache_core.specs.declared.entry.What.TheVariants.{Access}
 use Rattle.report_text.specs.Counts.{is_access, is_access_of, is_hit}
 use Rattle.report_text.specs.declared.counts.Counts.{Counts}
-use Rattle.report_text.specs.declared.streak.Streak.{Streak}
 use Rattle.run_law.specs.Journals.{JournalsValue, slice_at}
 
 -- the counts of groups by their gids, and those of all groups together
 pub record TallyValue : Type 0 where
   pub groups : List (ℕ × Counts)
   pub all : Counts
+
+-- consecutive accesses of one group, by its gid
+pub record StreakValue : Type 0 where
+  pub gid : ℕ
+  pub counts : Counts
 
 -- no access
 abbrev pub nothing : Counts
@@ -28,11 +32,11 @@ abbrev pub added : Counts → Counts → Counts
 added c d = record { accesses = c.accesses + d.accesses; hits = c.hits + d.hits; misses = c.misses + d.misses }
 
 -- the counts of a group, with the accesses of a streak that is not in the tally yet
-abbrev pub at_with : TallyValue → Streak → ℕ → Counts
+abbrev pub at_with : TallyValue → StreakValue → ℕ → Counts
 at_with t s gid = if s.gid == gid then added (at t gid) s.counts else at t gid
 
 -- those of all groups
-abbrev pub all_with : TallyValue → Streak → Counts
+abbrev pub all_with : TallyValue → StreakValue → Counts
 all_with t s = added t.all s.counts
 
 -- one access more
@@ -67,7 +71,7 @@ pub record AreAtMost (most : ℕ) (c : Counts) : Type 0 where
   pub misses : c.misses ≤ most
 
 -- all counts of a tally and a streak are
-pub record IsFewWith (most : ℕ) (t : TallyValue) (s : Streak) : Type 0 where
+pub record IsFewWith (most : ℕ) (t : TallyValue) (s : StreakValue) : Type 0 where
   pub groups : (gid : ℕ) → AreAtMost most (at_with t s gid)
   pub all : AreAtMost most (all_with t s)
 

@@ -1,6 +1,6 @@
 -- Whether the touches of commands hit, by the entries of slices.
 use Rattle.std.specs.Prelude.{◌≡◌, ℕ, ◌+◌, ◌==◌, ◌&&◌, Bool, true, false, if◌then◌else◌, List, [], ◌∷◌, codes, Option, Some, None, slice_index_or}
-use Rattle.std.specs.Option.{option_or}
+use Rattle.std.specs.Option.{option_map_or, option_or}
 use Rattle.cache_core.specs.declared.entry.SliceEntry.{SliceEntry}
 use Rattle.rc_base.specs.declared.replies.Reply.{Reply}
 use Rattle.rc_base.specs.declared.replies.Reply.TheVariants.{Ok}
@@ -9,6 +9,7 @@ use Rattle.report_text.specs.Counts.{is_access, is_hit}
 use Rattle.run_law.specs.Journals.{At, JournalsValue}
 use Rattle.run_law.specs.TreeHistory.{TreeEntryValue}
 use Rattle.run_law.specs.Truth.{is_made_by}
+use Rattle.script_ops.specs.Values.{ScriptValue, op_at}
 use Rattle.script_ops.specs.declared.op.Op.{Op}
 use Rattle.script_ops.specs.declared.op.Op.TheVariants.{Touch}
 
@@ -51,3 +52,7 @@ TellTouches j hits = (k : ℕ) (h : TreeEntryValue) → At j.tree k h → TellsT
 abbrev pub is_accepted_touch : Op → Reply → Bool
 is_accepted_touch (Touch cpu path task offset) Ok = true
 is_accepted_touch op reply = false
+
+-- whether the op of an entry is a touch that was accepted
+abbrev pub is_touch_in : ScriptValue → TreeEntryValue → Bool
+is_touch_in script h = option_map_or (λ op. is_accepted_touch op h.reply) (op_at script h.thread h.op) false

@@ -1,25 +1,27 @@
 //! The text of a report under construction.
 ghost use Rattle.std.specs.Prelude.{◌≡◌, ◌≤◌, [], ◌∷◌, ◌++◌, IfOk, OnOk, decimal, length};
 ghost use Rattle.num_text.specs.Printed.{hexadecimal};
-ghost use Rattle.rc_base.specs.Reasons.{reason_text};
+ghost use Rattle.rc_base.specs.Reasons.{argument_text, reason_text};
 ghost use Rattle.report_text.specs.Commands.{barred, reply_text};
 ghost use Rattle.script_ops.specs.Canonical.{op_ids, op_text};
 ghost use Rattle.path_names.specs.NamesIn.{AreKnown, path_ids};
 ghost use Rattle.path_names.specs.PathTexts.{path_text};
 
-use file_view::reason;
 use num_text::push_hex;
 use path_names::{Names, PathRef};
-use rc_base::{NoMemory, Reply, TextBuf, Why};
+use rc_base::{Argument, NoMemory, Reply, TextBuf, Why};
 use script_ops::{GrowingText, Op, next_line};
 use std::alloc::Global;
 use std::marker::Model;
+
+// The most hexadecimal digits of a number below 2^64.
+const MOST_DIGITS: usize = 16;
 
 /// The text of a report under construction. Contracts see its bytes. After an error the text is not to be used.
 #[derive(Drop)]
 pub struct ReportText {
     text: GrowingText,
-    reason: TextBuf,
+    digits: TextBuf,
 }
 
 impl Model for ReportText {
@@ -29,7 +31,7 @@ impl Model for ReportText {
 
     ghost view = { λ r. r.text };
 
-    ghost invariant = { λ r. (r.reason.bytes ≡ []) × (128 ≤ r.reason.spare) };
+    ghost invariant = { λ r. (r.digits.bytes ≡ []) × (16 ≤ r.digits.spare) };
 }
 
 impl ReportText {
@@ -37,9 +39,9 @@ impl ReportText {
     pub fn create(alloc: Global) -> Result<ReportText, NoMemory>
         ensures { IfOk result (λ r. r ≡ []) }
     {
-        let reason = TextBuf::with_room(alloc, 128)?;
+        let digits = TextBuf::with_room(alloc, MOST_DIGITS)?;
         let text = GrowingText::create(alloc)?;
-        Ok(ReportText { text, reason })
+        Ok(ReportText { text, digits })
     }
 
     /// Adds these bytes.
@@ -69,20 +71,31 @@ impl ReportText {
         requires { width ≤ 16 }
         ensures { OnOk result (self.new ≡ self.old ++ hexadecimal width n) }
     {
-        push_hex(n, width, &mut self.reason);
-        let added = self.text.push(self.reason.bytes());
-        self.reason.clear();
+        push_hex(n, width, &mut self.digits);
+        let added = self.text.push(self.digits.bytes());
+        self.digits.clear();
         added
+    }
+
+    // Adds the argument of a reason.
+    fn push_argument(&mut self, argument: Argument, arg: u64) -> Result<(), NoMemory>
+        ensures { OnOk result (self.new ≡ self.old ++ argument_text argument arg) }
+    {
+        match argument {
+            Argument::Absent => Ok(()),
+            Argument::Decimal => self.push_decimal(arg),
+            Argument::Hexadecimal => self.push_hexadecimal(arg, 0),
+        }
     }
 
     // Adds the text of a reason.
     fn push_reason(&mut self, why: Why, arg: u64) -> Result<(), NoMemory>
         ensures { OnOk result (self.new ≡ self.old ++ reason_text why arg) }
     {
-        reason(why, arg, &mut self.reason);
-        let added = self.text.push(self.reason.bytes());
-        self.reason.clear();
-        added
+        let wording = why.wording();
+        self.push(wording.before.as_bytes())?;
+        self.push_argument(wording.argument, arg)?;
+        self.push(wording.after.as_bytes())
     }
 
     /// Adds a reply.

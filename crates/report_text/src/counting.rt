@@ -1,5 +1,5 @@
 //! Counts of the lines that the entries of a slice left, from the last entry back.
-ghost use Rattle.std.specs.Prelude.{◌≡◌, ℕ, List, ◌+◌, ◌-◌, ◌/◌, ◌%◌, ◌<◌, ◌≤◌, ◌==◌, ◌&&◌, ◌∷◌, not, false, length};
+ghost use Rattle.std.specs.Prelude.{◌≡◌, ℕ, List, ◌+◌, ◌-◌, ◌*◌, ◌/◌, ◌%◌, ◌<◌, ◌≤◌, ◌==◌, ◌&&◌, ◌∷◌, not, false, length};
 ghost use Rattle.cache_core.specs.Filled.{empties, has_emptying};
 ghost use Rattle.cache_core.specs.declared.entry.SliceEntry.{SliceEntry};
 ghost use Rattle.cache_core.specs.History.{IsOwn, held, is_own, lines_of, valid_of};
@@ -13,20 +13,18 @@ use crate::line_counts::{Occupancy, has_way};
 use cache_core::{SliceEntry, What};
 use machine::Machine;
 
-// The set of a line. There are as many sets as a power of two, so that nothing is divided.
-fn set_of(machine: &Machine, line: u64) -> u32
-    ensures set { result ≡ line % machine.now.sets }
-    ensures below { result < machine.now.sets }
-{
-    (line & u64::from(machine.sets - 1)) as u32
-}
-
-// Whether a set is of slice i. The slices of a cache are a power of two as well.
+// Whether a set is of slice i.
 fn is_of_slice(machine: &Machine, i: u32, set: u32) -> bool
     ensures { result ≡ is_own (shape_in (parameters_of machine.now) i) set }
 {
-    let last = u32::from(machine.slices - 1);
-    set & last == i & last
+    machine.slice_of(u64::from(set)) == machine.slice_of(u64::from(i))
+}
+
+// How many places a slice has.
+fn places_of(machine: &Machine) -> u64
+    ensures { result ≡ machine.now.sets / machine.now.slices * machine.now.ways }
+{
+    u64::from(machine.sets / u32::from(machine.slices)) * u64::from(machine.ways)
 }
 
 impl Occupancy {
@@ -36,7 +34,7 @@ impl Occupancy {
         requires few { IsAtMost MOST_COUNT self.old }
         ensures { AddsPlaces (shape_in (parameters_of machine.now) i) self.old self.new rmid (λ s w. (line % machine.now.sets == s) && (way == w)) }
     {
-        let set = set_of(machine, line);
+        let set = machine.set_of(line);
         if is_of_slice(machine, i, set) && way < machine.ways {
             self.put(set, way, rmid);
         }
@@ -110,8 +108,10 @@ impl Occupancy {
         ensures valid { self.new.valid ≡ self.old.valid + valid_of (shape_in (parameters_of machine.now) i) entries.now }
     {
         self.begin_slice();
+        let full = self.valid() + places_of(machine);
         let mut left = entries.len();
-        while left > 0 {
+        // Where each place holds a line, no earlier entry can have left one.
+        while left > 0 && self.valid() < full {
             left -= 1;
             if !self.take(machine, i, &entries[left]) {
                 return;

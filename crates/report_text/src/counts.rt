@@ -1,6 +1,6 @@
 //! Counts of accesses, hits and misses.
 ghost use Rattle.std.specs.Prelude.{◌≡◌, ◌++◌, ◌^◌, OnOk};
-ghost use Rattle.report_text.specs.Tallies.{AreAtMost, added, counts_told, with_access};
+ghost use Rattle.report_text.specs.Tallies.{AreAtMost, added, counts_told};
 
 use crate::buffer::ReportText;
 use rc_base::NoMemory;
@@ -23,19 +23,6 @@ impl Counts {
         hits: 0,
         misses: 0,
     };
-
-    /// One access more.
-    #[inline]
-    pub(crate) fn with_access(self, hit: bool) -> Counts
-        requires { AreAtMost (2 ^ 63) self }
-        ensures { result ≡ with_access hit self }
-    {
-        Counts {
-            accesses: self.accesses + 1,
-            hits: self.hits + u64::from(hit),
-            misses: self.misses + u64::from(!hit),
-        }
-    }
 
     /// These and others together.
     pub(crate) fn added(self, other: Counts) -> Counts

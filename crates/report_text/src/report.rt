@@ -27,8 +27,8 @@ use run_law::{Flags, Journals, TreeEntry, Window};
 use script_ops::Script;
 use std::alloc::Global;
 
-// Whether a command was refused.
-fn is_refused(entry: &TreeEntry) -> bool
+/// Whether a command was refused.
+pub(crate) fn is_refused(entry: &TreeEntry) -> bool
     ensures { result ≡ is_refusal entry.now.reply }
 {
     match entry.reply {

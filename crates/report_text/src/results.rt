@@ -9,8 +9,8 @@ use rc_base::{NoMemory, Reply};
 use run_law::{Journals, TreeEntry};
 use script_ops::Op;
 
-// Whether an op is a touch that was accepted.
-fn is_accepted_touch(op: &Op, reply: Reply) -> bool
+/// Whether an op is a touch that was accepted.
+pub(crate) fn is_accepted_touch(op: &Op, reply: Reply) -> bool
     ensures { result ≡ is_accepted_touch op.now reply }
 {
     matches!((op, reply), (Op::Touch { .. }, Reply::Ok))

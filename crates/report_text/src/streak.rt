@@ -3,14 +3,25 @@ ghost use Rattle.std.specs.Prelude.{◌≡◌, ◌^◌};
 ghost use Rattle.report_text.specs.Tallies.{AreAtMost, nothing, with_access};
 
 use crate::counts::Counts;
+use std::marker::Model;
 
 /// Consecutive accesses of one group.
-#[derive(Clone, Copy)]
+#[derive(Drop)]
 pub(crate) struct Streak {
-    /// The gid of the group.
-    pub gid: u32,
-    /// How many there were.
-    pub counts: Counts,
+    gid: u32,
+    accesses: u64,
+    hits: u64,
+}
+
+impl Model for Streak {
+    ghost use Rattle.std.specs.Prelude.{◌≤◌, ◌-◌};
+    ghost use Rattle.report_text.specs.Tallies.{StreakValue};
+
+    ghost Value = { StreakValue };
+
+    ghost view = { λ s. record { gid = s.gid; counts = record { accesses = s.accesses; hits = s.hits; misses = s.accesses - s.hits } } };
+
+    ghost invariant = { λ s. s.hits ≤ s.accesses };
 }
 
 impl Streak {
@@ -21,7 +32,27 @@ impl Streak {
     {
         Streak {
             gid,
-            counts: Counts::NOTHING,
+            accesses: 0,
+            hits: 0,
+        }
+    }
+
+    /// The gid of the group.
+    #[inline]
+    pub(crate) fn gid(&self) -> u32
+        ensures { result ≡ self.now.gid }
+    {
+        self.gid
+    }
+
+    /// How many there were.
+    pub(crate) fn counts(&self) -> Counts
+        ensures { result ≡ self.now.counts }
+    {
+        Counts {
+            accesses: self.accesses,
+            hits: self.hits,
+            misses: self.accesses - self.hits,
         }
     }
 
@@ -34,7 +65,8 @@ impl Streak {
     {
         Streak {
             gid: self.gid,
-            counts: self.counts.with_access(hit),
+            accesses: self.accesses + 1,
+            hits: self.hits + u64::from(hit),
         }
     }
 }

@@ -75,10 +75,10 @@ impl Tally {
         ensures others { IfOk result (λ s. (other : ℕ) → (other ≡ gid → ⊥) → at_with self.new s other ≡ at_with self.old streak other) }
         ensures all { IfOk result (λ s. all_with self.new s ≡ with_access hit (all_with self.old streak)) }
     {
-        if streak.gid == gid {
+        if streak.gid() == gid {
             return Ok(streak.with_access(hit));
         }
-        self.add(streak.gid, streak.counts)?;
+        self.add(streak.gid(), streak.counts())?;
         Ok(Streak::of(gid).with_access(hit))
     }
 
@@ -120,7 +120,7 @@ impl Tally {
         for i in 0..slices {
             streak = tally.take_all(streak, journals.slice(i))?;
         }
-        tally.add(streak.gid, streak.counts)?;
+        tally.add(streak.gid(), streak.counts())?;
         Ok(tally)
     }
 }

@@ -1,13 +1,17 @@
 //! Whether the touches of commands hit.
 ghost use Rattle.std.specs.Prelude.{◌≡◌, ℕ, ◌+◌, ◌==◌, ◌&&◌, ◌<◌, ◌∷◌, [], false, length, map, IfOk, IfSome, MatchOption, None, Some, slice_index_or};
+ghost use Rattle.std.specs.List.{list_any};
 ghost use Rattle.report_text.specs.Counts.{is_access, is_hit};
-ghost use Rattle.report_text.specs.Touches.{Notes, TellTouches, is_access_by, is_at, is_touch_of};
+ghost use Rattle.report_text.specs.Touches.{Notes, TellTouches, is_access_by, is_at, is_touch_of, is_touch_in};
 ghost use Rattle.run_law.specs.Entries.{entry_value};
 ghost use Rattle.run_law.specs.Journals.{At};
 ghost use Rattle.run_law.specs.Runs.{IsRun};
+ghost use Rattle.run_law.specs.declared.journals.TreeEntry.{TreeEntry as Entry};
 ghost use Rattle.run_law.specs.TreeHistory.{TreeEntryValue};
 
 use crate::domains::slices_of;
+use crate::report::is_refused;
+use crate::results::is_accepted_touch;
 use cache_core::{SliceEntry, What};
 use rc_base::NoMemory;
 use run_law::{Journals, TreeEntry};
@@ -30,7 +34,7 @@ impl Model for Touches {
 }
 
 impl Touches {
-    /// The touches of a run, in one pass over the entries of its slices where there are commands. NoMemory where the system is out of memory.
+    /// The touches of a run, in one pass over the entries of its slices where a touch was accepted. NoMemory where the system is out of memory.
     pub fn of(alloc: Global, script: &Script, journals: &Journals) -> Result<Touches, NoMemory>
         requires run { IsRun script.now journals.now }
         ensures count { IfOk result (λ t. length t ≡ length journals.now.tree) }
@@ -38,7 +42,7 @@ impl Touches {
     {
         let tree = journals.tree();
         let mut hits = vec![in alloc; None; tree.len()]?;
-        if tree.is_empty() {
+        if !has_touch(script, tree) {
             return Ok(Touches { hits });
         }
         for i in 0..slices_of(script) {
@@ -54,6 +58,26 @@ impl Touches {
     {
         self.hits[k]
     }
+}
+
+// Whether a command is a touch that was accepted.
+fn is_touch(script: &Script, entry: &TreeEntry) -> bool
+    ensures { result ≡ is_touch_in script.now (entry_value entry.now) }
+{
+    if is_refused(entry) {
+        return false;
+    }
+    match script.op(entry.thread, entry.op) {
+        Some(op) => is_accepted_touch(op, entry.reply),
+        None => false,
+    }
+}
+
+// Whether one of these commands is.
+fn has_touch(script: &Script, tree: &[TreeEntry]) -> bool
+    ensures { result ≡ list_any (λ (e : Entry). is_touch_in script.now (entry_value e)) tree.now }
+{
+    tree.iter().any(|entry| is_touch(script, entry))
 }
 
 // Whether this is an access.

@@ -1,9 +1,8 @@
 //! The lines that are accesses.
-ghost use Rattle.std.specs.Prelude.{◌≡◌, ◌+◌, ◌*◌, ◌-◌, ◌<◌, ◌^◌, ◌++◌, IfErr, OnOk};
+ghost use Rattle.std.specs.Prelude.{◌≡◌, ◌+◌, ◌*◌, ◌-◌, ◌<◌, ◌≤◌, ◌^◌, ◌++◌, OnOk, vec_len, vec_capacity};
 ghost use Rattle.script_text.specs.States.{state_of, IsSound};
 ghost use Rattle.script_text.specs.Meaning.{means, sweep_ops, Means};
 ghost use Rattle.script_text.specs.Usual.{access_means};
-ghost use Rattle.script_text.specs.declared.fault.LineError.TheVariants as errors;
 ghost use Rattle.script_text.specs.declared.kind.Kind.TheVariants as kinds;
 
 use crate::arguments::{Sweep, Use, access_args, sweep_args, touch_args};
@@ -93,22 +92,21 @@ impl Reader {
     }
 }
 
-/// Adds the accesses of a sweep, for which there is room.
-pub fn push_accesses(ops: &mut Vec<Op>, task: u32, sweep: &Sweep) -> Result<(), LineError>
+/// Adds the accesses of a sweep, for which there is room. It takes no memory.
+pub fn push_accesses(ops: &mut Vec<Op>, task: u32, sweep: &Sweep)
     requires some { 0 < sweep.now.count }
     requires last { sweep.now.first.at + (sweep.now.count - 1) * sweep.now.stride < 2 ^ 48 }
-    ensures done { OnOk result (ops.new.items ≡ ops.old.items ++ sweep_ops task sweep.now) }
-    ensures memory { IfErr result (λ e. e ≡ errors.NoMemory) }
+    requires room { vec_len ops.old + sweep.now.count ≤ vec_capacity ops.old }
+    ensures { ops.new.items ≡ ops.old.items ++ sweep_ops task sweep.now }
 {
     let first = sweep.first;
     let stride = sweep.stride;
     for i in 0..sweep.count {
         let addr = first.at + i * stride;
-        ops.push(Op::Access {
+        ops.push_reserved(Op::Access {
             task,
             cpu: first.cpu,
             addr,
-        })?;
+        });
     }
-    Ok(())
 }

@@ -90,13 +90,14 @@ impl Reader {
             place: _,
             machine,
             tasks: ranges,
-            names,
+            mut names,
             phases,
             order: _,
             threads: _,
             ops: _,
             weight: _,
         } = self;
+        names.settle();
         let mut tasks = Vec::new(alloc);
         match push_ids(&mut tasks, &ranges) {
             Ok(()) => Ok(Script::new(machine, tasks, names, phases)),
@@ -147,10 +148,7 @@ impl Reader {
             _ => return Err(LineError::Fault(LineFault::TooLarge)),
         };
         self.ops.reserve(sweep.count as usize)?;
-        match push_accesses(&mut self.ops, task, sweep) {
-            Ok(()) => {}
-            Err(error) => return Err(error),
-        }
+        push_accesses(&mut self.ops, task, sweep);
         self.weight = total;
         Ok(())
     }

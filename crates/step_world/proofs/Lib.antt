@@ -1,4 +1,5 @@
 pub mod AccessSteps
+pub mod AccessesAlone
 pub mod CommandRooms
 pub mod CommandSteps
 pub mod CountedOps

@@ -2,9 +2,10 @@
 use Rattle.std.specs.Prelude.{◌≡◌, ℕ, ◌<◌, ◌≤◌, List, length, slice_index_or}
 use Rattle.rc_base.specs.Buffers.{Looks}
 use Rattle.script_ops.specs.Values.{ScriptValue, ops_of}
+use Rattle.script_ops.specs.declared.limits.TheConstants.{MOST_WEIGHT}
 use Rattle.step_world.specs.LookLists.{AreReady, rooms_of}
 use Rattle.step_world.specs.Machine.{opening_thread}
-use Rattle.step_world.specs.Quotas.{room_of}
+use Rattle.step_world.specs.Quotas.{commands_of, room_of}
 use Rattle.step_world.specs.Slices.{IsFresh, SliceValue}
 use Rattle.step_world.specs.declared.place.Thread.{Thread}
 
@@ -23,3 +24,9 @@ pub record AreFirst (n : ℕ) (threads : List Thread) : Type 0 where
 pub record AreListed (script : ScriptValue) (n : ℕ) (lists : List (List Looks)) : Type 0 where
   pub count : length lists ≡ n
   pub each : (t : ℕ) (d : List Looks) → t < n → AreReady (rooms_of script.machine (ops_of script t)) (slice_index_or lists t d)
+
+-- so many commands has each of the first n threads
+pub record AreCounted (script : ScriptValue) (n : ℕ) (counts : List ℕ) : Type 0 where
+  pub count : length counts ≡ n
+  pub each : (t d : ℕ) → t < n → slice_index_or counts t d ≡ commands_of (ops_of script t)
+  pub few : (t d : ℕ) → t < n → slice_index_or counts t d ≤ MOST_WEIGHT

@@ -2,7 +2,7 @@
 ghost use Rattle.std.specs.Prelude.{◌≡◌, ◌+◌, ◌*◌, ◌<◌, ◌≤◌, length, IfOk, OnOk};
 ghost use Rattle.machine.specs.Slices.{slice_count};
 ghost use Rattle.script_ops.specs.Values.{IsLawful, threads_of};
-ghost use Rattle.step_world.specs.Openings.{AreFresh, AreFirst, AreListed};
+ghost use Rattle.step_world.specs.Openings.{AreCounted, AreFresh, AreFirst, AreListed};
 
 use crate::look_lists::LookLists;
 use crate::place::Thread;
@@ -16,29 +16,36 @@ use std::alloc::Global;
 fn push_domain(
     alloc: Global,
     script: &Script,
+    counts: &[u64],
     slices: &mut Vec<Slice>,
     domain: u8,
 ) -> Result<(), NoMemory>
+    requires counts { AreCounted script.now (length (threads_of script.now)) counts.now }
     requires domain { domain < script.now.machine.domains }
     requires fresh { AreFresh script.now (domain * script.now.machine.slices) slices.old.items }
     ensures { OnOk result (AreFresh script.now (domain * script.now.machine.slices + script.now.machine.slices) slices.new.items) }
 {
     let m = script.machine();
     for slice in 0..m.slices {
-        let room = slice_room(script, m.slice_number(domain, slice));
+        let room = slice_room(script, m.slice_number(domain, slice), counts);
         slices.push(Slice::create(alloc, m, domain, slice, room)?)?;
     }
     Ok(())
 }
 
-/// The slices of a machine, empty, by domain and then by slice, each with its room.
-pub(crate) fn fresh_slices(alloc: Global, script: &Script) -> Result<Vec<Slice>, NoMemory>
+/// The slices of a machine, empty, by domain and then by slice, each with its room. `counts` says how many commands each thread has.
+pub(crate) fn fresh_slices(
+    alloc: Global,
+    script: &Script,
+    counts: &[u64],
+) -> Result<Vec<Slice>, NoMemory>
+    requires { AreCounted script.now (length (threads_of script.now)) counts.now }
     ensures { IfOk result (λ slices. AreFresh script.now (slice_count script.now.machine) slices.items) }
 {
     let m = script.machine();
     let mut slices = Vec::new(alloc);
     for domain in 0..m.domains {
-        push_domain(alloc, script, &mut slices, domain)?;
+        push_domain(alloc, script, counts, &mut slices, domain)?;
     }
     Ok(slices)
 }
@@ -55,13 +62,19 @@ pub(crate) fn first_threads(alloc: Global, script: &Script) -> Result<Vec<Thread
     Ok(threads)
 }
 
-/// The lists of all threads for the counts of their commands.
-pub(crate) fn fresh_lists(alloc: Global, script: &Script) -> Result<Vec<LookLists>, NoMemory>
+/// The lists of all threads for the counts of their commands. `counts` says how many commands each thread has.
+pub(crate) fn fresh_lists(
+    alloc: Global,
+    script: &Script,
+    counts: &[u64],
+) -> Result<Vec<LookLists>, NoMemory>
+    requires { AreCounted script.now (length (threads_of script.now)) counts.now }
     ensures { IfOk result (λ lists. AreListed script.now (length (threads_of script.now)) lists.items) }
 {
     let mut lists = Vec::new(alloc);
     for t in 0..script.threads() {
-        lists.push(LookLists::create(alloc, script.machine(), script.ops(t))?)?;
+        let own = LookLists::create(alloc, script.machine(), script.ops(t), counts[t as usize])?;
+        lists.push(own)?;
     }
     Ok(lists)
 }

@@ -2,6 +2,7 @@
 ghost use Rattle.std.specs.Prelude.{◌≡◌, ◌+◌, ◌<◌, ◌≤◌, [], ◌∷◌, ◌++◌, length, IfOk};
 ghost use Rattle.machine.specs.Maps.{parameters_of};
 ghost use Rattle.step_world.specs.LookLists.{AreReady, HasNoted, rooms_of, spare_in};
+ghost use Rattle.step_world.specs.Quotas.{commands_of};
 
 use crate::quotas::most_counts;
 use machine::Machine;
@@ -26,11 +27,20 @@ impl Model for LookLists {
 }
 
 impl LookLists {
-    /// A list for each command of these ops, with room for the counts that it can need.
-    pub(crate) fn create(alloc: Global, m: &Machine, ops: &[Op]) -> Result<LookLists, NoMemory>
+    /// A list for each command of these ops, of which so many are commands, with room for the counts that it can need.
+    pub(crate) fn create(
+        alloc: Global,
+        m: &Machine,
+        ops: &[Op],
+        commands: u64,
+    ) -> Result<LookLists, NoMemory>
+        requires { commands ≡ commands_of ops.now }
         ensures { IfOk result (λ l. AreReady (rooms_of (parameters_of m.now) ops.now) l) }
     {
         let mut lists = Vec::new(alloc);
+        if commands == 0 {
+            return Ok(LookLists { lists });
+        }
         for k in 0..ops.len() {
             match &ops[ops.len() - 1 - k] {
                 Op::Access { .. } => {}

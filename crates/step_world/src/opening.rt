@@ -4,7 +4,7 @@ ghost use Rattle.step_world.specs.Machine.{IsOpening};
 ghost use Rattle.step_world.specs.Worlds.{IsWorldOf, machine_of};
 
 use crate::fresh::{first_threads, fresh_lists, fresh_slices};
-use crate::rooms::command_room;
+use crate::rooms::{command_counts, command_room};
 use crate::work::Work;
 use crate::world::World;
 use rc_base::NoMemory;
@@ -21,11 +21,12 @@ impl World {
         ensures opening { IfOk result (λ w. IsOpening script.now (machine_of w)) }
     {
         let tree = Tree::create(alloc, script.machine(), script.tasks())?;
-        let commands = Vec::with_capacity(alloc, command_room(script) as usize)?;
-        let slices = fresh_slices(alloc, script)?;
+        let counts = command_counts(alloc, script)?;
+        let commands = Vec::with_capacity(alloc, command_room(script, &counts) as usize)?;
+        let slices = fresh_slices(alloc, script, &counts)?;
         let closing = Vec::with_capacity(alloc, slices.len())?;
         let threads = first_threads(alloc, script)?;
-        let lists = fresh_lists(alloc, script)?;
+        let lists = fresh_lists(alloc, script, &counts)?;
         Ok(World {
             tree,
             commands,

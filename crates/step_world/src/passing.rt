@@ -7,7 +7,6 @@ ghost use Rattle.step_world.specs.Turns.{TakesTurn};
 ghost use Rattle.step_world.specs.Worlds.{IsWorldOf, machine_of};
 
 use crate::place::Place;
-use crate::steps::{line_slice, move_to};
 use crate::world::World;
 use rc_base::Tag;
 use script_ops::{Op, Script};
@@ -20,9 +19,9 @@ fn pass(world: &mut World, script: &Script, t: u32, n: u32, tag: &Tag, addr: u64
     ensures passed { HasPassed script.now t n world.old world.new }
 {
     let line = addr / 64;
-    let slice = line_slice(script.machine(), tag.domain, line);
+    let slice = script.machine().line_slice(tag.domain, line);
     world.slices[slice].access(t, n, tag, line);
-    move_to(&mut world.threads, t, n + 1, Place::Ready);
+    world.threads[t as usize].next = n + 1;
 }
 
 // The address of the op of this number, where it is an access of this task on this CPU.

@@ -81,6 +81,7 @@ impl Slice {
     }
 
     /// Makes the access of an op, and notes it where its tag is not stale.
+    #[inline(always)]
     pub(crate) fn access(&mut self, thread: u32, op: u32, tag: &Tag, line: u64) -> Touched
         requires own { IsOwn self.old.cache.shape (line % self.old.cache.shape.sets) }
         requires mask { 0 < tag.now.mask % 2 ^ self.old.cache.shape.ways }

@@ -1,7 +1,5 @@
 //! The steps of a thread.
 ghost use Rattle.std.specs.Prelude.{◌≡◌, ◌<◌, true, length, slice_set, None};
-ghost use Rattle.machine.specs.Maps.{parameters_of};
-ghost use Rattle.machine.specs.Slices.{slice_count, slice_of_line};
 ghost use Rattle.run_law.specs.Ops.{is_command};
 ghost use Rattle.script_ops.specs.declared.op.Op.TheVariants as ops;
 ghost use Rattle.step_world.specs.Answers.{HasNext, HasTagged, HasTaken, HasTouched};
@@ -12,22 +10,8 @@ ghost use Rattle.step_world.specs.declared.place.Place.TheVariants.{Ready, Tagge
 use crate::place::{Place, Thread};
 use crate::world::World;
 use cache_core::Touched;
-use machine::Machine;
 use rc_base::Tag;
 use script_ops::{Op, Script};
-
-/// The number of the slice of a line in a domain. Where a cache has one slice, it takes no division.
-pub(crate) fn line_slice(m: &Machine, domain: u8, line: u64) -> usize
-    requires { domain < m.now.domains }
-    ensures number { result ≡ slice_of_line (parameters_of m.now) domain line }
-    ensures within { result < slice_count (parameters_of m.now) }
-{
-    if m.slices == 1 {
-        m.slice_number(domain, 0)
-    } else {
-        m.line_slice(domain, line)
-    }
-}
 
 /// Puts a thread where it is now.
 pub(crate) fn move_to(threads: &mut Vec<Thread>, t: u32, next: u32, place: Place)
@@ -97,7 +81,7 @@ pub(crate) fn touch(
     ensures tree { world.new.tree ≡ world.old.tree }
 {
     let line = addr / 64;
-    let slice = line_slice(script.machine(), tag.domain, line);
+    let slice = script.machine().line_slice(tag.domain, line);
     let touched = world.slices[slice].access(t, n, &tag, line);
     match touched {
         Touched::Stale { .. } => move_to(&mut world.threads, t, n, Place::Ready),

@@ -85,8 +85,9 @@ module _ {m : Parameters} {t : Tables} {s : State} {epoch : ℕ} (keeps : Keeps 
           id-not_zero g gid (λ (x : Group). x.class) class other (find-found (has_gid gid) s.groups g found) (λ k d some within. (keeps.sound.numbered.apart 0 k d some within).0) first.class is)
 
   -- the group of the name is a control group with its class
-  pub IsControl-found : (name : NameId) (gid : Gid) (g : Group) → NamedAs name gid → group_of s gid ≡ Some g → IsControl s (record { gid = gid; class = g.class })
+  pub IsControl-found : (name : NameId) (gid : Gid) (g : Group) → NamedAs name gid → group_of s gid ≡ Some g → IsControl s (record { name = name; gid = gid; class = g.class })
   IsControl-found name gid g named found = record {
+    named = named;
     has_class = ap (option_map (λ (x : Group). x.class)) found;
     is_control_kind = ap (λ (o : Option Group). option_map_or (λ (x : Group). is_control x.kind) o false) found ∙ IsControlKind-named name gid g named found;
     other_gid = gid-named name gid named;

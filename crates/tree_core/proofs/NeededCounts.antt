@@ -1,17 +1,22 @@
 -- The counts that a command needs.
-use Rattle.std.proofs.Common.{◌≡◌, ℕ, ◌+◌, ◌*◌, ◌/◌, ◌%◌, ◌<◌, List, [], ◌∷◌, length, map, take, get_or, Some, refl, sym, ap, ◌∙◌, arith, length-append, length-take}
+use Rattle.std.proofs.Common.{◌≡◌, ℕ, ◌+◌, ◌*◌, ◌/◌, ◌%◌, ◌<◌, List, [], ◌∷◌, length, map, take, get_or, Some, refl, sym, ap, ◌∙◌, arith, length-append, length-take, true, false}
 use Rattle.std.proofs.Math.Nat.{div-lt_iff_lt-mul, div-mul-le_self, mod-eq-sub-div-mul, mod-lt}
 use Rattle.std.specs.List.{flat_map, slice_get}
 use Rattle.std.proofs.lemmas.List.Concat.{flat_map_single, get_or-flat_map}
 use Rattle.std.proofs.lemmas.List.FromFn.{get_or-map-range_with_len, length-map-range_with_len}
 use Rattle.std.proofs.lemmas.Option.{slice_get-get_or}
 use Rattle.machine.specs.declared.parameters.Parameters.{Parameters}
+use Rattle.path_names.specs.declared.files.FileKind.TheVariants.{Mode}
 use Rattle.path_names.specs.declared.path_ref.PathRef.{PathRef}
+use Rattle.path_names.specs.declared.path_ref.PathRef.TheVariants.{File}
 use Rattle.script_ops.specs.declared.op.Op.{Op}
 use Rattle.script_ops.specs.declared.op.Op.TheVariants as ops
+use Rattle.tree_core.proofs.Outcomes.{needs-nothing}
+use Rattle.tree_core.specs.Places.{is_mode_file}
 use Rattle.tree_core.specs.RmidLists.{counts_in}
 use Rattle.tree_law.specs.State.{State}
-use Rattle.tree_law.specs.Steps.{needs_accepted}
+use Rattle.tree_law.specs.Steps.{needs, needs_accepted}
+use Rattle.tree_law.specs.commands.Write as write
 
 -- each RMID has as many counts as there are domains
 pub length-counts_in : (first domains : ℕ) (rmids : List ℕ) → length (flat_map (counts_in first domains) rmids) ≡ length rmids * domains
@@ -66,3 +71,13 @@ needs_accepted-none m s (ops.List path) other = refl
 needs_accepted-none m s (ops.Flush domain) other = refl
 needs_accepted-none m s (ops.Access task cpu addr) other = refl
 needs_accepted-none m s (ops.Touch cpu path task offset) other = refl
+
+-- a write of any file but `mode` frees no RMID
+needs_accepted-write : (m : Parameters) (s : State) (path : PathRef) (text : List ℕ) → is_mode_file path ≡ false → needs_accepted m s (ops.Write path text) ≡ []
+unfolding write.freed
+needs_accepted-write m s (File dir Mode) text other = absurd (let f : true ≡ false = other in cc)
+needs_accepted-write m s path text other = refl
+
+-- so it needs none
+pub needs-write : (m : Parameters) (s : State) (path : PathRef) (text : List ℕ) → is_mode_file path ≡ false → needs m s (ops.Write path text) ≡ []
+needs-write m s path text other = needs-nothing m s (ops.Write path text) (needs_accepted-write m s path text other)

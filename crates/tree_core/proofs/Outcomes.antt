@@ -113,15 +113,6 @@ pub refusal-rmdir_none : (m : Parameters) (s : State) (path : PathRef) → find 
 unfolding refusal rmdir.refusal
 refusal-rmdir_none m s path none = ap (option_map plain) none
 
--- and where nothing is against it, there is no reason
-pub find-rmdir_none : (m : Parameters) (s : State) (path : PathRef) → refusal m s (Rmdir path) ≡ None → find (rmdir.against s path) rmdir.reasons ≡ None
-unfolding refusal rmdir.refusal
-find-rmdir_none m s path none = at (find (rmdir.against s path) rmdir.reasons) none
-  where
-    at : (o : Option Why) → option_map plain o ≡ None → o ≡ None
-    at None e = refl
-    at (Some why) e = absurd (let some : Some (plain why) ≡ None = e in cc)
-
 -- ---- read, list and flush
 
 -- a read of what is no file is refused

@@ -1,5 +1,5 @@
 -- What removing a control group leaves.
-use Rattle.std.proofs.Common.{◌≡◌, ◌≢◌, ℕ, ◌*◌, ◌<◌, Bool, true, false, not, ◌&&◌, ◌||◌, cond, List, [], ◌∷◌, length, map, filter, get_or, take, Option, None, Some, is_some, IsNone, refl, sym, subst, ap, ap₂, ◌∙◌}
+use Rattle.std.proofs.Common.{◌≡◌, ◌≢◌, ℕ, ◌*◌, ◌<◌, Bool, true, false, not, ◌&&◌, ◌||◌, cond, List, [], ◌∷◌, length, map, filter, get_or, take, Option, None, Some, IsNone, refl, sym, subst, ap, ap₂, ◌∙◌}
 use Rattle.std.specs.Option.{option_map_or}
 use Rattle.std.proofs.lemmas.Bool.{ne_eqb}
 use Rattle.std.proofs.lemmas.List.Folds.{list_any_none}
@@ -22,7 +22,6 @@ use Rattle.path_names.specs.declared.names.NameId.{NameId}
 use Rattle.path_names.specs.declared.path_ref.PathRef.TheVariants.{Dir}
 use Rattle.rc_base.specs.Gids.{default_gid}
 use Rattle.rc_base.specs.declared.names.Gid.{Gid}
-use Rattle.rc_base.specs.declared.replies.Why.TheVariants.{NoSuchPath, NotAPlace}
 use Rattle.script_ops.specs.declared.op.Op.TheVariants.{Rmdir}
 use Rattle.task_binding.specs.Bindings as bindings
 use Rattle.task_binding.specs.declared.binding.Binding.{Binding}
@@ -31,7 +30,7 @@ use Rattle.tree_core.proofs.FoundGroups.{has_group-found}
 use Rattle.tree_core.proofs.GoingGroups.{MayFree-going, contains-rmids_with, freed-differ, list_any-goes_with, list_any-has_gid}
 use Rattle.tree_core.proofs.KeptTables.{IsDefault-first, length-positive}
 use Rattle.tree_core.proofs.NeededCounts.{length-counts_in}
-use Rattle.tree_core.proofs.Outcomes.{find-rmdir_none, needs-accepted, next-accepted}
+use Rattle.tree_core.proofs.Outcomes.{needs-accepted, next-accepted}
 use Rattle.tree_core.proofs.RemovedGroups.{Keeps-gone, length-changed_le}
 use Rattle.tree_core.proofs.ReturnedCpus.{map-cpu_after}
 use Rattle.tree_core.proofs.RmidLists.{is_monitor_of-counted}
@@ -56,14 +55,6 @@ use Rattle.pseudo_lock.specs.Regions.{RegionTable, without_group}
 use Rattle.pseudo_lock.specs.declared.region.Region.{Region}
 use Rattle.std.proofs.lemmas.List.{take-map}
 use Rattle.tree_core.specs.Given.{IsGiven}
-
--- what may be removed is there
-pub directory_gid-accepted : (m : Parameters) (s : State) (name : NameId) → refusal m s (Rmdir (Dir (Ctrl name))) ≡ None → directory_gid s (Ctrl name) ≡ None → ⊥
-directory_gid-accepted m s name nothing none = there (is_some (directory_gid s (Ctrl name))) (find-rmdir_none m s (Dir (Ctrl name)) nothing) (ap is_some none)
-  where
-    there : (b : Bool) → cond (not b) (Some NoSuchPath) (cond false (Some NotAPlace) None) ≡ None → b ≡ false → ⊥
-    there true e is = let f : true ≡ false = is in cc
-    there false e is = let some : Some NoSuchPath ≡ None = e in cc
 
 -- without its monitor groups and then without it, the groups are those that stay
 pub without-off_monitors : (gid : Gid) (groups : List Group) → without gid (off_monitors gid groups) ≡ staying gid groups

@@ -1,5 +1,5 @@
 -- What removing a monitor group leaves.
-use Rattle.std.proofs.Common.{◌≡◌, ℕ, suc, ◌*◌, ◌<◌, Bool, true, false, not, ◌&&◌, cond, List, [], ◌∷◌, length, map, find, get_or, Option, None, Some, is_some, IsNone, refl, sym, subst, ap, ap₂, ◌∙◌, arith}
+use Rattle.std.proofs.Common.{◌≡◌, ℕ, suc, ◌*◌, ◌<◌, Bool, true, false, not, ◌&&◌, cond, List, [], ◌∷◌, length, map, find, get_or, Option, None, Some, IsNone, refl, sym, subst, ap, ap₂, ◌∙◌, arith}
 use Rattle.std.specs.Option.{option_and_then, option_map, option_map_or}
 use Rattle.std.proofs.lemmas.Bool.{eqb-true, ne_eqb}
 use Rattle.cpu_binding.specs.Groups as cpu_groups
@@ -19,7 +19,6 @@ use Rattle.path_names.specs.declared.dirs.Owner.{Owner}
 use Rattle.path_names.specs.declared.names.NameId.{NameId}
 use Rattle.path_names.specs.declared.path_ref.PathRef.TheVariants.{Dir}
 use Rattle.rc_base.specs.declared.names.Gid.{Gid}
-use Rattle.rc_base.specs.declared.replies.Why.TheVariants.{NoSuchPath, NotAPlace}
 use Rattle.script_ops.specs.declared.op.Op.TheVariants.{Rmdir}
 use Rattle.task_binding.specs.Bindings as bindings
 use Rattle.task_binding.specs.declared.binding.Binding.{Binding}
@@ -27,7 +26,7 @@ use Rattle.tree_core.proofs.GoingGroups.{MayFree-going, contains-rmids_of, freed
 use Rattle.tree_core.proofs.KeptTables.{HasIds-found, IsDefault-first}
 use Rattle.tree_core.proofs.MonitorGroups.{MonitorAt-named, control-parent, gid-named_monitor}
 use Rattle.tree_core.proofs.NeededCounts.{length-counts_in}
-use Rattle.tree_core.proofs.Outcomes.{find-rmdir_none, needs-accepted, next-accepted}
+use Rattle.tree_core.proofs.Outcomes.{needs-accepted, next-accepted}
 use Rattle.tree_core.proofs.RemovedGroups.{Keeps-gone, length-changed_le}
 use Rattle.tree_core.proofs.ReturnedCpus.{map-cpu_uncounted}
 use Rattle.tree_core.proofs.StayingIds.{goes_with_id}
@@ -43,18 +42,6 @@ use Rattle.tree_law.specs.State.{Outcome, State}
 use Rattle.tree_law.specs.Steps.{accepted, needs, refusal}
 use Rattle.tree_law.specs.commands.Rmdir.{cpu_uncounted, uncounted, without_monitor}
 use Rattle.tree_law.specs.commands.Rmdir as rmdir
-
--- what may be removed is there
-pub directory_gid-accepted_monitor : (m : Parameters) (s : State) (owner : Owner) (name : NameId) → refusal m s (Rmdir (Dir (Mon owner name))) ≡ None → directory_gid s (Mon owner name) ≡ None → ⊥
-directory_gid-accepted_monitor m s owner name nothing none = there (is_some (directory_gid s (Mon owner name))) (find-rmdir_none m s (Dir (Mon owner name)) nothing) (ap is_some none)
-  where
-    there : (b : Bool) → cond (not b) (Some NoSuchPath) (cond false (Some NotAPlace) None) ≡ None → b ≡ false → ⊥
-    there true e is = let f : true ≡ false = is in cc
-    there false e is = let some : Some NoSuchPath ≡ None = e in cc
-
--- there is none where there is no control group
-pub directory_gid-no_owner : (s : State) (owner : Owner) (name : NameId) → owner_gid s owner ≡ None → directory_gid s (Mon owner name) ≡ None
-directory_gid-no_owner s owner name none = ap (option_and_then (λ parent. option_map (λ (g : Group). g.gid) (find (is_monitor_named parent name) s.groups))) none
 
 -- the group of the name among its monitor groups
 pub directory_gid-monitor : (s : State) (owner : Owner) (name : NameId) (parent : Gid) → owner_gid s owner ≡ Some parent → directory_gid s (Mon owner name) ≡ option_map (λ (g : Group). g.gid) (find (is_monitor_named parent name) s.groups)

@@ -15,21 +15,12 @@ use Rattle.rc_base.specs.declared.replies.Reply.{Reply}
 use Rattle.rc_base.specs.declared.replies.Why.{Why}
 use Rattle.rc_base.specs.declared.replies.Why.TheVariants.{NoSuchPath, OnlyRead}
 use Rattle.script_ops.specs.declared.op.Op.TheVariants as ops
-use Rattle.tree_core.proofs.RemovablePaths.{cond-not_none}
-use Rattle.tree_core.specs.Places.{is_some_file}
 use Rattle.tree_law.specs.Existing.{dir_exists, group_of, holder_gid, owner_gid}
 use Rattle.tree_law.specs.Places.{group_at}
 use Rattle.tree_law.specs.State.{State}
 use Rattle.tree_law.specs.Steps.{left, with_status}
 use Rattle.tree_law.specs.commands.Tasks as tasks
 use Rattle.tree_law.specs.commands.Write as write
-
--- only a file may be written
-pub is_some_file-written : (s : State) (path : PathRef) → find (write.against s path) write.reasons ≡ None → is_some_file path ≡ false → ⊥
-is_some_file-written s (Dir dir) none other = let some : Some NoSuchPath ≡ None = none in cc
-is_some_file-written s (Free dir name) none other = let some : Some NoSuchPath ≡ None = none in cc
-is_some_file-written s (Nowhere name) none other = let some : Some NoSuchPath ≡ None = none in cc
-is_some_file-written s (File dir kind) none other = let f : true ≡ false = other in cc
 
 -- a kind of file that has none of these names
 pub record IsOtherKind (kind : FileKind) : Type 0 where
@@ -39,6 +30,11 @@ pub record IsOtherKind (kind : FileKind) : Type 0 where
   pub cpus : kind ≡ files.Cpus → ⊥
   pub cpus_list : kind ≡ files.CpusList → ⊥
   pub threshold : kind ≡ files.MaxThreshold → ⊥
+
+-- one of two reasons is there, whichever it is
+cond-not_none : {X : Type 0} (b : Bool) (one other : X) → cond b (Some one) (Some other) ≡ None → ⊥
+cond-not_none true one other e = let some : Some one ≡ None = e in cc
+cond-not_none false one other e = let some : Some other ≡ None = e in cc
 
 -- what may be written has one of them
 pub IsOtherKind-not_written : (s : State) (dir : DirRef) (kind : FileKind) → find (write.against s (File dir kind)) write.reasons ≡ None → IsOtherKind kind → ⊥

@@ -2,6 +2,7 @@ pub mod CpuFiles
 pub mod Directories
 pub mod Follows
 pub mod Found
+pub mod FoundFiles
 pub mod Given
 pub mod Kept
 pub mod Modes

@@ -1,7 +1,7 @@
 -- Paths by what is made or written there, and what is against the place of a new group.
 use Rattle.std.specs.Prelude.{Bool, true, false, List, [], ◌∷◌}
 use Rattle.path_names.specs.declared.dirs.DirRef.TheVariants.{MonDomain}
-use Rattle.path_names.specs.declared.files.FileKind.TheVariants.{Occupancy}
+use Rattle.path_names.specs.declared.files.FileKind.TheVariants.{Mode, Occupancy}
 use Rattle.path_names.specs.declared.path_ref.PathRef.{PathRef}
 use Rattle.path_names.specs.declared.path_ref.PathRef.TheVariants.{File}
 use Rattle.rc_base.specs.declared.replies.Why.{Why}
@@ -15,6 +15,11 @@ place_reasons = NoSuchPath ∷ Exists ∷ NotAPlace ∷ []
 abbrev pub is_some_file : PathRef → Bool
 is_some_file (File dir kind) = true
 is_some_file path = false
+
+-- whether a path is the file `mode` of some directory
+abbrev pub is_mode_file : PathRef → Bool
+is_mode_file (File dir Mode) = true
+is_mode_file path = false
 
 -- whether a path is the file `llc_occupancy` of a group in some domain
 abbrev pub is_occupancy : PathRef → Bool

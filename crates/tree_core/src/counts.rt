@@ -28,6 +28,17 @@ impl Model for Counts {
 }
 
 impl Counts {
+    /// No counts.
+    pub(crate) fn none() -> Counts
+        ensures { result ≡ [] }
+    {
+        Counts {
+            rmids: RmidList::new(),
+            first: 0,
+            domains: 1,
+        }
+    }
+
     /// The counts of these RMIDs in so many domains, from a first one on.
     pub(crate) fn of(rmids: RmidList, first: u8, domains: u8) -> Counts
         requires some { 0 < domains }

@@ -22,56 +22,52 @@ fn is_named(domain: u8, all: &[Assignment]) -> bool
     all.iter().any(|a| domain == a.domain)
 }
 
-/// A raise for each domain that is named, rising.
-pub(crate) fn raises(domains: u8, all: &[Assignment]) -> After
-    requires { domains ≤ 8 }
-    ensures raises { result.items
+/// Adds a raise for each domain that is named, rising.
+pub(crate) fn raise_named(follows: &mut After, domains: u8, all: &[Assignment])
+    requires few { domains ≤ 8 }
+    requires nothing { follows.old.items ≡ [] }
+    ensures raises { follows.new.items
         ≡ map (λ d. Raise d) (filter (names_domain all.now) (range_with_len 0 domains)) }
-    ensures domains { All (λ f. follow_domain f < domains) result.items }
-    ensures ready { (m : Parameters) → All (IsReady m) result.items }
+    ensures domains { All (λ f. follow_domain f < domains) follows.new.items }
+    ensures ready { (m : Parameters) → All (IsReady m) follows.new.items }
 {
-    let mut after = After::new();
     for domain in 0..domains {
         if is_named(domain, all) {
-            after.push(Follow::Raise { domain });
+            follows.push(Follow::Raise { domain });
         }
     }
-    after
 }
 
-/// A raise of every domain, rising.
-pub(crate) fn raise_all(domains: u8) -> After
-    requires { domains ≤ 8 }
-    ensures raises { result.items ≡ map (λ d. Raise d) (range_with_len 0 domains) }
-    ensures domains { All (λ f. follow_domain f < domains) result.items }
-    ensures ready { (m : Parameters) → All (IsReady m) result.items }
+/// Adds a raise of every domain, rising.
+pub(crate) fn raise_all(follows: &mut After, domains: u8)
+    requires few { domains ≤ 8 }
+    requires nothing { follows.old.items ≡ [] }
+    ensures raises { follows.new.items ≡ map (λ d. Raise d) (range_with_len 0 domains) }
+    ensures domains { All (λ f. follow_domain f < domains) follows.new.items }
+    ensures ready { (m : Parameters) → All (IsReady m) follows.new.items }
 {
-    let mut after = After::new();
     for domain in 0..domains {
-        after.push(Follow::Raise { domain });
+        follows.push(Follow::Raise { domain });
     }
-    after
 }
 
-/// A flush of every domain, rising.
-pub(crate) fn flushes(domains: u8) -> After
-    requires { domains ≤ 8 }
-    ensures flushes { result.items ≡ map (λ d. Flush d) (range_with_len 0 domains) }
-    ensures domains { All (λ f. follow_domain f < domains) result.items }
-    ensures ready { (m : Parameters) → All (IsReady m) result.items }
+/// Adds a flush of every domain, rising.
+pub(crate) fn flush_all(follows: &mut After, domains: u8)
+    requires few { domains ≤ 8 }
+    requires nothing { follows.old.items ≡ [] }
+    ensures flushes { follows.new.items ≡ map (λ d. Flush d) (range_with_len 0 domains) }
+    ensures domains { All (λ f. follow_domain f < domains) follows.new.items }
+    ensures ready { (m : Parameters) → All (IsReady m) follows.new.items }
 {
-    let mut after = After::new();
     for domain in 0..domains {
-        after.push(Follow::Flush { domain });
+        follows.push(Follow::Flush { domain });
     }
-    after
 }
 
-/// One follow-up.
-pub(crate) fn only(follow: Follow) -> After
-    ensures only { result.items ≡ follow ∷ [] }
+/// Adds one follow-up.
+pub(crate) fn push_only(follows: &mut After, follow: Follow)
+    requires nothing { follows.old.items ≡ [] }
+    ensures only { follows.new.items ≡ follow ∷ [] }
 {
-    let mut after = After::new();
-    after.push(follow);
-    after
+    follows.push(follow);
 }

@@ -3,9 +3,9 @@ ghost use Rattle.std.specs.Prelude.{◌≡◌, Some, MatchOption, false};
 ghost use Rattle.path_names.specs.declared.dirs.DirRef.TheVariants.{MonDomain};
 ghost use Rattle.path_names.specs.declared.files.FileKind.TheVariants.{Occupancy};
 ghost use Rattle.path_names.specs.declared.path_ref.PathRef.TheVariants.{Dir, File};
-ghost use Rattle.tree_law.specs.Existing.{holder_dir, holding, holds_groups, is_group_directory, is_in_place, owner_dir};
-ghost use Rattle.tree_core.specs.Places.{is_occupancy, is_some_file};
-ghost use Rattle.tree_law.specs.commands.Write.{is_only_read, is_written};
+ghost use Rattle.tree_law.specs.Existing.{holder_dir, holding, holds_groups, is_in_place, owner_dir};
+ghost use Rattle.tree_core.specs.Places.{is_mode_file, is_occupancy, is_some_file};
+ghost use Rattle.tree_law.specs.commands.Write.{is_written};
 
 use path_names::{DirRef, FileKind, Holder, Owner, PathRef};
 
@@ -72,18 +72,8 @@ pub(crate) fn is_in_place(path: PathRef) -> bool
     }
 }
 
-/// Whether a path is the directory of a group that may be removed, which is any but the default group.
-pub(crate) fn is_group_directory(path: PathRef) -> bool
-    ensures { result ≡ is_group_directory path }
-{
-    matches!(
-        path,
-        PathRef::Dir(DirRef::Ctrl(_)) | PathRef::Dir(DirRef::Mon(_, _))
-    )
-}
-
-// Whether a file can be written.
-fn is_written(kind: FileKind) -> bool
+/// Whether a file can be written.
+pub(crate) fn is_written(kind: FileKind) -> bool
     ensures { result ≡ is_written kind }
 {
     matches!(
@@ -97,14 +87,11 @@ fn is_written(kind: FileKind) -> bool
     )
 }
 
-/// Whether a path is a file that can only be read.
-pub(crate) fn is_only_read(path: PathRef) -> bool
-    ensures { result ≡ is_only_read path }
+/// Whether a path is the file `mode` of some directory.
+pub(crate) fn is_mode_file(path: PathRef) -> bool
+    ensures { result ≡ is_mode_file path }
 {
-    match path {
-        PathRef::File(_, kind) => !is_written(kind),
-        _ => false,
-    }
+    matches!(path, PathRef::File(_, FileKind::Mode))
 }
 
 /// The directory and the kind of the file that a path is.

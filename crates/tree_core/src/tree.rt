@@ -7,11 +7,11 @@ ghost use Rattle.tree_law.specs.State.{opening};
 ghost use Rattle.tree_law.specs.Sound.{IsSound};
 
 mod apply;
-mod control;
 mod cpus;
 mod entering;
 mod existing;
 mod flush;
+mod found;
 mod freed;
 mod joining;
 mod leaving;

@@ -147,3 +147,11 @@ length-hexadecimal width n small narrow = length-filled 16 15 width n (omega ari
 -- a number of 8 bits has at most three decimal digits
 pub length-decimal_byte : (n : ℕ) → n < 2 ^ 8 → length (decimal n) ≤ 3
 length-decimal_byte n small = length-decimal-le 3 n (omega arith) (omega arith) (omega arith)
+
+-- with no width there are no zeros on the left
+pub filled-no_width : (base n : ℕ) → filled base 0 n ≡ digits base false n
+unfolding filled
+filled-no_width base n = ap (λ (k : ℕ). replicate {A = ℕ} k 48 ++ digits base false n) (none (length (digits base false n)))
+  where
+    none : (k : ℕ) → 0 - k ≡ 0
+    none k = omega arith

@@ -1,5 +1,5 @@
 //! Taking a command.
-ghost use Rattle.std.specs.Prelude.{◌≡◌, ◌+◌, ◌≤◌, ◌<◌, IfSome, None, Some, length, if◌then◌else◌};
+ghost use Rattle.std.specs.Prelude.{◌≡◌, ◌+◌, ◌≤◌, ◌<◌, IfSome, None, Some, length, if◌then◌else◌, []};
 ghost use Rattle.std.specs.List.{All};
 ghost use Rattle.rc_base.specs.Replies.{refused};
 ghost use Rattle.rc_base.specs.declared.replies.Why.TheVariants as whys;
@@ -37,42 +37,47 @@ impl Tree {
         ensures ready { All (IsReady self.old.machine) result.1.items }
         ensures sound { IsSound self.new.machine self.new.state }
     {
-        let answer = self.take(op, looks);
+        let mut follows = After::new();
+        let reply = self.take(op, looks, &mut follows);
 
         // What the type keeps makes the new state a sound one.
         let _ = &self.machine;
-        answer
+        (reply, follows)
     }
 
     // Takes a command.
-    fn take(&mut self, op: &Op, looks: &[u64]) -> (Reply, After)
+    fn take(&mut self, op: &Op, looks: &[u64], follows: &mut After) -> Reply
         requires fits { Fits self.old.machine (tasks_of self.old.state) op.now }
         requires looks { length looks.now ≡ length (needs self.old.machine self.old.state op.now) }
         requires epoch { self.old.epoch < MOST_WEIGHT }
+        requires nothing { follows.old.items ≡ [] }
         ensures machine { self.new.machine ≡ self.old.machine }
-        ensures reply { result.0 ≡ (next self.old.machine self.old.state op.now looks.now).reply }
+        ensures reply { result ≡ (next self.old.machine self.old.state op.now looks.now).reply }
         ensures state { self.new.state ≡ (next self.old.machine self.old.state op.now looks.now).state }
         ensures epoch { self.new.epoch ≡ self.old.epoch + 1 }
-        ensures after { result.1.items ≡ after self.old.machine self.old.state self.old.epoch op.now }
-        ensures domains { All (λ f. follow_domain f < self.old.machine.domains) result.1.items }
-        ensures ready { All (IsReady self.old.machine) result.1.items }
+        ensures after { follows.new.items ≡ after self.old.machine self.old.state self.old.epoch op.now }
+        ensures domains { All (λ f. follow_domain f < self.old.machine.domains) follows.new.items }
+        ensures ready { All (IsReady self.old.machine) follows.new.items }
     {
         self.count();
         match op {
-            Op::Mkdir { path } => (self.mkdir(*path), After::new()),
-            Op::Rmdir { path } => self.rmdir(*path, looks),
-            Op::Write { path, text } => self.write(*path, text.as_slice(), looks),
-            Op::Read { path } => (found(self.is_file(*path)), After::new()),
-            Op::List { path } => (found(self.is_directory(*path)), After::new()),
-            Op::Flush { domain } => (Reply::Ok, self.flush(*domain)),
+            Op::Mkdir { path } => self.mkdir(*path),
+            Op::Rmdir { path } => self.rmdir(*path, looks, follows),
+            Op::Write { path, text } => self.write(*path, text.as_slice(), looks, follows),
+            Op::Read { path } => found(self.is_file(*path)),
+            Op::List { path } => found(self.is_directory(*path)),
+            Op::Flush { domain } => {
+                self.flush(*domain, follows);
+                Reply::Ok
+            }
             Op::Tick => self.tick(looks),
             Op::Touch {
                 path,
                 offset,
                 task,
                 cpu,
-            } => self.touch(*path, *offset, *task, *cpu),
-            Op::Access { .. } => (Reply::Ok, After::new()),
+            } => self.touch(*path, *offset, *task, *cpu, follows),
+            Op::Access { .. } => Reply::Ok,
         }
     }
 

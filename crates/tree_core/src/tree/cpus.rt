@@ -1,43 +1,39 @@
 //! A write of `cpus` or `cpus_list`: the CPUs of a group.
-ghost use Rattle.std.specs.Prelude.{◌≡◌, ◌<◌, ◌≤◌, ℕ, List, None, find, length, true};
-ghost use Rattle.std.specs.List.{All};
+ghost use Rattle.std.specs.Prelude.{◌≡◌, ◌≤◌, ℕ, List, None, find, length, true};
 ghost use Rattle.path_names.specs.declared.path_ref.PathRef.TheVariants.{File};
 ghost use Rattle.script_ops.specs.declared.op.Op.TheVariants.{Write};
 ghost use Rattle.tree_core.specs.CpuFiles.{StaysSound, is_cpus, named_by, unless};
-ghost use Rattle.tree_core.specs.Follows.{IsReady};
+ghost use Rattle.tree_law.specs.Existing.{directory_gid};
 ghost use Rattle.tree_law.specs.Refusals.{reply_of};
 ghost use Rattle.tree_law.specs.Sound.{IsSound};
-ghost use Rattle.tree_law.specs.Steps.{after, follow_domain, next};
+ghost use Rattle.tree_law.specs.Steps.{next};
 ghost use Rattle.tree_law.specs.commands.Cpus.{accepted, against_set, cpus_after, refusal};
 ghost use Rattle.tree_law.specs.commands.Write.{against, reasons};
 
 use super::Tree;
 use crate::cpu_sets::{give, read_cpus, refusal};
-use crate::follow::After;
+use crate::found_dir::FoundDir;
 use group_tree::Group;
-use path_names::{DirRef, FileKind};
+use path_names::FileKind;
 use rc_base::{Reply, Why};
 
 impl Tree {
     /// Writes the `cpus` or the `cpus_list` of a directory.
-    pub(crate) fn write_cpus(&mut self, dir: DirRef, kind: FileKind, text: &[u8]) -> (Reply, After)
+    pub(crate) fn write_cpus(&mut self, at: FoundDir, kind: FileKind, text: &[u8]) -> Reply
         requires kind { is_cpus kind ≡ true }
-        requires writable { find (against self.old.state (File dir kind)) reasons ≡ None }
+        requires writable { find (against self.old.state (File at.dir kind)) reasons ≡ None }
+        requires found { at.gid ≡ directory_gid self.old.state at.dir }
         requires short { length text.now ≤ 4096 }
         ensures machine { self.new.machine ≡ self.old.machine }
         ensures reply { (looks : List ℕ)
-            → result.0 ≡ (next self.old.machine self.old.state (Write (File dir kind) text.now) looks).reply }
+            → result ≡ (next self.old.machine self.old.state (Write (File at.dir kind) text.now) looks).reply }
         ensures state { (looks : List ℕ)
-            → self.new.state ≡ (next self.old.machine self.old.state (Write (File dir kind) text.now) looks).state }
+            → self.new.state ≡ (next self.old.machine self.old.state (Write (File at.dir kind) text.now) looks).state }
         ensures epoch { self.new.epoch ≡ self.old.epoch }
-        ensures after { result.1.items
-            ≡ after self.old.machine self.old.state self.old.epoch (Write (File dir kind) text.now) }
-        ensures domains { All (λ f. follow_domain f < self.old.machine.domains) result.1.items }
-        ensures ready { All (IsReady self.old.machine) result.1.items }
     {
         // What the type keeps makes the next state a sound one.
         let _ = &self.machine;
-        let Some(group) = self.group_at(dir) else {
+        let Some(group) = self.group_in(at) else {
             return self.answer(Reply::Ok);
         };
         let reply = self.join_cpus(&group, kind, text);

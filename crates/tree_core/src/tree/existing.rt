@@ -1,8 +1,10 @@
 //! Which paths exist, and whose group a directory is.
 ghost use Rattle.std.specs.Prelude.{◌≡◌};
+ghost use Rattle.tree_core.specs.FoundFiles.{FindsDir};
 ghost use Rattle.tree_law.specs.Existing.{dir_exists, directory_gid, holder_gid, is_directory, is_file, is_held, owner_gid, path_exists};
 
 use super::Tree;
+use crate::found_dir::FoundDir;
 use crate::places::holding;
 use path_names::{DirRef, Holder, Owner, PathRef};
 use rc_base::Gid;
@@ -54,6 +56,18 @@ impl Tree {
             DirRef::Mon(owner, name) => self.holder_gid(Holder::Monitor(owner, name)).is_some(),
             DirRef::MonData(holder) => self.holder_gid(holder).is_some(),
             DirRef::MonDomain(holder, _) => self.holder_gid(holder).is_some(),
+        }
+    }
+
+    /// A directory with its group, and None where there is no such directory.
+    pub(crate) fn found_dir(&self, dir: DirRef) -> Option<FoundDir>
+        ensures { FindsDir self.now.state dir result }
+    {
+        let gid = self.directory_gid(dir);
+        if gid.is_some() || self.dir_exists(dir) {
+            Some(FoundDir { dir, gid })
+        } else {
+            None
         }
     }
 

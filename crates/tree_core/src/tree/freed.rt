@@ -4,8 +4,8 @@ ghost use Rattle.std.specs.Option.{option_map_or, option_to_list};
 ghost use Rattle.path_names.specs.declared.files.FileKind.TheVariants as files;
 ghost use Rattle.path_names.specs.declared.path_ref.PathRef.TheVariants.{File};
 ghost use Rattle.script_ops.specs.declared.op.Op.TheVariants.{Rmdir, Write};
-ghost use Rattle.tree_core.specs.Directories.{path_of};
-ghost use Rattle.tree_law.specs.Existing.{group_of, holder_gid};
+ghost use Rattle.tree_core.specs.Found.{IsGroup, found_path};
+ghost use Rattle.tree_law.specs.Existing.{directory_gid, group_of, holder_gid};
 ghost use Rattle.tree_law.specs.Freeing.{counts_of, rmids_of, rmids_with};
 ghost use Rattle.tree_law.specs.Steps.{needs};
 ghost use Rattle.tree_law.specs.commands.Mode.{freed_by};
@@ -13,11 +13,11 @@ ghost use Rattle.tree_law.specs.commands.Rmdir as rmdir;
 ghost use Rattle.tree_law.specs.commands.Write as write;
 
 use super::Tree;
-use crate::group_dir::{GroupDir, group_dir};
-use crate::places::file_at;
+use crate::found_dir::FoundDir;
+use crate::found_group::FoundGroup;
 use crate::rmid_list::{RmidList, push_monitors, push_some};
 use group_tree::Group;
-use path_names::{DirRef, FileKind, Holder, PathRef};
+use path_names::{FileKind, Holder, PathRef};
 use rc_base::{Gid, Mode};
 
 impl Tree {
@@ -26,12 +26,9 @@ impl Tree {
         requires { rmids.old.items ≡ [] }
         ensures { needs self.now.machine self.now.state (Rmdir path) ≡ counts_of self.now.machine rmids.new.items }
     {
-        match self.against_rmdir(path) {
-            Some(_) => {}
-            None => match group_dir(path) {
-                Some(dir) => self.push_freed(dir, rmids),
-                None => unreachable!(),
-            },
+        match self.found_at(path) {
+            Ok(found) => self.push_freed(found, rmids),
+            Err(_) => {}
         }
     }
 
@@ -41,34 +38,33 @@ impl Tree {
         ensures { needs self.now.machine self.now.state (Write path text.now)
             ≡ counts_of self.now.machine (option_to_list result) }
     {
-        match self.against_write(path) {
-            Some(_) => None,
-            None => match file_at(path) {
-                Some((dir, kind)) => self.freed_by_file(dir, kind, text),
-                None => unreachable!(),
-            },
+        match self.writable_at(path) {
+            Ok((at, kind)) => self.freed_by_file(at, kind, text),
+            Err(_) => None,
         }
     }
 
     // The RMID that is freed where a text is written to a file that can be written.
-    fn freed_by_file(&self, dir: DirRef, kind: FileKind, text: &[u8]) -> Option<u16>
-        requires writable { find (write.against self.now.state (File dir kind)) write.reasons ≡ None }
-        ensures { needs self.now.machine self.now.state (Write (File dir kind) text.now)
+    fn freed_by_file(&self, at: FoundDir, kind: FileKind, text: &[u8]) -> Option<u16>
+        requires writable { find (write.against self.now.state (File at.dir kind)) write.reasons ≡ None }
+        requires found { at.gid ≡ directory_gid self.now.state at.dir }
+        ensures { needs self.now.machine self.now.state (Write (File at.dir kind) text.now)
             ≡ counts_of self.now.machine (option_to_list result) }
     {
         match kind {
-            FileKind::Mode => self.freed_by_mode(dir, text),
+            FileKind::Mode => self.freed_by_mode(at, text),
             _ => None,
         }
     }
 
     // The RMID that is freed where a text is written to the `mode` of a directory, which is there.
-    fn freed_by_mode(&self, dir: DirRef, text: &[u8]) -> Option<u16>
-        requires writable { find (write.against self.now.state (File dir files.Mode)) write.reasons ≡ None }
-        ensures { needs self.now.machine self.now.state (Write (File dir files.Mode) text.now)
+    fn freed_by_mode(&self, at: FoundDir, text: &[u8]) -> Option<u16>
+        requires writable { find (write.against self.now.state (File at.dir files.Mode)) write.reasons ≡ None }
+        requires found { at.gid ≡ directory_gid self.now.state at.dir }
+        ensures { needs self.now.machine self.now.state (Write (File at.dir files.Mode) text.now)
             ≡ counts_of self.now.machine (option_to_list result) }
     {
-        let Some(group) = self.control_at(dir) else {
+        let Some(group) = self.control_in(at) else {
             return None;
         };
         match self.asked_mode(&group, text) {
@@ -78,21 +74,15 @@ impl Tree {
         }
     }
 
-    /// Lists the RMIDs that go with the group of a directory: its own, and where it is a control group, those of its monitor groups.
-    #[tactic(auto, unfolding(tree_law::specs::commands::Rmdir::freed))]
-    pub(crate) fn push_freed(&self, dir: GroupDir, rmids: &mut RmidList)
-        requires { rmids.old.items ≡ [] }
-        ensures { rmids.new.items ≡ rmdir.freed self.now.state (path_of dir) }
+    /// Lists the RMIDs that go with a group: its own, and where it is a control group, those of its monitor groups.
+    pub(crate) fn push_freed(&self, found: FoundGroup, rmids: &mut RmidList)
+        requires found { IsGroup self.now.state found }
+        requires nothing { rmids.old.items ≡ [] }
+        ensures { rmids.new.items ≡ rmdir.freed self.now.state (found_path found) }
     {
-        match dir {
-            GroupDir::Control(name) => match self.groups.find_ctrl(name) {
-                Some(gid) => self.push_with(gid, rmids),
-                None => {}
-            },
-            GroupDir::Monitor(owner, name) => match self.holder_gid(Holder::Monitor(owner, name)) {
-                Some(gid) => self.push_own(gid, rmids),
-                None => {}
-            },
+        match found {
+            FoundGroup::Control(group) => self.push_with(group.gid, rmids),
+            FoundGroup::Monitor(group) => self.push_own(group.gid, rmids),
         }
     }
 

@@ -1,9 +1,11 @@
 //! Groups that tasks, CPUs and monitor groups join.
 ghost use Rattle.std.specs.Prelude.{◌≡◌};
 ghost use Rattle.tree_law.specs.Counted.{is_counted};
+ghost use Rattle.tree_law.specs.Existing.{directory_gid};
 ghost use Rattle.tree_law.specs.Places.{controlling, group_at, is_closed};
 
 use super::Tree;
+use crate::found_dir::FoundDir;
 use group_tree::{Group, GroupKind};
 use path_names::DirRef;
 use rc_base::{Gid, Mode};
@@ -13,7 +15,16 @@ impl Tree {
     pub(crate) fn group_at(&self, dir: DirRef) -> Option<Group>
         ensures { result ≡ group_at self.now.state dir }
     {
-        let group = self.groups.get(self.directory_gid(dir)?)?;
+        let gid = self.directory_gid(dir);
+        self.group_in(FoundDir { dir, gid })
+    }
+
+    /// The group of a directory that was found.
+    pub(crate) fn group_in(&self, at: FoundDir) -> Option<Group>
+        requires found { at.gid ≡ directory_gid self.now.state at.dir }
+        ensures { result ≡ group_at self.now.state at.dir }
+    {
+        let group = self.groups.get(at.gid?)?;
         Some(*group)
     }
 

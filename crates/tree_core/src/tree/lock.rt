@@ -14,7 +14,7 @@ ghost use Rattle.tree_law.specs.commands.Schemata.{lock, locked as locked_record
 
 use super::Tree;
 use crate::classes::give;
-use crate::follow::{After, Follow, only};
+use crate::follow::{After, Follow, push_only};
 use group_tree::Group;
 use rc_base::Mode;
 use schemata_text::Assignment;
@@ -23,7 +23,7 @@ use tree_law::theorems::valid_is_bounded;
 impl Tree {
     /// Locks the region of a group in pseudo-locksetup, which leaves a sound tree: the group is pseudo-locked from then on, its
     /// other masks are gone, and its class is given back (kernel documentation, "Cache Pseudo-Locking").
-    pub(crate) fn lock(&mut self, group: &Group, a: &Assignment) -> After
+    pub(crate) fn lock(&mut self, group: &Group, a: &Assignment, follows: &mut After)
         requires there { find (has_gid group.now.gid) self.old.state.groups ≡ Some group.now }
         requires setup { group.now.mode ≡ modes.LockSetup }
         requires exists { a.now.domain < self.old.machine.domains }
@@ -33,23 +33,27 @@ impl Tree {
         requires locks { self.old.state.locks < self.old.epoch }
         requires epoch { self.old.epoch ≤ MOST_WEIGHT }
         requires sound { IsSound self.old.machine (with_region self.old.state group.now a.now) }
+        requires nothing { follows.old.items ≡ [] }
         ensures machine { self.new.machine ≡ self.old.machine }
         ensures state { self.new.state ≡ with_region self.old.state group.now a.now }
         ensures epoch { self.new.epoch ≡ self.old.epoch }
-        ensures after { result.items ≡ lock self.old.state (a.now ∷ []) }
-        ensures domains { All (λ f. follow_domain f < self.old.machine.domains) result.items }
-        ensures ready { All (IsReady self.old.machine) result.items }
+        ensures after { follows.new.items ≡ lock self.old.state (a.now ∷ []) }
+        ensures domains { All (λ f. follow_domain f < self.old.machine.domains) follows.new.items }
+        ensures ready { All (IsReady self.old.machine) follows.new.items }
     {
         // A mask without a fault is a valid one.
         valid_is_bounded();
         let region = self.regions.place(group.gid, a.domain, a.mask);
         give(&mut self.classes, group.class);
         self.groups.replace(locked(group, a));
-        only(Follow::Lock {
-            domain: a.domain,
-            mask: a.mask,
-            first_line: region.first_line,
-        })
+        push_only(
+            follows,
+            Follow::Lock {
+                domain: a.domain,
+                mask: a.mask,
+                first_line: region.first_line,
+            },
+        );
     }
 }
 

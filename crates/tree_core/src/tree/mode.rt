@@ -11,6 +11,7 @@ ghost use Rattle.tree_core.specs.CpuFiles.{unless};
 ghost use Rattle.tree_core.specs.Follows.{IsReady};
 ghost use Rattle.tree_core.specs.Modes.{AsksMode, against_turn};
 ghost use Rattle.tree_core.specs.Overlaps.{reply_to};
+ghost use Rattle.tree_law.specs.Existing.{directory_gid};
 ghost use Rattle.tree_law.specs.Refusals.{reply_of};
 ghost use Rattle.tree_law.specs.Sound.{IsSound};
 ghost use Rattle.tree_law.specs.Steps.{after, follow_domain, needs, next};
@@ -20,62 +21,76 @@ ghost use Rattle.tree_law.specs.commands.Write.{against, reasons};
 
 use super::Tree;
 use crate::follow::After;
+use crate::found_dir::FoundDir;
 use crate::mode_text::{is_locked, is_named, mode_in};
 use group_tree::Group;
-use path_names::DirRef;
 use rc_base::{Mode, Reply, Why};
 
 impl Tree {
     /// Writes the `mode` of a directory, with the counts of the RMID that a group gives up when it enters pseudo-locksetup.
-    pub(crate) fn write_mode(&mut self, dir: DirRef, text: &[u8], looks: &[u64]) -> (Reply, After)
-        requires writable { find (against self.old.state (File dir files.Mode)) reasons ≡ None }
+    pub(crate) fn write_mode(
+        &mut self,
+        at: FoundDir,
+        text: &[u8],
+        looks: &[u64],
+        follows: &mut After,
+    ) -> Reply
+        requires writable { find (against self.old.state (File at.dir files.Mode)) reasons ≡ None }
+        requires found { at.gid ≡ directory_gid self.old.state at.dir }
         requires short { length text.now ≤ 4096 }
         requires looks { length looks.now
-            ≡ length (needs self.old.machine self.old.state (Write (File dir files.Mode) text.now)) }
+            ≡ length (needs self.old.machine self.old.state (Write (File at.dir files.Mode) text.now)) }
+        requires nothing { follows.old.items ≡ [] }
         ensures machine { self.new.machine ≡ self.old.machine }
-        ensures reply { result.0
-            ≡ (next self.old.machine self.old.state (Write (File dir files.Mode) text.now) looks.now).reply }
+        ensures reply { result
+            ≡ (next self.old.machine self.old.state (Write (File at.dir files.Mode) text.now) looks.now).reply }
         ensures state { self.new.state
-            ≡ (next self.old.machine self.old.state (Write (File dir files.Mode) text.now) looks.now).state }
+            ≡ (next self.old.machine self.old.state (Write (File at.dir files.Mode) text.now) looks.now).state }
         ensures epoch { self.new.epoch ≡ self.old.epoch }
-        ensures after { result.1.items
-            ≡ after self.old.machine self.old.state self.old.epoch (Write (File dir files.Mode) text.now) }
-        ensures domains { All (λ f. follow_domain f < self.old.machine.domains) result.1.items }
-        ensures ready { All (IsReady self.old.machine) result.1.items }
+        ensures after { follows.new.items
+            ≡ after self.old.machine self.old.state self.old.epoch (Write (File at.dir files.Mode) text.now) }
+        ensures domains { All (λ f. follow_domain f < self.old.machine.domains) follows.new.items }
+        ensures ready { All (IsReady self.old.machine) follows.new.items }
     {
         // What the type keeps makes the next state a sound one.
         let _ = &self.machine;
-        let Some(group) = self.control_at(dir) else {
+        let Some(group) = self.control_in(at) else {
             return self.answer(Reply::Ok);
         };
-        let (reply, after) = self.change_mode(&group, text, looks);
-        self.status = reply;
-        (reply, after)
+        let reply = self.change_mode(&group, text, looks, follows);
+        self.answer(reply)
     }
 
     // Changes the mode of a group as a text asks, where nothing is against it.
-    fn change_mode(&mut self, group: &Group, text: &[u8], looks: &[u64]) -> (Reply, After)
+    fn change_mode(
+        &mut self,
+        group: &Group,
+        text: &[u8],
+        looks: &[u64],
+        follows: &mut After,
+    ) -> Reply
         requires there { find (has_gid group.now.gid) self.old.state.groups ≡ Some group.now }
         requires control { is_control group.now.kind ≡ true }
         requires looks { mode.refusal self.old.machine self.old.state group.now text.now ≡ None
             → length looks.now ≡ length (mode.freed group.now text.now) * self.old.machine.domains }
         requires sound { mode.refusal self.old.machine self.old.state group.now text.now ≡ None
             → IsSound self.old.machine (mode.accepted self.old.machine self.old.state group.now text.now looks.now) }
+        requires nothing { follows.old.items ≡ [] }
         ensures machine { self.new.machine ≡ self.old.machine }
-        ensures reply { result.0 ≡ reply_of (mode.refusal self.old.machine self.old.state group.now text.now) }
+        ensures reply { result ≡ reply_of (mode.refusal self.old.machine self.old.state group.now text.now) }
         ensures state { self.new.state
             ≡ unless (mode.refusal self.old.machine self.old.state group.now text.now) self.old.state
             (mode.accepted self.old.machine self.old.state group.now text.now looks.now) }
         ensures epoch { self.new.epoch ≡ self.old.epoch }
-        ensures after { result.1.items ≡ unless (mode.refusal self.old.machine self.old.state group.now text.now) []
+        ensures after { follows.new.items ≡ unless (mode.refusal self.old.machine self.old.state group.now text.now) []
             (mode.after self.old.machine group.now text.now) }
-        ensures domains { All (λ f. follow_domain f < self.old.machine.domains) result.1.items }
-        ensures ready { All (IsReady self.old.machine) result.1.items }
+        ensures domains { All (λ f. follow_domain f < self.old.machine.domains) follows.new.items }
+        ensures ready { All (IsReady self.old.machine) follows.new.items }
     {
         match self.asked_mode(group, text) {
-            Ok(Some(mode)) => self.turn(group, mode, looks),
-            Ok(None) => (Reply::Ok, After::new()),
-            Err(reply) => (reply, After::new()),
+            Ok(Some(mode)) => self.turn(group, mode, looks, follows),
+            Ok(None) => Reply::Ok,
+            Err(reply) => reply,
         }
     }
 

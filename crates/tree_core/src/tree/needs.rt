@@ -1,16 +1,17 @@
 //! The counts of lines that a command needs.
-ghost use Rattle.std.specs.Prelude.{◌≡◌, ◌+◌, ◌<◌, ◌≤◌, ◌^◌, [], All, Some, length, slice_get};
+ghost use Rattle.std.specs.Prelude.{◌≡◌, ◌+◌, ◌<◌, ◌≤◌, ◌^◌, [], All, Some, false, length, slice_get};
 ghost use Rattle.std.specs.List.{flat_map};
+ghost use Rattle.machine.specs.declared.parameters.Parameters.{Parameters};
 ghost use Rattle.script_ops.specs.Fits.{Fits};
 ghost use Rattle.script_ops.specs.declared.op.Op.TheVariants as ops;
 ghost use Rattle.tree_core.specs.RmidLists.{counts_in};
 ghost use Rattle.tree_law.specs.LawsCounts.{CanLook};
-ghost use Rattle.tree_law.specs.State.{tasks_of};
+ghost use Rattle.tree_law.specs.State.{State, tasks_of};
 ghost use Rattle.tree_law.specs.Steps.{needs};
 
 use super::Tree;
 use crate::counts::Counts;
-use crate::places::counted_at;
+use crate::places::{counted_at, is_mode_file};
 use crate::rmid_list::{RmidList, push_some};
 use path_names::PathRef;
 use script_ops::Op;
@@ -44,6 +45,9 @@ impl Tree {
     {
         // What the type keeps makes these domains and RMIDs of the machine.
         let _ = &self.machine;
+        if !may_need(op) {
+            return Counts::none();
+        }
         let mut rmids = RmidList::new();
         let (first, domains) = self.needed(op, &mut rmids);
         Counts::of(rmids, first, domains)
@@ -113,5 +117,17 @@ impl Tree {
             }
             None => (0, 1),
         }
+    }
+}
+
+// Whether a command may need counts, whatever the tree is.
+fn may_need(op: &Op) -> bool
+    ensures { result ≡ false → (m : Parameters) (s : State) → needs m s op.now ≡ [] }
+{
+    match op {
+        Op::Rmdir { .. } | Op::Tick => true,
+        Op::Write { path, .. } => is_mode_file(*path),
+        Op::Read { path } => counted_at(*path).is_some(),
+        _ => false,
     }
 }

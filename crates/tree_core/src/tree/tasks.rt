@@ -1,42 +1,37 @@
 //! A write of `tasks`: tasks join a group.
-ghost use Rattle.std.specs.Prelude.{◌≡◌, ◌<◌, ◌≤◌, ℕ, List, None, find, length};
-ghost use Rattle.std.specs.List.{All};
+ghost use Rattle.std.specs.Prelude.{◌≡◌, ◌≤◌, ℕ, List, None, find, length};
 ghost use Rattle.path_names.specs.declared.files.FileKind.TheVariants.{Tasks};
 ghost use Rattle.path_names.specs.declared.path_ref.PathRef.TheVariants.{File};
 ghost use Rattle.script_ops.specs.declared.op.Op.TheVariants.{Write};
-ghost use Rattle.tree_core.specs.Follows.{IsReady};
+ghost use Rattle.tree_law.specs.Existing.{directory_gid};
 ghost use Rattle.tree_law.specs.Refusals.{reply_of};
 ghost use Rattle.tree_law.specs.Sound.{IsSound};
-ghost use Rattle.tree_law.specs.Steps.{after, follow_domain, next};
+ghost use Rattle.tree_law.specs.Steps.{next};
 ghost use Rattle.tree_law.specs.commands.Tasks.{kept, moves_in, refusal};
 ghost use Rattle.tree_law.specs.commands.Write.{against, reasons};
 
 use super::Tree;
-use crate::follow::After;
+use crate::found_dir::FoundDir;
 use crate::task_moves::move_tasks;
 use group_tree::Group;
-use path_names::DirRef;
 use rc_base::{Reply, Why};
 
 impl Tree {
     /// Writes the `tasks` of a directory. The tasks before the first bad element have moved, also where the write is refused.
-    pub(crate) fn write_tasks(&mut self, dir: DirRef, text: &[u8]) -> (Reply, After)
-        requires writable { find (against self.old.state (File dir Tasks)) reasons ≡ None }
+    pub(crate) fn write_tasks(&mut self, at: FoundDir, text: &[u8]) -> Reply
+        requires writable { find (against self.old.state (File at.dir Tasks)) reasons ≡ None }
+        requires found { at.gid ≡ directory_gid self.old.state at.dir }
         requires short { length text.now ≤ 4096 }
         ensures machine { self.new.machine ≡ self.old.machine }
         ensures reply { (looks : List ℕ)
-            → result.0 ≡ (next self.old.machine self.old.state (Write (File dir Tasks) text.now) looks).reply }
+            → result ≡ (next self.old.machine self.old.state (Write (File at.dir Tasks) text.now) looks).reply }
         ensures state { (looks : List ℕ)
-            → self.new.state ≡ (next self.old.machine self.old.state (Write (File dir Tasks) text.now) looks).state }
+            → self.new.state ≡ (next self.old.machine self.old.state (Write (File at.dir Tasks) text.now) looks).state }
         ensures epoch { self.new.epoch ≡ self.old.epoch }
-        ensures after { result.1.items
-            ≡ after self.old.machine self.old.state self.old.epoch (Write (File dir Tasks) text.now) }
-        ensures domains { All (λ f. follow_domain f < self.old.machine.domains) result.1.items }
-        ensures ready { All (IsReady self.old.machine) result.1.items }
     {
         // What the type keeps makes the next state a sound one.
         let _ = &self.machine;
-        let Some(group) = self.group_at(dir) else {
+        let Some(group) = self.group_in(at) else {
             return self.answer(Reply::Ok);
         };
         let reply = self.join_tasks(&group, text);

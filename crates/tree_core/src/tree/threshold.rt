@@ -1,5 +1,5 @@
 //! A write of `max_threshold_occupancy`.
-ghost use Rattle.std.specs.Prelude.{◌≡◌, ◌≤◌, ◌<◌, ℕ, List, [], None, find, length};
+ghost use Rattle.std.specs.Prelude.{◌≡◌, ◌≤◌, ◌<◌, ℕ, List, None, find, length};
 ghost use Rattle.machine.specs.Maps.{cache_bytes, parameters_of};
 ghost use Rattle.path_names.specs.declared.files.FileKind.TheVariants.{MaxThreshold};
 ghost use Rattle.path_names.specs.declared.path_ref.PathRef.TheVariants.{File};
@@ -10,7 +10,6 @@ ghost use Rattle.tree_law.specs.commands.Threshold.{threshold_in};
 ghost use Rattle.tree_law.specs.commands.Write.{against, reasons};
 
 use super::Tree;
-use crate::follow::After;
 use machine::Machine;
 use num_text::{read_dec, trim};
 use path_names::DirRef;
@@ -18,17 +17,16 @@ use rc_base::{Reply, Why};
 
 impl Tree {
     /// Writes `max_threshold_occupancy`: the bytes of its lines that each cache may hold of an RMID that is freed (kernel
-    /// documentation, "max_threshold_occupancy"). Nothing follows.
-    pub(crate) fn write_threshold(&mut self, dir: DirRef, text: &[u8]) -> (Reply, After)
+    /// documentation, "max_threshold_occupancy").
+    pub(crate) fn write_threshold(&mut self, dir: DirRef, text: &[u8]) -> Reply
         requires writable { find (against self.old.state (File dir MaxThreshold)) reasons ≡ None }
         requires short { length text.now ≤ 4096 }
         ensures machine { self.new.machine ≡ self.old.machine }
         ensures reply { (looks : List ℕ)
-            → result.0 ≡ (next self.old.machine self.old.state (Write (File dir MaxThreshold) text.now) looks).reply }
+            → result ≡ (next self.old.machine self.old.state (Write (File dir MaxThreshold) text.now) looks).reply }
         ensures state { (looks : List ℕ)
             → self.new.state ≡ (next self.old.machine self.old.state (Write (File dir MaxThreshold) text.now) looks).state }
         ensures epoch { self.new.epoch ≡ self.old.epoch }
-        ensures after { result.1.items ≡ [] }
     {
         let _ = dir;
         match read_threshold(&self.machine, text) {
@@ -38,17 +36,16 @@ impl Tree {
     }
 
     // Takes a threshold of at most the bytes of one cache. The command is accepted.
-    fn put_threshold(&mut self, bytes: u64) -> (Reply, After)
+    fn put_threshold(&mut self, bytes: u64) -> Reply
         requires few { bytes ≤ cache_bytes self.old.machine }
         ensures machine { self.new.machine ≡ self.old.machine }
-        ensures reply { result.0 ≡ replies.Ok }
+        ensures reply { result ≡ replies.Ok }
         ensures state { self.new.state ≡ record self.old.state { threshold = bytes; status = replies.Ok } }
         ensures epoch { self.new.epoch ≡ self.old.epoch }
-        ensures after { result.1.items ≡ [] }
     {
         self.rmids.set_threshold(bytes);
         self.status = Reply::Ok;
-        (Reply::Ok, After::new())
+        Reply::Ok
     }
 }
 

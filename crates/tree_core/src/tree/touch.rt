@@ -1,5 +1,5 @@
 //! touch: one access to a line of a region.
-ghost use Rattle.std.specs.Prelude.{◌≡◌, ◌==◌, ◌+◌, ◌<◌, ◌≤◌, ◌^◌, ℕ, Contains, IfSome};
+ghost use Rattle.std.specs.Prelude.{◌≡◌, ◌==◌, ◌+◌, ◌<◌, ◌^◌, ℕ, Contains, IfSome, []};
 ghost use Rattle.std.specs.List.{All};
 ghost use Rattle.std.specs.Option.{option_map};
 ghost use Rattle.machine.specs.Maps.{domain_of};
@@ -14,7 +14,7 @@ ghost use Rattle.tree_law.specs.Steps.{after, follow_domain, refusal};
 ghost use Rattle.tree_law.specs.commands.Touch.{region_if_locked, region_of, touched};
 
 use super::Tree;
-use crate::follow::{After, Follow, only};
+use crate::follow::{After, Follow, push_only};
 use group_tree::{Group, GroupKind};
 use path_names::{DirRef, PathRef};
 use pseudo_lock::{Region, line_at};
@@ -24,28 +24,37 @@ impl Tree {
     /// Touches the line at an offset in bytes of the region of a pseudo-locked group, by a declared task on a CPU of the region's
     /// domain: an access follows, with the tag of the state after this command, which is counted already (kernel documentation,
     /// "Cache Pseudo-Locking"; offsets are this project's profile).
-    pub(crate) fn touch(&self, path: PathRef, offset: u64, task: u32, cpu: u8) -> (Reply, After)
+    pub(crate) fn touch(
+        &self,
+        path: PathRef,
+        offset: u64,
+        task: u32,
+        cpu: u8,
+        follows: &mut After,
+    ) -> Reply
         requires task { Contains (tasks_of self.now.state) task }
         requires cpu { cpu < self.now.machine.cpus }
         requires locks { self.now.state.locks < MOST_WEIGHT }
-        ensures reply { result.0
+        requires nothing { follows.old.items ≡ [] }
+        ensures reply { result
             ≡ reply_of (refusal self.now.machine self.now.state (Touch cpu path task offset)) }
         ensures after { (k : ℕ) → k + 1 ≡ self.now.epoch
-            → result.1.items ≡ after self.now.machine self.now.state k (Touch cpu path task offset) }
-        ensures domains { All (λ f. follow_domain f < self.now.machine.domains) result.1.items }
-        ensures ready { All (IsReady self.now.machine) result.1.items }
+            → follows.new.items ≡ after self.now.machine self.now.state k (Touch cpu path task offset) }
+        ensures domains { All (λ f. follow_domain f < self.now.machine.domains) follows.new.items }
+        ensures ready { All (IsReady self.now.machine) follows.new.items }
     {
         let Some(region) = self.touched(path) else {
-            return (Reply::refused(Why::NoSuchPath, 0), After::new());
+            return Reply::refused(Why::NoSuchPath, 0);
         };
         let Some(line) = line_at(&region, &self.machine, offset) else {
-            return (Reply::refused(Why::PastRegion, 0), After::new());
+            return Reply::refused(Why::PastRegion, 0);
         };
         if !self.is_at(cpu, region.domain) {
-            return (Reply::refused(Why::WrongCpu, 0), After::new());
+            return Reply::refused(Why::WrongCpu, 0);
         }
         let tag = self.resolve(task, cpu);
-        (Reply::Ok, only(Follow::Touch { tag, line }))
+        push_only(follows, Follow::Touch { tag, line });
+        Reply::Ok
     }
 
     // Whether a CPU is at a domain.

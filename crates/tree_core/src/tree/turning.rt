@@ -26,7 +26,13 @@ use rc_base::{Mode, Reply};
 impl Tree {
     /// Turns a group to another mode, which leaves a sound tree, and raises every domain, where no RMID is lacking for a group
     /// that leaves pseudo-locksetup.
-    pub(crate) fn turn(&mut self, group: &Group, mode: Mode, looks: &[u64]) -> (Reply, After)
+    pub(crate) fn turn(
+        &mut self,
+        group: &Group,
+        mode: Mode,
+        looks: &[u64],
+        follows: &mut After,
+    ) -> Reply
         requires there { find (has_gid group.now.gid) self.old.state.groups ≡ Some group.now }
         requires control { is_control group.now.kind ≡ true }
         requires not_default { is_setup mode ≡ true → group.now.gid.0 ≢ 0 }
@@ -35,27 +41,30 @@ impl Tree {
             → length looks.now ≡ length (freed_by group.now (Some mode)) * self.old.machine.domains }
         requires sound { against_rmid self.old.machine self.old.state group.now ≡ None
             → IsSound self.old.machine (turned self.old.machine self.old.state group.now mode looks.now) }
+        requires nothing { follows.old.items ≡ [] }
         ensures machine { self.new.machine ≡ self.old.machine }
-        ensures reply { result.0 ≡ reply_of (against_rmid self.old.machine self.old.state group.now) }
+        ensures reply { result ≡ reply_of (against_rmid self.old.machine self.old.state group.now) }
         ensures state { self.new.state ≡ unless (against_rmid self.old.machine self.old.state group.now) self.old.state
             (turned self.old.machine self.old.state group.now mode looks.now) }
         ensures epoch { self.new.epoch ≡ self.old.epoch }
-        ensures after { result.1.items ≡ unless (against_rmid self.old.machine self.old.state group.now) []
+        ensures after { follows.new.items ≡ unless (against_rmid self.old.machine self.old.state group.now) []
             (map (λ d. Raise d) (range_with_len 0 self.old.machine.domains)) }
-        ensures domains { All (λ f. follow_domain f < self.old.machine.domains) result.1.items }
-        ensures ready { All (IsReady self.old.machine) result.1.items }
+        ensures domains { All (λ f. follow_domain f < self.old.machine.domains) follows.new.items }
+        ensures ready { All (IsReady self.old.machine) follows.new.items }
     {
         if mode == Mode::LockSetup {
-            (Reply::Ok, self.enter_setup(group, looks))
+            self.enter_setup(group, looks, follows);
+            Reply::Ok
         } else if group.mode == Mode::LockSetup {
-            self.leave_setup(group, mode)
+            self.leave_setup(group, mode, follows)
         } else {
-            (Reply::Ok, self.set_mode(group, mode))
+            self.set_mode(group, mode, follows);
+            Reply::Ok
         }
     }
 
     // A group other than the default group enters pseudo-locksetup. Its RMID, where it has one, is freed.
-    fn enter_setup(&mut self, group: &Group, looks: &[u64]) -> After
+    fn enter_setup(&mut self, group: &Group, looks: &[u64], follows: &mut After)
         requires there { find (has_gid group.now.gid) self.old.state.groups ≡ Some group.now }
         requires not_default { group.now.gid.0 ≢ 0 }
         requires looks { length looks.now ≡ length (rmids_of group.now) * self.old.machine.domains }
@@ -64,6 +73,7 @@ impl Tree {
               limbo
                   = limbo_after self.old.machine self.old.state.threshold self.old.state.limbo (rmids_of group.now) looks.now;
             }) }
+        requires nothing { follows.old.items ≡ [] }
         ensures machine { self.new.machine ≡ self.old.machine }
         ensures state { self.new.state
             ≡ record (with_record self.old.state (record group.now { mode = modes.LockSetup; rmid = None })) {
@@ -71,11 +81,11 @@ impl Tree {
                   = limbo_after self.old.machine self.old.state.threshold self.old.state.limbo (rmids_of group.now) looks.now;
             } }
         ensures epoch { self.new.epoch ≡ self.old.epoch }
-        ensures after { result.items ≡ map (λ d. Raise d) (range_with_len 0 self.old.machine.domains) }
-        ensures domains { All (λ f. follow_domain f < self.old.machine.domains) result.items }
-        ensures ready { All (IsReady self.old.machine) result.items }
+        ensures after { follows.new.items ≡ map (λ d. Raise d) (range_with_len 0 self.old.machine.domains) }
+        ensures domains { All (λ f. follow_domain f < self.old.machine.domains) follows.new.items }
+        ensures ready { All (IsReady self.old.machine) follows.new.items }
     {
-        let after = raise_all(self.machine.domains);
+        raise_all(follows, self.machine.domains);
         let freed = only(group.rmid);
         free_all(&self.machine, &mut self.rmids, freed.as_slice(), looks);
         self.groups.replace(Group {
@@ -83,26 +93,26 @@ impl Tree {
             rmid: None,
             ..*group
         });
-        after
     }
 
     // A group leaves pseudo-locksetup, where some RMID is free.
-    fn leave_setup(&mut self, group: &Group, mode: Mode) -> (Reply, After)
+    fn leave_setup(&mut self, group: &Group, mode: Mode, follows: &mut After) -> Reply
         requires there { find (has_gid group.now.gid) self.old.state.groups ≡ Some group.now }
         requires control { is_control group.now.kind ≡ true }
         requires setup { group.now.mode ≡ modes.LockSetup }
         requires sound { rmid_refusal self.old.machine self.old.state ≡ None → IsSound self.old.machine (with_record self.old.state
             (record group.now { mode = mode; rmid = free_rmid self.old.machine self.old.state })) }
+        requires nothing { follows.old.items ≡ [] }
         ensures machine { self.new.machine ≡ self.old.machine }
-        ensures reply { result.0 ≡ reply_of (rmid_refusal self.old.machine self.old.state) }
+        ensures reply { result ≡ reply_of (rmid_refusal self.old.machine self.old.state) }
         ensures state { self.new.state ≡ unless (rmid_refusal self.old.machine self.old.state) self.old.state
             (with_record self.old.state
             (record group.now { mode = mode; rmid = free_rmid self.old.machine self.old.state })) }
         ensures epoch { self.new.epoch ≡ self.old.epoch }
-        ensures after { result.1.items ≡ unless (rmid_refusal self.old.machine self.old.state) []
+        ensures after { follows.new.items ≡ unless (rmid_refusal self.old.machine self.old.state) []
             (map (λ d. Raise d) (range_with_len 0 self.old.machine.domains)) }
-        ensures domains { All (λ f. follow_domain f < self.old.machine.domains) result.1.items }
-        ensures ready { All (IsReady self.old.machine) result.1.items }
+        ensures domains { All (λ f. follow_domain f < self.old.machine.domains) follows.new.items }
+        ensures ready { All (IsReady self.old.machine) follows.new.items }
     {
         match take_rmid(&mut self.rmids) {
             Ok(rmid) => {
@@ -111,24 +121,26 @@ impl Tree {
                     rmid: Some(rmid),
                     ..*group
                 });
-                (Reply::Ok, raise_all(self.machine.domains))
+                raise_all(follows, self.machine.domains);
+                Reply::Ok
             }
-            Err(reply) => (reply, After::new()),
+            Err(reply) => reply,
         }
     }
 
     // A group gets another mode, and keeps its RMID.
-    fn set_mode(&mut self, group: &Group, mode: Mode) -> After
+    fn set_mode(&mut self, group: &Group, mode: Mode, follows: &mut After)
         requires there { find (has_gid group.now.gid) self.old.state.groups ≡ Some group.now }
         requires sound { IsSound self.old.machine (with_record self.old.state (record group.now { mode = mode })) }
+        requires nothing { follows.old.items ≡ [] }
         ensures machine { self.new.machine ≡ self.old.machine }
         ensures state { self.new.state ≡ with_record self.old.state (record group.now { mode = mode }) }
         ensures epoch { self.new.epoch ≡ self.old.epoch }
-        ensures after { result.items ≡ map (λ d. Raise d) (range_with_len 0 self.old.machine.domains) }
-        ensures domains { All (λ f. follow_domain f < self.old.machine.domains) result.items }
-        ensures ready { All (IsReady self.old.machine) result.items }
+        ensures after { follows.new.items ≡ map (λ d. Raise d) (range_with_len 0 self.old.machine.domains) }
+        ensures domains { All (λ f. follow_domain f < self.old.machine.domains) follows.new.items }
+        ensures ready { All (IsReady self.old.machine) follows.new.items }
     {
         self.put(*group, mode, group.masks);
-        raise_all(self.machine.domains)
+        raise_all(follows, self.machine.domains);
     }
 }

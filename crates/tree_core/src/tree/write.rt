@@ -1,12 +1,13 @@
 //! write: by the file.
-ghost use Rattle.std.specs.Prelude.{◌≡◌, ◌<◌, ◌≤◌, ℕ, List, [], None, Some, find, length, true};
+ghost use Rattle.std.specs.Prelude.{◌≡◌, ◌<◌, ◌≤◌, [], None, Some, find, length};
 ghost use Rattle.std.specs.List.{All};
 ghost use Rattle.group_tree.specs.Records.{has_gid};
 ghost use Rattle.path_names.specs.declared.path_ref.PathRef.TheVariants.{File};
-ghost use Rattle.rc_base.specs.declared.replies.Reply.TheVariants as replies;
 ghost use Rattle.script_ops.specs.declared.limits.TheConstants.{MOST_WEIGHT};
 ghost use Rattle.script_ops.specs.declared.op.Op.TheVariants.{Write};
 ghost use Rattle.tree_core.specs.Follows.{IsReady};
+ghost use Rattle.tree_core.specs.FoundFiles.{FindsFile};
+ghost use Rattle.tree_law.specs.Existing.{directory_gid};
 ghost use Rattle.tree_law.specs.Places.{with_record};
 ghost use Rattle.tree_law.specs.Sound.{IsSound};
 ghost use Rattle.tree_law.specs.Steps.{follow_domain};
@@ -15,79 +16,99 @@ ghost use Rattle.tree_law.specs.commands.Write.{against, reasons};
 
 use super::Tree;
 use crate::follow::After;
-use crate::places::{file_at, is_only_read};
+use crate::found_dir::FoundDir;
+use crate::places::{file_at, is_written};
 use group_tree::Group;
 use path_names::{DirRef, FileKind, PathRef};
 use rc_base::{Mode, Reply, Why};
 
 impl Tree {
     /// Writes a text to a file, with the counts that it needs, and sets the last status.
-    pub(crate) fn write(&mut self, path: PathRef, text: &[u8], looks: &[u64]) -> (Reply, After)
+    pub(crate) fn write(
+        &mut self,
+        path: PathRef,
+        text: &[u8],
+        looks: &[u64],
+        follows: &mut After,
+    ) -> Reply
         requires short { length text.now ≤ 4096 }
         requires looks { length looks.now ≡ length (needs self.old.machine self.old.state (Write path text.now)) }
         requires locks { self.old.state.locks < self.old.epoch }
         requires epoch { self.old.epoch ≤ MOST_WEIGHT }
+        requires nothing { follows.old.items ≡ [] }
         ensures machine { self.new.machine ≡ self.old.machine }
-        ensures reply { result.0 ≡ (next self.old.machine self.old.state (Write path text.now) looks.now).reply }
+        ensures reply { result ≡ (next self.old.machine self.old.state (Write path text.now) looks.now).reply }
         ensures state { self.new.state ≡ (next self.old.machine self.old.state (Write path text.now) looks.now).state }
         ensures epoch { self.new.epoch ≡ self.old.epoch }
-        ensures after { result.1.items ≡ after self.old.machine self.old.state self.old.epoch (Write path text.now) }
-        ensures domains { All (λ f. follow_domain f < self.old.machine.domains) result.1.items }
-        ensures ready { All (IsReady self.old.machine) result.1.items }
+        ensures after { follows.new.items ≡ after self.old.machine self.old.state self.old.epoch (Write path text.now) }
+        ensures domains { All (λ f. follow_domain f < self.old.machine.domains) follows.new.items }
+        ensures ready { All (IsReady self.old.machine) follows.new.items }
     {
-        match self.against_write(path) {
-            Some(why) => self.answer(Reply::refused(why, 0)),
-            None => match file_at(path) {
-                Some((dir, kind)) => self.write_file(dir, kind, text, looks),
-                None => unreachable!(),
-            },
+        match self.writable_at(path) {
+            Ok((at, kind)) => self.write_file(at, kind, text, looks, follows),
+            Err(why) => self.answer(Reply::refused(why, 0)),
         }
     }
 
     // Writes a text to a file that can be written.
     fn write_file(
         &mut self,
-        dir: DirRef,
+        at: FoundDir,
         kind: FileKind,
         text: &[u8],
         looks: &[u64],
-    ) -> (Reply, After)
-        requires writable { find (against self.old.state (File dir kind)) reasons ≡ None }
+        follows: &mut After,
+    ) -> Reply
+        requires writable { find (against self.old.state (File at.dir kind)) reasons ≡ None }
+        requires found { at.gid ≡ directory_gid self.old.state at.dir }
         requires short { length text.now ≤ 4096 }
-        requires looks { length looks.now ≡ length (needs self.old.machine self.old.state (Write (File dir kind) text.now)) }
+        requires looks { length looks.now ≡ length (needs self.old.machine self.old.state (Write (File at.dir kind) text.now)) }
         requires locks { self.old.state.locks < self.old.epoch }
         requires epoch { self.old.epoch ≤ MOST_WEIGHT }
+        requires nothing { follows.old.items ≡ [] }
         ensures machine { self.new.machine ≡ self.old.machine }
-        ensures reply { result.0
-            ≡ (next self.old.machine self.old.state (Write (File dir kind) text.now) looks.now).reply }
+        ensures reply { result
+            ≡ (next self.old.machine self.old.state (Write (File at.dir kind) text.now) looks.now).reply }
         ensures state { self.new.state
-            ≡ (next self.old.machine self.old.state (Write (File dir kind) text.now) looks.now).state }
+            ≡ (next self.old.machine self.old.state (Write (File at.dir kind) text.now) looks.now).state }
         ensures epoch { self.new.epoch ≡ self.old.epoch }
-        ensures after { result.1.items
-            ≡ after self.old.machine self.old.state self.old.epoch (Write (File dir kind) text.now) }
-        ensures domains { All (λ f. follow_domain f < self.old.machine.domains) result.1.items }
-        ensures ready { All (IsReady self.old.machine) result.1.items }
+        ensures after { follows.new.items
+            ≡ after self.old.machine self.old.state self.old.epoch (Write (File at.dir kind) text.now) }
+        ensures domains { All (λ f. follow_domain f < self.old.machine.domains) follows.new.items }
+        ensures ready { All (IsReady self.old.machine) follows.new.items }
     {
         match kind {
-            FileKind::Schemata => self.write_schemata(dir, text),
-            FileKind::Mode => self.write_mode(dir, text, looks),
-            FileKind::Tasks => self.write_tasks(dir, text),
-            FileKind::Cpus | FileKind::CpusList => self.write_cpus(dir, kind, text),
-            FileKind::MaxThreshold => self.write_threshold(dir, text),
+            FileKind::Schemata => self.write_schemata(at, text, follows),
+            FileKind::Mode => self.write_mode(at, text, looks, follows),
+            FileKind::Tasks => self.write_tasks(at, text),
+            FileKind::Cpus | FileKind::CpusList => self.write_cpus(at, kind, text),
+            FileKind::MaxThreshold => self.write_threshold(at.dir, text),
             _ => unreachable!(),
         }
     }
 
-    /// What is against writing to this path, whatever the text.
-    pub(crate) fn against_write(&self, path: PathRef) -> Option<Why>
-        ensures { result ≡ find (against self.now.state path) reasons }
+    /// The file that can be written at this path, with the directory that holds it, and what is against writing to the path
+    /// where it can not, whatever the text.
+    pub(crate) fn writable_at(&self, path: PathRef) -> Result<(FoundDir, FileKind), Why>
+        ensures { FindsFile self.now.state path result }
     {
-        if !self.is_file(path) {
-            Some(Why::NoSuchPath)
-        } else if is_only_read(path) {
-            Some(Why::OnlyRead)
+        match file_at(path) {
+            Some((dir, kind)) => self.writable_in(dir, kind),
+            None => Err(Why::NoSuchPath),
+        }
+    }
+
+    // The same for a file of a directory.
+    fn writable_in(&self, dir: DirRef, kind: FileKind) -> Result<(FoundDir, FileKind), Why>
+        ensures { FindsFile self.now.state (File dir kind) result }
+    {
+        let Some(at) = self.found_dir(dir) else {
+            return Err(Why::NoSuchPath);
+        };
+        if is_written(kind) {
+            Ok((at, kind))
         } else {
-            None
+            Err(Why::OnlyRead)
         }
     }
 
@@ -106,15 +127,14 @@ impl Tree {
         self.groups.replace(new);
     }
 
-    /// Sets the last status, and nothing follows.
-    pub(crate) fn answer(&mut self, reply: Reply) -> (Reply, After)
+    /// Sets the last status.
+    pub(crate) fn answer(&mut self, reply: Reply) -> Reply
         ensures machine { self.new.machine ≡ self.old.machine }
-        ensures reply { result.0 ≡ reply }
+        ensures reply { result ≡ reply }
         ensures state { self.new.state ≡ record self.old.state { status = reply } }
         ensures epoch { self.new.epoch ≡ self.old.epoch }
-        ensures after { result.1.items ≡ [] }
     {
         self.status = reply;
-        (reply, After::new())
+        reply
     }
 }

@@ -1,4 +1,4 @@
-use Rattle.std.proofs.Common.{◌≡◌, true, false, sym, ◌∙◌, arith}
+use Rattle.std.proofs.Common.{◌≡◌, true, false, sym, ◌∙◌}
 use Rattle.step_world.proofs.ListedSteps.{one-present, other-absent, step-absent}
 use Rattle.step_world.proofs.listed.step_listed.Goals as goal
 use Rattle.step_world.specs.Worlds.{machine_of}

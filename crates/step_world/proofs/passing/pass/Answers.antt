@@ -1,4 +1,4 @@
-use Rattle.std.proofs.Common.{◌≡◌, ℕ, ◌/◌, ◌<◌, length, get_or, refl, ap, ◌∙◌, subst, arith}
+use Rattle.std.proofs.Common.{◌≡◌, ℕ, ◌+◌, ◌/◌, slice_set, ◌<◌, length, get_or, refl, ap, ◌∙◌, subst, arith}
 use Rattle.std.proofs.lemmas.List.{get_or_default}
 use Rattle.machine.specs.Maps.{line_of}
 use Rattle.machine.specs.Slices.{slice_count, slice_of_line}
@@ -6,10 +6,13 @@ use Rattle.machine.specs.declared.parameters.Parameters.{Parameters}
 use Rattle.step_world.proofs.PassedWorlds.{domain-between, passed, reach-between}
 use Rattle.step_world.proofs.ReachedSlices.{CanReach}
 use Rattle.step_world.proofs.RoomLeft.{op-few}
+use Rattle.step_world.proofs.TakenWorlds.{within-next}
 use Rattle.step_world.proofs.passing.pass.Goals as goal
-use Rattle.step_world.specs.Machine.{thread_at}
+use Rattle.step_world.specs.Machine.{opening_thread, thread_at}
 use Rattle.step_world.specs.Slices.{TouchesLine}
 use Rattle.step_world.specs.Worlds.{machine_of}
+use Rattle.step_world.specs.declared.place.Place.TheVariants.{Ready}
+use Rattle.step_world.specs.declared.place.Thread.{Thread}
 use Rattle.script_ops.specs.declared.op.Op.TheVariants as ops
 
 pub line_slice-slice-requires : goal.line_slice-slice-requires
@@ -46,7 +49,10 @@ returns c =
     let there : i < length w.slices.items = omega (arith, c.line_slice-slice.ensures.within, ap slice_count c.machine.ensures, c.requires.world.slices.count) in
     let number : i ≡ slice_of_line c.args.script.now.machine c.args.tag.now.domain line = c.line_slice-slice.ensures.number ∙ ap (λ p. slice_of_line p c.args.tag.now.domain line) c.machine.ensures in
     let was : before ≡ get_or w.slices.items i s = c.index_mut.ensures.value ∙ get_or_default w.slices.items i before s there in
+    let there_too : c.args.t < length w.threads.items = within-next c.args.script.now w c.args.t (ops.Access c.requires.can.task c.requires.can.cpu c.args.addr) c.requires.world c.requires.can.next in
+    let ready : c.index_mut-2.result.now.place ≡ Ready =
+    ap (λ (x : Thread). x.place) (c.index_mut-2.ensures.value ∙ get_or_default w.threads.items c.args.t c.index_mut-2.result.now opening_thread there_too) ∙ c.requires.can.place in
     let its = passed c.args.script.now c.args.t c.args.n c.args.addr c.args.tag.now w c.requires.world c.requires.can _ i line s c.access.result refl number there
-    (record { tree = refl; commands = refl; lists = refl; phase = refl; threads = c.move_to.ensures; closing = refl }) refl refl refl
+    (record { tree = refl; commands = refl; lists = refl; phase = refl; threads = ap (λ place. slice_set w.threads.items c.args.t (record { next = c.args.n + 1; place = place })) ready; closing = refl }) refl refl refl
     (subst (λ x. TouchesLine c.args.t c.args.n c.args.tag.now line x s c.access.result) was c.access.ensures) in
     record { world = its.0; passed = its.1 }

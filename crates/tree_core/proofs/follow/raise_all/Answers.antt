@@ -14,8 +14,8 @@ loop-domain-preserved c =
     let more = map-range_with_len_more (λ d. Raise d) 0 domain domain (zero-add domain) in
     rw c.push.ensures.items (record {
       raises = ap (λ (fs : List Follow). fs ++ Raise domain ∷ []) c.loop-domain.invariant.raises ∙ sym more;
-      few = omega (arith, c.loop-domain.invariant.few, length-append c.loop-domain.after.items (Raise domain ∷ []));
-      domains = All-follow_domain_push domain c.loop-domain.after.items (Raise domain) c.loop-domain.invariant.domains refl;
+      few = omega (arith, c.loop-domain.invariant.few, length-append c.loop-domain.follows.items (Raise domain ∷ []));
+      domains = All-follow_domain_push domain c.loop-domain.follows.items (Raise domain) c.loop-domain.invariant.domains refl;
     })
 
 pub returns-clause-ready : goal.returns-clause-ready

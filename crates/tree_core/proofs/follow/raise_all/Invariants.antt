@@ -6,7 +6,7 @@ use Rattle.tree_core.proofs.follow.raise_all.Given as goal
 
 abbrev pub invariant-loop-domain : goal.invariant-loop-domain
 invariant-loop-domain l = record {
-  raises : l.after.items ≡ map (λ d. Raise d) (range_with_len 0 l.domain);
-  few : length l.after.items ≤ l.domain;
-  domains : All (λ f. follow_domain f < l.domain) l.after.items;
+  raises : l.follows.items ≡ map (λ d. Raise d) (range_with_len 0 l.domain);
+  few : length l.follows.items ≤ l.domain;
+  domains : All (λ f. follow_domain f < l.domain) l.follows.items;
 }

@@ -1,4 +1,4 @@
-use Rattle.std.proofs.Common.{arith}
+use Rattle.std.proofs.Common.{arith, refl}
 use Rattle.way_fill.proofs.LowestWay.{IsLeast-trailing_zeros}
 use Rattle.way_fill.proofs.victims.least_used.Goals as goal
 
@@ -6,14 +6,7 @@ pub bounds-used-best : goal.bounds-used-best
 bounds-used-best c = (IsLeast-trailing_zeros c.args.used.now c.args.mask (omega arith) c.requires.mask).within
 
 pub loop-way-init : goal.loop-way-init
-loop-way-init c =
-    let first = IsLeast-trailing_zeros c.args.used.now c.args.mask (omega arith) c.requires.mask in
-    record {
-      within = c.pass-way.ensures.within;
-      least = record {
-        within = first.within;
-        allowed = first.allowed;
-        oldest = λ w l _. c.pass-way.ensures.none w (omega arith) l;
-        lowest = first.lowest;
-      };
-    }
+loop-way-init c = record {
+  is = IsLeast-trailing_zeros c.args.used.now c.args.mask (omega arith) c.requires.mask;
+  least = refl;
+}

@@ -8,11 +8,11 @@ use Rattle.cache_core.proofs.sets.Sets.create.Goals as goal
 
 pub invariant_of-result : goal.invariant_of-result
 invariant_of-result c =
-    let f : Flat = record { ways = c.args.ways; valid = c.in_ok-valid.valid.items; lines = c.in_ok-lines.lines.items; used = c.in_ok-used.used.items; rmids = c.in_ok-rmids.rmids.items } in
+    let f : Flat = record { ways = c.args.ways; valid = c.in_ok-valid.valid.items; lines = c.in_ok-lines.lines; used = c.in_ok-used.used.items; rmids = c.in_ok-rmids.rmids.items } in
     let count : length f.valid ≡ c.args.count = omega (arith, c.in_ok-valid.ensures.len) in
     subst (λ l. IsFlat f l (vec_capacity c.in_ok-filled.filled)) (sym c.in_ok-filled.ensures.items)
     (IsFlat-empty f (vec_capacity c.in_ok-filled.filled) c.requires
-    ((let size : length f.lines ≡ c.args.count * c.args.ways = omega (arith, c.in_ok-lines.ensures.len) in size) ∙ ap (λ k. k * c.args.ways) (sym count))
+    ((let size : length f.lines ≡ c.args.count * c.args.ways = omega (arith, c.in_ok-lines.ensures) in size) ∙ ap (λ k. k * c.args.ways) (sym count))
     ((let size : length f.used ≡ c.args.count * c.args.ways = omega (arith, c.in_ok-used.ensures.len) in size) ∙ ap (λ k. k * c.args.ways) (sym count))
     ((let size : length f.rmids ≡ c.args.count * c.args.ways = omega (arith, c.in_ok-rmids.ensures.len) in size) ∙ ap (λ k. k * c.args.ways) (sym count))
     (λ s. ap (λ vs. slice_index vs s) (c.in_ok-valid.ensures.items_if_clones_equal (λ y h. h)) ∙ get_or-zeros _ s)
@@ -20,15 +20,15 @@ invariant_of-result c =
 
 pub returns-clause-count : goal.returns-clause-count
 returns-clause-count c =
-    let f : Flat = record { ways = c.args.ways; valid = c.in_ok-valid.valid.items; lines = c.in_ok-lines.lines.items; used = c.in_ok-used.used.items; rmids = c.in_ok-rmids.rmids.items } in
+    let f : Flat = record { ways = c.args.ways; valid = c.in_ok-valid.valid.items; lines = c.in_ok-lines.lines; used = c.in_ok-used.used.items; rmids = c.in_ok-rmids.rmids.items } in
     length-flat_sets f ∙ omega (arith, c.in_ok-valid.ensures.len)
 
 pub returns-clause-widths : goal.returns-clause-widths
 returns-clause-widths c set less =
-    let f : Flat = record { ways = c.args.ways; valid = c.in_ok-valid.valid.items; lines = c.in_ok-lines.lines.items; used = c.in_ok-used.used.items; rmids = c.in_ok-rmids.rmids.items } in
+    let f : Flat = record { ways = c.args.ways; valid = c.in_ok-valid.valid.items; lines = c.in_ok-lines.lines; used = c.in_ok-used.used.items; rmids = c.in_ok-rmids.rmids.items } in
     (IsRow-flat_sets f set (omega (arith, less, c.in_ok-valid.ensures.len))).count
 
 pub returns-clause-empty : goal.returns-clause-empty
 returns-clause-empty c =
-    let f : Flat = record { ways = c.args.ways; valid = c.in_ok-valid.valid.items; lines = c.in_ok-lines.lines.items; used = c.in_ok-used.used.items; rmids = c.in_ok-rmids.rmids.items } in
+    let f : Flat = record { ways = c.args.ways; valid = c.in_ok-valid.valid.items; lines = c.in_ok-lines.lines; used = c.in_ok-used.used.items; rmids = c.in_ok-rmids.rmids.items } in
     place_in-empty f (λ s. ap (λ vs. slice_index vs s) (c.in_ok-valid.ensures.items_if_clones_equal (λ y h. h)) ∙ get_or-zeros _ s)

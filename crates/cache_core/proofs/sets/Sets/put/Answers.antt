@@ -14,13 +14,13 @@ use Rattle.cache_core.proofs.sets.Sets.put.Goals as goal
 pub index-valid-requires : goal.index-valid-requires
 index-valid-requires c =
     let i = c.self.inside in
-    let f : Flat = record { ways = i.ways; valid = i.valid.items; lines = i.lines.items; used = i.used.items; rmids = i.rmids.items } in
+    let f : Flat = record { ways = i.ways; valid = i.valid.items; lines = i.lines; used = i.used.items; rmids = i.rmids.items } in
     omega (arith, lt-sets f c.args.self.now c.args.set c.self.view_is c.requires.set)
 
 pub list_set-requires : goal.list_set-requires
 list_set-requires c none =
     let i = c.self.inside in
-    let f : Flat = record { ways = i.ways; valid = i.valid.items; lines = i.lines.items; used = i.used.items; rmids = i.rmids.items } in
+    let f : Flat = record { ways = i.ways; valid = i.valid.items; lines = i.lines; used = i.used.items; rmids = i.rmids.items } in
     let within : c.args.set < length f.valid = lt-sets f c.args.self.now c.args.set c.self.view_is c.requires.set in
     let value : c.index-valid.result.now ≡ slice_index f.valid c.args.set = c.index-valid.ensures ∙ get_or_default f.valid c.args.set c.index-valid.result.now 0 within in
     omega (arith, lt-filled f i.filled.items (vec_capacity i.filled) c.args.set c.self.invariant within (sym value ∙ none))
@@ -28,7 +28,7 @@ list_set-requires c none =
 pub index-requires : goal.index-requires
 index-requires c =
     let i = c.self.inside in
-    let f : Flat = record { ways = i.ways; valid = i.valid.items; lines = i.lines.items; used = i.used.items; rmids = i.rmids.items } in
+    let f : Flat = record { ways = i.ways; valid = i.valid.items; lines = i.lines; used = i.used.items; rmids = i.rmids.items } in
     let within : c.args.set < length f.valid = lt-sets f c.args.self.now c.args.set c.self.view_is c.requires.set in
     let inside : c.args.way < f.ways = lt-ways f c.args.self.now c.args.set c.args.way c.self.view_is c.requires.set c.requires.way in
     omega (arith, lt-place (length f.valid) f.ways c.args.set c.args.way within inside, c.self.invariant.rmids)
@@ -36,41 +36,41 @@ index-requires c =
 pub rmid_at-left-requires : goal.rmid_at-left-requires
 rmid_at-left-requires c =
     let i = c.self.inside in
-    let f : Flat = record { ways = i.ways; valid = i.valid.items; lines = i.lines.items; used = i.used.items; rmids = i.rmids.items } in
+    let f : Flat = record { ways = i.ways; valid = i.valid.items; lines = i.lines; used = i.used.items; rmids = i.rmids.items } in
     omega (arith, lt-ways f c.args.self.now c.args.set c.args.way c.self.view_is c.requires.set c.requires.way, c.self.invariant.limit)
 
 pub with_way-requires : goal.with_way-requires
 with_way-requires c =
     let i = c.self.inside in
-    let f : Flat = record { ways = i.ways; valid = i.valid.items; lines = i.lines.items; used = i.used.items; rmids = i.rmids.items } in
+    let f : Flat = record { ways = i.ways; valid = i.valid.items; lines = i.lines; used = i.used.items; rmids = i.rmids.items } in
     omega (arith, lt-ways f c.args.self.now c.args.set c.args.way c.self.view_is c.requires.set c.requires.way, c.self.invariant.limit)
 
 pub index_mut-requires : goal.index_mut-requires
 index_mut-requires c =
     let i = c.self.inside in
-    let f : Flat = record { ways = i.ways; valid = i.valid.items; lines = i.lines.items; used = i.used.items; rmids = i.rmids.items } in
+    let f : Flat = record { ways = i.ways; valid = i.valid.items; lines = i.lines; used = i.used.items; rmids = i.rmids.items } in
     omega (arith, lt-sets f c.args.self.now c.args.set c.self.view_is c.requires.set)
 
-pub index_mut-requires-2 : goal.index_mut-requires-2
-index_mut-requires-2 c =
+pub put-requires : goal.put-requires
+put-requires c =
     let i = c.self.inside in
-    let f : Flat = record { ways = i.ways; valid = i.valid.items; lines = i.lines.items; used = i.used.items; rmids = i.rmids.items } in
+    let f : Flat = record { ways = i.ways; valid = i.valid.items; lines = i.lines; used = i.used.items; rmids = i.rmids.items } in
     let within : c.args.set < length f.valid = lt-sets f c.args.self.now c.args.set c.self.view_is c.requires.set in
     let inside : c.args.way < f.ways = lt-ways f c.args.self.now c.args.set c.args.way c.self.view_is c.requires.set c.requires.way in
     omega (arith, lt-place (length f.valid) f.ways c.args.set c.args.way within inside, c.self.invariant.lines)
 
-pub index_mut-requires-3 : goal.index_mut-requires-3
-index_mut-requires-3 c =
+pub index_mut-requires-2 : goal.index_mut-requires-2
+index_mut-requires-2 c =
     let i = c.self.inside in
-    let f : Flat = record { ways = i.ways; valid = i.valid.items; lines = i.lines.items; used = i.used.items; rmids = i.rmids.items } in
+    let f : Flat = record { ways = i.ways; valid = i.valid.items; lines = i.lines; used = i.used.items; rmids = i.rmids.items } in
     let within : c.args.set < length f.valid = lt-sets f c.args.self.now c.args.set c.self.view_is c.requires.set in
     let inside : c.args.way < f.ways = lt-ways f c.args.self.now c.args.set c.args.way c.self.view_is c.requires.set c.requires.way in
     omega (arith, lt-place (length f.valid) f.ways c.args.set c.args.way within inside, c.self.invariant.used)
 
-pub index_mut-requires-4 : goal.index_mut-requires-4
-index_mut-requires-4 c =
+pub index_mut-requires-3 : goal.index_mut-requires-3
+index_mut-requires-3 c =
     let i = c.self.inside in
-    let f : Flat = record { ways = i.ways; valid = i.valid.items; lines = i.lines.items; used = i.used.items; rmids = i.rmids.items } in
+    let f : Flat = record { ways = i.ways; valid = i.valid.items; lines = i.lines; used = i.used.items; rmids = i.rmids.items } in
     let within : c.args.set < length f.valid = lt-sets f c.args.self.now c.args.set c.self.view_is c.requires.set in
     let inside : c.args.way < f.ways = lt-ways f c.args.self.now c.args.set c.args.way c.self.view_is c.requires.set c.requires.way in
     omega (arith, lt-place (length f.valid) f.ways c.args.set c.args.way within inside, c.self.invariant.rmids)
@@ -78,17 +78,18 @@ index_mut-requires-4 c =
 pub invariant_of-self : goal.invariant_of-self
 invariant_of-self c =
     let i = c.self.inside in
-    let f : Flat = record { ways = i.ways; valid = i.valid.items; lines = i.lines.items; used = i.used.items; rmids = i.rmids.items } in
+    let f : Flat = record { ways = i.ways; valid = i.valid.items; lines = i.lines; used = i.used.items; rmids = i.rmids.items } in
     let within : c.args.set < length f.valid = lt-sets f c.args.self.now c.args.set c.self.view_is c.requires.set in
     let value : c.index-valid.result.now ≡ slice_index f.valid c.args.set = c.index-valid.ensures ∙ get_or_default f.valid c.args.set c.index-valid.result.now 0 within in
-    subst (λ n. IsFlat (put_in f c.args.set c.args.way c.args.place c.with_way.result) c.list_set.new.filled.items n) (sym c.list_set.ensures.room)
+    subst (λ (ls : List ℕ). IsFlat (record (put_in f c.args.set c.args.way c.args.place c.with_way.result) { lines = ls }) c.list_set.new.filled.items (vec_capacity c.list_set.new.filled)) (sym c.put.ensures)
+    (subst (λ n. IsFlat (put_in f c.args.set c.args.way c.args.place c.with_way.result) c.list_set.new.filled.items n) (sym c.list_set.ensures.room)
     (IsFlat-put f i.filled.items c.list_set.new.filled.items (vec_capacity i.filled) c.args.set c.args.way c.with_way.result c.args.place c.self.invariant within c.with_way.ensures.way
-    (c.list_set.ensures.listed ∙ ap (λ n. cond (n == 0) (i.filled.items ++ c.args.set ∷ []) i.filled.items) value))
+    (c.list_set.ensures.listed ∙ ap (λ n. cond (n == 0) (i.filled.items ++ c.args.set ∷ []) i.filled.items) value)))
 
 pub returns-clause-left : goal.returns-clause-left
 returns-clause-left c =
     let i = c.self.inside in
-    let f : Flat = record { ways = i.ways; valid = i.valid.items; lines = i.lines.items; used = i.used.items; rmids = i.rmids.items } in
+    let f : Flat = record { ways = i.ways; valid = i.valid.items; lines = i.lines; used = i.used.items; rmids = i.rmids.items } in
     let within : c.args.set < length f.valid = lt-sets f c.args.self.now c.args.set c.self.view_is c.requires.set in
     let inside : c.args.way < f.ways = lt-ways f c.args.self.now c.args.set c.args.way c.self.view_is c.requires.set c.requires.way in
     let value : c.index-valid.result.now ≡ slice_index f.valid c.args.set = c.index-valid.ensures ∙ get_or_default f.valid c.args.set c.index-valid.result.now 0 within in
@@ -101,11 +102,12 @@ returns-clause-left c =
 pub returns-clause-put : goal.returns-clause-put
 returns-clause-put c =
     let i = c.self.inside in
-    let f : Flat = record { ways = i.ways; valid = i.valid.items; lines = i.lines.items; used = i.used.items; rmids = i.rmids.items } in
+    let f : Flat = record { ways = i.ways; valid = i.valid.items; lines = i.lines; used = i.used.items; rmids = i.rmids.items } in
     let within : c.args.set < length f.valid = lt-sets f c.args.self.now c.args.set c.self.view_is c.requires.set in
     let inside : c.args.way < f.ways = lt-ways f c.args.self.now c.args.set c.args.way c.self.view_is c.requires.set c.requires.way in
     let value : c.index-valid.result.now ≡ slice_index f.valid c.args.set = c.index-valid.ensures ∙ get_or_default f.valid c.args.set c.index-valid.result.now 0 within in
     let others : (w : ℕ) → w ≢ c.args.way → has_way c.with_way.result w ≡ has_way (slice_index f.valid c.args.set) w = λ w apart. c.with_way.ensures.others w apart ∙ ap (λ n. has_way n w) value in
-    subst (λ (now : List (List (Option Place))). flat_sets (put_in f c.args.set c.args.way c.args.place c.with_way.result) ≡ slice_set now c.args.set (slice_set (set_in now c.args.set) c.args.way (Some c.args.place)))
+    subst (λ (ls : List ℕ). flat_sets (record (put_in f c.args.set c.args.way c.args.place c.with_way.result) { lines = ls }) ≡ slice_set c.args.self.now c.args.set (slice_set (set_in c.args.self.now c.args.set) c.args.way (Some c.args.place))) (sym c.put.ensures)
+    (subst (λ (now : List (List (Option Place))). flat_sets (put_in f c.args.set c.args.way c.args.place c.with_way.result) ≡ slice_set now c.args.set (slice_set (set_in now c.args.set) c.args.way (Some c.args.place)))
     c.self.view_is
-    (flat_sets-put f i.filled.items (vec_capacity i.filled) c.args.set c.args.way c.with_way.result c.args.place c.self.invariant within inside c.with_way.ensures.way others)
+    (flat_sets-put f i.filled.items (vec_capacity i.filled) c.args.set c.args.way c.with_way.result c.args.place c.self.invariant within inside c.with_way.ensures.way others))

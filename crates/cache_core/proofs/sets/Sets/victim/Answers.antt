@@ -12,26 +12,26 @@ use Rattle.cache_core.proofs.sets.Sets.victim.Goals as goal
 pub part-used-requires : goal.part-used-requires
 part-used-requires c =
     let i = c.self.inside in
-    let f : Flat = record { ways = i.ways; valid = i.valid.items; lines = i.lines.items; used = i.used.items; rmids = i.rmids.items } in
+    let f : Flat = record { ways = i.ways; valid = i.valid.items; lines = i.lines; used = i.used.items; rmids = i.rmids.items } in
     let within : c.args.set < length f.valid = lt-sets f c.args.self.now c.args.set c.self.view_is c.requires.set in
     omega (arith, le-places (length f.valid) f.ways c.args.set within, c.self.invariant.used, c.deref.ensures.len)
 
 pub index-requires : goal.index-requires
 index-requires c =
     let i = c.self.inside in
-    let f : Flat = record { ways = i.ways; valid = i.valid.items; lines = i.lines.items; used = i.used.items; rmids = i.rmids.items } in
+    let f : Flat = record { ways = i.ways; valid = i.valid.items; lines = i.lines; used = i.used.items; rmids = i.rmids.items } in
     omega (arith, lt-sets f c.args.self.now c.args.set c.self.view_is c.requires.set)
 
 pub victim-requires-clause-mask : goal.victim-requires-clause-mask
 victim-requires-clause-mask c =
     let i = c.self.inside in
-    let f : Flat = record { ways = i.ways; valid = i.valid.items; lines = i.lines.items; used = i.used.items; rmids = i.rmids.items } in
+    let f : Flat = record { ways = i.ways; valid = i.valid.items; lines = i.lines; used = i.used.items; rmids = i.rmids.items } in
     subst (λ n. 0 < c.args.mask % 2 ^ n) (length-set_in_flat f c.args.self.now c.args.set c.self.view_is c.requires.set ∙ sym c.part-used.ensures.count) c.requires.mask
 
 pub returns : goal.returns
 returns c =
     let i = c.self.inside in
-    let f : Flat = record { ways = i.ways; valid = i.valid.items; lines = i.lines.items; used = i.used.items; rmids = i.rmids.items } in
+    let f : Flat = record { ways = i.ways; valid = i.valid.items; lines = i.lines; used = i.used.items; rmids = i.rmids.items } in
     let set : ℕ = c.args.set in
     let within : set < length f.valid = lt-sets f c.args.self.now set c.self.view_is c.requires.set in
     let value : c.index.result.now ≡ slice_index f.valid set = c.index.ensures ∙ get_or_default f.valid set c.index.result.now 0 within in

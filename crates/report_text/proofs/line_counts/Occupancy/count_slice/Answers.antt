@@ -1,9 +1,11 @@
-use Rattle.std.proofs.Common.{◌≡◌, ◌+◌, ◌-◌, ◌<◌, not, true, false, Bool, drop, length, refl, sym, ap, ◌∙◌, subst, arith}
+use Rattle.std.proofs.Common.{◌≡◌, ◌+◌, ◌-◌, ◌*◌, ◌/◌, ◌%◌, ◌<◌, ◌≤◌, not, true, false, Bool, drop, length, refl, sym, ap, ◌∙◌, subst, arith}
 use Rattle.std.proofs.lemmas.List.{get_or_default}
 use Rattle.std.proofs.lemmas.Nat.{mul-le}
 use Rattle.cache_core.specs.History.{held}
+use Rattle.machine.proofs.laws.WholeSets.{mod-sets_slices}
 use Rattle.machine.specs.Maps.{parameters_of}
 use Rattle.report_text.proofs.CountedEntries.{HasCounted-begun, HasCounted-counts, HasCounted-ended, HasCounted-more, HasCounted-valid, IsAtMost-begun, IsAtMost-slice, has_emptying-drop, has_emptying-drop_length}
+use Rattle.report_text.proofs.FullSlices.{HasCounted-full}
 use Rattle.report_text.proofs.Occupancies.{IsAtMost-le}
 use Rattle.report_text.specs.Occupancies.{HasCounted}
 use Rattle.run_law.specs.Slices.{shape_in}
@@ -76,16 +78,34 @@ returns-then-not-take-clause-valid c =
     HasCounted-valid m c.args.self.now c.begin_slice.new.self c.take.new.self c.args.entries.now c.begin_slice.ensures.valid
     (HasCounted-ended m c.begin_slice.new.self c.take.new.self c.args.entries.now k c.loop-left.left _ next within (get_or_default c.args.entries.now k _ _ within) (emptied _ c.take.result c.take.ensures.more c.if-not-take.true) counted)
 
-pub returns-clause-counts : goal.returns-clause-counts
-returns-clause-counts c =
+pub returns-after-loop-left-clause-counts : goal.returns-after-loop-left-clause-counts
+returns-after-loop-left-clause-counts c =
     let m = shape_in (parameters_of c.args.machine.now) c.args.i in
     let end : c.loop-left.left ≡ 0 = let none = c.loop-left-test.false in omega arith in
     HasCounted-counts m c.args.self.now c.begin_slice.new.self c.loop-left.self c.args.entries.now c.begin_slice.ensures.counts
     (subst (λ n. HasCounted m c.begin_slice.new.self (λ s w. held m (drop n c.args.entries.now) s w) c.loop-left.self) end c.loop-left.invariant.counted)
 
-pub returns-clause-valid : goal.returns-clause-valid
-returns-clause-valid c =
+pub returns-after-loop-left-clause-valid : goal.returns-after-loop-left-clause-valid
+returns-after-loop-left-clause-valid c =
     let m = shape_in (parameters_of c.args.machine.now) c.args.i in
     let end : c.loop-left.left ≡ 0 = let none = c.loop-left-test.false in omega arith in
     HasCounted-valid m c.args.self.now c.begin_slice.new.self c.loop-left.self c.args.entries.now c.begin_slice.ensures.valid
     (subst (λ n. HasCounted m c.begin_slice.new.self (λ s w. held m (drop n c.args.entries.now) s w) c.loop-left.self) end c.loop-left.invariant.counted)
+
+-- all is counted where each place holds a line
+all_counted : (c : goal.Else-valid-full)
+    → HasCounted (shape_in (parameters_of c.args.machine.now) c.args.i) c.begin_slice.new.self (λ s w. held (shape_in (parameters_of c.args.machine.now) c.args.i) c.args.entries.now s w) c.loop-left.self
+all_counted c =
+    let m = c.args.machine.now in
+    let slice : c.args.i % m.slices < m.slices = let one_slice = m.in_range.some_slice in omega arith in
+    let full : c.begin_slice.new.self.valid + m.sets / m.slices * m.ways ≤ c.loop-left.self.valid =
+    let before = c.valid.ensures in let places = c.places_of.ensures in let now = c.valid-in-loop-left.ensures in let enough = c.if-valid-full.false in omega (arith, before, places, now, enough) in
+    HasCounted-full (shape_in (parameters_of m) c.args.i) c.begin_slice.new.self c.loop-left.self c.args.entries.now c.loop-left.left slice (mod-sets_slices (parameters_of m) m.in_range) full c.loop-left.invariant.counted
+
+pub returns-else-valid-full-clause-counts : goal.returns-else-valid-full-clause-counts
+returns-else-valid-full-clause-counts c =
+    HasCounted-counts (shape_in (parameters_of c.args.machine.now) c.args.i) c.args.self.now c.begin_slice.new.self c.loop-left.self c.args.entries.now c.begin_slice.ensures.counts (all_counted c)
+
+pub returns-else-valid-full-clause-valid : goal.returns-else-valid-full-clause-valid
+returns-else-valid-full-clause-valid c =
+    HasCounted-valid (shape_in (parameters_of c.args.machine.now) c.args.i) c.args.self.now c.begin_slice.new.self c.loop-left.self c.args.entries.now c.begin_slice.ensures.valid (all_counted c)

@@ -1,8 +1,11 @@
-use Rattle.std.proofs.Common.{◌<◌, ◌≤◌, List, length, map, take, subst, sym, ap, ◌∙◌, arith}
+use Rattle.std.proofs.Common.{◌≡◌, ◌<◌, ◌≤◌, List, length, map, take, None, subst, sym, ap, ◌∙◌, arith}
+use Rattle.std.specs.Prelude.{slice_index_or}
 use Rattle.std.specs.List.{flat_map}
 use Rattle.std.specs.Option.{option_or}
+use Rattle.std.proofs.lemmas.Grind.{common_steps}
 use Rattle.std.proofs.lemmas.List.{take_all}
 use Rattle.cache_core.specs.declared.entry.SliceEntry.{SliceEntry}
+use Rattle.report_text.proofs.OtherCommands.{is_touch_in-none, outcome_text-other}
 use Rattle.report_text.proofs.TouchHits.{outcome_text-run, touch_hit-more}
 use Rattle.report_text.specs.Touches.{hit_text, touch_hit}
 use Rattle.run_law.specs.Entries.{entry_value}
@@ -29,3 +32,10 @@ returns-clause-told c k h there =
     let here : At (map entry_value c.tree-tree.result.now) k h = subst (λ tree. At tree k h) (sym c.tree-tree.ensures) there in
     outcome_text-run c.args.script.now j k h c.requires.run there
     ∙ ap hit_text (sym (c.loop-i.invariant.hits k h here ∙ ap (λ es. touch_hit k h (flat_map (λ (xs : List SliceEntry). xs) es)) (take_all c.loop-i.i j.slices all)))
+
+pub returns-then-not-has_touch-clause-told : goal.returns-then-not-has_touch-clause-told
+returns-then-not-has_touch-clause-told c k h there =
+    let here : At (map entry_value c.tree-tree.result.now) k h = subst (λ tree. At tree k h) (sym c.tree-tree.ensures) there in
+    let none : slice_index_or c.in_ok-hits.hits.items k None ≡ None = grind (arith, common_steps, c.in_ok-hits.ensures) in
+    outcome_text-other c.args.script.now c.args.journals.now k h c.requires.run there (is_touch_in-none c.args.script.now c.tree-tree.result.now k h (sym c.has_touch.ensures ∙ c.if-not-has_touch.true) here)
+    ∙ ap hit_text (sym none)

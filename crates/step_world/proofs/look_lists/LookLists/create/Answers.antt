@@ -2,6 +2,7 @@ use Rattle.std.proofs.Common.{◌+◌, ◌-◌, ◌∙◌, ap, arith, drop, leng
 use Rattle.machine.specs.Maps.{parameters_of}
 use Rattle.run_law.specs.Ops.{is_command}
 use Rattle.step_world.specs.LookLists.{AreReady, rooms_of}
+use Rattle.step_world.proofs.AccessesAlone.{rooms_of-accesses}
 use Rattle.step_world.proofs.Openings.{AreReady-access_back, AreReady-command_back, is_command-not_access}
 use Rattle.step_world.proofs.look_lists.LookLists.create.Goals as goal
 use Rattle.step_world.proofs.look_lists.LookLists.create.Goals.{in-Access, in_default+in_ok-with_room-in_default+in_ok-push-in_default}
@@ -20,3 +21,7 @@ loop-k-preserved c =
           subst (λ ls. AreReady (rooms_of m (drop (length ops - (k + 1)) ops)) ls) (sym (ap (λ v. v.items) w.lists-is ∙ w.in_ok-push-in_default.ensures.items))
           (AreReady-command_back m ops k op c.loop-k.lists.items w.in_ok-with_room-in_default.field-0 c.loop-k-test.true c.index-ops-ops.is (is_command-not_access op w.in_default.not-Access) w.in_ok-with_room-in_default.ensures.empty (omega (arith, w.in_ok-with_room-in_default.ensures.room, w.most_counts.ensures)) c.loop-k.invariant)
     ]
+
+pub returns-then-commands-eq0 : goal.returns-then-commands-eq0
+returns-then-commands-eq0 c =
+    subst (λ rooms. AreReady rooms c.new-lists.result.items) (sym (rooms_of-accesses (parameters_of c.args.m.now) c.args.ops.now (omega (arith, c.requires, c.if-commands-eq0.true)))) tt

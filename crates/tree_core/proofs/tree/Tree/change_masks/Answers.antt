@@ -26,7 +26,7 @@ pub returns-then-is_locked-clause-after : goal.returns-then-is_locked-clause-aft
 returns-then-is_locked-clause-after c =
     let m = c.args.self.now.machine in let s = c.args.self.now.state in let g = c.args.group.now in
     let against = refusal-locked m s g (schemata_read m c.args.text.now) (sym c.is_locked.ensures ∙ c.if-is_locked.true) in
-    c.new.ensures ∙ sym (ap (λ (o : Option Refusal). unless o [] (schemata.after m s g (schemata_read m c.args.text.now))) against)
+    c.requires.nothing ∙ sym (ap (λ (o : Option Refusal). unless o [] (schemata.after m s g (schemata_read m c.args.text.now))) against)
 
 pub take_masks-requires-clause-sound : goal.take_masks-requires-clause-sound
 take_masks-requires-clause-sound c = λ none.
@@ -90,4 +90,4 @@ returns-in-Err-clause-after c =
     let unlocked = sym c.is_locked.ensures ∙ c.if-is_locked.false in
     let read : schemata_read m c.args.text.now ≡ Err c.in-Err.fault = ap (λ (v : TreeValue). schemata_read v.machine c.args.text.now) (sym c.self.view_is) ∙ c.in-Err.ensures.exact in
     let against = refusal-unlocked m s g (schemata_read m c.args.text.now) unlocked ∙ ap (schemata.against_read m s g) read in
-    c.new-in-Err.ensures ∙ sym (ap (λ (o : Option Refusal). unless o [] (schemata.after m s g (schemata_read m c.args.text.now))) against)
+    c.requires.nothing ∙ sym (ap (λ (o : Option Refusal). unless o [] (schemata.after m s g (schemata_read m c.args.text.now))) against)

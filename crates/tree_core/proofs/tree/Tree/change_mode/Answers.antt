@@ -69,7 +69,7 @@ pub returns-in-Ok-None-clause-after : goal.returns-in-Ok-None-clause-after
 returns-in-Ok-None-clause-after c =
     let m = c.args.self.now.machine in let s = c.args.self.now.state in let g = c.args.group.now in
     let stays : Stays g c.args.text.now = subst (λ (o : Option Mode). AsksMode m s g c.args.text.now (Ok o)) c.in-Ok-None.field-0-is c.in-Ok-None.ensures in
-    c.new.ensures ∙ sym (ap₂ (λ (o : Option Refusal) (fs : List Follow). unless o [] fs) (written.refusal-stays m s g c.args.text.now stays) (written.after-stays m s g c.args.text.now stays))
+    c.requires.nothing ∙ sym (ap₂ (λ (o : Option Refusal) (fs : List Follow). unless o [] fs) (written.refusal-stays m s g c.args.text.now stays) (written.after-stays m s g c.args.text.now stays))
 
 pub returns-in-Err-clause-reply : goal.returns-in-Err-clause-reply
 returns-in-Err-clause-reply c = c.in-Err.ensures.reply_is ∙ ap reply_of (sym c.in-Err.ensures.is)
@@ -82,4 +82,4 @@ returns-in-Err-clause-state c =
 pub returns-in-Err-clause-after : goal.returns-in-Err-clause-after
 returns-in-Err-clause-after c =
     let m = c.args.self.now.machine in let s = c.args.self.now.state in let g = c.args.group.now in
-    c.new-in-Err.ensures ∙ sym (ap (λ (o : Option Refusal). unless o [] (mode.after m g c.args.text.now)) c.in-Err.ensures.is)
+    c.requires.nothing ∙ sym (ap (λ (o : Option Refusal). unless o [] (mode.after m g c.args.text.now)) c.in-Err.ensures.is)

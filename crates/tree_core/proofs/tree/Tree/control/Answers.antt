@@ -1,4 +1,4 @@
-use Rattle.std.proofs.Common.{◌≡◌, Some, find, sym, subst, ap, ◌∙◌}
+use Rattle.std.proofs.Common.{◌≡◌, refl, Some, find, sym, subst, ap, ◌∙◌}
 use Rattle.std.specs.Option.{option_copied}
 use Rattle.group_tree.specs.Records.{has_gid}
 use Rattle.machine.specs.Maps.{parameters_of}
@@ -22,7 +22,7 @@ returns c =
     let g = c.unwrap-group.result.now in
     let found : find (has_gid c.in-Some.gid) t.groups.groups ≡ Some g = sym c.get.ensures.found ∙ ap option_copied c.unwrap-group.ensures in
     let named : directory_gid s (Ctrl c.args.name) ≡ Some c.in-Some.gid = sym c.in-Some.ensures.found in (
-      ap (λ (v : TreeValue). directory_gid v.state (Ctrl c.args.name)) (sym c.self.view_is) ∙ named,
-      subst (λ (v : TreeValue). IsControl v.state (record { gid = c.in-Some.gid; class = g.class })) c.self.view_is
+      refl,
+      subst (λ (v : TreeValue). IsControl v.state (record { name = c.args.name; gid = c.in-Some.gid; class = g.class })) c.self.view_is
           (IsControl-found (Keeps-from_IsKept c.self.invariant) c.args.name c.in-Some.gid g named found),
     )

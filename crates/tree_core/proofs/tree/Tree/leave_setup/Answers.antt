@@ -84,7 +84,7 @@ returns-in-Ok-clause-after c =
     let g = c.args.group.now in
     let rmids = c.take_rmid.new.rmids in let rmid = c.in-Ok.rmid in let took = c.in-Ok.ensures in
     let none = setups.rmid_refusal-taken keeps rmids rmid took in
-    subst (λ (v : TreeValue). c.raise_all.result.items ≡ unless (rmid_refusal v.machine v.state) [] (map (λ d. Raise d) (range_with_len 0 v.machine.domains))) c.self.view_is
+    subst (λ (v : TreeValue). c.raise_all.new.follows.items ≡ unless (rmid_refusal v.machine v.state) [] (map (λ d. Raise d) (range_with_len 0 v.machine.domains))) c.self.view_is
     (c.raise_all.ensures.raises ∙ sym (ap (λ (o : Option Refusal). unless o [] (map (λ d. Raise d) (range_with_len 0 m.domains))) none))
 
 pub returns-in-Err-clause-reply : goal.returns-in-Err-clause-reply
@@ -116,5 +116,5 @@ returns-in-Err-clause-after c =
     let keeps = Keeps-from_IsKept c.self.invariant in
     let g = c.args.group.now in
     let none = setups.rmid_refusal-none keeps c.in-Err.reply c.in-Err.ensures.1 in
-    subst (λ (v : TreeValue). c.new.result.items ≡ unless (rmid_refusal v.machine v.state) [] (map (λ d. Raise d) (range_with_len 0 v.machine.domains))) c.self.view_is
-    (c.new.ensures ∙ sym (ap (λ (o : Option Refusal). unless o [] (map (λ d. Raise d) (range_with_len 0 m.domains))) none.1))
+    subst (λ (v : TreeValue). c.args.follows.now.items ≡ unless (rmid_refusal v.machine v.state) [] (map (λ d. Raise d) (range_with_len 0 v.machine.domains))) c.self.view_is
+    (c.requires.nothing ∙ sym (ap (λ (o : Option Refusal). unless o [] (map (λ d. Raise d) (range_with_len 0 m.domains))) none.1))

@@ -121,5 +121,5 @@ returns-clause-ready c =
     let most : t.epoch ≤ 4000000 = subst (λ (v : TreeValue). v.epoch ≤ 4000000) (sym c.self.view_is) c.requires.epoch in
     let first : c.place-region.result.first_line ≡ 2 ^ 52 + t.regions.placed * 2 ^ 32 = ap (λ (r : Region). r.first_line) region in
     let low : c.place-region.result.first_line < 2 ^ 60 = omega arith in
-    subst (λ (v : TreeValue). All (IsReady v.machine) c.only.result.items) c.self.view_is
-    (All-only (IsReady m) (Lock a.domain a.mask c.place-region.result.first_line) c.only.result.items c.only.ensures.only (ways.0, ways.1, low))
+    subst (λ (v : TreeValue). All (IsReady v.machine) c.push_only.new.follows.items) c.self.view_is
+    (All-only (IsReady m) (Lock a.domain a.mask c.place-region.result.first_line) c.push_only.new.follows.items c.push_only.ensures.only (ways.0, ways.1, low))

@@ -10,25 +10,12 @@ use Rattle.tree_core.proofs.KeptTables.{IsKept-from_Keeps, Keeps-from_IsKept}
 use Rattle.tree_core.proofs.MonitorGroups.{gid-named_monitor, has_group-named_monitor}
 use Rattle.tree_core.proofs.RemovedMonitor as removed
 use Rattle.tree_core.proofs.RemovedGroups.{State-parts, table_threshold-lt}
+use Rattle.tree_core.specs.Found.{IsMonitor}
 use Rattle.tree_core.specs.Tables.{state_of, tables}
 use Rattle.tree_core.specs.Values.{TreeValue}
-use Rattle.tree_law.specs.Existing.{owner_gid}
 use Rattle.tree_law.specs.Steps.{accepted, needs, refusal}
 use Rattle.tree_law.specs.commands.Rmdir as rmdir
 use Rattle.tree_core.proofs.tree.Tree.remove_monitor.Goals as goal
-
-pub unreachable-requires : goal.unreachable-requires
-unreachable-requires c =
-    let s = c.args.self.now.state in
-    removed.directory_gid-accepted_monitor c.args.self.now.machine s c.args.owner c.args.name c.requires.accepted (removed.directory_gid-no_owner s c.args.owner c.args.name (sym c.in_default.ensures))
-
-pub unreachable-requires-in_default-find_mon : goal.unreachable-requires-in_default-find_mon
-unreachable-requires-in_default-find_mon c =
-    let s = c.args.self.now.state in
-    let parent = c.in-Some.parent in
-    let none : option_map (λ (g : Group). g.gid) (find (is_monitor_named parent c.args.name) s.groups) ≡ None =
-    subst (λ (v : TreeValue). option_map (λ (g : Group). g.gid) (find (is_monitor_named parent c.args.name) v.state.groups) ≡ None) c.self.view_is (sym c.in_default-find_mon.ensures.found) in
-    removed.directory_gid-accepted_monitor c.args.self.now.machine s c.args.owner c.args.name c.requires.accepted (removed.directory_gid-monitor s c.args.owner c.args.name parent (sym c.in-Some.ensures) ∙ none)
 
 pub remove-requires-clause-there : goal.remove-requires-clause-there
 remove-requires-clause-there c =
@@ -36,12 +23,13 @@ remove-requires-clause-there c =
     let m = parameters_of t.machine in
     let s = state_of m (tables t.groups t.tasks t.cpus t.classes t.rmids t.regions) t.status t.next_gid in
     let keeps = Keeps-from_IsKept c.self.invariant in
-    let parent = c.in-Some.parent in
-    let gid = c.in-Some-find_mon.gid in
-    let op = Rmdir (Dir (Mon c.args.owner c.args.name)) in
-    let is_owner : owner_gid s c.args.owner ≡ Some parent = subst (λ (v : TreeValue). owner_gid v.state c.args.owner ≡ Some parent) (sym c.self.view_is) (sym c.in-Some.ensures) in
-    let named : option_map (λ (g : Group). g.gid) (find (is_monitor_named parent c.args.name) s.groups) ≡ Some gid = sym c.in-Some-find_mon.ensures.found in
-    has_group-named_monitor keeps parent c.args.name gid named
+    let parent = c.args.found.parent in
+    let gid = c.args.found.gid in
+    let op = Rmdir (Dir (Mon c.args.found.owner c.args.found.name)) in
+    let group : IsMonitor s c.args.found = subst (λ (v : TreeValue). IsMonitor v.state c.args.found) (sym c.self.view_is) c.requires.found in
+    let is_owner = group.is_owner in
+    let named : option_map (λ (g : Group). g.gid) (find (is_monitor_named parent c.args.found.name) s.groups) ≡ Some gid = sym (removed.directory_gid-monitor s c.args.found.owner c.args.found.name parent is_owner) ∙ group.named in
+    has_group-named_monitor keeps parent c.args.found.name gid named
 
 pub remove-requires-clause-not_default : goal.remove-requires-clause-not_default
 remove-requires-clause-not_default c =
@@ -49,12 +37,13 @@ remove-requires-clause-not_default c =
     let m = parameters_of t.machine in
     let s = state_of m (tables t.groups t.tasks t.cpus t.classes t.rmids t.regions) t.status t.next_gid in
     let keeps = Keeps-from_IsKept c.self.invariant in
-    let parent = c.in-Some.parent in
-    let gid = c.in-Some-find_mon.gid in
-    let op = Rmdir (Dir (Mon c.args.owner c.args.name)) in
-    let is_owner : owner_gid s c.args.owner ≡ Some parent = subst (λ (v : TreeValue). owner_gid v.state c.args.owner ≡ Some parent) (sym c.self.view_is) (sym c.in-Some.ensures) in
-    let named : option_map (λ (g : Group). g.gid) (find (is_monitor_named parent c.args.name) s.groups) ≡ Some gid = sym c.in-Some-find_mon.ensures.found in
-    gid-named_monitor keeps parent c.args.name gid named
+    let parent = c.args.found.parent in
+    let gid = c.args.found.gid in
+    let op = Rmdir (Dir (Mon c.args.found.owner c.args.found.name)) in
+    let group : IsMonitor s c.args.found = subst (λ (v : TreeValue). IsMonitor v.state c.args.found) (sym c.self.view_is) c.requires.found in
+    let is_owner = group.is_owner in
+    let named : option_map (λ (g : Group). g.gid) (find (is_monitor_named parent c.args.found.name) s.groups) ≡ Some gid = sym (removed.directory_gid-monitor s c.args.found.owner c.args.found.name parent is_owner) ∙ group.named in
+    gid-named_monitor keeps parent c.args.found.name gid named
 
 pub free_all-requires : goal.free_all-requires
 free_all-requires c =
@@ -62,17 +51,18 @@ free_all-requires c =
     let m = parameters_of t.machine in
     let s = state_of m (tables t.groups t.tasks t.cpus t.classes t.rmids t.regions) t.status t.next_gid in
     let keeps = Keeps-from_IsKept c.self.invariant in
-    let parent = c.in-Some.parent in
-    let gid = c.in-Some-find_mon.gid in
-    let op = Rmdir (Dir (Mon c.args.owner c.args.name)) in
-    let is_owner : owner_gid s c.args.owner ≡ Some parent = subst (λ (v : TreeValue). owner_gid v.state c.args.owner ≡ Some parent) (sym c.self.view_is) (sym c.in-Some.ensures) in
-    let named : option_map (λ (g : Group). g.gid) (find (is_monitor_named parent c.args.name) s.groups) ≡ Some gid = sym c.in-Some-find_mon.ensures.found in
+    let parent = c.args.found.parent in
+    let gid = c.args.found.gid in
+    let op = Rmdir (Dir (Mon c.args.found.owner c.args.found.name)) in
+    let group : IsMonitor s c.args.found = subst (λ (v : TreeValue). IsMonitor v.state c.args.found) (sym c.self.view_is) c.requires.found in
+    let is_owner = group.is_owner in
+    let named : option_map (λ (g : Group). g.gid) (find (is_monitor_named parent c.args.found.name) s.groups) ≡ Some gid = sym (removed.directory_gid-monitor s c.args.found.owner c.args.found.name parent is_owner) ∙ group.named in
     let nothing : refusal m s op ≡ None = subst (λ (v : TreeValue). refusal v.machine v.state op ≡ None) (sym c.self.view_is) c.requires.accepted in
-    let freed : c.args.freed.now ≡ rmdir.freed s (Dir (Mon c.args.owner c.args.name)) = subst (λ (v : TreeValue). c.args.freed.now ≡ rmdir.freed v.state (Dir (Mon c.args.owner c.args.name))) (sym c.self.view_is) c.requires.freed in
+    let freed : c.args.freed.now ≡ rmdir.freed s (Dir (Mon c.args.found.owner c.args.found.name)) = subst (λ (v : TreeValue). c.args.freed.now ≡ rmdir.freed v.state (Dir (Mon c.args.found.owner c.args.found.name))) (sym c.self.view_is) c.requires.freed in
     let count : length c.args.looks.now ≡ length (needs m s op) = subst (λ (v : TreeValue). length c.args.looks.now ≡ length (needs v.machine v.state op)) (sym c.self.view_is) c.requires.looks in
     record {
-      may = removed.MayFree-monitor keeps c.args.owner c.args.name parent gid is_owner named nothing c.args.freed.now freed t.machine.in_range;
-      looks = removed.length-looks keeps c.args.owner c.args.name parent gid is_owner named nothing c.args.freed.now freed c.args.looks.now count;
+      may = removed.MayFree-monitor keeps c.args.found.owner c.args.found.name parent gid is_owner named nothing c.args.freed.now freed t.machine.in_range;
+      looks = removed.length-looks keeps c.args.found.owner c.args.found.name parent gid is_owner named nothing c.args.freed.now freed c.args.looks.now count;
       threshold = table_threshold-lt keeps (has_gid gid) t.machine.in_range;
     }
 
@@ -82,16 +72,17 @@ invariant_of-self c =
     let m = parameters_of t.machine in
     let s = state_of m (tables t.groups t.tasks t.cpus t.classes t.rmids t.regions) t.status t.next_gid in
     let keeps = Keeps-from_IsKept c.self.invariant in
-    let parent = c.in-Some.parent in
-    let gid = c.in-Some-find_mon.gid in
-    let op = Rmdir (Dir (Mon c.args.owner c.args.name)) in
-    let is_owner : owner_gid s c.args.owner ≡ Some parent = subst (λ (v : TreeValue). owner_gid v.state c.args.owner ≡ Some parent) (sym c.self.view_is) (sym c.in-Some.ensures) in
-    let named : option_map (λ (g : Group). g.gid) (find (is_monitor_named parent c.args.name) s.groups) ≡ Some gid = sym c.in-Some-find_mon.ensures.found in
+    let parent = c.args.found.parent in
+    let gid = c.args.found.gid in
+    let op = Rmdir (Dir (Mon c.args.found.owner c.args.found.name)) in
+    let group : IsMonitor s c.args.found = subst (λ (v : TreeValue). IsMonitor v.state c.args.found) (sym c.self.view_is) c.requires.found in
+    let is_owner = group.is_owner in
+    let named : option_map (λ (g : Group). g.gid) (find (is_monitor_named parent c.args.found.name) s.groups) ≡ Some gid = sym (removed.directory_gid-monitor s c.args.found.owner c.args.found.name parent is_owner) ∙ group.named in
     let nothing : refusal m s op ≡ None = subst (λ (v : TreeValue). refusal v.machine v.state op ≡ None) (sym c.self.view_is) c.requires.accepted in
-    let freed : c.args.freed.now ≡ rmdir.freed s (Dir (Mon c.args.owner c.args.name)) = subst (λ (v : TreeValue). c.args.freed.now ≡ rmdir.freed v.state (Dir (Mon c.args.owner c.args.name))) (sym c.self.view_is) c.requires.freed in
+    let freed : c.args.freed.now ≡ rmdir.freed s (Dir (Mon c.args.found.owner c.args.found.name)) = subst (λ (v : TreeValue). c.args.freed.now ≡ rmdir.freed v.state (Dir (Mon c.args.found.owner c.args.found.name))) (sym c.self.view_is) c.requires.freed in
     let count : length c.args.looks.now ≡ length (needs m s op) = subst (λ (v : TreeValue). length c.args.looks.now ≡ length (needs v.machine v.state op)) (sym c.self.view_is) c.requires.looks in
     let after = State-parts s c.remove.new.self.groups _ c.unbind_mon.new.self c.unbind_mon.new.self c.remove_mon.new.self c.remove_mon.new.self c.free_all.new.rmids.limbo c.free_all.new.rmids.threshold t.rmids.threshold c.remove.ensures.without refl refl c.free_all.ensures.threshold in
-    IsKept-from_Keeps (removed.Keeps-monitor keeps c.args.owner c.args.name parent gid is_owner named nothing c.args.freed.now freed c.args.looks.now c.remove.new.self c.unbind_mon.new.self c.remove_mon.new.self c.free_all.new.rmids t.machine.in_range count c.remove.ensures.without c.remove.ensures.kept c.unbind_mon.ensures c.remove_mon.ensures c.free_all.ensures _ after)
+    IsKept-from_Keeps (removed.Keeps-monitor keeps c.args.found.owner c.args.found.name parent gid is_owner named nothing c.args.freed.now freed c.args.looks.now c.remove.new.self c.unbind_mon.new.self c.remove_mon.new.self c.free_all.new.rmids t.machine.in_range count c.remove.ensures.without c.remove.ensures.kept c.unbind_mon.ensures c.remove_mon.ensures c.free_all.ensures _ after)
 
 pub returns-clause-state : goal.returns-clause-state
 returns-clause-state c =
@@ -99,14 +90,15 @@ returns-clause-state c =
     let m = parameters_of t.machine in
     let s = state_of m (tables t.groups t.tasks t.cpus t.classes t.rmids t.regions) t.status t.next_gid in
     let keeps = Keeps-from_IsKept c.self.invariant in
-    let parent = c.in-Some.parent in
-    let gid = c.in-Some-find_mon.gid in
-    let op = Rmdir (Dir (Mon c.args.owner c.args.name)) in
-    let is_owner : owner_gid s c.args.owner ≡ Some parent = subst (λ (v : TreeValue). owner_gid v.state c.args.owner ≡ Some parent) (sym c.self.view_is) (sym c.in-Some.ensures) in
-    let named : option_map (λ (g : Group). g.gid) (find (is_monitor_named parent c.args.name) s.groups) ≡ Some gid = sym c.in-Some-find_mon.ensures.found in
+    let parent = c.args.found.parent in
+    let gid = c.args.found.gid in
+    let op = Rmdir (Dir (Mon c.args.found.owner c.args.found.name)) in
+    let group : IsMonitor s c.args.found = subst (λ (v : TreeValue). IsMonitor v.state c.args.found) (sym c.self.view_is) c.requires.found in
+    let is_owner = group.is_owner in
+    let named : option_map (λ (g : Group). g.gid) (find (is_monitor_named parent c.args.found.name) s.groups) ≡ Some gid = sym (removed.directory_gid-monitor s c.args.found.owner c.args.found.name parent is_owner) ∙ group.named in
     let nothing : refusal m s op ≡ None = subst (λ (v : TreeValue). refusal v.machine v.state op ≡ None) (sym c.self.view_is) c.requires.accepted in
-    let freed : c.args.freed.now ≡ rmdir.freed s (Dir (Mon c.args.owner c.args.name)) = subst (λ (v : TreeValue). c.args.freed.now ≡ rmdir.freed v.state (Dir (Mon c.args.owner c.args.name))) (sym c.self.view_is) c.requires.freed in
+    let freed : c.args.freed.now ≡ rmdir.freed s (Dir (Mon c.args.found.owner c.args.found.name)) = subst (λ (v : TreeValue). c.args.freed.now ≡ rmdir.freed v.state (Dir (Mon c.args.found.owner c.args.found.name))) (sym c.self.view_is) c.requires.freed in
     let count : length c.args.looks.now ≡ length (needs m s op) = subst (λ (v : TreeValue). length c.args.looks.now ≡ length (needs v.machine v.state op)) (sym c.self.view_is) c.requires.looks in
     let after = State-parts s c.remove.new.self.groups _ c.unbind_mon.new.self c.unbind_mon.new.self c.remove_mon.new.self c.remove_mon.new.self c.free_all.new.rmids.limbo c.free_all.new.rmids.threshold t.rmids.threshold c.remove.ensures.without refl refl c.free_all.ensures.threshold in
     subst (λ (v : TreeValue). state_of m (tables c.remove.new.self c.unbind_mon.new.self c.remove_mon.new.self t.classes c.free_all.new.rmids t.regions) t.status t.next_gid ≡ accepted v.machine v.state op c.args.looks.now) c.self.view_is
-    (after ∙ removed.left_monitor-accepted keeps c.args.owner c.args.name parent gid is_owner named nothing c.args.freed.now freed c.args.looks.now c.remove.new.self c.unbind_mon.new.self c.remove_mon.new.self c.free_all.new.rmids t.machine.in_range count c.remove.ensures.without c.remove.ensures.kept c.unbind_mon.ensures c.remove_mon.ensures c.free_all.ensures)
+    (after ∙ removed.left_monitor-accepted keeps c.args.found.owner c.args.found.name parent gid is_owner named nothing c.args.freed.now freed c.args.looks.now c.remove.new.self c.unbind_mon.new.self c.remove_mon.new.self c.free_all.new.rmids t.machine.in_range count c.remove.ensures.without c.remove.ensures.kept c.unbind_mon.ensures c.remove_mon.ensures c.free_all.ensures)

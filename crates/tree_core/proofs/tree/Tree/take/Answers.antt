@@ -16,7 +16,7 @@ use Rattle.tree_core.proofs.tree.Tree.take.Goals as goal
 pub returns-in-Mkdir-clause-after : goal.returns-in-Mkdir-clause-after
 returns-in-Mkdir-clause-after c =
     let m = c.args.self.now.machine in let s = c.args.self.now.state in let k = c.args.self.now.epoch in
-    c.new.ensures ∙ sym (ap (after m s k) c.in-Mkdir.is ∙ after-nothing m s k (ops.Mkdir c.in-Mkdir.path) refl)
+    c.requires.nothing ∙ sym (ap (after m s k) c.in-Mkdir.is ∙ after-nothing m s k (ops.Mkdir c.in-Mkdir.path) refl)
 
 pub returns-in-Rmdir-clause-after : goal.returns-in-Rmdir-clause-after
 returns-in-Rmdir-clause-after c =
@@ -47,7 +47,7 @@ returns-in-Read-clause-state c =
 pub returns-in-Read-clause-after : goal.returns-in-Read-clause-after
 returns-in-Read-clause-after c =
     let m = c.args.self.now.machine in let s = c.args.self.now.state in let k = c.args.self.now.epoch in
-    c.new-in-Read.ensures ∙ sym (ap (after m s k) c.in-Read.is ∙ after-nothing m s k (ops.Read c.in-Read.path) refl)
+    c.requires.nothing ∙ sym (ap (after m s k) c.in-Read.is ∙ after-nothing m s k (ops.Read c.in-Read.path) refl)
 
 pub returns-in-List-clause-reply : goal.returns-in-List-clause-reply
 returns-in-List-clause-reply c =
@@ -65,7 +65,7 @@ returns-in-List-clause-state c =
 pub returns-in-List-clause-after : goal.returns-in-List-clause-after
 returns-in-List-clause-after c =
     let m = c.args.self.now.machine in let s = c.args.self.now.state in let k = c.args.self.now.epoch in
-    c.new-in-List.ensures ∙ sym (ap (after m s k) c.in-List.is ∙ after-nothing m s k (ops.List c.in-List.path) refl)
+    c.requires.nothing ∙ sym (ap (after m s k) c.in-List.is ∙ after-nothing m s k (ops.List c.in-List.path) refl)
 
 pub returns-in-Flush-clause-reply : goal.returns-in-Flush-clause-reply
 returns-in-Flush-clause-reply c =
@@ -91,7 +91,7 @@ returns-in-Tick-clause-reply c =
 pub returns-in-Tick-clause-after : goal.returns-in-Tick-clause-after
 returns-in-Tick-clause-after c =
     let m = c.args.self.now.machine in let s = c.args.self.now.state in let k = c.args.self.now.epoch in
-    c.tick.ensures.after ∙ sym (ap (after m s k) c.in-Tick.is ∙ after-nothing m s k ops.Tick refl)
+    c.requires.nothing ∙ sym (ap (after m s k) c.in-Tick.is ∙ after-nothing m s k ops.Tick refl)
 
 pub touch-requires-clause-task : goal.touch-requires-clause-task
 touch-requires-clause-task c =
@@ -134,4 +134,4 @@ returns-in-Access-clause-state c =
 pub returns-in-Access-clause-after : goal.returns-in-Access-clause-after
 returns-in-Access-clause-after c =
     let m = c.args.self.now.machine in let s = c.args.self.now.state in let k = c.args.self.now.epoch in let op = ops.Access c.in-Access.task c.in-Access.cpu c.in-Access.addr in
-    c.new-in-Access.ensures ∙ sym (ap (after m s k) c.in-Access.is ∙ after-nothing m s k op refl)
+    c.requires.nothing ∙ sym (ap (after m s k) c.in-Access.is ∙ after-nothing m s k op refl)

@@ -11,40 +11,30 @@ use Rattle.tree_core.proofs.tree.Tree.write_cpus.Goals as goal
 pub returns-in_default-clause-reply : goal.returns-in_default-clause-reply
 returns-in_default-clause-reply c = λ looks.
     let m = c.args.self.now.machine in let s = c.args.self.now.state in
-    let leaves = written.Leaves-nowhere m s c.args.dir c.args.kind c.args.text.now c.requires.kind c.requires.writable looks (sym c.group_at.ensures ∙ c.in_default.is) in
+    let leaves = written.Leaves-nowhere m s c.args.at.dir c.args.kind c.args.text.now c.requires.kind c.requires.writable looks (sym c.group_in.ensures ∙ c.in_default.is) in
     c.answer.ensures.reply ∙ sym leaves.reply
 
 pub returns-in_default-clause-state : goal.returns-in_default-clause-state
 returns-in_default-clause-state c = λ looks.
     let m = c.args.self.now.machine in let s = c.args.self.now.state in
-    let leaves = written.Leaves-nowhere m s c.args.dir c.args.kind c.args.text.now c.requires.kind c.requires.writable looks (sym c.group_at.ensures ∙ c.in_default.is) in
+    let leaves = written.Leaves-nowhere m s c.args.at.dir c.args.kind c.args.text.now c.requires.kind c.requires.writable looks (sym c.group_in.ensures ∙ c.in_default.is) in
     c.answer.ensures.state ∙ sym leaves.state
-
-pub returns-in_default-clause-after : goal.returns-in_default-clause-after
-returns-in_default-clause-after c =
-    let m = c.args.self.now.machine in let s = c.args.self.now.state in
-    c.answer.ensures.after ∙ sym (written.after-cpus m s c.args.dir c.args.kind c.args.text.now c.requires.kind c.requires.writable c.args.self.now.epoch)
 
 pub join_cpus-reply-requires : goal.join_cpus-reply-requires
 join_cpus-reply-requires c =
     let t = c.self.inside in let m = c.args.self.now.machine in let s = c.args.self.now.state in
     let keeps = Keeps-of (tables t.groups t.tasks t.cpus t.classes t.rmids t.regions) c.self.view_is c.self.invariant in
     let range : InRange m = subst (λ (v : TreeValue). InRange v.machine) c.self.view_is t.machine.in_range in
-    record { sound = written.StaysSound-cpus m s c.args.dir c.args.kind c.args.text.now c.requires.kind c.requires.writable c.in-Some.group (sym c.in-Some.ensures) range keeps.sound c.requires.short }
+    record { sound = written.StaysSound-cpus m s c.args.at.dir c.args.kind c.args.text.now c.requires.kind c.requires.writable c.in-Some.group (sym c.in-Some.ensures) range keeps.sound c.requires.short }
 
 pub returns-clause-reply : goal.returns-clause-reply
 returns-clause-reply c = λ looks.
     let m = c.args.self.now.machine in let s = c.args.self.now.state in
-    let leaves = written.Leaves-cpus m s c.args.dir c.args.kind c.args.text.now c.requires.kind c.requires.writable c.in-Some.group (sym c.in-Some.ensures) looks in
+    let leaves = written.Leaves-cpus m s c.args.at.dir c.args.kind c.args.text.now c.requires.kind c.requires.writable c.in-Some.group (sym c.in-Some.ensures) looks in
     c.answer-2.ensures.reply ∙ c.join_cpus-reply.ensures.reply ∙ sym leaves.reply
 
 pub returns-clause-state : goal.returns-clause-state
 returns-clause-state c = λ looks.
     let m = c.args.self.now.machine in let s = c.args.self.now.state in
-    let leaves = written.Leaves-cpus m s c.args.dir c.args.kind c.args.text.now c.requires.kind c.requires.writable c.in-Some.group (sym c.in-Some.ensures) looks in
+    let leaves = written.Leaves-cpus m s c.args.at.dir c.args.kind c.args.text.now c.requires.kind c.requires.writable c.in-Some.group (sym c.in-Some.ensures) looks in
     c.answer-2.ensures.state ∙ ap₂ (λ (x : State) (r : Reply). record x { status = r }) c.join_cpus-reply.ensures.state c.join_cpus-reply.ensures.reply ∙ sym leaves.state
-
-pub returns-clause-after : goal.returns-clause-after
-returns-clause-after c =
-    let m = c.args.self.now.machine in let s = c.args.self.now.state in
-    c.answer-2.ensures.after ∙ sym (written.after-cpus m s c.args.dir c.args.kind c.args.text.now c.requires.kind c.requires.writable c.args.self.now.epoch)

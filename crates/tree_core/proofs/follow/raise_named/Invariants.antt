@@ -3,11 +3,11 @@ use Rattle.std.specs.List.{All, range_with_len}
 use Rattle.tree_law.specs.Steps.{follow_domain}
 use Rattle.tree_law.specs.commands.Schemata.{names_domain}
 use Rattle.tree_law.specs.declared.follow.Follow.TheVariants.{Raise}
-use Rattle.tree_core.proofs.follow.raises.Given as goal
+use Rattle.tree_core.proofs.follow.raise_named.Given as goal
 
 abbrev pub invariant-loop-domain : goal.invariant-loop-domain
 invariant-loop-domain l = record {
-  raises : l.after.items ≡ map (λ d. Raise d) (filter (names_domain l.all) (range_with_len 0 l.domain));
-  few : length l.after.items ≤ l.domain;
-  domains : All (λ f. follow_domain f < l.domain) l.after.items;
+  raises : l.follows.items ≡ map (λ d. Raise d) (filter (names_domain l.all) (range_with_len 0 l.domain));
+  few : length l.follows.items ≤ l.domain;
+  domains : All (λ f. follow_domain f < l.domain) l.follows.items;
 }

@@ -6,7 +6,7 @@ use Rattle.tree_law.specs.declared.follow.Follow.TheVariants.{Flush}
 use Rattle.tree_core.proofs.Raises.{All-follow_domain_push}
 use Rattle.std.proofs.lemmas.List.Elements.{All-map}
 use Rattle.tree_core.specs.Follows.{IsReady}
-use Rattle.tree_core.proofs.follow.flushes.Goals as goal
+use Rattle.tree_core.proofs.follow.flush_all.Goals as goal
 
 pub loop-domain-preserved : goal.loop-domain-preserved
 loop-domain-preserved c =
@@ -14,8 +14,8 @@ loop-domain-preserved c =
     let more = map-range_with_len_more (λ d. Flush d) 0 domain domain (zero-add domain) in
     rw c.push.ensures.items (record {
       flushes = ap (λ (fs : List Follow). fs ++ Flush domain ∷ []) c.loop-domain.invariant.flushes ∙ sym more;
-      few = omega (arith, c.loop-domain.invariant.few, length-append c.loop-domain.after.items (Flush domain ∷ []));
-      domains = All-follow_domain_push domain c.loop-domain.after.items (Flush domain) c.loop-domain.invariant.domains refl;
+      few = omega (arith, c.loop-domain.invariant.few, length-append c.loop-domain.follows.items (Flush domain ∷ []));
+      domains = All-follow_domain_push domain c.loop-domain.follows.items (Flush domain) c.loop-domain.invariant.domains refl;
     })
 
 pub returns-clause-ready : goal.returns-clause-ready

@@ -7,8 +7,8 @@ use Rattle.tree_law.specs.declared.follow.Follow.TheVariants.{Raise}
 use Rattle.tree_core.proofs.Raises.{All-follow_domain_push, All-follow_domain_suc, map-filter_suc}
 use Rattle.std.proofs.lemmas.List.Elements.{All-map}
 use Rattle.tree_core.specs.Follows.{IsReady}
-use Rattle.tree_core.proofs.follow.raises.Goals as goal
-use Rattle.tree_core.proofs.follow.raises.Goals.{then-is_named, else-is_named}
+use Rattle.tree_core.proofs.follow.raise_named.Goals as goal
+use Rattle.tree_core.proofs.follow.raise_named.Goals.{then-is_named, else-is_named}
 
 pub loop-domain-preserved : goal.loop-domain-preserved
 loop-domain-preserved c =
@@ -17,19 +17,19 @@ loop-domain-preserved c =
     elim c.if-is_named.branch [
       | then-is_named w ↦
           let named : names_domain c.args.all.now domain ≡ true = sym c.is_named.ensures ∙ w.if-is_named.true in
-          let pushed : c.if-is_named.after.items ≡ c.loop-domain.after.items ++ Raise domain ∷ [] = ap (λ v. v.items) w.after-is ∙ w.push.ensures.items in
+          let pushed : c.if-is_named.follows.items ≡ c.loop-domain.follows.items ++ Raise domain ∷ [] = ap (λ v. v.items) w.follows-is ∙ w.push.ensures.items in
           rw pushed (record {
             raises = sym (rw named at more ∙ ap (λ (fs : List Follow). fs ++ Raise domain ∷ []) (sym c.loop-domain.invariant.raises));
-            few = omega (arith, c.loop-domain.invariant.few, length-append c.loop-domain.after.items (Raise domain ∷ []));
-            domains = All-follow_domain_push domain c.loop-domain.after.items (Raise domain) c.loop-domain.invariant.domains refl;
+            few = omega (arith, c.loop-domain.invariant.few, length-append c.loop-domain.follows.items (Raise domain ∷ []));
+            domains = All-follow_domain_push domain c.loop-domain.follows.items (Raise domain) c.loop-domain.invariant.domains refl;
           })
       | else-is_named w ↦
           let unnamed : names_domain c.args.all.now domain ≡ false = sym c.is_named.ensures ∙ w.if-is_named.false in
-          let kept : c.if-is_named.after.items ≡ c.loop-domain.after.items = ap (λ v. v.items) w.after-is in
+          let kept : c.if-is_named.follows.items ≡ c.loop-domain.follows.items = ap (λ v. v.items) w.follows-is in
           rw kept (record {
             raises = sym (rw unnamed at more ∙ append-nil (map (λ d. Raise d) (filter (names_domain c.args.all.now) (range_with_len 0 domain))) ∙ sym c.loop-domain.invariant.raises);
             few = omega (arith, c.loop-domain.invariant.few);
-            domains = All-follow_domain_suc domain c.loop-domain.after.items c.loop-domain.invariant.domains;
+            domains = All-follow_domain_suc domain c.loop-domain.follows.items c.loop-domain.invariant.domains;
           })
     ]
 

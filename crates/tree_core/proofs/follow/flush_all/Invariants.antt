@@ -2,11 +2,11 @@ use Rattle.std.proofs.Common.{◌≡◌, ◌<◌, ◌≤◌, map, length}
 use Rattle.std.specs.List.{All, range_with_len}
 use Rattle.tree_law.specs.Steps.{follow_domain}
 use Rattle.tree_law.specs.declared.follow.Follow.TheVariants.{Flush}
-use Rattle.tree_core.proofs.follow.flushes.Given as goal
+use Rattle.tree_core.proofs.follow.flush_all.Given as goal
 
 abbrev pub invariant-loop-domain : goal.invariant-loop-domain
 invariant-loop-domain l = record {
-  flushes : l.after.items ≡ map (λ d. Flush d) (range_with_len 0 l.domain);
-  few : length l.after.items ≤ l.domain;
-  domains : All (λ f. follow_domain f < l.domain) l.after.items;
+  flushes : l.follows.items ≡ map (λ d. Flush d) (range_with_len 0 l.domain);
+  few : length l.follows.items ≤ l.domain;
+  domains : All (λ f. follow_domain f < l.domain) l.follows.items;
 }
