@@ -1,3 +1,4 @@
+pub mod CpuTables
 pub mod Maps
 pub mod Ranges
 pub mod Slices

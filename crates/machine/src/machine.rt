@@ -1,7 +1,9 @@
 //! A machine, whose parameters are in range.
 ghost use Rattle.std.specs.Prelude.{◌≡◌, ◌<◌};
+ghost use Rattle.machine.specs.CpuTables.{IsCpuTable};
 ghost use Rattle.machine.specs.Ranges.{InRange};
 
+use crate::cpu_table::{MOST_CPUS, cpu_table};
 use crate::parameters::Parameters;
 use cbm::{Geometry, count};
 
@@ -30,6 +32,8 @@ pub struct Machine {
     pub sparse: bool,
     /// Slices of a cache, a power of two. Set s is in slice s mod `slices`.
     pub slices: u8,
+    // The cache that serves each CPU.
+    domain_by_cpu: [u8; MOST_CPUS],
     pub ghost in_range: { InRange (record {
       domains = domains;
       sets = sets;
@@ -43,13 +47,14 @@ pub struct Machine {
       sparse = sparse;
       slices = slices;
     }) },
+    pub ghost tabled: { IsCpuTable domains cpus domain_by_cpu },
 }
 
 impl Machine {
     ghost use Rattle.std.specs.Prelude.{◌%◌, ◌↔◌, IsTrue, IsSome, IfSome};
     ghost use Rattle.std.specs.List.{range_with_len};
     ghost use Rattle.cbm.specs.Masks.{ways_of};
-    ghost use Rattle.machine.specs.Ranges.{is_machine};
+    ghost use Rattle.machine.specs.Ranges.{InRange, is_machine};
     ghost use Rattle.machine.specs.Maps.{bytes_of, cache_bytes, domain_of, parameters_of, set_of, slice_of};
 
     /// The machine with these parameters, where each is in its range.
@@ -57,10 +62,19 @@ impl Machine {
         ensures in_range { IsSome result ↔ IsTrue (is_machine parameters.now) }
         ensures kept { IfSome result (λ m. parameters_of m ≡ parameters.now) }
     {
-        if !parameters.are_in_range() {
-            return None;
+        if parameters.are_in_range() {
+            Some(Machine::of(parameters))
+        } else {
+            None
         }
-        Some(Machine {
+    }
+
+    // The machine with these parameters, which are in their ranges.
+    fn of(parameters: &Parameters) -> Machine
+        requires { InRange parameters.now }
+        ensures { parameters_of result ≡ parameters.now }
+    {
+        Machine {
             domains: parameters.domains,
             sets: parameters.sets,
             ways: parameters.ways,
@@ -72,7 +86,8 @@ impl Machine {
             threshold: parameters.threshold,
             sparse: parameters.sparse,
             slices: parameters.slices,
-        })
+            domain_by_cpu: cpu_table(parameters),
+        }
     }
 
     /// What a valid mask of one of its caches looks like.
@@ -95,13 +110,13 @@ impl Machine {
         u32::MAX >> (32 - self.ways)
     }
 
-    /// The cache that serves a CPU. CPUs are shared out in order, as evenly as they go.
+    /// The cache that serves a CPU, read from a table. CPUs are shared out in order, as evenly as they go.
     pub fn domain_of(&self, cpu: u8) -> u8
         requires { cpu < self.now.cpus }
         ensures domain { result ≡ domain_of (parameters_of self.now) cpu }
         ensures below { result < self.now.domains }
     {
-        (u16::from(cpu) * u16::from(self.domains) / u16::from(self.cpus)) as u8
+        self.domain_by_cpu[usize::from(cpu)]
     }
 
     /// The set that a line belongs to. Sets are a power of two, so that nothing is divided.
@@ -133,5 +148,17 @@ impl Machine {
         ensures { result ≡ cache_bytes (parameters_of self.now) }
     {
         u64::from(self.sets) * 64 * u64::from(self.ways)
+    }
+}
+
+impl Default for Machine {
+    ghost use Rattle.machine.specs.Maps.{parameters_of};
+    ghost use Rattle.machine.specs.Ranges.{usual};
+
+    ghost is_default = { λ m. parameters_of m ≡ usual };
+
+    /// The machine of the parameters by default.
+    fn default() -> Self {
+        Machine::of(&Parameters::default())
     }
 }

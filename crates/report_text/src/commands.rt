@@ -1,15 +1,13 @@
 //! The lines of commands.
-ghost use Rattle.std.specs.Prelude.{◌≡◌, ◌+◌, ◌<◌, ◌≤◌, ◌^◌, ◌∷◌, [], ◌++◌, All, IfOk, IsTrue, OnOk, codes, decimal, is_some, length, None, Some};
+ghost use Rattle.std.specs.Prelude.{◌≡◌, ◌≤◌, ◌^◌, ◌∷◌, [], ◌++◌, All, IfOk, OnOk, codes, decimal, length, None, Some};
 ghost use Rattle.file_view.specs.Texts.{text_of};
 ghost use Rattle.report_text.specs.Commands.{barred, command_line, command_lines, op_said, read_lines, result_text};
-ghost use Rattle.report_text.specs.Made.{made_by, made_from};
-ghost use Rattle.report_text.specs.Replayed.{AreKnownGroups, HasFewLooks, IsAnsweredAs, IsCounted, IsOpOf, IsReplay};
+ghost use Rattle.report_text.specs.Made.{made_from};
+ghost use Rattle.report_text.specs.Replayed.{AreKnownGroups, HasFewLooks, IsAnsweredAs, IsOpOf, IsReplay};
 ghost use Rattle.report_text.specs.Touches.{TellsTouch};
 ghost use Rattle.run_law.specs.Entries.{entry_value};
 ghost use Rattle.run_law.specs.Runs.{IsRun};
-ghost use Rattle.run_law.specs.TreeHistory.{state_after};
 ghost use Rattle.script_ops.specs.Canonical.{IsNamed};
-ghost use Rattle.script_ops.specs.Values.{op_at};
 ghost use Rattle.script_ops.specs.declared.limits.TheConstants.{MOST_WEIGHT};
 ghost use Rattle.tree_law.specs.State.{opening};
 ghost use Rattle.tree_law.specs.Steps.{needs, refusal};
@@ -18,6 +16,7 @@ use crate::buffer::ReportText;
 use crate::made::Made;
 use crate::replay::Replay;
 use crate::results::push_result_text;
+use crate::taken::{op_of, take_op};
 use crate::touches::Touches;
 use file_view::is_reading;
 use rc_base::{NoMemory, Reply};
@@ -139,44 +138,6 @@ fn push_command(
 {
     push_place(report, k, entry)?;
     push_op_said(report, replay, script, journals, op, entry, hit)
-}
-
-// The op of an entry.
-fn op_of<'a>(script: &'a Script, entry: &TreeEntry) -> &'a Op
-    requires { IsTrue (is_some (op_at script.now entry.now.thread entry.now.op)) }
-    ensures { IsOpOf script.now entry.now.thread entry.now.op result.now }
-{
-    match script.op(entry.thread, entry.op) {
-        Some(op) => op,
-        None => unreachable!(),
-    }
-}
-
-// Takes this op of an entry once more.
-fn take_op(replay: &mut Replay, script: &Script, entry: &TreeEntry, op: &Op) -> Result<(), NoMemory>
-    requires replay { IsReplay script.now replay.old }
-    requires op { IsOpOf script.now entry.now.thread entry.now.op op.now }
-    requires looks { length entry.now.looks.numbers ≡ length (needs script.now.machine replay.old.tree.state op.now) }
-    requires epoch { replay.old.tree.epoch < MOST_WEIGHT }
-    ensures replay { OnOk result (IsReplay script.now replay.new) }
-    ensures state { OnOk result (replay.new.tree.state ≡ state_after script.now.machine replay.old.tree.state entry.now.looks.numbers (op_at script.now entry.now.thread entry.now.op)) }
-    ensures epoch { OnOk result (replay.new.tree.epoch ≡ replay.old.tree.epoch + 1) }
-    ensures made { OnOk result (replay.new.made ≡ replay.old.made ++ made_by replay.old.tree.state (op_at script.now entry.now.thread entry.now.op) entry.now.reply) }
-{
-    replay.take(op, entry.looks.items(), entry.reply)
-}
-
-/// Takes the op of an entry once more.
-pub(crate) fn take(replay: &mut Replay, script: &Script, entry: &TreeEntry) -> Result<(), NoMemory>
-    requires replay { IsReplay script.now replay.old }
-    requires counted { IsCounted script.now replay.old.tree.state (entry_value entry.now) }
-    requires epoch { replay.old.tree.epoch < MOST_WEIGHT }
-    ensures replay { OnOk result (IsReplay script.now replay.new) }
-    ensures state { OnOk result (replay.new.tree.state ≡ state_after script.now.machine replay.old.tree.state entry.now.looks.numbers (op_at script.now entry.now.thread entry.now.op)) }
-    ensures epoch { OnOk result (replay.new.tree.epoch ≡ replay.old.tree.epoch + 1) }
-    ensures made { OnOk result (replay.new.made ≡ replay.old.made ++ made_by replay.old.tree.state (op_at script.now entry.now.thread entry.now.op) entry.now.reply) }
-{
-    take_op(replay, script, entry, op_of(script, entry))
 }
 
 /// Adds the lines of the commands, with what they read. The control groups that they made.

@@ -17,6 +17,7 @@ pub mod report;
 mod results;
 mod slice_lines;
 mod streak;
+mod taken;
 mod tally;
 mod touches;
 mod windows;

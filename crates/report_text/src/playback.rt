@@ -13,10 +13,10 @@ ghost use Rattle.tree_law.specs.State.{opening};
 ghost use Rattle.tree_law.specs.Steps.{needs, refusal};
 
 use crate::buffer::ReportText;
-use crate::commands::take;
 use crate::made::Made;
 use crate::replay::Replay;
 use crate::results::push_result_text;
+use crate::taken::take;
 use file_view::{is_reading, text};
 use rc_base::{NoMemory, Reply, TextBuf};
 use run_law::{Journals, TreeEntry};

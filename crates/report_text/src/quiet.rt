@@ -6,9 +6,9 @@ ghost use Rattle.run_law.specs.TreeHistory.{IsLegalTree};
 ghost use Rattle.script_ops.specs.declared.limits.TheConstants.{MOST_WEIGHT};
 ghost use Rattle.tree_law.specs.State.{opening};
 
-use crate::commands::take;
 use crate::made::Made;
 use crate::replay::Replay;
+use crate::taken::take;
 use rc_base::NoMemory;
 use run_law::Journals;
 use script_ops::Script;

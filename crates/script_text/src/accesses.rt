@@ -28,6 +28,7 @@ impl Reader {
     }
 
     /// Adds the access of an access line with these arguments.
+    #[inline(always)]
     #[tactic(auto, using(crate::proofs::Limits::keeping))]
     pub fn push_access(&mut self, used: Option<Use>) -> Result<(), LineError>
         requires { IsSound (state_of self.old) }

@@ -1,7 +1,6 @@
 //! The machine line.
 ghost use Rattle.std.specs.Prelude.{◌≡◌, MatchOption, None, Some};
 ghost use Rattle.machine.specs.Maps.{parameters_of};
-ghost use Rattle.machine.specs.Ranges.{usual};
 ghost use Rattle.script_text.specs.Lines.{words};
 ghost use Rattle.script_text.specs.Keys.{keys_of, parameters_from, machine_of};
 
@@ -9,25 +8,6 @@ use crate::keys::{Keys, no_keys, with_key};
 use crate::words::next_word;
 use machine::{Machine, Parameters};
 use num_text::cut;
-
-/// The machine of which nothing is said.
-pub fn usual_machine() -> Machine
-    ensures { parameters_of result ≡ usual }
-{
-    Machine {
-        domains: 1,
-        sets: 64,
-        ways: 8,
-        classes: 8,
-        rmids: 16,
-        cpus: 1,
-        min: 1,
-        shareable: 0,
-        threshold: 0,
-        sparse: false,
-        slices: 1,
-    }
-}
 
 #[tactic(auto, unfolding(crate::specs::Keys::keys_from))]
 fn keys_of(text: &[u8]) -> Option<Keys>

@@ -13,7 +13,6 @@ use crate::accesses::push_accesses;
 use crate::arguments::Sweep;
 use crate::fault::{LineError, LineFault, ScriptError, ScriptFault};
 use crate::kind::Place;
-use crate::machine_line::usual_machine;
 use crate::tasks::{TaskRange, push_ids};
 use machine::Machine;
 use path_names::Names;
@@ -49,7 +48,7 @@ impl Reader {
         Ok(Reader {
             alloc,
             place: Place::Start,
-            machine: usual_machine(),
+            machine: Machine::default(),
             tasks: Vec::new(alloc),
             names,
             phases: Vec::new(alloc),
@@ -117,6 +116,7 @@ impl Reader {
     }
 
     /// The same of an op whose weight is known.
+    #[inline(always)]
     #[tactic(auto, using(crate::proofs::Limits::keeping))]
     pub fn push_weighing(&mut self, op: Op, weight: u64) -> Result<(), LineError>
         requires limits { InLimits 1 1 MOST_PATH_NAMES (state_of self.old) }

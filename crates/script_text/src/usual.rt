@@ -1,39 +1,54 @@
 //! Access lines in their usual form, read in one pass over their bytes.
 ghost use Rattle.std.specs.Prelude.{◌≡◌, ◌+◌, ◌*◌, ◌<◌, ◌++◌, IfSome, false, codes};
-ghost use Rattle.std.specs.Char.{is_digit};
+ghost use Rattle.std.specs.Char.{digit_value};
 ghost use Rattle.machine.specs.Maps.{parameters_of};
 ghost use Rattle.script_text.specs.Usual.{BeginsWithNumber, BeginsWithAccess, use_by};
 
 use crate::arguments::Use;
 use machine::Machine;
 
+// The greatest number that may get any digit more.
+const MOST_BEFORE_A_DIGIT: u64 = u64::MAX / 10 - 1;
+
+// The decimal digit that a byte is. None says nothing of the byte.
+fn digit_of(byte: u8) -> Option<u64>
+    ensures { IfSome result (λ d. (d ≡ digit_value byte) × (d < 10)) }
+{
+    let digit = char::from(byte).to_digit(10)?;
+    Some(u64::from(digit))
+}
+
 // A number with one digit more.
-fn with_digit(n: u64, digit: u32) -> Option<u64>
+fn with_digit(n: u64, digit: u64) -> Option<u64>
+    requires { digit < 10 }
     ensures { IfSome result (λ m. m ≡ n * 10 + digit) }
 {
-    n.checked_mul(10)?.checked_add(u64::from(digit))
+    if n > MOST_BEFORE_A_DIGIT {
+        return None;
+    }
+    Some(n * 10 + digit)
 }
 
 /// The number that a text begins with, and what stands after the byte that ends it. None says nothing of the text.
 pub fn number_before(text: &[u8], end: u8) -> Option<(u64, &[u8])>
     ensures { IfSome result (λ p. BeginsWithNumber text.now end p.0 p.1.now) }
 {
-    let mut n: u64 = 0;
-    let mut left = text;
+    let [first, rest @ ..] = text else {
+        return None;
+    };
+    let mut n = digit_of(*first)?;
+    let mut left = rest;
     'digits: loop {
         let [byte, rest @ ..] = left else {
             return None;
         };
-        let Some(digit) = char::from(*byte).to_digit(10) else {
-            if left.len() == text.len() || *byte != end {
-                return None;
+        let Some(digit) = digit_of(*byte) else {
+            if *byte == end {
+                return Some((n, rest));
             }
-            return Some((n, rest));
-        };
-        let Some(more) = with_digit(n, digit) else {
             return None;
         };
-        n = more;
+        n = with_digit(n, digit)?;
         left = rest;
     }
 }

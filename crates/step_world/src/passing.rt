@@ -6,7 +6,6 @@ ghost use Rattle.step_world.specs.Passing.{CanPass, HasPassed, IsBefore};
 ghost use Rattle.step_world.specs.Turns.{TakesTurn};
 ghost use Rattle.step_world.specs.Worlds.{IsWorldOf, machine_of};
 
-use crate::place::Place;
 use crate::world::World;
 use rc_base::Tag;
 use script_ops::{Op, Script};

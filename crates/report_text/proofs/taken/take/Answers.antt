@@ -2,7 +2,7 @@ use Rattle.std.proofs.Common.{◌≡◌, length}
 use Rattle.report_text.proofs.Entries.{IsCommandThat-some, is_some-command}
 use Rattle.script_ops.specs.Values.{op_at}
 use Rattle.tree_law.specs.Steps.{needs}
-use Rattle.report_text.proofs.commands.take.Goals as goal
+use Rattle.report_text.proofs.taken.take.Goals as goal
 
 pub op_of-requires : goal.op_of-requires
 op_of-requires c = is_some-command _ (op_at c.args.script.now c.args.entry.now.thread c.args.entry.now.op) c.requires.counted

@@ -1,6 +1,6 @@
 use Rattle.report_text.proofs.Replays.{Fits-replay, IsReplay-next}
 use Rattle.report_text.proofs.Pieces.{OnOk-map_three}
-use Rattle.report_text.proofs.commands.take_op.Goals as goal
+use Rattle.report_text.proofs.taken.take_op.Goals as goal
 
 pub take-requires-clause-fits : goal.take-requires-clause-fits
 take-requires-clause-fits c = Fits-replay c.args.script.now c.args.replay.now c.args.op.now c.requires.replay c.requires.op.fit
