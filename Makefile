@@ -14,7 +14,7 @@ demo: build
 	@$(PROGRAM) step < examples/mask_rewrite.script
 
 build:
-	@echo "Proving what is not proved yet, on $(PROCESSORS) processors. From nothing this takes some twenty-five minutes on four."
+	@echo "Proving what is not proved yet, on $(PROCESSORS) processors. From nothing this takes some twenty minutes on four."
 	@sh tools/progress -q rt all check --jobs $(PROCESSORS)
 	@echo "Building $(PROGRAM)."
 	@cd crates/resctrl_sim && rt run -- step < ../../examples/four_accesses.script > out.log 2>&1 || (cat out.log; exit 1)

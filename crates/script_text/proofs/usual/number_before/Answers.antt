@@ -1,4 +1,4 @@
-use Rattle.std.proofs.Common.{◌≡◌, ◌+◌, ◌*◌, ◌<◌, ◌^◌, ℕ, get_or, ap, ◌∙◌, arith, rules}
+use Rattle.std.proofs.Common.{◌≡◌, ◌+◌, ◌*◌, ◌<◌, ◌^◌, ℕ, get_or, ap, ◌∙◌, rules}
 use Rattle.std.specs.Char.{digit_value}
 use Rattle.script_text.proofs.NumberReading.{SpellsSoFar-first, SpellsSoFar-next}
 use Rattle.script_text.proofs.usual.number_before.Goals as goal
