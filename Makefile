@@ -1,4 +1,4 @@
-# make demo      proves and builds the program, and plays the example of a tenant that loses lines when its mask is rewritten
+# make demo      plays the example of a tenant that loses lines when its mask is rewritten: at once, and again when the program is proved and built
 # make test      the gate: proves every crate, tries the must-fail edits, runs the tests and the program, compares the examples, and sees each exit status
 # make clients   runs real clients on the mounted tree: a shell, pqos and goresctrl (needs root, FUSE and Debian packages, and is no part of the gate)
 # make install   puts the program and its manual page below PREFIX (default: /usr/local)
@@ -8,17 +8,12 @@ PROGRAM = crates/resctrl_sim/out/resctrl_sim
 PREFIX = /usr/local
 PROCESSORS = $(shell getconf _NPROCESSORS_ONLN)
 
-demo: build
-	@cat examples/mask_rewrite.script
-	@echo
-	@$(PROGRAM) step < examples/mask_rewrite.script
+demo:
+	@sh tools/demo $(PROGRAM)
 
 build:
-	@echo "Proving what is not proved yet, on $(PROCESSORS) processors. From nothing this takes some twenty minutes on four."
-	@sh tools/progress -q rt all check --jobs $(PROCESSORS)
-	@echo "Building $(PROGRAM)."
-	@cd crates/resctrl_sim && rt run -- step < ../../examples/four_accesses.script > out.log 2>&1 || (cat out.log; exit 1)
-	@rm -f crates/resctrl_sim/out.log
+	@echo "Proving what is not proved yet, on $(PROCESSORS) processors. From nothing this takes some sixteen minutes on four."
+	@sh tools/progress -q -p resctrl_sim sh tools/prove $(PROCESSORS)
 
 test:
 	@echo "The gate proves every crate with its tests, tries the must-fail edits and runs the tests."

@@ -3,8 +3,8 @@ use Rattle.std.proofs.Common.{◌≡◌, ℕ, ◌*◌, List, ap, ◌∙◌}
 use Rattle.json_report.proofs.Positions.{rmid_values-same}
 use Rattle.json_report.specs.Domains.{domain_of_counts, domain_value, rmid_values}
 use Rattle.machine.specs.declared.parameters.Parameters.{Parameters}
-use Rattle.report_text.specs.Occupancies.{IsOfDomain, OccupancyValue, lines_told}
-use Rattle.report_text.specs.Reporting.{rmid_lines}
+use Rattle.run_counts.specs.Occupancies.{IsOfDomain, OccupancyValue, lines_told}
+use Rattle.run_counts.specs.Domains.{rmid_lines}
 use Rattle.run_law.specs.Journals.{JournalsValue}
 use Rattle.script_ops.specs.Values.{ScriptValue}
 use Rattle.serde_json.specs.Data.{Data}

@@ -10,7 +10,7 @@ use Rattle.cache_core.specs.declared.entry.What.TheVariants as whats
 use Rattle.json.specs.Print.{escape, escape_byte}
 use Rattle.machine.specs.declared.parameters.Parameters.{Parameters}
 use Rattle.num_text.specs.Printed.{filled, hexadecimal}
-use Rattle.report_text.specs.SliceLines.{entry_place, entry_text, mask_text, owner_text, place_text, tag_text, way_text, what_text}
+use Rattle.report_pieces.specs.EntryTexts.{entry_place, entry_text, mask_text, owner_text, place_text, tag_text, way_text, what_text}
 use Rattle.schemata_text.specs.Printed.{mask_digits}
 use Rattle.machine.specs.Maps.{set_of}
 

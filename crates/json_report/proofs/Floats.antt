@@ -5,17 +5,10 @@ use Rattle.std.specs.Prelude.{codes, nat_lt}
 use Rattle.json_report.specs.Domains.{domain_of_counts, rmid_value, rmid_values}
 use Rattle.json_report.specs.Reporting.{total_of_counts}
 use Rattle.json_report.specs.Values.{object_of, whole}
-use Rattle.json_report.specs.WindowValues.{window_value}
-use Rattle.report_text.specs.declared.counts.Counts.{Counts}
-use Rattle.run_law.specs.declared.window.Window.{Window}
+use Rattle.run_counts.specs.declared.counts.Counts.{Counts}
 use Rattle.serde_json.specs.Data.{Data}
 use Rattle.serde_json.specs.View.{items_of}
 use Rattle.serde_json.specs.Written.{has_float, items_have_float}
-
--- a window
-pub has_float-window : (w : Window) → has_float (window_value w) ≡ false
-unfolding window_value
-has_float-window w = refl
 
 -- the total
 pub has_float-total : (commands refused : ℕ) (counts : Counts) → has_float (total_of_counts commands refused counts) ≡ false

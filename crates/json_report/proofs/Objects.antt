@@ -8,8 +8,9 @@ use Rattle.json_report.specs.Groups.{group_of_counts}
 use Rattle.json_report.specs.Pieces.{key_told, members_told}
 use Rattle.json_report.specs.Reporting.{commands_part, journal_part, json_of, report_members, total_value, windows_part}
 use Rattle.json_report.specs.Values.{object_of, whole}
-use Rattle.report_text.specs.Playbacks.{given, result_of, words_of}
-use Rattle.report_text.specs.declared.counts.Counts.{Counts}
+use Rattle.report_pieces.specs.Results.{result_of, words_of}
+use Rattle.run_replay.specs.Playbacks.{given}
+use Rattle.run_counts.specs.declared.counts.Counts.{Counts}
 use Rattle.run_law.specs.Journals.{JournalsValue}
 use Rattle.run_law.specs.TreeHistory.{TreeEntryValue}
 use Rattle.run_law.specs.declared.flags.Flags.{Flags}
@@ -27,13 +28,26 @@ abbrev Member : Type 0
 Member = List ℕ × Data
 
 -- members, and others after them
-pub members_told-then : (m : Member) (ms ns all : List Member) (old now new : List ℕ) → all ≡ ms ++ ns → now ≡ old ++ members_told false (m ∷ ms) → new ≡ now ++ members_told true ns → new ≡ old ++ members_told false (m ∷ all)
-members_told-then m ms ns all old now new is before more =
-    let head : List ℕ = key_told false m.0 ++ compact_text m.1 in
+pub members_told-more : (later : Bool) (m : Member) (ms ns all : List Member) (old now new : List ℕ) → all ≡ ms ++ ns → now ≡ old ++ members_told later (m ∷ ms) → new ≡ now ++ members_told true ns → new ≡ old ++ members_told later (m ∷ all)
+members_told-more later m ms ns all old now new is before more =
+    let head : List ℕ = key_told later m.0 ++ compact_text m.1 in
     more
     ∙ (ap (λ (t : List ℕ). t ++ members_told true ns) before
     ∙ (append_assoc old (head ++ members_told true ms) (members_told true ns)
     ∙ ap (λ (t : List ℕ). old ++ t) (append_assoc head (members_told true ms) (members_told true ns) ∙ ap (λ (t : List ℕ). head ++ t) (sym (ap (members_told true) is ∙ members_told-append ms ns)))))
+
+-- the same of the first members
+pub members_told-then : (m : Member) (ms ns all : List Member) (old now new : List ℕ) → all ≡ ms ++ ns → now ≡ old ++ members_told false (m ∷ ms) → new ≡ now ++ members_told true ns → new ≡ old ++ members_told false (m ∷ all)
+members_told-then = members_told-more false
+
+-- five members, one after the other
+pub members_told-five : (later : Bool) (m n o p q : Member) (old a b c d e : List ℕ) → a ≡ old ++ members_told later (m ∷ []) → b ≡ a ++ members_told true (n ∷ []) → c ≡ b ++ members_told true (o ∷ []) → d ≡ c ++ members_told true (p ∷ [])
+    → e ≡ d ++ members_told true (q ∷ []) → e ≡ old ++ members_told later (m ∷ n ∷ o ∷ p ∷ q ∷ [])
+members_told-five later m n o p q old a b c d e first second third fourth fifth =
+    let two = members_told-more later m [] (n ∷ []) (n ∷ []) old a b refl first second in
+    let three = members_told-more later m (n ∷ []) (o ∷ []) (n ∷ o ∷ []) old b c refl two third in
+    let four = members_told-more later m (n ∷ o ∷ []) (p ∷ []) (n ∷ o ∷ p ∷ []) old c d refl three fourth in
+    members_told-more later m (n ∷ o ∷ p ∷ []) (q ∷ []) (n ∷ o ∷ p ∷ q ∷ []) old d e refl four fifth
 
 -- an object of members that were written between its braces
 pub compact_text-members : (ms : List Member) (old one two new : List ℕ) → one ≡ old ++ 123 ∷ [] → two ≡ one ++ members_told false ms → new ≡ two ++ 125 ∷ [] → new ≡ old ++ compact_text (object_of ms)
@@ -91,11 +105,7 @@ group_of_counts-parts gid path counts old a b c d e f new opens accesses number 
     let m_hits : Member = (codes "hits", whole counts.hits) in
     let m_misses : Member = (codes "misses", whole counts.misses) in
     let m_path : Member = (codes "path", string path) in
-    let c_is : c ≡ a ++ members_told false (m_accesses ∷ m_gid ∷ []) = members_told-then m_accesses [] (m_gid ∷ []) (m_gid ∷ []) a b c refl accesses number in
-    let d_is : d ≡ a ++ members_told false (m_accesses ∷ m_gid ∷ m_hits ∷ []) = members_told-then m_accesses (m_gid ∷ []) (m_hits ∷ []) (m_gid ∷ m_hits ∷ []) a c d refl c_is hits in
-    let e_is : e ≡ a ++ members_told false (m_accesses ∷ m_gid ∷ m_hits ∷ m_misses ∷ []) = members_told-then m_accesses (m_gid ∷ m_hits ∷ []) (m_misses ∷ []) (m_gid ∷ m_hits ∷ m_misses ∷ []) a d e refl d_is misses in
-    let f_is : f ≡ a ++ members_told false (m_accesses ∷ m_gid ∷ m_hits ∷ m_misses ∷ m_path ∷ []) =
-    members_told-then m_accesses (m_gid ∷ m_hits ∷ m_misses ∷ []) (m_path ∷ []) (m_gid ∷ m_hits ∷ m_misses ∷ m_path ∷ []) a e f refl e_is named in
+    let f_is : f ≡ a ++ members_told false (m_accesses ∷ m_gid ∷ m_hits ∷ m_misses ∷ m_path ∷ []) = members_told-five false m_accesses m_gid m_hits m_misses m_path a b c d e f accesses number hits misses named in
     compact_text-members (m_accesses ∷ m_gid ∷ m_hits ∷ m_misses ∷ m_path ∷ []) old a f new opens f_is closes
 
 -- ---- the report

@@ -9,7 +9,7 @@ use Rattle.json_report.specs.Domains.{rmid_value, rmid_values}
 use Rattle.json_report.specs.SliceValues.{entry_values}
 use Rattle.lists.proofs.Ranges.{range_with_len-suc}
 use Rattle.machine.specs.declared.parameters.Parameters.{Parameters}
-use Rattle.report_text.specs.SliceLines.{entry_text}
+use Rattle.report_pieces.specs.EntryTexts.{entry_text}
 use Rattle.run_law.specs.Entries.{entry_value}
 use Rattle.run_law.specs.Journals.{JournalsValue}
 use Rattle.run_law.specs.TreeHistory.{TreeEntryValue, state_after, tree_from}

@@ -2,7 +2,7 @@
 use Rattle.std.specs.Prelude.{ℕ, ◌*◌, nat_lt, if◌then◌else◌, List, [], ◌∷◌, codes, map}
 use Rattle.std.specs.List.{flat_map, range_with_len}
 use Rattle.json_report.specs.Values.{array_of, object_of, whole}
-use Rattle.report_text.specs.Reporting.{rmid_lines, valid_lines}
+use Rattle.run_counts.specs.Domains.{rmid_lines, valid_lines}
 use Rattle.run_law.specs.Journals.{JournalsValue}
 use Rattle.script_ops.specs.Values.{ScriptValue}
 use Rattle.serde_json.specs.Data.{Data}

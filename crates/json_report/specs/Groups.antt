@@ -2,10 +2,10 @@
 use Rattle.std.specs.Prelude.{ℕ, List, [], ◌∷◌, codes, map}
 use Rattle.json_report.specs.Values.{object_of, whole}
 use Rattle.machine.specs.Slices.{slice_count}
-use Rattle.report_text.specs.Counts.{is_access_of}
-use Rattle.report_text.specs.Made.{Control, controls}
-use Rattle.report_text.specs.Tallies.{counted_in}
-use Rattle.report_text.specs.declared.counts.Counts.{Counts}
+use Rattle.run_counts.specs.Counts.{is_access_of}
+use Rattle.run_replay.specs.Made.{Control, controls}
+use Rattle.run_counts.specs.Tallies.{counted_in}
+use Rattle.run_counts.specs.declared.counts.Counts.{Counts}
 use Rattle.run_law.specs.Journals.{JournalsValue}
 use Rattle.script_ops.specs.Values.{ScriptValue}
 use Rattle.serde_json.specs.Data.{Data, string}

@@ -7,10 +7,10 @@ use Rattle.json_report.specs.SliceValues.{slice_values}
 use Rattle.json_report.specs.Values.{array_of, object_of, whole}
 use Rattle.json_report.specs.WindowValues.{window_value}
 use Rattle.machine.specs.Slices.{slice_count}
-use Rattle.report_text.specs.Counts.{is_access}
-use Rattle.report_text.specs.Reporting.{is_refusal}
-use Rattle.report_text.specs.Tallies.{counted_in}
-use Rattle.report_text.specs.declared.counts.Counts.{Counts}
+use Rattle.run_counts.specs.Counts.{is_access}
+use Rattle.run_counts.specs.Refusals.{is_refusal}
+use Rattle.run_counts.specs.Tallies.{counted_in}
+use Rattle.run_counts.specs.declared.counts.Counts.{Counts}
 use Rattle.run_law.specs.Journals.{JournalsValue}
 use Rattle.run_law.specs.TreeHistory.{TreeEntryValue}
 use Rattle.run_law.specs.declared.flags.Flags.{Flags}

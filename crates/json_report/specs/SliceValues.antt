@@ -5,7 +5,7 @@ use Rattle.cache_core.specs.declared.entry.SliceEntry.{SliceEntry}
 use Rattle.json_report.specs.Values.{array_of, object_of, whole}
 use Rattle.machine.specs.Slices.{slice_count}
 use Rattle.machine.specs.declared.parameters.Parameters.{Parameters}
-use Rattle.report_text.specs.SliceLines.{entry_text}
+use Rattle.report_pieces.specs.EntryTexts.{entry_text}
 use Rattle.run_law.specs.Journals.{JournalsValue, slice_at}
 use Rattle.script_ops.specs.Values.{ScriptValue}
 use Rattle.serde_json.specs.Data.{Data, string}

@@ -1,21 +1,32 @@
 -- The values of windows of isolation.
-use Rattle.std.specs.Prelude.{[], ◌∷◌, codes}
+use Rattle.std.specs.Prelude.{ℕ, List, [], ◌∷◌, ◌++◌, codes}
 use Rattle.json_report.specs.Values.{object_of, whole}
 use Rattle.run_law.specs.declared.window.Window.{Window}
 use Rattle.serde_json.specs.Data.{Data}
 
--- a window: where it is, and what is counted in it
-unfoldable pub window_value : Window → Data
-window_value w =
-    object_of
-    ((codes "accesses", whole w.accesses)
-    ∷ (codes "covered", whole w.covered)
+-- the members of a window after the first: what is counted in it, and where it is
+abbrev pub more_members : Window → List (List ℕ × Data)
+more_members w =
+    (codes "covered", whole w.covered)
     ∷ (codes "covered_hits", whole w.covered_hits)
     ∷ (codes "domain", whole w.domain)
     ∷ (codes "from", whole w.from)
-    ∷ (codes "gid", whole w.gid.0)
+    ∷ []
+
+-- the first and these
+abbrev pub first_members : Window → List (List ℕ × Data)
+first_members w = (codes "accesses", whole w.accesses) ∷ more_members w
+
+-- those after them
+abbrev pub last_members : Window → List (List ℕ × Data)
+last_members w =
+    (codes "gid", whole w.gid.0)
     ∷ (codes "hits", whole w.hits)
     ∷ (codes "private", whole w.private)
     ∷ (codes "slice", whole w.slice)
     ∷ (codes "ways", whole w.ways)
-    ∷ [])
+    ∷ []
+
+-- a window: where it is, and what is counted in it
+unfoldable pub window_value : Window → Data
+window_value w = object_of (first_members w ++ last_members w)

@@ -5,9 +5,10 @@ ghost use Rattle.json_report.specs.Commands.{command_value, text_member};
 ghost use Rattle.json_report.specs.Pieces.{items_told, members_told};
 ghost use Rattle.json_report.specs.Values.{array_of};
 ghost use Rattle.rc_base.specs.declared.text_buf.TheConstants.{TEXT_MAX};
-ghost use Rattle.report_text.specs.Playbacks.{given, result_of, words_of};
-ghost use Rattle.report_text.specs.Replayed.{HasFewLooks, IsAnswered, IsReplay};
-ghost use Rattle.report_text.specs.Touches.{TellsTouch};
+ghost use Rattle.report_pieces.specs.Results.{result_of, words_of};
+ghost use Rattle.run_replay.specs.Playbacks.{given};
+ghost use Rattle.run_replay.specs.Replayed.{HasFewLooks, IsAnswered, IsReplay};
+ghost use Rattle.run_counts.specs.Touches.{TellsTouch};
 ghost use Rattle.run_law.specs.Entries.{entry_value};
 ghost use Rattle.serde_json.specs.Data.{string};
 ghost use Rattle.serde_json.specs.Written.{compact_text};
@@ -15,8 +16,9 @@ ghost use Rattle.serde_json.specs.Written.{compact_text};
 use crate::members::{push_comma, push_key, push_number, push_text};
 use crate::strings::push_string;
 use rc_base::{NoMemory, TextBuf};
-use report_text::{Replay, ReportText, push_given, push_result, push_words};
+use report_pieces::{ReportText, push_result, push_words};
 use run_law::{Journals, TreeEntry};
+use run_replay::{Replay, push_given};
 use script_ops::{Script, next_line};
 use std::alloc::Global;
 
@@ -71,18 +73,16 @@ fn push_given_lines(
 fn push_result_text(
     alloc: Global,
     report: &mut ReportText,
-    replay: &Replay,
     script: &Script,
     journals: &Journals,
     entry: &TreeEntry,
     hit: Option<bool>,
 ) -> Result<(), NoMemory>
-    requires hit { TellsTouch journals.now (entry_value entry.now) hit }
-    requires answered { IsAnswered script.now replay.now.tree.state (entry_value entry.now) }
+    requires { TellsTouch journals.now (entry_value entry.now) hit }
     ensures { OnOk result (report.new ≡ report.old ++ members_told true ((codes "result", string (result_of script.now journals.now (entry_value entry.now))) ∷ [])) }
 {
     let mut text = ReportText::create(alloc)?;
-    push_result(&mut text, replay, script, journals, entry, hit)?;
+    push_result(&mut text, script, journals, entry, hit)?;
     push_text(report, "result", &text.into_bytes())
 }
 
@@ -123,7 +123,7 @@ pub(crate) fn push_command(
     report.push(b"{".as_slice())?;
     push_number(report, false, "at", position)?;
     push_number(report, true, "op", u64::from(entry.op))?;
-    push_result_text(alloc, report, replay, script, journals, entry, hit)?;
+    push_result_text(alloc, report, script, journals, entry, hit)?;
     push_given_lines(report, replay, script, entry, file)?;
     push_number(report, true, "thread", u64::from(entry.thread))?;
     push_words_text(alloc, report, script, entry)?;

@@ -3,16 +3,18 @@ ghost use Rattle.std.specs.Prelude.{◌≡◌, ◌++◌, IfOk, OnOk, false};
 ghost use Rattle.json_report.specs.Commands.{command_values};
 ghost use Rattle.json_report.specs.Pieces.{items_told, members_told};
 ghost use Rattle.json_report.specs.Reporting.{commands_part};
-ghost use Rattle.report_text.specs.Made.{made_from};
-ghost use Rattle.report_text.specs.Replayed.{AreKnownGroups};
+ghost use Rattle.run_replay.specs.Made.{made_from};
+ghost use Rattle.run_replay.specs.Replayed.{AreKnownGroups};
 ghost use Rattle.run_law.specs.Runs.{IsRun};
 ghost use Rattle.tree_law.specs.State.{opening};
 
 use crate::command_items::push_command;
 use crate::members::{push_comma, push_key};
 use rc_base::{NoMemory, TEXT_MAX, TextBuf};
-use report_text::{Made, ReportText, Touches, begin, end, take_next};
+use report_pieces::ReportText;
+use run_counts::Touches;
 use run_law::Journals;
+use run_replay::{Made, begin, end, made_groups, take_next};
 use script_ops::Script;
 use std::alloc::Global;
 
@@ -76,20 +78,7 @@ pub(crate) fn push_commands_part(
     ensures known { IfOk result (λ made. AreKnownGroups script.now.names made.items) }
 {
     if quiet {
-        return quiet_groups(alloc, script, journals);
+        return made_groups(alloc, script, journals);
     }
     push_list(alloc, report, script, journals)
-}
-
-// The control groups that the commands made.
-fn quiet_groups(alloc: Global, script: &Script, journals: &Journals) -> Result<Vec<Made>, NoMemory>
-    requires run { IsRun script.now journals.now }
-    ensures made { IfOk result (λ made. made.items ≡ made_from script.now (opening script.now.machine script.now.tasks) journals.now.tree) }
-    ensures known { IfOk result (λ made. AreKnownGroups script.now.names made.items) }
-{
-    let mut replay = begin(alloc, script, journals)?;
-    for k in 0..journals.tree().len() {
-        take_next(&mut replay, script, journals, k)?;
-    }
-    Ok(end(replay, script, journals))
 }

@@ -5,14 +5,15 @@ ghost use Rattle.json_report.specs.Pieces.{items_told, members_told};
 ghost use Rattle.json_report.specs.Values.{array_of, object_of, whole};
 ghost use Rattle.machine.specs.Maps.{parameters_of};
 ghost use Rattle.machine.specs.Slices.{slice_count};
-ghost use Rattle.report_text.specs.Occupancies.{Suits, lines_told};
+ghost use Rattle.run_counts.specs.Occupancies.{Suits, lines_told};
 ghost use Rattle.serde_json.specs.View.{view};
 ghost use Rattle.serde_json.specs.Written.{compact_text};
 
 use crate::members::{push_comma, push_key, push_value};
 use machine::Machine;
 use rc_base::NoMemory;
-use report_text::{Occupancy, ReportText, count_domain};
+use report_pieces::ReportText;
+use run_counts::{Occupancy, count_domain};
 use run_law::Journals;
 use script_ops::Script;
 use serde_json::{Value, json};

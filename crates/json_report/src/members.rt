@@ -8,7 +8,7 @@ ghost use Rattle.serde_json.specs.Written.{comma_if, compact_text, has_float};
 
 use crate::strings::push_string;
 use rc_base::NoMemory;
-use report_text::ReportText;
+use report_pieces::ReportText;
 use serde_json::Value;
 use std::alloc::Global;
 

@@ -10,7 +10,8 @@ use crate::slices::push_journal_part;
 use crate::totals::push_total;
 use crate::windows::push_windows_part;
 use rc_base::NoMemory;
-use report_text::{ReportText, Tally, slices_of};
+use report_pieces::ReportText;
+use run_counts::{Tally, slices_of};
 use run_law::{Flags, Journals, Window};
 use script_ops::Script;
 use std::alloc::Global;
@@ -34,7 +35,7 @@ fn push_report(
     push_groups(alloc, report, script, journals, &made, &tally)?;
     push_journal_part(report, flags.journal, script, journals)?;
     push_total(alloc, report, script, journals, &tally)?;
-    push_windows_part(alloc, report, flags.windows, windows)?;
+    push_windows_part(report, flags.windows, windows)?;
     report.push(b"}\n".as_slice())
 }
 

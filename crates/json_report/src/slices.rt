@@ -6,7 +6,7 @@ ghost use Rattle.json_report.specs.SliceValues.{entry_values, slice_members, sli
 ghost use Rattle.json_report.specs.Values.{array_of};
 ghost use Rattle.machine.specs.Maps.{parameters_of};
 ghost use Rattle.machine.specs.Slices.{slice_count};
-ghost use Rattle.report_text.specs.SliceLines.{entry_text};
+ghost use Rattle.report_pieces.specs.EntryTexts.{entry_text};
 ghost use Rattle.serde_json.specs.Data.{string};
 ghost use Rattle.serde_json.specs.Written.{comma_if, compact_text};
 
@@ -14,7 +14,8 @@ use crate::members::{push_comma, push_key, push_number};
 use cache_core::SliceEntry;
 use machine::Machine;
 use rc_base::NoMemory;
-use report_text::{ReportText, push_entry_text, slices_of};
+use report_pieces::{ReportText, push_entry_text};
+use run_counts::slices_of;
 use run_law::Journals;
 use script_ops::Script;
 

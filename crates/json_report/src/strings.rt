@@ -4,7 +4,7 @@ ghost use Rattle.std.specs.Char.{digit_char};
 ghost use Rattle.json.specs.Print.{escape, escape_byte, escape_letter, quoted};
 
 use rc_base::NoMemory;
-use report_text::ReportText;
+use report_pieces::ReportText;
 
 // The letter after the backslash of a byte that has one, and else 0.
 fn letter_of(byte: u8) -> u8

@@ -6,7 +6,7 @@ use crate::windows::push_windows_part;
 use cache_core::{SliceEntry, What};
 use machine::{Machine, Parameters};
 use rc_base::Gid;
-use report_text::ReportText;
+use report_pieces::ReportText;
 use run_law::Window;
 use std::process::Abort;
 use std::test::Fail;
@@ -84,7 +84,7 @@ fn windows_have_their_keys_in_order(rt: HostRuntime) -> Result<(), Fail> {
         private: 1,
     };
     let mut report = ReportText::create(rt.alloc())?;
-    push_windows_part(rt.alloc(), &mut report, true, [window].as_slice())?;
+    push_windows_part(&mut report, true, [window].as_slice())?;
     let bytes = report.into_bytes();
     assert!(rt;
         bytes.as_slice()

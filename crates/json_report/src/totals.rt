@@ -3,8 +3,8 @@ ghost use Rattle.std.specs.Prelude.{◌≡◌, ◌++◌, ◌∷◌, [], IfOk, On
 ghost use Rattle.json_report.specs.Pieces.{members_told};
 ghost use Rattle.json_report.specs.Reporting.{total_of_counts, total_value};
 ghost use Rattle.machine.specs.Slices.{slice_count};
-ghost use Rattle.report_text.specs.Reporting.{is_refusal};
-ghost use Rattle.report_text.specs.Tallies.{IsTallyOf};
+ghost use Rattle.run_counts.specs.Refusals.{is_refusal};
+ghost use Rattle.run_counts.specs.Tallies.{IsTallyOf};
 ghost use Rattle.run_law.specs.Entries.{entry_value};
 ghost use Rattle.run_law.specs.TreeHistory.{TreeEntryValue};
 ghost use Rattle.serde_json.specs.View.{view};
@@ -12,7 +12,8 @@ ghost use Rattle.serde_json.specs.Written.{compact_text};
 
 use crate::members::{push_key, push_value};
 use rc_base::NoMemory;
-use report_text::{Counts, ReportText, Tally, count_refused};
+use report_pieces::ReportText;
+use run_counts::{Counts, Tally, count_refused};
 use run_law::{Journals, TreeEntry};
 use script_ops::Script;
 use serde_json::{Value, json};

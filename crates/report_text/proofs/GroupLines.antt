@@ -3,12 +3,13 @@ use Rattle.std.proofs.Common.{◌≡◌, ℕ, ◌++◌, List, ap, ◌∙◌}
 use Rattle.path_names.specs.PathTexts.{path_text}
 use Rattle.path_names.specs.declared.dirs.DirRef.TheVariants.{Ctrl}
 use Rattle.path_names.specs.declared.path_ref.PathRef.TheVariants.{Dir}
-use Rattle.report_text.specs.Counts.{counts_text, is_access, is_access_of}
-use Rattle.report_text.specs.Made.{control_of, controls}
+use Rattle.report_text.specs.Counts.{counts_text, counts_told}
+use Rattle.run_replay.specs.Made.{control_of, controls}
 use Rattle.report_text.specs.Reporting.{commands_part, domain_line, group_line, group_told, journal_part, report_of, total_line, windows_part}
-use Rattle.report_text.specs.Tallies.{counted_in, counts_told}
-use Rattle.report_text.specs.declared.counts.Counts.{Counts}
-use Rattle.report_text.specs.declared.made.Made.{Made}
+use Rattle.run_counts.specs.Counts.{is_access, is_access_of}
+use Rattle.run_counts.specs.Tallies.{counted_in}
+use Rattle.run_counts.specs.declared.counts.Counts.{Counts}
+use Rattle.run_replay.specs.declared.made.Made.{Made}
 use Rattle.run_law.specs.Journals.{JournalsValue}
 use Rattle.run_law.specs.declared.flags.Flags.{Flags}
 use Rattle.run_law.specs.declared.window.Window.{Window}

@@ -1,15 +1,4 @@
-pub mod CountedEntries
+pub mod CommandLines
 pub mod DomainCounts
-pub mod Entries
-pub mod FewCommands
-pub mod FullSlices
 pub mod GroupLines
-pub mod LoadedPlaces
-pub mod Occupancies
-pub mod OtherCommands
-pub mod Pieces
-pub mod ReadTexts
-pub mod Replays
 pub mod SliceTexts
-pub mod TouchHits
-pub mod laws

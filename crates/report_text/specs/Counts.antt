@@ -1,34 +1,17 @@
--- Counts of accesses, hits and misses over the entries of slices.
-use Rattle.std.specs.Prelude.{ℕ, Bool, true, false, not, ◌==◌, ◌&&◌, List, ◌++◌, count_by, codes, decimal}
-use Rattle.lists.specs.Sums.{sum_below}
-use Rattle.cache_core.specs.declared.entry.SliceEntry.{SliceEntry}
+-- The text of counts of accesses, hits and misses.
+use Rattle.std.specs.Prelude.{ℕ, Bool, not, ◌&&◌, List, ◌++◌, codes, decimal}
 use Rattle.cache_core.specs.declared.entry.What.{What}
-use Rattle.cache_core.specs.declared.entry.What.TheVariants.{Access}
-use Rattle.run_law.specs.Journals.{JournalsValue, slice_at}
-use Rattle.machine.specs.Slices.{slice_count}
+use Rattle.run_counts.specs.Counts.{count_entries, is_hit}
+use Rattle.run_counts.specs.declared.counts.Counts.{Counts}
+use Rattle.run_law.specs.Journals.{JournalsValue}
 use Rattle.script_ops.specs.Values.{ScriptValue}
-
--- an access of this group
-abbrev pub is_access_of : ℕ → What → Bool
-is_access_of gid (Access hit way owner rmid mask line) = owner.0 == gid
-is_access_of gid what = false
-
--- an access
-abbrev pub is_access : What → Bool
-is_access (Access hit way owner rmid mask line) = true
-is_access what = false
-
--- a hit
-abbrev pub is_hit : What → Bool
-is_hit (Access hit way owner rmid mask line) = hit
-is_hit what = false
-
--- how many entries of all slices pass a test
-abbrev pub count_entries : ScriptValue → JournalsValue → (What → Bool) → ℕ
-count_entries script j p = sum_below (slice_count script.machine) (λ i. count_by (λ (e : SliceEntry). p e.what) (slice_at j i))
 
 -- the accesses that pass a test, and of these the hits and the misses
 abbrev pub counts_text : ScriptValue → JournalsValue → (What → Bool) → List ℕ
 counts_text script j p =
     codes "accesses " ++ decimal (count_entries script j p) ++ codes " hits " ++ decimal (count_entries script j (λ what. p what && is_hit what))
     ++ codes " misses " ++ decimal (count_entries script j (λ what. p what && not (is_hit what)))
+
+-- counts as they are told
+abbrev pub counts_told : Counts → List ℕ
+counts_told c = codes "accesses " ++ decimal c.accesses ++ codes " hits " ++ decimal c.hits ++ codes " misses " ++ decimal c.misses

@@ -1,11 +1,5 @@
 pub mod Commands
 pub mod Counts
-pub mod Made
-pub mod Occupancies
-pub mod Playbacks
-pub mod Replayed
 pub mod Reporting
 pub mod SliceLines
-pub mod Tallies
-pub mod Touches
 pub mod WindowLines

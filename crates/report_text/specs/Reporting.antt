@@ -1,22 +1,18 @@
 -- The report: a function of a script and its journals.
-use Rattle.std.specs.Prelude.{ℕ, ◌*◌, Bool, true, false, nat_lt, if◌then◌else◌, List, [], ◌++◌, length, count_by, codes, decimal}
+use Rattle.std.specs.Prelude.{ℕ, ◌*◌, Bool, nat_lt, if◌then◌else◌, List, [], ◌++◌, length, count_by, codes, decimal}
 use Rattle.std.specs.List.{flat_map, range_with_len}
-use Rattle.cache_core.specs.History.{lines_of, valid_of}
-use Rattle.lists.specs.Sums.{sum_below}
-use Rattle.rc_base.specs.declared.replies.Reply.{Reply}
-use Rattle.rc_base.specs.declared.replies.Reply.TheVariants as replies
 use Rattle.report_text.specs.Commands.{command_lines}
-use Rattle.report_text.specs.Counts.{counts_text, is_access, is_access_of}
-use Rattle.report_text.specs.Made.{Control, controls}
+use Rattle.report_text.specs.Counts.{counts_text, counts_told}
+use Rattle.run_replay.specs.Made.{Control, controls}
 use Rattle.report_text.specs.SliceLines.{slices_text}
-use Rattle.report_text.specs.Tallies.{counts_told}
+use Rattle.run_counts.specs.Counts.{is_access, is_access_of}
+use Rattle.run_counts.specs.Domains.{rmid_lines, valid_lines}
+use Rattle.run_counts.specs.Refusals.{is_refusal}
 use Rattle.report_text.specs.WindowLines.{window_line}
-use Rattle.report_text.specs.declared.counts.Counts.{Counts}
-use Rattle.run_law.specs.Journals.{JournalsValue, slice_at}
-use Rattle.run_law.specs.Slices.{shape_in}
+use Rattle.run_counts.specs.declared.counts.Counts.{Counts}
+use Rattle.run_law.specs.Journals.{JournalsValue}
 use Rattle.run_law.specs.declared.flags.Flags.{Flags}
 use Rattle.run_law.specs.declared.window.Window.{Window}
-use Rattle.machine.specs.Slices.{slice_number}
 use Rattle.machine.specs.declared.parameters.Parameters.{Parameters}
 use Rattle.run_law.specs.TreeHistory.{TreeEntryValue}
 use Rattle.script_ops.specs.Values.{ScriptValue}
@@ -33,18 +29,6 @@ abbrev pub group_line : ScriptValue → JournalsValue → Control → List ℕ
 group_line script j g = codes "group " ++ decimal g.gid ++ codes " " ++ g.path ++ codes ": " ++ counts_text script j (is_access_of g.gid) ++ codes "\n"
 
 -- ---- the line of a domain
-
--- a number of lines over the slices of a domain
-abbrev pub over_slices : ScriptValue → ℕ → (ℕ → ℕ) → ℕ
-over_slices script domain f = sum_below script.machine.slices (λ slice. f (slice_number script.machine domain slice))
-
--- how many lines an RMID has in a domain at the end
-abbrev pub rmid_lines : ScriptValue → JournalsValue → ℕ → ℕ → ℕ
-rmid_lines script j domain rmid = over_slices script domain (λ i. lines_of (shape_in script.machine i) (slice_at j i) rmid)
-
--- how many valid lines a domain has at the end
-abbrev pub valid_lines : ScriptValue → JournalsValue → ℕ → ℕ
-valid_lines script j domain = over_slices script domain (λ i. valid_of (shape_in script.machine i) (slice_at j i))
 
 -- `, rmid R N` for an RMID with lines
 abbrev pub rmid_text : ℕ → ℕ → List ℕ
@@ -64,11 +48,6 @@ abbrev pub domain_line : ScriptValue → JournalsValue → ℕ → List ℕ
 domain_line script j domain = domain_told script.machine domain (valid_lines script j domain) (rmid_lines script j domain)
 
 -- ---- the last line
-
--- the command was refused
-abbrev pub is_refusal : Reply → Bool
-is_refusal replies.Ok = false
-is_refusal (replies.Refused errno why arg) = true
 
 -- `total: commands N refused R `
 abbrev pub commands_count : List TreeEntryValue → List ℕ

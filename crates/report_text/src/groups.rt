@@ -4,19 +4,19 @@ ghost use Rattle.std.specs.List.{flat_map};
 ghost use Rattle.machine.specs.Slices.{slice_count};
 ghost use Rattle.path_names.specs.NamesIn.{AreKnown, path_ids};
 ghost use Rattle.path_names.specs.PathTexts.{path_text};
-ghost use Rattle.report_text.specs.Made.{control_of, controls, default_control, made_from};
-ghost use Rattle.report_text.specs.Replayed.{AreKnownGroups};
+ghost use Rattle.run_replay.specs.Made.{control_of, controls, default_control, made_from};
+ghost use Rattle.run_replay.specs.Replayed.{AreKnownGroups};
 ghost use Rattle.report_text.specs.Reporting.{group_line, group_told};
-ghost use Rattle.report_text.specs.Tallies.{IsTallyOf};
+ghost use Rattle.run_counts.specs.Tallies.{IsTallyOf};
 ghost use Rattle.tree_law.specs.State.{opening};
 
-use crate::buffer::ReportText;
-use crate::counts::{Counts, push_counts};
-use crate::made::Made;
-use crate::tally::Tally;
+use crate::counts::push_counts;
 use path_names::{DirRef, PathRef};
 use rc_base::NoMemory;
+use report_pieces::ReportText;
+use run_counts::{Counts, Tally};
 use run_law::Journals;
+use run_replay::Made;
 use script_ops::Script;
 
 // Adds the beginning of the line of a group.

@@ -1,48 +1,29 @@
 //! The report of a run.
-ghost use Rattle.std.specs.Prelude.{◌≡◌, ◌≤◌, ◌++◌, All, IfOk, OnOk, count_by, length, map};
+ghost use Rattle.std.specs.Prelude.{◌≡◌, ◌++◌, IfOk, OnOk, map};
 ghost use Rattle.machine.specs.Slices.{slice_count};
-ghost use Rattle.report_text.specs.Counts.{counts_text, is_access};
-ghost use Rattle.report_text.specs.Made.{made_from};
-ghost use Rattle.report_text.specs.Replayed.{AreKnownGroups, HasFewLooks};
-ghost use Rattle.report_text.specs.Reporting.{commands_count, commands_part, is_refusal, report_of, total_line};
-ghost use Rattle.report_text.specs.Tallies.{IsTallyOf};
+ghost use Rattle.report_text.specs.Counts.{counts_text};
+ghost use Rattle.run_counts.specs.Counts.{is_access};
+ghost use Rattle.run_replay.specs.Made.{made_from};
+ghost use Rattle.run_replay.specs.Replayed.{AreKnownGroups};
+ghost use Rattle.report_text.specs.Reporting.{commands_count, commands_part, report_of, total_line};
+ghost use Rattle.run_counts.specs.Tallies.{IsTallyOf};
 ghost use Rattle.run_law.specs.Entries.{entry_value};
 ghost use Rattle.run_law.specs.Runs.{IsRun};
-ghost use Rattle.run_law.specs.TreeHistory.{TreeEntryValue};
-ghost use Rattle.script_ops.specs.declared.limits.TheConstants.{MOST_WEIGHT};
 ghost use Rattle.tree_law.specs.State.{opening};
 
-use crate::buffer::ReportText;
 use crate::commands::push_commands;
 use crate::counts::push_counts;
-use crate::domains::{push_domains, slices_of};
+use crate::domains::push_domains;
 use crate::groups::push_groups;
-use crate::made::Made;
-use crate::quiet::made_groups;
 use crate::slice_lines::push_journal;
-use crate::tally::Tally;
 use crate::windows::push_windows;
-use rc_base::{NoMemory, Reply};
+use rc_base::NoMemory;
+use report_pieces::ReportText;
+use run_counts::{Tally, count_refused, slices_of};
 use run_law::{Flags, Journals, TreeEntry, Window};
+use run_replay::{Made, made_groups};
 use script_ops::Script;
 use std::alloc::Global;
-
-/// Whether a command was refused.
-pub(crate) fn is_refused(entry: &TreeEntry) -> bool
-    ensures { result ≡ is_refusal entry.now.reply }
-{
-    match entry.reply {
-        Reply::Ok => false,
-        Reply::Refused { .. } => true,
-    }
-}
-
-/// How many commands were refused.
-pub fn count_refused(tree: &[TreeEntry]) -> u64
-    ensures { result ≡ count_by (λ (h : TreeEntryValue). is_refusal h.reply) (map entry_value tree.now) }
-{
-    tree.iter().filter(|e| is_refused(e)).count() as u64
-}
 
 // Adds how many commands there were, and how many were refused.
 fn push_commands_count(report: &mut ReportText, tree: &[TreeEntry]) -> Result<(), NoMemory>
@@ -92,8 +73,6 @@ fn push_commands_part(
     quiet: bool,
 ) -> Result<Vec<Made>, NoMemory>
     requires run { IsRun script.now journals.now }
-    requires few { length journals.now.tree ≤ MOST_WEIGHT }
-    requires counts { All HasFewLooks journals.now.tree }
     ensures text { OnOk result (report.new ≡ report.old ++ commands_part script.now journals.now quiet) }
     ensures made { IfOk result (λ made. made.items ≡ made_from script.now (opening script.now.machine script.now.tasks) journals.now.tree) }
     ensures known { IfOk result (λ made. AreKnownGroups script.now.names made.items) }
@@ -116,8 +95,6 @@ fn push_report(
     requires run { IsRun script.now journals.now }
     ensures { OnOk result (report.new ≡ report.old ++ report_of script.now journals.now flags windows.now) }
 {
-    // A script is light, and so a run of it has few commands.
-    let _threads = script.threads();
     let made = push_commands_part(alloc, report, script, journals, flags.quiet)?;
     push_journal(report, flags.journal, script, journals)?;
     push_windows(report, flags.windows, windows)?;

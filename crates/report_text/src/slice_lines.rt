@@ -4,14 +4,13 @@ ghost use Rattle.std.specs.List.{flat_map, range_with_len};
 ghost use Rattle.machine.specs.Maps.{parameters_of};
 ghost use Rattle.machine.specs.Slices.{slice_count};
 ghost use Rattle.report_text.specs.Reporting.{journal_part};
-ghost use Rattle.report_text.specs.SliceLines.{domain_slices, entry_lines, slice_heading, slice_text, slices_text};
+ghost use Rattle.report_text.specs.SliceLines.{domain_slices, entry_line, entry_lines, slice_heading, slice_text, slices_text};
 
-use crate::buffer::ReportText;
-use crate::domains::number_of;
-use crate::entry_line::push_entry;
 use cache_core::SliceEntry;
 use machine::Machine;
 use rc_base::NoMemory;
+use report_pieces::{ReportText, push_entry_text};
+use run_counts::number_of;
 use run_law::Journals;
 use script_ops::Script;
 
@@ -21,6 +20,20 @@ fn push_heading(report: &mut ReportText, domain: u8, slice: u8) -> Result<(), No
 {
     report.push_number(b"slice ".as_slice(), u64::from(domain))?;
     report.push_number(b".".as_slice(), u64::from(slice))?;
+    report.push(b"\n".as_slice())
+}
+
+// Adds the line of an entry at a position.
+#[tactic(auto, unfolding(crate::specs::SliceLines::entry_line))]
+fn push_entry(
+    report: &mut ReportText,
+    machine: &Machine,
+    p: u64,
+    entry: &SliceEntry,
+) -> Result<(), NoMemory>
+    ensures { OnOk result (report.new ≡ report.old ++ entry_line (parameters_of machine.now) p entry.now) }
+{
+    push_entry_text(report, machine, p, entry)?;
     report.push(b"\n".as_slice())
 }
 

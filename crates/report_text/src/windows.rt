@@ -4,8 +4,8 @@ ghost use Rattle.std.specs.List.{flat_map};
 ghost use Rattle.report_text.specs.Reporting.{windows_part};
 ghost use Rattle.report_text.specs.WindowLines.{window_counts, window_line, window_place};
 
-use crate::buffer::ReportText;
 use rc_base::NoMemory;
+use report_pieces::ReportText;
 use run_law::Window;
 
 // Adds where a window is.

@@ -4,8 +4,8 @@ use Rattle.std.specs.Prelude.{nat_lt}
 use Rattle.json_report.proofs.Pieces.{items_told-next}
 use Rattle.json_report.proofs.Positions.{command_values-take_suc, length-command_values_take}
 use Rattle.json_report.specs.Commands.{command_value, command_values}
-use Rattle.report_text.proofs.laws.Playbacks.{HasFewLooks-taken, IsAnswered-taken, state-entries}
-use Rattle.report_text.proofs.laws.Touches.{TellsTouch-entry}
+use Rattle.run_replay.proofs.laws.Playbacks.{HasFewLooks-taken, IsAnswered-taken, state-entries}
+use Rattle.run_counts.proofs.laws.Touches.{TellsTouch-entry}
 use Rattle.run_law.specs.Entries.{entry_value}
 use Rattle.run_law.specs.TreeHistory.{TreeEntryValue}
 use Rattle.serde_json.specs.Written.{comma_if, compact_text}

@@ -2,7 +2,7 @@ use Rattle.std.proofs.Common.{◌≡◌, ◌+◌, ◌≤◌, ◌++◌, false, le
 use Rattle.json_report.specs.Commands.{command_values}
 use Rattle.json_report.specs.Pieces.{items_told}
 use Rattle.rc_base.specs.declared.text_buf.TheConstants.{TEXT_MAX}
-use Rattle.report_text.specs.Playbacks.{HasTaken}
+use Rattle.run_replay.specs.Playbacks.{HasTaken}
 use Rattle.run_law.specs.Entries.{entry_value}
 use Rattle.tree_law.specs.State.{opening}
 use Rattle.json_report.proofs.commands.push_items.Given as goal

@@ -1,5 +1,5 @@
 use Rattle.json_report.proofs.Floats.{has_float-counted}
-use Rattle.report_text.specs.Occupancies.{lines_told}
+use Rattle.run_counts.specs.Occupancies.{lines_told}
 use Rattle.json_report.proofs.domains.push_domain.Goals as goal
 
 pub push_value-requires : goal.push_value-requires

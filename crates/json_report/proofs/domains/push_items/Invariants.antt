@@ -2,7 +2,7 @@ use Rattle.std.proofs.Common.{◌≡◌, ◌++◌, false, map}
 use Rattle.std.specs.List.{range_with_len}
 use Rattle.json_report.specs.Domains.{domain_value}
 use Rattle.json_report.specs.Pieces.{items_told}
-use Rattle.report_text.specs.Occupancies.{Suits}
+use Rattle.run_counts.specs.Occupancies.{Suits}
 use Rattle.json_report.proofs.domains.push_items.Given as goal
 
 abbrev pub invariant-loop-domain : goal.invariant-loop-domain

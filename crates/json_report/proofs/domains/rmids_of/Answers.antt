@@ -1,7 +1,7 @@
 use Rattle.std.proofs.Common.{ℕ, List, ◌++◌, ap, ◌∙◌, sym}
 use Rattle.json_report.proofs.Positions.{rmid_values-suc}
 use Rattle.json_report.specs.Domains.{rmid_value, rmid_values}
-use Rattle.report_text.specs.Occupancies.{lines_told}
+use Rattle.run_counts.specs.Occupancies.{lines_told}
 use Rattle.serde_json.specs.Data.{Data}
 use Rattle.json_report.proofs.domains.rmids_of.Goals as goal
 

@@ -1,6 +1,6 @@
 use Rattle.std.proofs.Common.{◌≡◌, map}
 use Rattle.json_report.specs.Domains.{rmid_values}
-use Rattle.report_text.specs.Occupancies.{lines_told}
+use Rattle.run_counts.specs.Occupancies.{lines_told}
 use Rattle.serde_json.specs.View.{view}
 use Rattle.json_report.proofs.domains.rmids_of.Given as goal
 

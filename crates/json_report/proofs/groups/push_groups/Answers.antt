@@ -4,7 +4,7 @@ use Rattle.std.specs.Prelude.{codes}
 use Rattle.json_report.proofs.Pieces.{OnOk-map, members_told-array}
 use Rattle.json_report.specs.Groups.{group_value}
 use Rattle.json_report.specs.Pieces.{items_told}
-use Rattle.report_text.specs.Made.{control_of, default_control}
+use Rattle.run_replay.specs.Made.{control_of, default_control}
 use Rattle.serde_json.specs.Written.{compact_text}
 use Rattle.json_report.proofs.groups.push_groups.Goals as goal
 

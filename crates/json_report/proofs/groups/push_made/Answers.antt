@@ -3,7 +3,7 @@ use Rattle.std.proofs.lemmas.List.{get_or_default}
 use Rattle.json_report.proofs.Pieces.{items_told-next_later}
 use Rattle.json_report.proofs.Positions.{map-map_take_suc}
 use Rattle.json_report.specs.Groups.{group_value}
-use Rattle.report_text.specs.Made.{control_of}
+use Rattle.run_replay.specs.Made.{control_of}
 use Rattle.json_report.proofs.groups.push_made.Goals as goal
 
 pub loop-group-preserved : goal.loop-group-preserved

@@ -2,7 +2,7 @@ use Rattle.std.proofs.Common.{◌++◌, ap, ◌∙◌}
 use Rattle.json_report.proofs.EntryTexts.{escape-entry_text}
 use Rattle.json_report.proofs.Pieces.{OnOk-map, quoted-parts}
 use Rattle.machine.specs.Maps.{parameters_of}
-use Rattle.report_text.specs.SliceLines.{entry_text}
+use Rattle.report_pieces.specs.EntryTexts.{entry_text}
 use Rattle.json_report.proofs.slices.push_entry.Goals as goal
 
 pub returns : goal.returns

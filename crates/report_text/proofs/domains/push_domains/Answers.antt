@@ -2,8 +2,9 @@ use Rattle.std.proofs.Common.{◌++◌, ◌∙◌, ap}
 use Rattle.lists.proofs.Ranges.{flat_map-range_suc}
 use Rattle.machine.specs.Maps.{parameters_of}
 use Rattle.report_text.proofs.DomainCounts.{domain_told-same}
-use Rattle.report_text.specs.Occupancies.{lines_told}
-use Rattle.report_text.specs.Reporting.{domain_line, rmid_lines, valid_lines}
+use Rattle.run_counts.specs.Occupancies.{lines_told}
+use Rattle.report_text.specs.Reporting.{domain_line}
+use Rattle.run_counts.specs.Domains.{rmid_lines, valid_lines}
 use Rattle.report_text.proofs.domains.push_domains.Goals as goal
 
 pub loop-domain-preserved : goal.loop-domain-preserved

@@ -1,6 +1,6 @@
 use Rattle.std.proofs.Common.{◌≡◌, ◌++◌}
 use Rattle.std.specs.List.{flat_map, range_with_len}
-use Rattle.report_text.specs.Occupancies.{Suits}
+use Rattle.run_counts.specs.Occupancies.{Suits}
 use Rattle.report_text.specs.Reporting.{domain_line}
 use Rattle.report_text.proofs.domains.push_domains.Given as goal
 

@@ -1,6 +1,6 @@
 use Rattle.std.proofs.Common.{◌++◌, ap, ◌∙◌}
 use Rattle.lists.proofs.Ranges.{flat_map-range_suc}
-use Rattle.report_text.specs.Occupancies.{lines_told}
+use Rattle.run_counts.specs.Occupancies.{lines_told}
 use Rattle.report_text.specs.Reporting.{rmid_text}
 use Rattle.report_text.proofs.domains.push_rmids.Goals as goal
 

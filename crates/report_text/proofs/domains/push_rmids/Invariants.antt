@@ -1,5 +1,5 @@
 use Rattle.std.proofs.Common.{◌≡◌, ◌++◌}
-use Rattle.report_text.specs.Occupancies.{lines_told}
+use Rattle.run_counts.specs.Occupancies.{lines_told}
 use Rattle.report_text.specs.Reporting.{rmids_told}
 use Rattle.report_text.proofs.domains.push_rmids.Given as goal
 

@@ -1,6 +1,6 @@
 use Rattle.std.proofs.Common.{◌++◌, ap, ◌∙◌}
 use Rattle.std.specs.Prelude.{codes}
-use Rattle.report_text.proofs.Pieces.{OnOk-map}
+use Rattle.report_pieces.proofs.laws.Results.{OnOk-map}
 use Rattle.report_text.proofs.GroupLines.{group_told-is}
 use Rattle.report_text.proofs.groups.push_default_group.Goals as goal
 

@@ -1,6 +1,6 @@
 use Rattle.std.proofs.Common.{◌≡◌, ◌++◌, map, take}
 use Rattle.std.specs.List.{flat_map}
-use Rattle.report_text.specs.Made.{control_of}
+use Rattle.run_replay.specs.Made.{control_of}
 use Rattle.report_text.specs.Reporting.{group_line}
 use Rattle.report_text.proofs.groups.push_made.Given as goal
 

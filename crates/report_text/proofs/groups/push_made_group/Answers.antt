@@ -1,5 +1,5 @@
 use Rattle.std.proofs.Common.{length, ◌++◌, ap, ◌∙◌}
-use Rattle.report_text.proofs.Pieces.{OnOk-map}
+use Rattle.report_pieces.proofs.laws.Results.{OnOk-map}
 use Rattle.report_text.proofs.GroupLines.{group_told-made}
 use Rattle.tree_core.proofs.laws.KnownNames.{known_only}
 use Rattle.report_text.proofs.groups.push_made_group.Goals as goal

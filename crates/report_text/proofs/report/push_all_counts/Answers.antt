@@ -1,5 +1,5 @@
 use Rattle.std.proofs.Common.{◌++◌, ap, ◌∙◌}
-use Rattle.report_text.proofs.Pieces.{OnOk-map}
+use Rattle.report_pieces.proofs.laws.Results.{OnOk-map}
 use Rattle.report_text.proofs.GroupLines.{counts_told-all}
 use Rattle.report_text.proofs.report.push_all_counts.Goals as goal
 

@@ -1,14 +1,6 @@
-use Rattle.report_text.proofs.Entries.{HasFewLooks-run}
-use Rattle.report_text.proofs.FewCommands.{length-commands}
-use Rattle.report_text.proofs.Pieces.{OnOk-map}
+use Rattle.report_pieces.proofs.laws.Results.{OnOk-map}
 use Rattle.report_text.proofs.GroupLines.{report_of-parts}
 use Rattle.report_text.proofs.report.push_report.Goals as goal
-
-pub push_commands_part-requires-clause-few : goal.push_commands_part-requires-clause-few
-push_commands_part-requires-clause-few c = length-commands c.args.script.now c.args.journals.now c.requires.run c.threads-threads.ensures.lawful
-
-pub push_commands_part-requires-clause-counts : goal.push_commands_part-requires-clause-counts
-push_commands_part-requires-clause-counts c = HasFewLooks-run c.args.script.now c.args.journals.now c.threads-threads.ensures.lawful.in_range c.requires.run
 
 pub returns : goal.returns
 returns c =

@@ -1,0 +1,10 @@
+//! The text of a report under construction, and the pieces that each form of report has.
+#![tactic(auto)]
+
+mod buffer;
+mod entry_text;
+mod results;
+
+pub use buffer::ReportText;
+pub use entry_text::push_entry_text;
+pub use results::{push_result, push_words};

@@ -1,2 +1,0 @@
-pub mod Playbacks
-pub mod Touches

@@ -1,0 +1,4 @@
+pub mod Entries
+pub mod FewCommands
+pub mod Replays
+pub mod laws

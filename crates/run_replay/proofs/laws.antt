@@ -1,0 +1,2 @@
+pub mod Playbacks
+pub mod Steps

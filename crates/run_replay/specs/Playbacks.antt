@@ -1,0 +1,32 @@
+-- How far a tree was taken through the commands of a run, and what a read gives then.
+use Rattle.std.specs.Prelude.{◌≡◌, ℕ, ◌≤◌, if◌then◌else◌, List, All, length, take, Option, Some, None}
+use Rattle.file_view.specs.Texts.{is_reading, text_of}
+use Rattle.rc_base.specs.declared.replies.Reply.{Reply}
+use Rattle.rc_base.specs.declared.replies.Reply.TheVariants as replies
+use Rattle.run_replay.specs.Made.{made_from}
+use Rattle.run_replay.specs.Replayed.{HasFewLooks, IsReplay, ReplayValue}
+use Rattle.run_law.specs.TreeHistory.{IsLegalTree, TreeEntryValue, tree_from}
+use Rattle.script_ops.specs.Values.{ScriptValue, op_at}
+use Rattle.script_ops.specs.declared.limits.TheConstants.{MOST_WEIGHT}
+use Rattle.script_ops.specs.declared.op.Op.{Op}
+use Rattle.tree_law.specs.State.{State, opening}
+
+-- The first commands of a legal history of few commands were taken: the tree is the one before the next, and the groups are
+-- those that they made.
+pub record HasTaken (script : ScriptValue) (tree : List TreeEntryValue) (commands : ℕ) (r : ReplayValue) : Type 0 where
+  pub legal : IsLegalTree script tree
+  pub few : length tree ≤ MOST_WEIGHT
+  pub counts : All HasFewLooks tree
+  pub replay : IsReplay script r
+  pub state : r.tree.state ≡ tree_from script (opening script.machine script.tasks) (take commands tree)
+  pub epoch : r.tree.epoch ≤ commands
+  pub made : r.made ≡ made_from script (opening script.machine script.tasks) (take commands tree)
+
+-- the text that an accepted read or list gives in this state, by its op; no other command gives one
+abbrev pub given_by : ScriptValue → State → List ℕ → Reply → Option Op → Option (List ℕ)
+given_by script s looks replies.Ok (Some op) = if is_reading op then Some (text_of script.machine s script.names op looks) else None
+given_by script s looks reply op = None
+
+-- the same of an entry
+abbrev pub given : ScriptValue → State → TreeEntryValue → Option (List ℕ)
+given script s h = given_by script s h.looks h.reply (op_at script h.thread h.op)

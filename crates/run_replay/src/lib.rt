@@ -1,0 +1,11 @@
+//! The tree, taken through the commands of a run once more.
+#![tactic(auto)]
+
+pub mod made;
+mod playback;
+mod replay;
+mod taken;
+
+pub use made::Made;
+pub use playback::{begin, end, made_groups, push_given, take_next};
+pub use replay::Replay;
