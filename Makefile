@@ -12,7 +12,7 @@ demo:
 	@sh tools/demo $(PROGRAM)
 
 build:
-	@echo "Proving what is not proved yet, on $(PROCESSORS) processors. From nothing this takes some sixteen minutes on four."
+	@echo "Proving what is not proved yet, on $(PROCESSORS) processors. From nothing this takes some eighteen minutes on four."
 	@sh tools/progress -q -p resctrl_sim sh tools/prove $(PROCESSORS)
 
 test:
