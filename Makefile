@@ -5,20 +5,28 @@
 # make help      prints these lines
 
 PROGRAM = crates/resctrl_sim/out/resctrl_sim
+# It is touched when the program was proved and built from these sources.
+BUILT = crates/resctrl_sim/out/built
+SOURCES = crates.txt HANDLES $(shell find crates -name out -prune -o -type f -print)
 PREFIX = /usr/local
 PROCESSORS = $(shell getconf _NPROCESSORS_ONLN)
 
 demo:
 	@sh tools/demo $(PROGRAM)
 
-build:
+build: $(BUILT)
+
+$(BUILT): $(SOURCES)
 	@echo "Proving what is not proved yet, on $(PROCESSORS) processors. From nothing this takes some eighteen minutes on four."
 	@sh tools/progress -q -p resctrl_sim sh tools/prove $(PROCESSORS)
+	@touch $(BUILT)
 
 test:
-	@echo "The gate proves every crate with its tests, tries the must-fail edits and runs the tests."
+	@echo "The gate proves every crate with its tests, tries the must-fail edits, runs the tests and builds the program."
 	sh tools/progress rt ci
-	@$(MAKE) --no-print-directory build
+	@# The gate leaves the program that it proved, built and ran.
+	@[ ! -x $(PROGRAM) ] || touch $(BUILT)
+	@$(MAKE) -s build
 	sh examples/compare $(PROGRAM)
 	sh tools/compare
 	sh tools/compare_sweep $(PROGRAM)
@@ -33,6 +41,6 @@ install: build
 	install -m 644 docs/resctrl_sim.1 $(DESTDIR)$(PREFIX)/share/man/man1/resctrl_sim.1
 
 help:
-	@sed -n 's/^# //p' Makefile
+	@sed -n 's/^# make/make/p' Makefile
 
 .PHONY: demo build test clients install help
