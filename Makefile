@@ -5,8 +5,9 @@
 # make help      prints these lines
 
 PROGRAM = crates/resctrl_sim/out/resctrl_sim
-# It is touched when the program was proved and built from these sources.
+# It has the time at which make began, once the program was proved and built from these sources: what is edited meanwhile is newer.
 BUILT = crates/resctrl_sim/out/built
+BEGAN := $(shell date +%s.%N)
 SOURCES = crates.txt HANDLES $(shell find crates -name out -prune -o -type f -print)
 PREFIX = /usr/local
 PROCESSORS = $(shell getconf _NPROCESSORS_ONLN)
@@ -19,13 +20,13 @@ build: $(BUILT)
 $(BUILT): $(SOURCES)
 	@echo "Proving what is not proved yet, on $(PROCESSORS) processors. From nothing this takes some fourteen minutes on four."
 	@sh tools/progress -q -p resctrl_sim sh tools/prove resctrl_sim
-	@touch $(BUILT)
+	@touch -d @$(BEGAN) $(BUILT)
 
 test:
 	@echo "The gate proves every crate with its tests, tries the must-fail edits, runs the tests and builds the program."
 	sh tools/progress rt ci
 	@# The gate leaves the program that it proved, built and ran.
-	@[ ! -x $(PROGRAM) ] || touch $(BUILT)
+	@[ ! -x $(PROGRAM) ] || touch -d @$(BEGAN) $(BUILT)
 	@$(MAKE) -s build
 	sh examples/compare $(PROGRAM)
 	sh tools/compare
