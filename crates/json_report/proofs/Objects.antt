@@ -2,60 +2,27 @@
 use Rattle.std.proofs.Common.{◌≡◌, ℕ, Bool, true, false, not, List, [], ◌∷◌, ◌++◌, refl, sym, ap, ◌∙◌}
 use Rattle.std.proofs.lemmas.List.{append_assoc, append-nil}
 use Rattle.std.specs.Prelude.{codes}
-use Rattle.json_report.proofs.Pieces.{compact_text-object, members_told-append}
+use Rattle.json_parts.proofs.laws.Objects.{Member, compact_text-members, members_told-then}
+use Rattle.json_parts.proofs.laws.Pieces.{compact_text-object}
+use Rattle.json_parts.specs.Domains.{domain_values}
+use Rattle.json_parts.specs.Pieces.{members_told}
+use Rattle.json_parts.specs.SliceValues.{journal_part}
+use Rattle.json_parts.specs.Totals.{total_value}
+use Rattle.json_parts.specs.Values.{array_of, whole}
+use Rattle.json_parts.specs.WindowValues.{windows_part}
 use Rattle.json_report.specs.Commands.{command_members, command_value, command_values, text_member}
-use Rattle.json_report.specs.Groups.{group_of_counts}
-use Rattle.json_report.specs.Pieces.{key_told, members_told}
-use Rattle.json_report.specs.Reporting.{commands_part, journal_part, json_of, report_members, total_value, windows_part}
-use Rattle.json_report.specs.Values.{object_of, whole}
+use Rattle.json_report.specs.Groups.{group_values}
+use Rattle.json_report.specs.Reporting.{commands_part, json_of, report_members}
 use Rattle.report_pieces.specs.Results.{result_of, words_of}
 use Rattle.run_replay.specs.Playbacks.{given}
-use Rattle.run_counts.specs.declared.counts.Counts.{Counts}
 use Rattle.run_law.specs.Journals.{JournalsValue}
 use Rattle.run_law.specs.TreeHistory.{TreeEntryValue}
 use Rattle.run_law.specs.declared.flags.Flags.{Flags}
 use Rattle.run_law.specs.declared.window.Window.{Window}
 use Rattle.script_ops.specs.Values.{ScriptValue}
-use Rattle.serde_json.specs.Data.{Data, string}
+use Rattle.serde_json.specs.Data.{string}
 use Rattle.serde_json.specs.Written.{compact_text}
 use Rattle.tree_law.specs.State.{State, opening}
-use Rattle.json_report.specs.Values.{array_of}
-use Rattle.json_report.specs.Domains.{domain_values}
-use Rattle.json_report.specs.Groups.{group_values}
-
--- a key and its value
-abbrev Member : Type 0
-Member = List ℕ × Data
-
--- members, and others after them
-pub members_told-more : (later : Bool) (m : Member) (ms ns all : List Member) (old now new : List ℕ) → all ≡ ms ++ ns → now ≡ old ++ members_told later (m ∷ ms) → new ≡ now ++ members_told true ns → new ≡ old ++ members_told later (m ∷ all)
-members_told-more later m ms ns all old now new is before more =
-    let head : List ℕ = key_told later m.0 ++ compact_text m.1 in
-    more
-    ∙ (ap (λ (t : List ℕ). t ++ members_told true ns) before
-    ∙ (append_assoc old (head ++ members_told true ms) (members_told true ns)
-    ∙ ap (λ (t : List ℕ). old ++ t) (append_assoc head (members_told true ms) (members_told true ns) ∙ ap (λ (t : List ℕ). head ++ t) (sym (ap (members_told true) is ∙ members_told-append ms ns)))))
-
--- the same of the first members
-pub members_told-then : (m : Member) (ms ns all : List Member) (old now new : List ℕ) → all ≡ ms ++ ns → now ≡ old ++ members_told false (m ∷ ms) → new ≡ now ++ members_told true ns → new ≡ old ++ members_told false (m ∷ all)
-members_told-then = members_told-more false
-
--- five members, one after the other
-pub members_told-five : (later : Bool) (m n o p q : Member) (old a b c d e : List ℕ) → a ≡ old ++ members_told later (m ∷ []) → b ≡ a ++ members_told true (n ∷ []) → c ≡ b ++ members_told true (o ∷ []) → d ≡ c ++ members_told true (p ∷ [])
-    → e ≡ d ++ members_told true (q ∷ []) → e ≡ old ++ members_told later (m ∷ n ∷ o ∷ p ∷ q ∷ [])
-members_told-five later m n o p q old a b c d e first second third fourth fifth =
-    let two = members_told-more later m [] (n ∷ []) (n ∷ []) old a b refl first second in
-    let three = members_told-more later m (n ∷ []) (o ∷ []) (n ∷ o ∷ []) old b c refl two third in
-    let four = members_told-more later m (n ∷ o ∷ []) (p ∷ []) (n ∷ o ∷ p ∷ []) old c d refl three fourth in
-    members_told-more later m (n ∷ o ∷ p ∷ []) (q ∷ []) (n ∷ o ∷ p ∷ q ∷ []) old d e refl four fifth
-
--- an object of members that were written between its braces
-pub compact_text-members : (ms : List Member) (old one two new : List ℕ) → one ≡ old ++ 123 ∷ [] → two ≡ one ++ members_told false ms → new ≡ two ++ 125 ∷ [] → new ≡ old ++ compact_text (object_of ms)
-compact_text-members ms old one two new opens told closes =
-    closes ∙ (ap (λ (t : List ℕ). t ++ 125 ∷ []) (told ∙ ap (λ (t : List ℕ). t ++ members_told false ms) opens) ∙ (between old (members_told false ms) ∙ ap (λ (t : List ℕ). old ++ t) (sym (compact_text-object ms))))
-  where
-    between : (old members : List ℕ) → ((old ++ 123 ∷ []) ++ members) ++ 125 ∷ [] ≡ old ++ 123 ∷ (members ++ 125 ∷ [])
-    between old members = simp append_assoc
 
 -- ---- the value of a command
 
@@ -86,27 +53,6 @@ command_value-parts script j s p h old a b c d e f g new opens at op result text
     let g_is : g ≡ a ++ members_told false (command_members script j s p h) =
     members_told-then m_at (m_op ∷ m_result ∷ (m_text ++ m_thread ∷ [])) (m_words ∷ []) (m_op ∷ m_result ∷ (m_text ++ m_thread ∷ m_words ∷ [])) a f g last f_is words in
     compact_text-members (command_members script j s p h) old a g new opens g_is closes
-
--- ---- the value of a group
-
-pub group_of_counts-parts : (gid : ℕ) (path : List ℕ) (counts : Counts) (old a b c d e f new : List ℕ)
-    → a ≡ old ++ 123 ∷ []
-    → b ≡ a ++ members_told false ((codes "accesses", whole counts.accesses) ∷ [])
-    → c ≡ b ++ members_told true ((codes "gid", whole gid) ∷ [])
-    → d ≡ c ++ members_told true ((codes "hits", whole counts.hits) ∷ [])
-    → e ≡ d ++ members_told true ((codes "misses", whole counts.misses) ∷ [])
-    → f ≡ e ++ members_told true ((codes "path", string path) ∷ [])
-    → new ≡ f ++ 125 ∷ []
-    → new ≡ old ++ compact_text (group_of_counts gid path counts)
-unfolding group_of_counts
-group_of_counts-parts gid path counts old a b c d e f new opens accesses number hits misses named closes =
-    let m_accesses : Member = (codes "accesses", whole counts.accesses) in
-    let m_gid : Member = (codes "gid", whole gid) in
-    let m_hits : Member = (codes "hits", whole counts.hits) in
-    let m_misses : Member = (codes "misses", whole counts.misses) in
-    let m_path : Member = (codes "path", string path) in
-    let f_is : f ≡ a ++ members_told false (m_accesses ∷ m_gid ∷ m_hits ∷ m_misses ∷ m_path ∷ []) = members_told-five false m_accesses m_gid m_hits m_misses m_path a b c d e f accesses number hits misses named in
-    compact_text-members (m_accesses ∷ m_gid ∷ m_hits ∷ m_misses ∷ m_path ∷ []) old a f new opens f_is closes
 
 -- ---- the report
 

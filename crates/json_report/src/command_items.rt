@@ -1,51 +1,21 @@
 //! The value of a command.
-ghost use Rattle.std.specs.Prelude.{◌≡◌, ◌+◌, ◌≤◌, ◌++◌, ◌∷◌, [], OnOk, codes, false, length, map, true};
-ghost use Rattle.std.specs.Str.Lines.{lines};
+ghost use Rattle.std.specs.Prelude.{◌≡◌, ◌+◌, ◌≤◌, ◌++◌, OnOk, length, true};
+ghost use Rattle.json_parts.specs.Pieces.{members_told};
 ghost use Rattle.json_report.specs.Commands.{command_value, text_member};
-ghost use Rattle.json_report.specs.Pieces.{items_told, members_told};
-ghost use Rattle.json_report.specs.Values.{array_of};
 ghost use Rattle.rc_base.specs.declared.text_buf.TheConstants.{TEXT_MAX};
-ghost use Rattle.report_pieces.specs.Results.{result_of, words_of};
-ghost use Rattle.run_replay.specs.Playbacks.{given};
-ghost use Rattle.run_replay.specs.Replayed.{HasFewLooks, IsAnswered, IsReplay};
 ghost use Rattle.run_counts.specs.Touches.{TellsTouch};
 ghost use Rattle.run_law.specs.Entries.{entry_value};
-ghost use Rattle.serde_json.specs.Data.{string};
+ghost use Rattle.run_replay.specs.Playbacks.{given};
+ghost use Rattle.run_replay.specs.Replayed.{HasFewLooks, IsAnswered, IsReplay};
 ghost use Rattle.serde_json.specs.Written.{compact_text};
 
-use crate::members::{push_comma, push_key, push_number, push_text};
-use crate::strings::push_string;
+use json_parts::{push_number, push_result_text, push_text_lines, push_words_text};
 use rc_base::{NoMemory, TextBuf};
-use report_pieces::{ReportText, push_result, push_words};
+use report_pieces::ReportText;
 use run_law::{Journals, TreeEntry};
 use run_replay::{Replay, push_given};
-use script_ops::{Script, next_line};
+use script_ops::Script;
 use std::alloc::Global;
-
-// Adds lines.
-fn push_lines(report: &mut ReportText, text: &[u8]) -> Result<(), NoMemory>
-    ensures { OnOk result (report.new ≡ report.old ++ items_told false (map string (lines text.now))) }
-{
-    let mut left = text;
-    let mut later = false;
-    while let Some((line, rest)) = next_line(left) {
-        push_comma(report, later)?;
-        push_string(report, line)?;
-        later = true;
-        left = rest;
-    }
-    Ok(())
-}
-
-// Adds the member that is the lines of a text.
-fn push_text_lines(report: &mut ReportText, text: &[u8]) -> Result<(), NoMemory>
-    ensures { OnOk result (report.new ≡ report.old ++ members_told true ((codes "text", array_of (map string (lines text.now))) ∷ [])) }
-{
-    push_key(report, true, "text")?;
-    report.push(b"[".as_slice())?;
-    push_lines(report, text)?;
-    report.push(b"]".as_slice())
-}
 
 // Adds the lines of what a command gave, where it was an accepted read or list. What was in the file before is gone.
 fn push_given_lines(
@@ -67,37 +37,6 @@ fn push_given_lines(
         return Ok(());
     }
     push_text_lines(report, file.bytes())
-}
-
-// Adds the member that is the result of a command.
-fn push_result_text(
-    alloc: Global,
-    report: &mut ReportText,
-    script: &Script,
-    journals: &Journals,
-    entry: &TreeEntry,
-    hit: Option<bool>,
-) -> Result<(), NoMemory>
-    requires { TellsTouch journals.now (entry_value entry.now) hit }
-    ensures { OnOk result (report.new ≡ report.old ++ members_told true ((codes "result", string (result_of script.now journals.now (entry_value entry.now))) ∷ [])) }
-{
-    let mut text = ReportText::create(alloc)?;
-    push_result(&mut text, script, journals, entry, hit)?;
-    push_text(report, "result", &text.into_bytes())
-}
-
-// Adds the member that is the words of a command.
-fn push_words_text(
-    alloc: Global,
-    report: &mut ReportText,
-    script: &Script,
-    entry: &TreeEntry,
-) -> Result<(), NoMemory>
-    ensures { OnOk result (report.new ≡ report.old ++ members_told true ((codes "words", string (words_of script.now (entry_value entry.now))) ∷ [])) }
-{
-    let mut text = ReportText::create(alloc)?;
-    push_words(&mut text, script, entry)?;
-    push_text(report, "words", &text.into_bytes())
 }
 
 /// Adds the value of the command at a position. What was in the file before is gone.

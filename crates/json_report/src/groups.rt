@@ -1,64 +1,24 @@
 //! The values of control groups.
 ghost use Rattle.std.specs.Prelude.{◌≡◌, ◌<◌, ◌++◌, ◌∷◌, [], OnOk, codes, length, map, true};
-ghost use Rattle.json_report.specs.Groups.{group_of_counts, group_value, group_values};
-ghost use Rattle.json_report.specs.Pieces.{items_told, members_told};
-ghost use Rattle.json_report.specs.Values.{array_of};
+ghost use Rattle.json_parts.specs.Pieces.{items_told, members_told};
+ghost use Rattle.json_parts.specs.Values.{array_of};
+ghost use Rattle.json_report.specs.Groups.{group_value, group_values};
 ghost use Rattle.machine.specs.Slices.{slice_count};
-ghost use Rattle.path_names.specs.NamesIn.{AreKnown, path_ids};
-ghost use Rattle.path_names.specs.PathTexts.{path_text};
+ghost use Rattle.run_counts.specs.Tallies.{IsTallyOf};
 ghost use Rattle.run_replay.specs.Made.{control_of, controls, default_control, made_from};
 ghost use Rattle.run_replay.specs.Replayed.{AreKnownGroups};
-ghost use Rattle.run_counts.specs.Tallies.{IsTallyOf};
-ghost use Rattle.serde_json.specs.Data.{string};
 ghost use Rattle.serde_json.specs.Written.{comma_if, compact_text};
 ghost use Rattle.tree_law.specs.State.{opening};
 
-use crate::members::{push_key, push_number, push_text};
-use path_names::{DirRef, Names, PathRef};
+use json_parts::{push_group, push_key};
+use path_names::{DirRef, PathRef};
 use rc_base::NoMemory;
 use report_pieces::ReportText;
-use run_counts::{Counts, Tally};
+use run_counts::Tally;
 use run_law::Journals;
 use run_replay::Made;
 use script_ops::Script;
 use std::alloc::Global;
-
-// Adds the member that is a path.
-fn push_path(
-    alloc: Global,
-    report: &mut ReportText,
-    names: &Names,
-    path: PathRef,
-) -> Result<(), NoMemory>
-    requires { AreKnown (length names.now) (path_ids path) }
-    ensures { OnOk result (report.new ≡ report.old ++ members_told true ((codes "path", string (path_text names.now path)) ∷ [])) }
-{
-    let mut text = ReportText::create(alloc)?;
-    text.push_path(names, path)?;
-    push_text(report, "path", &text.into_bytes())
-}
-
-// Adds the value of a control group.
-#[tactic(auto, unfolding(crate::specs::Groups::group_of_counts))]
-fn push_group(
-    alloc: Global,
-    report: &mut ReportText,
-    names: &Names,
-    gid: u32,
-    path: PathRef,
-    counts: Counts,
-) -> Result<(), NoMemory>
-    requires { AreKnown (length names.now) (path_ids path) }
-    ensures { OnOk result (report.new ≡ report.old ++ compact_text (group_of_counts gid (path_text names.now path) counts)) }
-{
-    report.push(b"{".as_slice())?;
-    push_number(report, false, "accesses", counts.accesses)?;
-    push_number(report, true, "gid", u64::from(gid))?;
-    push_number(report, true, "hits", counts.hits)?;
-    push_number(report, true, "misses", counts.misses)?;
-    push_path(alloc, report, names, path)?;
-    report.push(b"}".as_slice())
-}
 
 // Adds a control group that was made, after those before it.
 fn push_made_group(

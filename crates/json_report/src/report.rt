@@ -4,11 +4,8 @@ ghost use Rattle.json_report.specs.Reporting.{json_of};
 ghost use Rattle.run_law.specs.Runs.{IsRun};
 
 use crate::commands::push_commands_part;
-use crate::domains::push_domains;
 use crate::groups::push_groups;
-use crate::slices::push_journal_part;
-use crate::totals::push_total;
-use crate::windows::push_windows_part;
+use json_parts::{push_domains, push_journal_part, push_total, push_windows_part};
 use rc_base::NoMemory;
 use report_pieces::ReportText;
 use run_counts::{Tally, slices_of};

@@ -1,22 +1,26 @@
--- Lines of groups, and counts.
+-- Lines of groups, and the parts of a report.
 use Rattle.std.proofs.Common.{◌≡◌, ℕ, ◌++◌, List, ap, ◌∙◌}
+use Rattle.std.specs.List.{flat_map, range_with_len}
+use Rattle.std.proofs.lemmas.List.{append_assoc}
+use Rattle.machine.specs.Slices.{slice_count}
 use Rattle.path_names.specs.PathTexts.{path_text}
 use Rattle.path_names.specs.declared.dirs.DirRef.TheVariants.{Ctrl}
 use Rattle.path_names.specs.declared.path_ref.PathRef.TheVariants.{Dir}
-use Rattle.report_text.specs.Counts.{counts_text, counts_told}
-use Rattle.run_replay.specs.Made.{control_of, controls}
-use Rattle.report_text.specs.Reporting.{commands_part, domain_line, group_line, group_told, journal_part, report_of, total_line, windows_part}
-use Rattle.run_counts.specs.Counts.{is_access, is_access_of}
+use Rattle.report_text.specs.Reporting.{commands_part, group_line, report_of}
+use Rattle.run_counts.specs.Counts.{is_access_of}
 use Rattle.run_counts.specs.Tallies.{counted_in}
 use Rattle.run_counts.specs.declared.counts.Counts.{Counts}
-use Rattle.run_replay.specs.declared.made.Made.{Made}
 use Rattle.run_law.specs.Journals.{JournalsValue}
 use Rattle.run_law.specs.declared.flags.Flags.{Flags}
 use Rattle.run_law.specs.declared.window.Window.{Window}
-use Rattle.machine.specs.Slices.{slice_count}
+use Rattle.run_replay.specs.Made.{control_of, controls}
+use Rattle.run_replay.specs.declared.made.Made.{Made}
 use Rattle.script_ops.specs.Values.{ScriptValue}
-use Rattle.std.specs.List.{flat_map, range_with_len}
-use Rattle.std.proofs.lemmas.List.{append_assoc}
+use Rattle.text_parts.specs.Domains.{domain_line}
+use Rattle.text_parts.specs.Groups.{group_told}
+use Rattle.text_parts.specs.SliceLines.{journal_part}
+use Rattle.text_parts.specs.Totals.{total_line}
+use Rattle.text_parts.specs.WindowLines.{windows_part}
 
 -- the line of a group by its counts
 pub group_told-is : (script : ScriptValue) (j : JournalsValue) (gid : ℕ) (path : List ℕ) (counts : Counts) → counts ≡ counted_in (is_access_of gid) j (slice_count script.machine)
@@ -27,10 +31,6 @@ group_told-is script j gid path counts is = ap (group_told gid path) is
 pub group_told-made : (script : ScriptValue) (j : JournalsValue) (made : Made) (counts : Counts) → counts ≡ counted_in (is_access_of made.gid) j (slice_count script.machine)
     → group_told made.gid (path_text script.names (Dir (Ctrl made.name))) counts ≡ group_line script j (control_of script.names made)
 group_told-made script j made counts is = group_told-is script j made.gid (path_text script.names (Dir (Ctrl made.name))) counts is
-
--- all counts
-pub counts_told-all : (script : ScriptValue) (j : JournalsValue) (counts : Counts) → counts ≡ counted_in is_access j (slice_count script.machine) → counts_told counts ≡ counts_text script j is_access
-counts_told-all script j counts is = ap counts_told is
 
 -- the report by its parts
 pub report_of-parts : (script : ScriptValue) (j : JournalsValue) (flags : Flags) (windows : List Window) (old one two three four five six : List ℕ)

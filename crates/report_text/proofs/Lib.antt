@@ -1,4 +1,2 @@
 pub mod CommandLines
-pub mod DomainCounts
 pub mod GroupLines
-pub mod SliceTexts

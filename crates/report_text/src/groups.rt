@@ -1,50 +1,21 @@
 //! The lines of control groups.
-ghost use Rattle.std.specs.Prelude.{◌≡◌, ◌<◌, ◌++◌, OnOk, codes, decimal, length, map};
+ghost use Rattle.std.specs.Prelude.{◌≡◌, ◌<◌, ◌++◌, OnOk, length, map};
 ghost use Rattle.std.specs.List.{flat_map};
 ghost use Rattle.machine.specs.Slices.{slice_count};
-ghost use Rattle.path_names.specs.NamesIn.{AreKnown, path_ids};
-ghost use Rattle.path_names.specs.PathTexts.{path_text};
+ghost use Rattle.report_text.specs.Reporting.{group_line};
+ghost use Rattle.run_counts.specs.Tallies.{IsTallyOf};
 ghost use Rattle.run_replay.specs.Made.{control_of, controls, default_control, made_from};
 ghost use Rattle.run_replay.specs.Replayed.{AreKnownGroups};
-ghost use Rattle.report_text.specs.Reporting.{group_line, group_told};
-ghost use Rattle.run_counts.specs.Tallies.{IsTallyOf};
 ghost use Rattle.tree_law.specs.State.{opening};
 
-use crate::counts::push_counts;
 use path_names::{DirRef, PathRef};
 use rc_base::NoMemory;
 use report_pieces::ReportText;
-use run_counts::{Counts, Tally};
+use run_counts::Tally;
 use run_law::Journals;
 use run_replay::Made;
 use script_ops::Script;
-
-// Adds the beginning of the line of a group.
-fn push_gid(report: &mut ReportText, gid: u32) -> Result<(), NoMemory>
-    ensures { OnOk result (report.new ≡ report.old ++ (codes "group " ++ decimal gid ++ codes " ")) }
-{
-    report.push(b"group ".as_slice())?;
-    report.push_decimal(u64::from(gid))?;
-    report.push(b" ".as_slice())
-}
-
-// Adds the line of the control group of this path.
-fn push_group(
-    report: &mut ReportText,
-    script: &Script,
-    gid: u32,
-    path: PathRef,
-    counts: Counts,
-) -> Result<(), NoMemory>
-    requires { AreKnown (length script.now.names) (path_ids path) }
-    ensures { OnOk result (report.new ≡ report.old ++ group_told gid (path_text script.now.names path) counts) }
-{
-    push_gid(report, gid)?;
-    report.push_path(script.names(), path)?;
-    report.push(b": ".as_slice())?;
-    push_counts(report, counts)?;
-    report.push(b"\n".as_slice())
-}
+use text_parts::push_group;
 
 // Adds the line of a control group that was made.
 fn push_made_group(
@@ -59,7 +30,7 @@ fn push_made_group(
     ensures { OnOk result (report.new ≡ report.old ++ group_line script.now journals.now (control_of script.now.names made)) }
 {
     let path = PathRef::Dir(DirRef::Ctrl(made.name));
-    push_group(report, script, made.gid, path, tally.of(made.gid))
+    push_group(report, script.names(), made.gid, path, tally.of(made.gid))
 }
 
 // Adds the lines of the control groups that were made.
@@ -91,7 +62,7 @@ fn push_default_group(
     ensures { OnOk result (report.new ≡ report.old ++ group_line script.now journals.now default_control) }
 {
     let root = PathRef::Dir(DirRef::Root);
-    push_group(report, script, 0, root, tally.of(0))
+    push_group(report, script.names(), 0, root, tally.of(0))
 }
 
 /// Adds the lines of the groups: the default group, and those that were made.

@@ -1,68 +1,21 @@
 //! The report of a run.
-ghost use Rattle.std.specs.Prelude.{◌≡◌, ◌++◌, IfOk, OnOk, map};
-ghost use Rattle.machine.specs.Slices.{slice_count};
-ghost use Rattle.report_text.specs.Counts.{counts_text};
-ghost use Rattle.run_counts.specs.Counts.{is_access};
+ghost use Rattle.std.specs.Prelude.{◌≡◌, ◌++◌, IfOk, OnOk};
+ghost use Rattle.report_text.specs.Reporting.{commands_part, report_of};
 ghost use Rattle.run_replay.specs.Made.{made_from};
 ghost use Rattle.run_replay.specs.Replayed.{AreKnownGroups};
-ghost use Rattle.report_text.specs.Reporting.{commands_count, commands_part, report_of, total_line};
-ghost use Rattle.run_counts.specs.Tallies.{IsTallyOf};
-ghost use Rattle.run_law.specs.Entries.{entry_value};
 ghost use Rattle.run_law.specs.Runs.{IsRun};
 ghost use Rattle.tree_law.specs.State.{opening};
 
 use crate::commands::push_commands;
-use crate::counts::push_counts;
-use crate::domains::push_domains;
 use crate::groups::push_groups;
-use crate::slice_lines::push_journal;
-use crate::windows::push_windows;
 use rc_base::NoMemory;
 use report_pieces::ReportText;
-use run_counts::{Tally, count_refused, slices_of};
-use run_law::{Flags, Journals, TreeEntry, Window};
+use run_counts::{Tally, slices_of};
+use run_law::{Flags, Journals, Window};
 use run_replay::{Made, made_groups};
 use script_ops::Script;
 use std::alloc::Global;
-
-// Adds how many commands there were, and how many were refused.
-fn push_commands_count(report: &mut ReportText, tree: &[TreeEntry]) -> Result<(), NoMemory>
-    ensures { OnOk result (report.new ≡ report.old ++ commands_count (map entry_value tree.now)) }
-{
-    report.push(b"total: commands ".as_slice())?;
-    report.push_decimal(tree.len() as u64)?;
-    report.push(b" refused ".as_slice())?;
-    report.push_decimal(count_refused(tree))?;
-    report.push(b" ".as_slice())
-}
-
-// Adds all accesses, hits and misses.
-fn push_all_counts(
-    report: &mut ReportText,
-    script: &Script,
-    journals: &Journals,
-    tally: &Tally,
-) -> Result<(), NoMemory>
-    requires { IsTallyOf journals.now (slice_count script.now.machine) tally.now }
-    ensures { OnOk result (report.new ≡ report.old ++ counts_text script.now journals.now is_access) }
-{
-    push_counts(report, tally.all())
-}
-
-// Adds the last line.
-fn push_total(
-    report: &mut ReportText,
-    script: &Script,
-    journals: &Journals,
-    tally: &Tally,
-) -> Result<(), NoMemory>
-    requires { IsTallyOf journals.now (slice_count script.now.machine) tally.now }
-    ensures { OnOk result (report.new ≡ report.old ++ total_line script.now journals.now) }
-{
-    push_commands_count(report, journals.tree())?;
-    push_all_counts(report, script, journals, tally)?;
-    report.push(b"\n".as_slice())
-}
+use text_parts::{push_domains, push_journal, push_total, push_windows};
 
 // Adds the lines of the commands, but not of a quiet report. The control groups that they made.
 fn push_commands_part(

@@ -3,30 +3,20 @@ use Rattle.std.proofs.Common.{◌≡◌, ℕ, true, false, inl, inr, ◌⊎◌, 
 use Rattle.std.specs.Io.KnownBytes.{Keeps}
 use Rattle.resctrl_top.specs.declared.ended.Status.{Status}
 use Rattle.resctrl_top.specs.declared.ended.Status.TheVariants.{Done, Refused, Usage, ReadFault, WriteFault, NoMemory}
-use Rattle.resctrl_top.specs.declared.form.Form.{Form}
-use Rattle.resctrl_top.specs.declared.refusal.Refusal.{Refusal}
-use Rattle.resctrl_top.specs.declared.input.InputError.{InputError}
-use Rattle.resctrl_top.specs.declared.input.InputError.TheVariants as inputs
+use Rattle.top_parts.specs.declared.form.Form.{Form}
+use Rattle.top_parts.specs.declared.refusal.Refusal.{Refusal}
 use Rattle.resctrl_top.specs.Endings.{Call, Ends, IsComplete, IsDue, IsPromised, ReadsWell, Reports, Says, SaysNothing, WritesWell}
-use Rattle.resctrl_top.specs.Forms.{input_of, is_of_source, reads_source, usage_line}
+use Rattle.top_parts.specs.Forms.{input_of, is_of_source, reads_source, usage_line}
 use Rattle.resctrl_top.specs.Outputs.{IsOutput}
-use Rattle.resctrl_top.specs.Meaning.{MeansAs, meaning, refusal_line}
-use Rattle.resctrl_top.specs.Outside.{HasRead, IsInput, IsMeant, IsToTheEnd}
+use Rattle.top_parts.specs.Meaning.{meaning, refusal_line}
+use Rattle.top_parts.specs.Outside.{IsMeant, IsToTheEnd}
 use Rattle.run_law.specs.Journals.{JournalsValue}
 use Rattle.script_ops.specs.Values.{ScriptValue}
-use Rattle.resctrl_top.proofs.InputBytes.{IsMeant-of}
 
 -- a sink that was not called keeps what it took
 pub Keeps-same : (taken : Option (List ℕ)) → Keeps taken taken
 Keeps-same None = tt
 Keeps-same (Some xs) = refl
-
--- reading a source and its script
-pub HasRead-of : (left : Option (List ℕ)) (reads reads_now : ℕ) (bytes : List ℕ) (result : Result ScriptValue InputError) → IsInput left bytes → reads_now ≡ reads → MeansAs result (meaning bytes) → HasRead left reads reads_now result
-HasRead-of left reads reads_now bytes (Ok script) input same means = (IsMeant-of left bytes (Ok script) input means, same)
-HasRead-of left reads reads_now bytes (Err (inputs.Bad refusal)) input same means = (IsMeant-of left bytes (Err refusal) input means, same)
-HasRead-of left reads reads_now bytes (Err inputs.NoMemory) input same means = same
-HasRead-of left reads reads_now bytes (Err inputs.Failed) input same means = absurd means
 
 -- ---- ends
 

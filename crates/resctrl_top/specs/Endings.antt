@@ -2,13 +2,13 @@
 use Rattle.std.specs.Prelude.{◌≡◌, ℕ, ◌<◌, ◌⊎◌, false, true, List, Option, Some, None, Result, Ok, Err}
 use Rattle.resctrl_top.specs.declared.ended.Status.{Status}
 use Rattle.resctrl_top.specs.declared.ended.Status.TheVariants.{Done, Refused, Usage, ReadFault, WriteFault, NoMemory}
-use Rattle.resctrl_top.specs.declared.form.Form.{Form}
-use Rattle.resctrl_top.specs.Forms.{input_of, is_of_source, reads_source, usage_line}
+use Rattle.top_parts.specs.declared.form.Form.{Form}
+use Rattle.top_parts.specs.Forms.{input_of, is_of_source, reads_source, usage_line}
 use Rattle.resctrl_top.specs.Isolation.{HoldsRegions, IsolatesGroups}
-use Rattle.resctrl_top.specs.Meaning.{meaning, refusal_line}
+use Rattle.top_parts.specs.Meaning.{meaning, refusal_line}
 use Rattle.resctrl_top.specs.Outputs.{IsOutput}
-use Rattle.resctrl_top.specs.Outside.{IsToTheEnd, Reading, TakesAll, TakesNone, TakesSome, Writing}
-use Rattle.resctrl_top.specs.declared.refusal.Refusal.{Refusal}
+use Rattle.top_parts.specs.Outside.{IsToTheEnd, Reading, TakesAll, TakesNone, TakesSome, Writing}
+use Rattle.top_parts.specs.declared.refusal.Refusal.{Refusal}
 use Rattle.run_law.specs.Runs.{IsRun}
 use Rattle.run_law.specs.declared.flags.Flags.{Flags}
 use Rattle.run_law.specs.Journals.{JournalsValue}

@@ -1,9 +1,10 @@
 //! Words that are a form, and others.
 
+use crate::Status;
 use crate::tests::{FOUR_ACCESSES, told_by, words};
-use crate::{Command, Form, Status, USAGE, form_of};
 use run_law::Flags;
 use std::test::Fail;
+use top_parts::{Command, Form, USAGE, form_of};
 
 #[test]
 fn other_words_get_the_usage_line(rt: HostRuntime) -> Result<(), Fail> {

@@ -1,28 +1,23 @@
 //! The top call.
-ghost use Rattle.std.specs.Prelude.{◌≡◌, ◌-◌, ◌<◌, ◌^◌, ◌⊎◌, false, IfOk};
+ghost use Rattle.std.specs.Prelude.{◌≡◌, ◌-◌, ◌<◌, ◌^◌, ◌⊎◌, false};
 ghost use Rattle.resctrl_top.specs.Endings.{Ends, IsComplete, IsPromised, Reports, Says, SaysNothing, call_of};
-ghost use Rattle.resctrl_top.specs.Forms.{IsInRange, form_of as form_in, reads_source};
-ghost use Rattle.resctrl_top.specs.Meaning.{refusal_line};
+ghost use Rattle.top_parts.specs.Forms.{IsInRange, form_of as form_in, reads_source};
+ghost use Rattle.top_parts.specs.Meaning.{refusal_line};
 ghost use Rattle.resctrl_top.specs.Outputs.{IsOutput};
-ghost use Rattle.resctrl_top.specs.Outside.{reading_of, writing_of};
+ghost use Rattle.top_parts.specs.Outside.{reading_of, writing_of};
 ghost use Rattle.run_law.specs.Runs.{IsRun};
 ghost use Rattle.step_world.specs.Play.{IsPlay};
 
 use crate::ended::{Ended, Status, with_journals, without_journals};
-use crate::form::Form;
-use crate::input::{InputError, input_of};
-use crate::output::write_all;
-use crate::refusal::Refusal;
 use crate::report::report;
-use crate::words::{form_of, usage};
-use num_text::push_dec;
-use rc_base::{NoMemory, TextBuf};
+use rc_base::NoMemory;
 use rc_stream::{Failed, Sink, Source};
 use run_law::{Flags, Journals};
 use run_windows::theorems::{regions_hold, windows_are_isolated};
 use script_ops::Script;
 use std::alloc::Global;
 use step_world::play;
+use top_parts::{Form, InputError, Refusal, form_of, input_of, line_of, usage, write_all};
 
 // Writes a line, and ends without journals.
 fn say<K: Sink>(sink: &mut K, line: &[u8], status: Status) -> Ended
@@ -35,25 +30,12 @@ fn say<K: Sink>(sink: &mut K, line: &[u8], status: Status) -> Ended
     }
 }
 
-// The line of a refusal.
-fn refusal_of(alloc: Global, refusal: Refusal) -> Result<TextBuf, NoMemory>
-    ensures { IfOk result (λ line. line.bytes ≡ refusal_line refusal) }
-{
-    let mut line = TextBuf::with_room(alloc, 64)?;
-    line.push_all(b"line ".as_slice());
-    push_dec(u64::from(refusal.line()), &mut line);
-    line.push_all(b": ".as_slice());
-    line.push_all(refusal.text().as_bytes());
-    line.push(b'\n');
-    Ok(line)
-}
-
 // Writes the line of a refusal.
 fn refuse<K: Sink>(alloc: Global, refusal: Refusal, sink: &mut K) -> Ended
     requires { K.faults sink.old < 2 ^ 64 - 1 }
     ensures { Says Status.Refused None (refusal_line refusal) (writing_of K.taken K.held K.faults sink.old sink.new) result.status result.journals ⊎ SaysNothing (writing_of K.taken K.held K.faults sink.old sink.new) result.status result.journals }
 {
-    match refusal_of(alloc, refusal) {
+    match line_of(alloc, refusal) {
         Ok(line) => say(sink, line.bytes(), Status::Refused),
         Err(NoMemory) => without_journals(Status::NoMemory),
     }

@@ -1,9 +1,10 @@
 use Rattle.std.proofs.Common.{◌++◌, ap, map, true, ◌∷◌, ◌∙◌}
 use Rattle.std.proofs.lemmas.List.{append_assoc}
 use Rattle.std.specs.Prelude.{codes}
-use Rattle.json_report.proofs.Pieces.{OnOk-map, members_told-array}
+use Rattle.json_parts.proofs.laws.Pieces.{members_told-array}
+use Rattle.report_pieces.proofs.laws.Results.{OnOk-map}
 use Rattle.json_report.specs.Groups.{group_value}
-use Rattle.json_report.specs.Pieces.{items_told}
+use Rattle.json_parts.specs.Pieces.{items_told}
 use Rattle.run_replay.specs.Made.{control_of, default_control}
 use Rattle.serde_json.specs.Written.{compact_text}
 use Rattle.json_report.proofs.groups.push_groups.Goals as goal

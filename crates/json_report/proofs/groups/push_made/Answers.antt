@@ -1,6 +1,6 @@
 use Rattle.std.proofs.Common.{◌+◌, map, take}
 use Rattle.std.proofs.lemmas.List.{get_or_default}
-use Rattle.json_report.proofs.Pieces.{items_told-next_later}
+use Rattle.json_parts.proofs.laws.Pieces.{items_told-next_later}
 use Rattle.json_report.proofs.Positions.{map-map_take_suc}
 use Rattle.json_report.specs.Groups.{group_value}
 use Rattle.run_replay.specs.Made.{control_of}

@@ -1,6 +1,6 @@
 use Rattle.std.proofs.Common.{◌≡◌, ◌++◌, true, map, take}
 use Rattle.json_report.specs.Groups.{group_value}
-use Rattle.json_report.specs.Pieces.{items_told}
+use Rattle.json_parts.specs.Pieces.{items_told}
 use Rattle.run_replay.specs.Made.{control_of}
 use Rattle.json_report.proofs.groups.push_made.Given as goal
 

@@ -1,6 +1,6 @@
 use Rattle.std.proofs.Common.{◌++◌, ap, ◌∙◌}
 use Rattle.json_report.proofs.Objects.{json_of-parts}
-use Rattle.json_report.proofs.Pieces.{OnOk-map}
+use Rattle.report_pieces.proofs.laws.Results.{OnOk-map}
 use Rattle.json_report.proofs.report.push_report.Goals as goal
 
 pub returns : goal.returns

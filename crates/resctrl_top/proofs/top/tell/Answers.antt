@@ -1,7 +1,7 @@
 use Rattle.std.proofs.Common.{List, ℕ, Some, inl, subst}
 use Rattle.resctrl_top.specs.declared.ended.Status.TheVariants.{Done}
 use Rattle.resctrl_top.specs.Endings.{Says}
-use Rattle.resctrl_top.specs.Outside.{writing_of}
+use Rattle.top_parts.specs.Outside.{writing_of}
 use Rattle.resctrl_top.proofs.top.tell.Goals as goal
 
 pub returns-in-Ok : goal.returns-in-Ok

@@ -1,0 +1,25 @@
+use Rattle.std.proofs.Common.{◌+◌, ◌++◌, map, ap, ◌∙◌}
+use Rattle.std.proofs.lemmas.List.{append_assoc}
+use Rattle.std.specs.List.{range_with_len}
+use Rattle.json_parts.proofs.CountedDomains.{domain_of_counts-counted}
+use Rattle.json_parts.proofs.laws.Pieces.{items_told-next}
+use Rattle.json_parts.proofs.Positions.{length-map_range, map-range_suc}
+use Rattle.json_parts.specs.Domains.{domain_value}
+use Rattle.machine.specs.Maps.{parameters_of}
+use Rattle.serde_json.specs.Written.{compact_text}
+use Rattle.json_parts.proofs.domains.push_items.Goals as goal
+
+pub loop-domain-preserved : goal.loop-domain-preserved
+loop-domain-preserved c =
+    let script = c.args.script.now in
+    let j = c.args.journals.now in
+    let f = domain_value script j in
+    let domain = c.loop-domain.domain in
+    let counted = c.count_domain.ensures in
+    let same = domain_of_counts-counted script j domain c.count_domain.new.occupancy (parameters_of c.machine-in-loop-domain.result.now) c.machine-in-loop-domain.ensures counted in
+    record {
+      suits = counted.suits;
+      text =
+          items_told-next (map f (range_with_len 0 domain)) (map f (range_with_len 0 (domain + 1))) (f domain) domain c.args.report.now c.loop-domain.report c.push_domain.new.report (length-map_range f domain) (map-range_suc f domain)
+          c.loop-domain.invariant.text (c.in_ok-push_domain.ensures ∙ (ap (λ d. c.push_comma.new.report ++ compact_text d) same ∙ (ap (λ t. t ++ compact_text (f domain)) c.in_ok-push_comma.ensures ∙ append_assoc c.loop-domain.report _ _)));
+    }

@@ -1,0 +1,123 @@
+//! The values of domains.
+ghost use Rattle.std.specs.Prelude.{◌≡◌, ◌*◌, ◌++◌, ◌∷◌, [], IfOk, OnOk, codes, false, length, map};
+ghost use Rattle.json_parts.specs.Domains.{domain_of_counts, domain_values, rmid_value, rmid_values};
+ghost use Rattle.json_parts.specs.Pieces.{items_told, members_told};
+ghost use Rattle.json_parts.specs.Values.{array_of, object_of, whole};
+ghost use Rattle.machine.specs.Maps.{parameters_of};
+ghost use Rattle.machine.specs.Slices.{slice_count};
+ghost use Rattle.run_counts.specs.Occupancies.{Suits, lines_told};
+ghost use Rattle.serde_json.specs.View.{view};
+ghost use Rattle.serde_json.specs.Written.{compact_text};
+
+use crate::members::{push_comma, push_key, push_value};
+use machine::Machine;
+use rc_base::NoMemory;
+use report_pieces::ReportText;
+use run_counts::{Occupancy, count_domain};
+use run_law::Journals;
+use script_ops::Script;
+use serde_json::{Value, json};
+use std::alloc::{AllocError, Global};
+
+// The value of an RMID with lines.
+fn rmid_of(alloc: Global, rmid: u16, lines: u64) -> Result<Value, AllocError>
+    ensures { IfOk result (λ v. view v ≡ object_of ((codes "lines", whole lines) ∷ (codes "rmid", whole rmid) ∷ [])) }
+{
+    json!(in alloc; {"lines": lines, "rmid": rmid})
+}
+
+// Adds an RMID, where it has lines.
+fn add_rmid(alloc: Global, all: &mut Vec<Value>, rmid: u16, lines: u64) -> Result<(), AllocError>
+    ensures { OnOk result (map view all.new.items ≡ map view all.old.items ++ rmid_value rmid lines) }
+{
+    if lines == 0 {
+        return Ok(());
+    }
+    let value = rmid_of(alloc, rmid, lines)?;
+    serde_json::push(all, value)
+}
+
+// The RMIDs with lines.
+fn rmids_of(
+    alloc: Global,
+    machine: &Machine,
+    occupancy: &Occupancy,
+) -> Result<Vec<Value>, AllocError>
+    requires { Suits (parameters_of machine.now) occupancy.now }
+    ensures { IfOk result (λ all. map view all.items ≡ rmid_values machine.now.rmids (lines_told occupancy.now)) }
+{
+    let mut all = Vec::new(alloc);
+    for rmid in 0..machine.rmids {
+        add_rmid(alloc, &mut all, rmid, occupancy.lines(rmid))?;
+    }
+    Ok(all)
+}
+
+// The value of a domain whose RMIDs with lines are these.
+#[tactic(auto, unfolding(crate::specs::Domains::domain_of_counts))]
+fn value_of(
+    alloc: Global,
+    domain: u8,
+    places: u64,
+    rmids: Vec<Value>,
+    valid: u64,
+) -> Result<Value, AllocError>
+    ensures { IfOk result (λ v. view v ≡ domain_of_counts domain places (map view rmids.items) valid) }
+{
+    let rmids = Value::Array(rmids);
+    json!(in alloc; {"domain": domain, "places": places, "rmids": rmids, "valid": valid})
+}
+
+// Adds the value of a domain whose lines were counted.
+fn push_domain(
+    alloc: Global,
+    report: &mut ReportText,
+    machine: &Machine,
+    domain: u8,
+    occupancy: &Occupancy,
+) -> Result<(), NoMemory>
+    requires { Suits (parameters_of machine.now) occupancy.now }
+    ensures { OnOk result (report.new ≡ report.old ++ compact_text (domain_of_counts domain (machine.now.sets * machine.now.ways) (rmid_values machine.now.rmids (lines_told occupancy.now)) occupancy.now.valid)) }
+{
+    let places = u64::from(machine.sets) * u64::from(machine.ways);
+    let rmids = rmids_of(alloc, machine, occupancy)?;
+    let value = value_of(alloc, domain, places, rmids, occupancy.valid())?;
+    push_value(alloc, report, &value)
+}
+
+// Adds the domains.
+fn push_items(
+    alloc: Global,
+    report: &mut ReportText,
+    script: &Script,
+    journals: &Journals,
+) -> Result<(), NoMemory>
+    requires { length journals.now.slices ≡ slice_count script.now.machine }
+    ensures { OnOk result (report.new ≡ report.old ++ items_told false (domain_values script.now journals.now)) }
+{
+    let mut occupancy = Occupancy::create(alloc, script.machine())?;
+    for domain in 0..script.machine().domains {
+        count_domain(&mut occupancy, script, journals, domain);
+        push_comma(report, domain > 0)?;
+        push_domain(alloc, report, script.machine(), domain, &occupancy)?;
+    }
+    Ok(())
+}
+
+/// Adds the domains with the lines that are in their slices at the end of the run, after a comma where something stands before.
+/// NoMemory where the system is out of memory.
+pub fn push_domains(
+    alloc: Global,
+    report: &mut ReportText,
+    later: bool,
+    script: &Script,
+    journals: &Journals,
+) -> Result<(), NoMemory>
+    requires { length journals.now.slices ≡ slice_count script.now.machine }
+    ensures { OnOk result (report.new ≡ report.old ++ members_told later ((codes "domains", array_of (domain_values script.now journals.now)) ∷ [])) }
+{
+    push_key(report, later, "domains")?;
+    report.push(b"[".as_slice())?;
+    push_items(alloc, report, script, journals)?;
+    report.push(b"]".as_slice())
+}

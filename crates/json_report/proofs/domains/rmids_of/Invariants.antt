@@ -1,8 +1,0 @@
-use Rattle.std.proofs.Common.{◌≡◌, map}
-use Rattle.json_report.specs.Domains.{rmid_values}
-use Rattle.run_counts.specs.Occupancies.{lines_told}
-use Rattle.serde_json.specs.View.{view}
-use Rattle.json_report.proofs.domains.rmids_of.Given as goal
-
-abbrev pub invariant-loop-rmid : goal.invariant-loop-rmid
-invariant-loop-rmid l = map view l.all.items ≡ rmid_values l.rmid (lines_told l.occupancy)

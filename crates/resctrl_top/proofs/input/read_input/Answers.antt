@@ -1,9 +1,0 @@
-use Rattle.std.proofs.Common.{subst}
-use Rattle.resctrl_top.specs.Meaning.{MeansAs, meaning}
-use Rattle.resctrl_top.proofs.Ends.{HasRead-of}
-use Rattle.resctrl_top.proofs.input.read_input.Goals as goal
-
-pub returns-in-Ok : goal.returns-in-Ok
-returns-in-Ok g c =
-    HasRead-of (g.S.Source.left c.args.source.now) (g.S.Source.faults c.args.source.now) (g.S.Source.faults c.read_all.new.source) c.in-Ok.bytes.items c.script_in.result c.in-Ok.ensures.bytes c.in-Ok.ensures.faults
-    (subst (λ bytes. MeansAs c.script_in.result (meaning bytes)) c.deref.ensures.value c.script_in.ensures)

@@ -1,0 +1,3 @@
+pub mod CountTexts
+pub mod DomainCounts
+pub mod SliceTexts

@@ -1,0 +1,4 @@
+pub mod Generated
+pub mod InputBytes
+pub mod Others
+pub mod WrittenBytes

@@ -1,0 +1,90 @@
+-- What a call does to a source and a sink.
+use Rattle.std.specs.Prelude.{◌≡◌, ℕ, ◌+◌, ◌<◌, Bool, false, List, ◌++◌, take, Option, Some, None, Result, Ok, Err}
+use Rattle.std.specs.Io.KnownBytes.{Appends, Keeps}
+use Rattle.top_parts.specs.declared.input.InputError.{InputError}
+use Rattle.top_parts.specs.declared.input.InputError.TheVariants.{Bad, Failed, NoMemory}
+use Rattle.top_parts.specs.Meaning.{meaning}
+use Rattle.script_ops.specs.declared.limits.TheConstants.{MOST_SCRIPT_BYTES}
+use Rattle.top_parts.specs.declared.refusal.Refusal.{Refusal}
+use Rattle.script_ops.specs.Values.{ScriptValue}
+
+-- A source before and after: the bytes that it had left, where it tells them, and how often it had failed and has failed.
+pub record Reading : Type 0 where
+  pub left : Option (List ℕ)
+  pub faults : ℕ
+  pub faults_now : ℕ
+
+abbrev pub reading_of : {S : Type 0} → (S → Option (List ℕ)) → (S → ℕ) → S → S → Reading
+reading_of left faults before now = record { left = left before; faults = faults before; faults_now = faults now }
+
+-- A sink before and after: the bytes that it had taken and has taken, where it tells them, whether it holds some back now, and
+-- how often it had failed and has failed.
+pub record Writing : Type 0 where
+  pub taken : Option (List ℕ)
+  pub taken_now : Option (List ℕ)
+  pub held_now : Bool
+  pub faults : ℕ
+  pub faults_now : ℕ
+
+abbrev pub writing_of : {K : Type 0} → (K → Option (List ℕ)) → (K → Bool) → (K → ℕ) → K → K → Writing
+writing_of taken held faults before now =
+    record { taken = taken before; taken_now = taken now; held_now = held now; faults = faults before; faults_now = faults now }
+
+-- ---- what a sink took
+
+-- a beginning of the bytes was taken, where the sink tells what it took
+abbrev pub AppendsSome : Option (List ℕ) → Option (List ℕ) → List ℕ → Type 0
+AppendsSome old new bytes = (given : List ℕ) × (rest : List ℕ) × (given ++ rest ≡ bytes) × Appends old new given
+
+-- all of the bytes: none is held back, and no call failed
+pub record TakesAll (sink : Writing) (bytes : List ℕ) : Type 0 where
+  pub taken : Appends sink.taken sink.taken_now bytes
+  pub none_held : sink.held_now ≡ false
+  pub no_fault : sink.faults_now ≡ sink.faults
+
+-- a beginning of the bytes, for a call failed
+pub record TakesSome (sink : Writing) (bytes : List ℕ) : Type 0 where
+  pub taken : AppendsSome sink.taken sink.taken_now bytes
+  pub fault : sink.faults < sink.faults_now
+
+-- nothing, and no call failed
+pub record TakesNone (sink : Writing) : Type 0 where
+  pub taken : Keeps sink.taken sink.taken_now
+  pub no_fault : sink.faults_now ≡ sink.faults
+
+-- ---- what a source had left
+
+-- all bytes, or the first of them that pass the greatest script
+unfoldable pub first_bytes : List ℕ → List ℕ
+first_bytes bytes = take (MOST_SCRIPT_BYTES + 1) bytes
+
+-- the bytes are what the source had left, or the first of it that pass the greatest script; of a source that tells nothing, any
+abbrev pub IsInput : Option (List ℕ) → List ℕ → Type 0
+IsInput None bytes = Unit {0}
+IsInput (Some left) bytes = bytes ≡ first_bytes left
+
+-- these are the bytes to the end; of a source that tells nothing, any
+abbrev pub IsToTheEnd : Option (List ℕ) → List ℕ → Type 0
+IsToTheEnd None bytes = Unit {0}
+IsToTheEnd (Some left) bytes = bytes ≡ left
+
+-- the bytes to the end mean this
+pub record IsMeant (left : Option (List ℕ)) (answer : Result ScriptValue Refusal) : Type 0 where
+  pub bytes : List ℕ
+  pub to_the_end : IsToTheEnd left bytes
+  pub meant : meaning bytes ≡ answer
+
+-- An answer that a source has to do with: it failed, or what it gave is no script. The generator's text never is.
+abbrev pub IsOfSource : Result ScriptValue InputError → Type 0
+IsOfSource (Ok script) = ⊥
+IsOfSource (Err (Bad refusal)) = Unit {0}
+IsOfSource (Err Failed) = Unit {0}
+IsOfSource (Err NoMemory) = ⊥
+
+-- What reading an input and its script answers: a script, a refusal, a failure of the source, or that memory was not found. The
+-- numbers say how often the source had failed and has failed.
+abbrev pub HasRead : Option (List ℕ) → ℕ → ℕ → Result ScriptValue InputError → Type 0
+HasRead input faults faults_now (Ok script) = IsMeant input (Ok script) × (faults_now ≡ faults)
+HasRead input faults faults_now (Err (Bad refusal)) = IsMeant input (Err refusal) × (faults_now ≡ faults)
+HasRead input faults faults_now (Err Failed) = faults < faults_now
+HasRead input faults faults_now (Err NoMemory) = faults_now ≡ faults

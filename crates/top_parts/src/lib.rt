@@ -1,0 +1,16 @@
+//! The parts of the top call that play nothing: the words of a call, its input, the line of a refusal, and output.
+#![tactic(auto)]
+
+pub mod command;
+pub mod form;
+pub mod input;
+pub mod output;
+pub mod refusal;
+pub mod words;
+
+pub use command::Command;
+pub use form::Form;
+pub use input::{InputError, input_of, read_input};
+pub use output::write_all;
+pub use refusal::{Refusal, line_of};
+pub use words::{USAGE, form_of, usage};
