@@ -1,4 +1,4 @@
-# make demo      plays the example of a tenant that loses lines when its mask is rewritten: at once, and again when the program is proved and built
+# make demo      plays the example of a tenant that loses lines when its mask is rewritten: by a run of the sources, and by the program when it is proved and built
 # make test      the gate: proves every crate, tries the must-fail edits, runs the tests and the program, compares the examples, and sees each exit status
 # make clients   runs real clients on the mounted tree: a shell, pqos and goresctrl (needs root, FUSE and Debian packages, and is no part of the gate)
 # make install   puts the program and its manual page below PREFIX (default: /usr/local)
