@@ -5,7 +5,7 @@ ghost use Rattle.json_parts.specs.Values.{array_of};
 ghost use Rattle.json_report.specs.Groups.{group_value, group_values};
 ghost use Rattle.machine.specs.Slices.{slice_count};
 ghost use Rattle.run_counts.specs.Tallies.{IsTallyOf};
-ghost use Rattle.run_replay.specs.Made.{control_of, controls, default_control, made_from};
+ghost use Rattle.run_replay.specs.Made.{control_of, default_control, made_from};
 ghost use Rattle.run_replay.specs.Replayed.{AreKnownGroups};
 ghost use Rattle.serde_json.specs.Written.{comma_if, compact_text};
 ghost use Rattle.tree_law.specs.State.{opening};

@@ -1,9 +1,8 @@
 //! The top call.
 ghost use Rattle.std.specs.Prelude.{◌≡◌, ◌-◌, ◌<◌, ◌^◌, ◌⊎◌, false};
-ghost use Rattle.resctrl_top.specs.Endings.{Ends, IsComplete, IsPromised, Reports, Says, SaysNothing, call_of};
+ghost use Rattle.resctrl_top.specs.Endings.{Ends, IsComplete, Reports, Says, SaysNothing, call_of};
 ghost use Rattle.top_parts.specs.Forms.{IsInRange, form_of as form_in, reads_source};
 ghost use Rattle.top_parts.specs.Meaning.{refusal_line};
-ghost use Rattle.resctrl_top.specs.Outputs.{IsOutput};
 ghost use Rattle.top_parts.specs.Outside.{reading_of, writing_of};
 ghost use Rattle.run_law.specs.Runs.{IsRun};
 ghost use Rattle.step_world.specs.Play.{IsPlay};

@@ -48,7 +48,7 @@ fn with_way(word: u32, way: u8) -> u32
 }
 
 impl Occupancy {
-    /// No line, with room for the sets and the RMIDs of a machine.
+    /// No line, with room for the sets and the RMIDs of a machine. NoMemory where the system is out of memory.
     pub fn create(alloc: Global, machine: &Machine) -> Result<Occupancy, NoMemory>
         ensures sets { IfOk result (λ o. length o.seen ≡ machine.now.sets) }
         ensures rmids { IfOk result (λ o. length o.counts ≡ machine.now.rmids) }
@@ -60,8 +60,8 @@ impl Occupancy {
         })
     }
 
-    /// Begins a domain: no RMID has a line.
-    pub fn clear(&mut self)
+    // Begins a domain: no RMID has a line.
+    pub(crate) fn clear(&mut self)
         ensures sets { length self.new.seen ≡ length self.old.seen }
         ensures rmids { length self.new.counts ≡ length self.old.counts }
         ensures counts { (r : ℕ) → lines_told self.new r ≡ 0 }
@@ -73,8 +73,8 @@ impl Occupancy {
         self.valid = 0;
     }
 
-    /// Begins a slice: no place is done with.
-    pub fn begin_slice(&mut self)
+    // Begins a slice: no place is done with.
+    pub(crate) fn begin_slice(&mut self)
         ensures sets { length self.new.seen ≡ length self.old.seen }
         ensures seen { (set way : ℕ) → is_seen self.new set way ≡ false }
         ensures counts { self.new.counts ≡ self.old.counts }
@@ -99,8 +99,8 @@ impl Occupancy {
         self.valid += 1;
     }
 
-    /// Counts the line of a place for an RMID, unless a later entry put one there.
-    pub fn put(&mut self, set: u32, way: u8, rmid: u16)
+    // Counts the line of a place for an RMID, unless a later entry put one there.
+    pub(crate) fn put(&mut self, set: u32, way: u8, rmid: u16)
         requires set { set < length self.old.seen }
         requires way { way < 32 }
         requires few { IsAtMost MOST_COUNT self.old }

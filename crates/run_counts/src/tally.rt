@@ -28,8 +28,8 @@ impl Model for Tally {
 }
 
 impl Tally {
-    /// No group has an access.
-    pub fn create(alloc: Global) -> Tally
+    // No group has an access.
+    fn create(alloc: Global) -> Tally
         ensures groups { (gid : ℕ) → at result gid ≡ nothing }
         ensures all { result.all ≡ nothing }
     {
@@ -109,7 +109,7 @@ impl Tally {
         Ok(last)
     }
 
-    /// The counts in the slices of a run, of which there are so many.
+    /// The counts in the slices of a run, of which there are so many. NoMemory where the system is out of memory.
     pub fn of_slices(alloc: Global, journals: &Journals, slices: u32) -> Result<Tally, NoMemory>
         requires slices { slices ≡ length journals.now.slices }
         requires few { slices ≤ 32 }

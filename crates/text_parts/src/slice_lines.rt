@@ -1,6 +1,5 @@
 //! The lines of slices: the entries of their journals.
 ghost use Rattle.std.specs.Prelude.{◌≡◌, ◌<◌, ◌++◌, OnOk, length};
-ghost use Rattle.std.specs.List.{flat_map, range_with_len};
 ghost use Rattle.machine.specs.Maps.{parameters_of};
 ghost use Rattle.machine.specs.Slices.{slice_count};
 ghost use Rattle.text_parts.specs.SliceLines.{journal_part};

@@ -1,5 +1,5 @@
 //! Writes bytes to a sink.
-ghost use Rattle.std.specs.Prelude.{◌≡◌, ◌-◌, ◌<◌, ◌^◌, OnOk, OnErr};
+ghost use Rattle.std.specs.Prelude.{◌-◌, ◌<◌, ◌^◌, OnOk, OnErr};
 ghost use Rattle.top_parts.specs.Outside.{TakesAll, TakesSome, writing_of};
 
 use rc_stream::{Failed, Sink};
