@@ -60,7 +60,7 @@ impl Occupancy {
         })
     }
 
-    // Begins a domain: no RMID has a line.
+    /// Begins a domain: no RMID has a line.
     pub(crate) fn clear(&mut self)
         ensures sets { length self.new.seen ≡ length self.old.seen }
         ensures rmids { length self.new.counts ≡ length self.old.counts }
@@ -73,7 +73,7 @@ impl Occupancy {
         self.valid = 0;
     }
 
-    // Begins a slice: no place is done with.
+    /// Begins a slice: no place is done with.
     pub(crate) fn begin_slice(&mut self)
         ensures sets { length self.new.seen ≡ length self.old.seen }
         ensures seen { (set way : ℕ) → is_seen self.new set way ≡ false }
@@ -99,7 +99,7 @@ impl Occupancy {
         self.valid += 1;
     }
 
-    // Counts the line of a place for an RMID, unless a later entry put one there.
+    /// Counts the line of a place for an RMID, unless a later entry put one there.
     pub(crate) fn put(&mut self, set: u32, way: u8, rmid: u16)
         requires set { set < length self.old.seen }
         requires way { way < 32 }
