@@ -1,5 +1,5 @@
 # make demo      plays the example of a tenant that loses lines when its mask is rewritten: by a run of the sources, and by the program when it is proved and built
-# make test      the gate: proves every crate, tries the must-fail edits, runs the tests and the program, compares the examples, and sees each exit status
+# make test      the gate: proves every crate, tries the must-fail edits, runs the tests and the program, compares the examples and docs/BELIEVE.md, and sees each exit status
 # make clients   runs real clients on the mounted tree: a shell, pqos and goresctrl (needs root, FUSE and Debian packages, and is no part of the gate)
 # make install   puts the program and its manual page below PREFIX (default: /usr/local)
 # make help      prints these lines
@@ -32,6 +32,7 @@ test:
 	sh tools/compare
 	sh tools/compare_sweep $(PROGRAM)
 	sh tools/statuses $(PROGRAM)
+	@tools/believe | cmp -s - docs/BELIEVE.md || { echo "docs/BELIEVE.md is not what tools/believe prints"; exit 1; }
 
 clients: build
 	sh tools/clients $(PROGRAM)

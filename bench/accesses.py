@@ -1,6 +1,6 @@
 #!/usr/bin/env python3
-"""Times `resctrl_sim step` on 1, 2 and 4 million accesses: one sweep, a line for each (some 60 MB of text at the most), and short
-sweeps in turn over twelve groups, by one of 4,096 declared tasks and by all of them.
+"""Times `resctrl_sim step` on 1, 2 and 4 million accesses: one sweep, the same over a cache of four slices, a line for each (some
+60 MB of text at the most), and short sweeps in turn over twelve groups, by one of 4,096 declared tasks and by all of them.
 
 usage: accesses.py PROGRAM      PROGRAM is the built program, after `make demo`: crates/resctrl_sim/out/resctrl_sim
 
@@ -16,10 +16,15 @@ TASKS = 4096
 GROUPS = 12
 
 
-def write_sweep(script, accesses):
+def write_sweep(script, accesses, slices=1):
     """One sweep over the lines of a cache of a million places."""
-    script.write("machine sets=65536 ways=16\n" + HEADS)
+    script.write(f"machine sets=65536 ways=16 slices={slices}\n" + HEADS)
     script.write(f"sweep 1 0 0 {accesses} 64\n")
+
+
+def write_slices(script, accesses):
+    """The same over a cache of four slices."""
+    write_sweep(script, accesses, 4)
 
 
 def write_lines(script, accesses):
@@ -52,5 +57,11 @@ def write_all_tasks(script, accesses):
 
 if __name__ == "__main__":
     SIZES = (1_000_000, 2_000_000, 4_000_000)
-    KINDS = (("sweep", write_sweep), ("lines", write_lines), ("one task", write_one_task), ("all tasks", write_all_tasks))
+    KINDS = (
+        ("sweep", write_sweep),
+        ("four slices", write_slices),
+        ("lines", write_lines),
+        ("one task", write_one_task),
+        ("all tasks", write_all_tasks),
+    )
     table(__doc__, [(name, size, write) for name, write in KINDS for size in SIZES])

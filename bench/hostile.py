@@ -9,7 +9,8 @@ what fills the cache. Run it on an idle machine.
 """
 from timing import table
 
-PLACES = 65_536 * 16
+SETS = 65_536
+PLACES = SETS * 16
 MOST_WEIGHT = 4_000_000
 LARGEST = "machine sets=65536 ways=16"
 
@@ -37,6 +38,29 @@ def flushes_of_eight(script, count):
 def filled_flushes(script, count):
     """Flushes of a large cache, between each two of which one set gets a line."""
     script.write(head(LARGEST) + "access 1 0 4194240\nflush\n" * count)
+
+
+def drops(script, count):
+    """A line of every set of a large cache, and then a flush of each of these lines, over and over."""
+    flushed = "".join(f"clflush {64 * line}\n" for line in range(SETS))
+    script.write(head(LARGEST) + (f"sweep 1 0 0 {SETS} 64\n" + flushed) * (count // SETS))
+
+
+def drops_and_flushes(script, count):
+    """A fill of one set and its drop, of the sets in turn, between each two flushes of the whole cache."""
+    script.write(head(LARGEST))
+    script.writelines(f"access 1 0 {64 * (at % SETS)}\nclflush {64 * (at % SETS)}\nflush\n" for at in range(count))
+
+
+def locks(script, count):
+    """A group that is made, locks fifteen ways of a large cache and is removed, over and over."""
+    script.write(head(LARGEST + " rmids=2") + "write /schemata L3:0=1\n")
+    script.write("mkdir /region\nwrite /region/mode pseudo-locksetup\nwrite /region/schemata L3:0=fffe\nrmdir /region\n" * count)
+
+
+def refused_touches(script, count):
+    """Touches of no region, on eight caches."""
+    script.write(head("machine domains=8 sets=8192 ways=16") + "touch /none 0 1 0\n" * count)
 
 
 def pairs(script, count):
@@ -84,6 +108,10 @@ ROWS = (
     ("flushes", MOST_WEIGHT // 2, flushes),
     ("flushes of eight", MOST_WEIGHT // 9, flushes_of_eight),
     ("filled flushes", MOST_WEIGHT // 3, filled_flushes),
+    ("drops", MOST_WEIGHT // 3, drops),
+    ("drops, flushes", MOST_WEIGHT // 5, drops_and_flushes),
+    ("locks", (MOST_WEIGHT - 2) // 10, locks),
+    ("refused touches", MOST_WEIGHT // 2, refused_touches),
     ("pairs", (MOST_WEIGHT - PLACES) // 5, pairs),
     ("reads of all", (MOST_WEIGHT - PLACES) // 258, reads_of_all),
     ("falling ids", 7_000_000, falling_ids),

@@ -10,8 +10,8 @@ SCRIPT = "/.sim/script"
 REPORT = "/.sim/report"
 ACCESS = "/.sim/access"
 
-# The ops that have no path: what tasks and time do.
-WORDS = ("access", "sweep", "flush", "tick")
+# The ops that are no operation of a client on a file: what tasks, time and the flushes of caches and lines do.
+WORDS = ("access", "sweep", "touch", "flush", "clflush", "tick")
 
 
 def is_extra(path):

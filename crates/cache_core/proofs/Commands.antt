@@ -15,7 +15,7 @@ use Rattle.cache_core.proofs.laws.Histories.{held-push, used-push, floor_of-push
 use Rattle.cache_core.proofs.KeptPlaces.{cond-under, res, stamp}
 
 -- an entry that changes no place and uses none
-StandsFor-quiet : (old : CacheValue) (history : List SliceEntry) (e : SliceEntry) (floor clock : ℕ) → ((set way : ℕ) → decides old.shape set way e.what ≡ false) → ((set way : ℕ) → uses old.shape set way e.what ≡ false)
+pub StandsFor-quiet : (old : CacheValue) (history : List SliceEntry) (e : SliceEntry) (floor clock : ℕ) → ((set way : ℕ) → decides old.shape set way e.what ≡ false) → ((set way : ℕ) → uses old.shape set way e.what ≡ false)
     → EntryMayFollow old.shape history e → floor ≡ max (floor_of history) (cond (sets_floor e.what) e.epoch 0) → clock ≤ length history + 1
     → StandsFor old history → StandsFor (record { shape = old.shape; rmids = old.rmids; places = old.places; floor = floor; clock = clock }) (history ++ e ∷ [])
 StandsFor-quiet old history e floor clock keeps idle may is most stands = record {

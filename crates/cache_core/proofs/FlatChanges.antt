@@ -1,16 +1,20 @@
--- What marking, filling and clearing do to the sets that flat vectors keep.
-use Rattle.std.proofs.Common.{◌≡◌, ◌≢◌, ℕ, ◌+◌, ◌*◌, ◌<◌, ◌==◌, Bool, true, false, cond, List, [], length, Some, None, option_map, slice_set, refl, sym, ◌∙◌, ap, subst, arith, inl, inr}
+-- What marking, filling and emptying do to the sets that flat vectors keep.
+use Rattle.std.proofs.Common.{◌≡◌, ◌≢◌, ℕ, ◌+◌, ◌*◌, ◌<◌, ◌≤◌, ◌==◌, Bool, true, false, cond, [], length, Some, None, option_map, replicate, slice_set, refl, sym, ◌∙◌, ap, subst, arith, inl, inr}
 use Rattle.std.specs.Prelude.{slice_index}
 use Rattle.std.specs.Int.{bit_at}
 use Rattle.std.proofs.lemmas.Bool.{cases_Bool, cases_lt, eqb-true, eqb-false}
-use Rattle.std.proofs.lemmas.List.{get_or-set_same, get_or-set_other, length-set}
+use Rattle.std.proofs.lemmas.List.{get_or-set_same, get_or-set_other, get_or-replicate, ext_get_or, length-replicate, length-set}
 use Rattle.std.proofs.Math.ListN.{get_or-eq_default}
 use Rattle.std.proofs.lemmas.Nat.Bits.{bit_at-zero}
 use Rattle.cbm.specs.Masks.{has_way}
 use Rattle.cache_core.specs.declared.place.Place.{Place}
 use Rattle.cache_core.specs.Flat.{Flat, IsFlat, flat_place, flat_set, flat_sets}
 use Rattle.cache_core.specs.Places.{set_in, place_in}
-use Rattle.cache_core.proofs.FlatPlaces.{lt-place, place-apart, length-flat_sets, length-flat_set, set_in-flat_sets, place_in-flat_set, flat_sets-changed}
+use Rattle.cache_core.proofs.FlatPlaces.{lt-place, place-apart, length-flat_sets, length-flat_set, set_in-flat_sets, here_in, place_in-flat_set, flat_set-same, flat_sets-changed, flat_sets-replaced}
+
+-- a way that is not valid holds nothing
+no_place : (f : Flat) (set way : ℕ) → has_way (slice_index f.valid set) way ≡ false → flat_place f set way ≡ None
+no_place f set way lacks = ap (λ b. cond b (Some (here_in f set way)) None) lacks
 
 -- ---- a mark
 
@@ -47,10 +51,10 @@ put_in f at way place word = record {
 }
 
 -- the place is in that way, and the others are as they were
-pub flat_sets-put : (f : Flat) (filled : List ℕ) (room at way word : ℕ) (place : Place) → IsFlat f filled room → at < length f.valid → way < f.ways
+pub flat_sets-put : (f : Flat) (at way word : ℕ) (place : Place) → IsFlat f → at < length f.valid → way < f.ways
     → has_way word way ≡ true → ((w : ℕ) → w ≢ way → has_way word w ≡ has_way (slice_index f.valid at) w)
     → flat_sets (put_in f at way place word) ≡ slice_set (flat_sets f) at (slice_set (set_in (flat_sets f) at) way (Some place))
-flat_sets-put f filled room at way word place flat within inside is others =
+flat_sets-put f at way word place flat within inside is others =
     let k : ℕ = at * f.ways + way in
     let lt : k < length f.valid * f.ways = lt-place (length f.valid) f.ways at way within inside in
     let word_at : slice_index (slice_set f.valid at word) at ≡ word = get_or-set_same f.valid at word 0 within in
@@ -72,7 +76,70 @@ flat_sets-put f filled room at way word place flat within inside is others =
     ] in
     rw (valid, lines, useds, rmids) refl)
 
--- ---- a flush
+-- ---- a drop
+
+-- the way is empty, and the others are as they were
+pub flat_sets-emptied : (f : Flat) (at way word : ℕ) → f.ways ≤ 32 → at < length f.valid → way < f.ways
+    → has_way word way ≡ false → ((w : ℕ) → w < 32 → w ≢ way → has_way word w ≡ has_way (slice_index f.valid at) w)
+    → flat_sets (record { ways = f.ways; valid = slice_set f.valid at word; lines = f.lines; used = f.used; rmids = f.rmids })
+    ≡ slice_set (flat_sets f) at (slice_set (set_in (flat_sets f) at) way None)
+flat_sets-emptied f at way word limit within inside is others =
+    let g : Flat = record { ways = f.ways; valid = slice_set f.valid at word; lines = f.lines; used = f.used; rmids = f.rmids } in
+    let word_at : slice_index (slice_set f.valid at word) at ≡ word = get_or-set_same f.valid at word 0 within in
+    flat_sets-changed f g at way None (length-set f.valid at word) refl within inside
+    (rw (word_at, is) refl)
+    (λ t v lv apart.
+    let valid : has_way (slice_index (slice_set f.valid at word) t) v ≡ has_way (slice_index f.valid t) v = elim (cases_Bool (at == t)) [
+      | inl e ↦
+          let same : at ≡ t = eqb-true at t e in
+          ap (λ s. has_way (slice_index (slice_set f.valid at word) s) v) (sym same) ∙ (ap (λ n. has_way n v) word_at ∙ (others v (omega arith) (λ e. apart (sym same, e)) ∙ ap (λ s. has_way (slice_index f.valid s) v) same))
+      | inr e ↦ ap (λ n. has_way n v) (get_or-set_other f.valid at t word 0 (λ e'. eqb-false at t e (sym e')))
+    ] in
+    rw valid refl)
+
+-- ---- a renewal
+
+-- every way of the set is empty
+pub flat_sets-cleared : (f : Flat) (at : ℕ) → at < length f.valid
+    → flat_sets (record { ways = f.ways; valid = slice_set f.valid at 0; lines = f.lines; used = f.used; rmids = f.rmids }) ≡ slice_set (flat_sets f) at (replicate (length (set_in (flat_sets f) at)) None)
+flat_sets-cleared f at within =
+    let g : Flat = record { ways = f.ways; valid = slice_set f.valid at 0; lines = f.lines; used = f.used; rmids = f.rmids } in
+    let width : length (set_in (flat_sets f) at) ≡ f.ways = ap length (set_in-flat_sets f at within) ∙ length-flat_set f at in
+    let word : slice_index (slice_set f.valid at 0) at ≡ 0 = get_or-set_same f.valid at 0 0 within in
+    flat_sets-replaced f g at (replicate (length (set_in (flat_sets f) at)) None) (length-set f.valid at 0) within
+    (rw width
+    (ext_get_or None (flat_set g at) (replicate f.ways None) (length-flat_set g at ∙ sym (length-replicate f.ways None))
+    (λ i l.
+    let inside : i < f.ways = subst (λ n. i < n) (length-flat_set g at) l in
+    place_in-flat_set g at i inside
+    ∙ (no_place g at i (ap (λ n. n == 1) (ap (λ n. bit_at n i) word ∙ bit_at-zero i)) ∙ sym (get_or-replicate f.ways i None None inside)))))
+    (λ t apart. flat_set-same f g t refl (λ v lv. ap (λ n. cond (has_way n v) (Some (here_in f t v)) None) (get_or-set_other f.valid at t 0 0 apart)))
+
+-- ---- the form
+
+-- a fill keeps the vectors in order
+pub IsFlat-put : (f : Flat) (at way word : ℕ) (place : Place) → IsFlat f → IsFlat (put_in f at way place word)
+IsFlat-put f at way word place flat =
+    let count : length (slice_set f.valid at word) ≡ length f.valid = length-set f.valid at word in
+    record {
+      limit = flat.limit;
+      lines = length-set f.lines (at * f.ways + way) place.line ∙ (flat.lines ∙ ap (λ k. k * f.ways) (sym count));
+      used = length-set f.used (at * f.ways + way) place.used ∙ (flat.used ∙ ap (λ k. k * f.ways) (sym count));
+      rmids = length-set f.rmids (at * f.ways + way) place.rmid ∙ (flat.rmids ∙ ap (λ k. k * f.ways) (sym count));
+    }
+
+-- so does another word of valid ways
+pub IsFlat-emptied : (f : Flat) (at word : ℕ) → IsFlat f → IsFlat (record { ways = f.ways; valid = slice_set f.valid at word; lines = f.lines; used = f.used; rmids = f.rmids })
+IsFlat-emptied f at word flat =
+    let count : length (slice_set f.valid at word) ≡ length f.valid = length-set f.valid at word in
+    record {
+      limit = flat.limit;
+      lines = flat.lines ∙ ap (λ k. k * f.ways) (sym count);
+      used = flat.used ∙ ap (λ k. k * f.ways) (sym count);
+      rmids = flat.rmids ∙ ap (λ k. k * f.ways) (sym count);
+    }
+
+-- ---- the start
 
 -- vectors without a valid way hold nothing
 pub place_in-empty : (f : Flat) → ((s : ℕ) → slice_index f.valid s ≡ 0) → (at way : ℕ) → place_in (set_in (flat_sets f) at) way ≡ None
@@ -80,20 +147,8 @@ place_in-empty f none at way = elim (cases_lt at (length f.valid)) [
   | inl inside ↦
       ap (λ ps. place_in ps way) (set_in-flat_sets f at inside)
       ∙ (elim (cases_lt way f.ways) [
-        | inl less ↦ place_in-flat_set f at way less ∙ ap (λ b. cond b (Some (record { line = slice_index f.lines (at * f.ways + way); rmid = slice_index f.rmids (at * f.ways + way); used = slice_index f.used (at * f.ways + way) })) None) (clear (slice_index f.valid at) (none at))
+        | inl less ↦ place_in-flat_set f at way less ∙ no_place f at way (ap (λ k. k == 1) (ap (λ k. bit_at k way) (none at) ∙ bit_at-zero way))
         | inr more ↦ get_or-eq_default (flat_set f at) None (let count : length (flat_set f at) ≡ f.ways = length-flat_set f at in omega arith)
       ])
   | inr past ↦ ap (λ ps. place_in ps way) (get_or-eq_default (flat_sets f) [] (let count : length (flat_sets f) ≡ length f.valid = length-flat_sets f in omega arith))
-]
-  where
-    clear : (n : ℕ) → n ≡ 0 → has_way n way ≡ false
-    clear n is = ap (λ k. k == 1) (ap (λ k. bit_at k way) is ∙ bit_at-zero way)
-
--- each set keeps its ways
-pub length-set_in_cleared : (f g : Flat) (at : ℕ) → length g.valid ≡ length f.valid → g.ways ≡ f.ways → length (set_in (flat_sets g) at) ≡ length (set_in (flat_sets f) at)
-length-set_in_cleared f g at count ways = elim (cases_lt at (length f.valid)) [
-  | inl inside ↦ ap length (set_in-flat_sets g at (omega arith)) ∙ (length-flat_set g at ∙ (ways ∙ (sym (length-flat_set f at) ∙ sym (ap length (set_in-flat_sets f at inside)))))
-  | inr past ↦
-      ap length (get_or-eq_default (flat_sets g) [] (let size : length (flat_sets g) ≡ length g.valid = length-flat_sets g in omega arith))
-      ∙ sym (ap length (get_or-eq_default (flat_sets f) [] (let size : length (flat_sets f) ≡ length f.valid = length-flat_sets f in omega arith)))
 ]

@@ -1,5 +1,6 @@
 -- What is read of the sets of a slice that flat vectors keep, and how a change of one way changes them.
 use Rattle.std.proofs.Common.{◌≡◌, ◌≢◌, ℕ, ◌+◌, ◌*◌, ◌<◌, ◌≤◌, ◌==◌, List, [], length, Option, None, set, slice_set, sym, ◌∙◌, ap, subst, arith, inl, inr}
+use Rattle.std.specs.Prelude.{slice_index}
 use Rattle.std.proofs.lemmas.Bool.{cases_Bool, cases_lt, eqb-true, eqb-false}
 use Rattle.std.proofs.Math.Nat.{mul-le-mul_right}
 use Rattle.std.proofs.lemmas.List.{ext_get_or, length-set}
@@ -31,6 +32,10 @@ place-apart ways s w t v within inside apart same = elim (cases_lt s t) [
 
 -- ---- reads
 
+-- what a way of the flat vectors has
+abbrev pub here_in : Flat → ℕ → ℕ → Place
+here_in f set way = record { line = slice_index f.lines (set * f.ways + way); rmid = slice_index f.rmids (set * f.ways + way); used = slice_index f.used (set * f.ways + way) }
+
 -- how many sets there are
 pub length-flat_sets : (f : Flat) → length (flat_sets f) ≡ length f.valid
 unfolding flat_sets
@@ -54,7 +59,7 @@ place_in-flat_set f set way within = get_or-map-range_with_len (flat_place f set
 -- ---- changes
 
 -- a set of which each way is the same
-flat_set-same : (f g : Flat) (set : ℕ) → g.ways ≡ f.ways → ((way : ℕ) → way < f.ways → flat_place g set way ≡ flat_place f set way) → flat_set g set ≡ flat_set f set
+pub flat_set-same : (f g : Flat) (set : ℕ) → g.ways ≡ f.ways → ((way : ℕ) → way < f.ways → flat_place g set way ≡ flat_place f set way) → flat_set g set ≡ flat_set f set
 flat_set-same f g set ways same =
     ext_get_or None (flat_set g set) (flat_set f set) (length-flat_set g set ∙ (ways ∙ sym (length-flat_set f set)))
     (λ i l.
@@ -77,12 +82,10 @@ flat_set-changed f g set way o ways within here same =
       | inr e ↦ rw e (same i i_in (λ is. eqb-false way i e (sym is)) ∙ sym (place_in-flat_set f set i i_in))
     ]) ∙ sym (get_or-set (flat_set f set) way i o None inside)))
 
--- the sets, of which one way is another
-pub flat_sets-changed : (f g : Flat) (set way : ℕ) (o : Option Place) → length g.valid ≡ length f.valid → g.ways ≡ f.ways → set < length f.valid → way < f.ways → flat_place g set way ≡ o
-    → ((t v : ℕ) → v < f.ways → ((t ≡ set) × (v ≡ way) → ⊥) → flat_place g t v ≡ flat_place f t v)
-    → flat_sets g ≡ slice_set (flat_sets f) set (slice_set (set_in (flat_sets f) set) way o)
-flat_sets-changed f g set way o count ways within inside here same =
-    let row : List (Option Place) = slice_set (set_in (flat_sets f) set) way o in
+-- the sets, of which one is another
+pub flat_sets-replaced : (f g : Flat) (set : ℕ) (row : List (Option Place)) → length g.valid ≡ length f.valid → set < length f.valid → flat_set g set ≡ row
+    → ((t : ℕ) → t ≢ set → flat_set g t ≡ flat_set f t) → flat_sets g ≡ slice_set (flat_sets f) set row
+flat_sets-replaced f g set row count within here same =
     let at : set < length (flat_sets f) = subst (λ n. set < n) (sym (length-flat_sets f)) within in
     ext_get_or [] (flat_sets g) (slice_set (flat_sets f) set row) (length-flat_sets g ∙ (count ∙ (sym (length-flat_sets f) ∙ sym (length-set (flat_sets f) set row))))
     (λ i l.
@@ -90,11 +93,15 @@ flat_sets-changed f g set way o count ways within inside here same =
     let i_in : i < length f.valid = omega arith in
     set_in-flat_sets g i less
     ∙ ((elim (cases_Bool (set == i)) [
-      | inl e ↦
-          let is : set ≡ i = eqb-true set i e in
-          rw e
-          (ap (λ k. flat_set g k) (sym is)
-          ∙ (flat_set-changed f g set way o ways inside here (λ v lv ne. same set v lv (λ both. ne both.1))
-          ∙ ap (λ ps. slice_set ps way o) (sym (set_in-flat_sets f set within))))
-      | inr e ↦ rw e (flat_set-same f g i ways (λ v lv. same i v lv (λ both. eqb-false set i e (sym both.0))) ∙ sym (set_in-flat_sets f i i_in))
+      | inl e ↦ rw e (ap (λ k. flat_set g k) (sym (eqb-true set i e)) ∙ here)
+      | inr e ↦ rw e (same i (λ is. eqb-false set i e (sym is)) ∙ sym (set_in-flat_sets f i i_in))
     ]) ∙ sym (get_or-set (flat_sets f) set i row [] at)))
+
+-- the sets, of which one way is another
+pub flat_sets-changed : (f g : Flat) (set way : ℕ) (o : Option Place) → length g.valid ≡ length f.valid → g.ways ≡ f.ways → set < length f.valid → way < f.ways → flat_place g set way ≡ o
+    → ((t v : ℕ) → v < f.ways → ((t ≡ set) × (v ≡ way) → ⊥) → flat_place g t v ≡ flat_place f t v)
+    → flat_sets g ≡ slice_set (flat_sets f) set (slice_set (set_in (flat_sets f) set) way o)
+flat_sets-changed f g set way o count ways within inside here same =
+    flat_sets-replaced f g set (slice_set (set_in (flat_sets f) set) way o) count within
+    (flat_set-changed f g set way o ways inside here (λ v lv apart. same set v lv (λ both. apart both.1)) ∙ ap (λ ps. slice_set ps way o) (sym (set_in-flat_sets f set within)))
+    (λ t apart. flat_set-same f g t ways (λ v lv. same t v lv (λ both. apart both.0)))

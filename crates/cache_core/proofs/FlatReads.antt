@@ -9,17 +9,13 @@ use Rattle.cache_core.specs.Fills.{Resident, Holds, IsVictim}
 use Rattle.cache_core.specs.Flat.{Flat, flat_set, flat_sets}
 use Rattle.cache_core.specs.Places.{set_in, place_in, resident_in, stamp_in}
 use Rattle.way_fill.specs.Sets.{HoldsLine, IsChosen}
-use Rattle.cache_core.proofs.FlatPlaces.{length-flat_set, set_in-flat_sets, place_in-flat_set}
+use Rattle.cache_core.proofs.FlatPlaces.{here_in, length-flat_set, set_in-flat_sets, place_in-flat_set}
 use Rattle.cache_core.proofs.KeptPlaces.{res, stamp}
 
 -- A set whose places are told by a word of valid ways and by what each way has.
 pub record IsRow (row : List (Option Place)) (ways valid : ℕ) (here : ℕ → Place) : Type 0 where
   pub count : length row ≡ ways
   pub reads : (w : ℕ) → w < ways → place_in row w ≡ cond (has_way valid w) (Some (here w)) None
-
--- what a way of the flat vectors has
-abbrev pub here_in : Flat → ℕ → ℕ → Place
-here_in f set way = record { line = slice_index f.lines (set * f.ways + way); rmid = slice_index f.rmids (set * f.ways + way); used = slice_index f.used (set * f.ways + way) }
 
 -- each set is one
 pub IsRow-flat_sets : (f : Flat) (set : ℕ) → set < length f.valid → IsRow (set_in (flat_sets f) set) f.ways (slice_index f.valid set) (here_in f set)

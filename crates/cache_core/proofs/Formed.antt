@@ -1,4 +1,4 @@
--- An access leaves each set with its ways, each stamp below the clock, and each RMID below the machine's number.
+-- An access or a drop leaves each set with its ways, each stamp below the clock, and each RMID below the machine's number.
 use Rattle.std.proofs.Common.{◌≡◌, ℕ, ◌+◌, ◌<◌, ◌≤◌, Bool, true, false, cond, ◌==◌, List, [], length, Option, Some, None, option_map, arith, refl, sym, ◌∙◌, ap, subst, slice_set, length-set, inl, inr}
 use Rattle.std.specs.Prelude.{IfSome}
 use Rattle.std.proofs.lemmas.Bool.{cases_Bool, eqb-true}
@@ -102,10 +102,9 @@ IsFormed-slice_set shape rmids clock places s mask place chosen changed answer f
     let after : (length changed ≡ length chosen) × AllFit rmids (clock + 1) changed = AllFit-touches rmids clock mask place chosen changed answer now named fit t in
     IsFormed-changed shape rmids clock (clock + 1) places s changed formed (omega arith) within (after.0 ∙ ap length is) after.1
 
--- a way of a set is filled
-pub IsFormed-filled : (shape : Shape) (rmids clock : ℕ) (places : List (List (Option Place))) (s way : ℕ) (place : Place)
-    → IsFormed shape rmids clock places → s < shape.sets → way < length (set_in places s) → place.used < clock → place.rmid < rmids
-    → IsFormed shape rmids clock (slice_set places s (slice_set (set_in places s) way (Some place)))
-IsFormed-filled shape rmids clock places s way place formed within inside used named =
-    IsFormed-changed shape rmids clock clock places s (slice_set (set_in places s) way (Some place)) formed (omega arith) within (length-set (set_in places s) way (Some place))
-    (AllFit-slice_set rmids clock clock (set_in places s) way (Some place) (omega arith) inside (AllFit-set_in shape rmids clock places s formed) (used, named))
+-- a way of a set is emptied
+pub IsFormed-emptied : (shape : Shape) (rmids clock : ℕ) (places : List (List (Option Place))) (s way : ℕ)
+    → IsFormed shape rmids clock places → s < shape.sets → way < length (set_in places s) → IsFormed shape rmids (clock + 1) (slice_set places s (slice_set (set_in places s) way None))
+IsFormed-emptied shape rmids clock places s way formed within inside =
+    IsFormed-changed shape rmids clock (clock + 1) places s (slice_set (set_in places s) way None) formed (omega arith) within (length-set (set_in places s) way None)
+    (AllFit-slice_set rmids clock (clock + 1) (set_in places s) way None (omega arith) inside (AllFit-set_in shape rmids clock places s formed) tt)

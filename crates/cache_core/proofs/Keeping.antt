@@ -1,20 +1,21 @@
 -- What each call leaves of the places and the counts of a slice.
-use Rattle.std.proofs.Common.{◌≡◌, ℕ, ◌+◌, ◌/◌, ◌%◌, ◌^◌, ◌<◌, ◌==◌, Bool, true, false, cond, List, [], length, Option, Some, None, option_map, slice_set, refl, sym, ◌∙◌, ap, subst, arith, inl, inr}
+use Rattle.std.proofs.Common.{◌≡◌, ℕ, ◌+◌, ◌/◌, ◌%◌, ◌^◌, ◌<◌, ◌==◌, Bool, true, false, cond, List, [], length, Option, Some, None, option_map, slice_set, refl, sym, ◌∙◌, ap, subst, arith, inl, inr, add-zero}
 use Rattle.std.specs.Prelude.{IfSome, slice_index}
 use Rattle.std.proofs.lemmas.Bool.{cases_Bool, cases_lt, cond-true, eq-eqb, eqb-true}
 use Rattle.std.proofs.Math.ListN.{get_or-eq_default}
 use Rattle.cache_core.specs.declared.place.Place.{Place}
 use Rattle.cache_core.specs.declared.touched.Touched.{Touched}
 use Rattle.cache_core.specs.declared.touched.Touched.TheVariants.{Hit, Filled, Stale}
-use Rattle.cache_core.specs.Counted.{Recounts, is_rmid}
+use Rattle.cache_core.specs.Counted.{Recounts, Uncounts, is_rmid}
 use Rattle.cache_core.specs.Filled.{places_with}
+use Rattle.cache_core.specs.Fills.{Holds}
 use Rattle.cache_core.specs.History.{Shape, IsOwn, is_own, is_of}
 use Rattle.cache_core.specs.Kept.{IsKept, residents, spread}
 use Rattle.cache_core.specs.Places.{IsFormed, set_in, place_in, resident_in}
-use Rattle.cache_core.specs.Stands.{Touches}
+use Rattle.cache_core.specs.Stands.{Drops, Touches}
 use Rattle.lists.specs.Sums.{one_if}
 use Rattle.cache_core.proofs.Counts.{places_with-exchanged, places_with-none}
-use Rattle.cache_core.proofs.Formed.{IsFormed-filled, IsFormed-slice_set}
+use Rattle.cache_core.proofs.Formed.{IsFormed-emptied, IsFormed-slice_set}
 use Rattle.cache_core.proofs.KeptPlaces.{res, get_or-set}
 use Rattle.cache_core.proofs.Spread.{length-spread, set_in-spread, set_in-spread_own, place_in-spread_empty, spread-slice_set}
 use Rattle.cache_core.proofs.laws.Places.{places_with-same}
@@ -57,15 +58,16 @@ is_of-res : (rmid : ℕ) (o : Option Place) → is_of rmid (res o) ≡ is_rmid (
 is_of-res rmid None = refl
 is_of-res rmid (Some p) = refl
 
--- the counts after a fill of a way of a set
-counts-filled : (m : Shape) (places : List (List (Option Place))) (counts new : List ℕ) (s way : ℕ) (place : Place) (changed : List (Option Place)) (rmid : ℕ)
-    → IsOwn m s → s < length places → length (set_in places s) ≡ m.ways → way < length (set_in places s) → changed ≡ slice_set (set_in places s) way (Some place) → Recounts counts new (set_in places s) place (Filled way)
+-- the counts after a change of a way of a set
+counts-changed : (m : Shape) (places : List (List (Option Place))) (counts new : List ℕ) (s way : ℕ) (o : Option Place) (changed : List (Option Place)) (rmid : ℕ)
+    → IsOwn m s → s < length places → length (set_in places s) ≡ m.ways → way < length (set_in places s) → changed ≡ slice_set (set_in places s) way o
+    → slice_index new rmid + one_if (is_rmid (option_map (λ (p : Place). p.rmid) (place_in (set_in places s) way)) rmid) ≡ slice_index counts rmid + one_if (is_rmid (option_map (λ (p : Place). p.rmid) o) rmid)
     → slice_index counts rmid ≡ places_with m (is_of rmid) (residents places) → slice_index new rmid ≡ places_with m (is_of rmid) (residents (slice_set places s changed))
-counts-filled m places counts new s way place changed rmid own within width inside is recounts was =
+counts-changed m places counts new s way o changed rmid own within width inside is recount was =
     let row : List (Option Place) = set_in places s in
-    let read : (k w : ℕ) → residents (slice_set places s changed) k w ≡ cond (s == k) (cond (way == w) (res (Some place)) (resident_in row w)) (residents places k w) = λ k w.
-    residents-slice_set places s changed k w within ∙ ap (λ o. cond (s == k) o (residents places k w)) (ap (λ ps. resident_in ps w) is ∙ resident_in-slice_set row way w (Some place) inside) in
-    let here : residents (slice_set places s changed) s way ≡ res (Some place) = read s way ∙ (ap (λ b. cond b (cond (way == way) (res (Some place)) (resident_in row way)) (residents places s way)) (eq-eqb s s refl) ∙ ap (λ b. cond b (res (Some place)) (resident_in row way)) (eq-eqb way way refl)) in
+    let read : (k w : ℕ) → residents (slice_set places s changed) k w ≡ cond (s == k) (cond (way == w) (res o) (resident_in row w)) (residents places k w) = λ k w.
+    residents-slice_set places s changed k w within ∙ ap (λ o. cond (s == k) o (residents places k w)) (ap (λ ps. resident_in ps w) is ∙ resident_in-slice_set row way w o inside) in
+    let here : residents (slice_set places s changed) s way ≡ res o = read s way ∙ (ap (λ b. cond b (cond (way == way) (res o) (resident_in row way)) (residents places s way)) (eq-eqb s s refl) ∙ ap (λ b. cond b (res o) (resident_in row way)) (eq-eqb way way refl)) in
     let same : (k w : ℕ) → ((k ≡ s) × (w ≡ way) → ⊥) → residents (slice_set places s changed) k w ≡ residents places k w = λ k w apart. read k w
     ∙ (elim (cases_Bool (s == k)) [
       | inl e ↦ elim (cases_Bool (way == w)) [
@@ -77,8 +79,8 @@ counts-filled m places counts new s way place changed rmid own within width insi
     let counted : places_with m (is_of rmid) (residents (slice_set places s changed)) + one_if (is_of rmid (residents places s way)) ≡ places_with m (is_of rmid) (residents places) + one_if (is_of rmid (residents (slice_set places s changed) s way)) =
     places_with-exchanged m (is_of rmid) (residents places) (residents (slice_set places s changed)) s way own (omega (arith, inside, width)) same in
     let left : one_if (is_of rmid (residents places s way)) ≡ one_if (is_rmid (option_map (λ (p : Place). p.rmid) (place_in row way)) rmid) = ap one_if (is_of-res rmid (place_in row way)) in
-    let put : one_if (is_of rmid (residents (slice_set places s changed) s way)) ≡ one_if (place.rmid == rmid) = ap (λ o. one_if (is_of rmid o)) here in
-    omega (arith, recounts rmid, counted, left, put, was)
+    let put : one_if (is_of rmid (residents (slice_set places s changed) s way)) ≡ one_if (is_rmid (option_map (λ (p : Place). p.rmid) o) rmid) = ap (λ o. one_if (is_of rmid o)) here ∙ ap one_if (is_of-res rmid o) in
+    omega (arith, recount, counted, left, put, was)
 
 -- the counts after an access to a set
 counts-touched : (m : Shape) (places : List (List (Option Place))) (counts new : List ℕ) (s mask : ℕ) (place : Place) (changed : List (Option Place)) (answer : Touched) (rmid : ℕ)
@@ -102,7 +104,7 @@ counts-touched m places counts new s mask place changed (Hit way) rmid own withi
       | inl e ↦ rw e (same w ∙ ap (λ j. residents places j w) (eqb-true s k e))
       | inr e ↦ rw e refl
     ]))))
-counts-touched m places counts new s mask place changed (Filled way) rmid own within width t recounts was = counts-filled m places counts new s way place changed rmid own within width t.1.within t.2 recounts was
+counts-touched m places counts new s mask place changed (Filled way) rmid own within width t recounts was = counts-changed m places counts new s way (Some place) changed rmid own within width t.1.within t.2 (recounts rmid) was
 counts-touched m places counts new s mask place changed (Stale floor) rmid own within width t recounts was = absurd t
 
 -- the domain's sets after a change of a kept one
@@ -132,29 +134,60 @@ IsKept-touched m rmids clock own now counts new shift s mask place answer kept i
       counted = λ rmid l. counts-touched m places counts new s mask place changed answer rmid is within (ap length row ∙ length-kept_set m rmids clock own counts shift s kept is) touched counted (kept.counted rmid l) ∙ ap (λ ps. places_with m (is_of rmid) (residents ps)) (sym all);
     }
 
--- a fill of a way leaves them so
-pub IsKept-filled : (m : Shape) (rmids clock : ℕ) (own now : List (List (Option Place))) (counts new : List ℕ) (shift s way : ℕ) (place : Place)
-    → IsKept m rmids clock own counts shift → IsOwn m s → way < m.ways → place.used < clock → place.rmid < rmids → now ≡ slice_set own (s / m.slices) (slice_set (set_in own (s / m.slices)) way (Some place))
-    → length new ≡ length counts → Recounts counts new (set_in own (s / m.slices)) place (Filled way) → IsKept m rmids clock now new shift
-IsKept-filled m rmids clock own now counts new shift s way place kept is inside used named set size recounts =
+-- a place that was used before now was used before later
+IfSome-later : (o : Option Place) (clock : ℕ) → IfSome o (λ p. p.used < clock) → IfSome o (λ p. p.used < clock + 1)
+IfSome-later None clock h = tt
+IfSome-later (Some p) clock h = omega (arith, h)
+
+-- a drop leaves them so
+pub IsKept-dropped : (m : Shape) (rmids clock : ℕ) (own now : List (List (Option Place))) (counts new : List ℕ) (shift s line : ℕ) (answer : Option ℕ)
+    → IsKept m rmids clock own counts shift → IsOwn m s → 0 < m.ways → Drops own now (s / m.slices) line answer
+    → length new ≡ length counts → Uncounts counts new (set_in own (s / m.slices)) answer → IsKept m rmids (clock + 1) now new shift
+IsKept-dropped m rmids clock own now counts new shift s line None kept is some drops size uncounts = record {
+  formed = subst (λ ps. IsFormed m rmids (clock + 1) (spread m ps)) (sym drops.1) (record {
+    count = kept.formed.count;
+    widths = kept.formed.widths;
+    stamped = λ t w. IfSome-later (place_in (set_in (spread m own) t) w) clock (kept.formed.stamped t w);
+    named = kept.formed.named;
+  });
+  narrow = kept.narrow;
+  inside = kept.inside;
+  power = kept.power;
+  known = size ∙ kept.known;
+  counted = λ rmid l. ap (λ cs. slice_index cs rmid) uncounts ∙ (kept.counted rmid l ∙ ap (λ ps. places_with m (is_of rmid) (residents (spread m ps))) (sym drops.1));
+}
+IsKept-dropped m rmids clock own now counts new shift s line (Some way) kept is some drops size uncounts =
     let places : List (List (Option Place)) = spread m own in
     let row : set_in places s ≡ set_in own (s / m.slices) = set_in-spread_own m own s is in
     let width : length (set_in places s) ≡ m.ways = ap length row ∙ length-kept_set m rmids clock own counts shift s kept is in
-    let here : way < length (set_in places s) = omega (arith, width, inside) in
-    let kept_set : s / m.slices < length own = lt-kept_set m rmids clock own counts shift s kept is (omega arith) in
-    let changed : List (Option Place) = slice_set (set_in places s) way (Some place) in
+    let here : way < length (set_in places s) = subst (λ ps. way < length ps) (sym row) drops.0 in
+    let changed : List (Option Place) = slice_set (set_in places s) way None in
     let all : spread m now ≡ slice_set places s changed =
-    ap (spread m) set ∙ (spread-slice_set m own s (slice_set (set_in own (s / m.slices)) way (Some place)) is kept_set ∙ ap (λ ps. slice_set places s (slice_set ps way (Some place))) (sym row)) in
+    ap (spread m) drops.2 ∙ (spread-slice_set m own s (slice_set (set_in own (s / m.slices)) way None) is (lt-kept_set m rmids clock own counts shift s kept is some) ∙ ap (λ ps. slice_set places s (slice_set ps way None)) (sym row)) in
     let within : s < length places = omega (arith, is.0, length-spread m own) in
-    let counted : Recounts counts new (set_in places s) place (Filled way) = subst (λ ps. Recounts counts new ps place (Filled way)) (sym row) recounts in
+    let counted : (r : ℕ) → slice_index new r + one_if (is_rmid (option_map (λ (p : Place). p.rmid) (place_in (set_in places s) way)) r) ≡ slice_index counts r + 0 = λ r.
+    ap (λ ps. slice_index new r + one_if (is_rmid (option_map (λ (p : Place). p.rmid) (place_in ps way)) r)) row ∙ (uncounts r ∙ sym (add-zero (slice_index counts r))) in
     record {
-      formed = subst (IsFormed m rmids clock) (sym all) (IsFormed-filled m rmids clock places s way place kept.formed is.0 here used named);
+      formed = subst (IsFormed m rmids (clock + 1)) (sym all) (IsFormed-emptied m rmids clock places s way kept.formed is.0 here);
       narrow = kept.narrow;
       inside = kept.inside;
       power = kept.power;
       known = size ∙ kept.known;
-      counted = λ rmid l. counts-filled m places counts new s way place changed rmid is within width here refl counted (kept.counted rmid l) ∙ ap (λ ps. places_with m (is_of rmid) (residents ps)) (sym all);
+      counted = λ rmid l. counts-changed m places counts new s way None changed rmid is within width here refl (counted rmid) (kept.counted rmid l) ∙ ap (λ ps. places_with m (is_of rmid) (residents ps)) (sym all);
     }
+
+-- the same of the domain's sets
+pub Drops-spread : (m : Shape) (rmids clock : ℕ) (own now : List (List (Option Place))) (counts : List ℕ) (shift s line : ℕ) (answer : Option ℕ) → IsKept m rmids clock own counts shift → IsOwn m s → 0 < m.ways
+    → Drops own now (s / m.slices) line answer → Drops (spread m own) (spread m now) s line answer
+Drops-spread m rmids clock own now counts shift s line None kept is some drops =
+    let row : set_in (spread m own) s ≡ set_in own (s / m.slices) = set_in-spread_own m own s is in
+    (subst (λ ps. (w : ℕ) → Holds (resident_in ps) line w → ⊥) (sym row) drops.0, ap (spread m) drops.1)
+Drops-spread m rmids clock own now counts shift s line (Some way) kept is some drops =
+    let row : set_in (spread m own) s ≡ set_in own (s / m.slices) = set_in-spread_own m own s is in (
+      subst (λ ps. way < length ps) (sym row) drops.0,
+      subst (λ ps. Holds (resident_in ps) line way) (sym row) drops.1,
+      ap (spread m) drops.2 ∙ (spread-slice_set m own s (slice_set (set_in own (s / m.slices)) way None) is (lt-kept_set m rmids clock own counts shift s kept is some) ∙ ap (λ ps. slice_set (spread m own) s (slice_set ps way None)) (sym row)),
+    )
 
 -- places and counts that are empty
 pub IsKept-empty : (m : Shape) (rmids clock : ℕ) (own : List (List (Option Place))) (counts : List ℕ) (shift : ℕ) → shift < 32 → m.slice < m.slices → m.slices ≡ 2 ^ shift → length counts ≡ rmids → ((r : ℕ) → slice_index counts r ≡ 0)
@@ -184,15 +217,19 @@ length-set_in_spread m own widths set l = ap length (set_in-spread m own set l) 
     go true = widths set l
     go false = refl
 
+-- where each set keeps its ways
+pub length-set_in_spread_same : (m : Shape) (rmids clock : ℕ) (own now : List (List (Option Place))) (counts : List ℕ) (shift : ℕ) → IsKept m rmids clock own counts shift
+    → ((set : ℕ) → length (set_in now set) ≡ length (set_in own set)) → (set : ℕ) → set < m.sets → length (set_in (spread m now) set) ≡ cond (is_own m set) m.ways 0
+length-set_in_spread_same m rmids clock own now counts shift kept widths set l =
+    ap length (set_in-spread m now set l) ∙ (go (is_own m set) ∙ (sym (ap length (set_in-spread m own set l)) ∙ kept.formed.widths set l))
+  where
+    go : (b : Bool) → length (cond b (set_in now (set / m.slices)) []) ≡ length (cond b (set_in own (set / m.slices)) [])
+    go true = widths (set / m.slices)
+    go false = refl
+
 -- a flush leaves them so
 pub IsKept-emptied : (m : Shape) (rmids clock : ℕ) (own now : List (List (Option Place))) (counts new : List ℕ) (shift : ℕ) → IsKept m rmids clock own counts shift
     → ((set : ℕ) → length (set_in now set) ≡ length (set_in own set)) → ((s w : ℕ) → place_in (set_in now s) w ≡ None) → length new ≡ length counts → ((r : ℕ) → slice_index new r ≡ 0)
     → IsKept m rmids (clock + 1) now new shift
 IsKept-emptied m rmids clock own now counts new shift kept widths none size zeros =
-    IsKept-empty m rmids (clock + 1) now new shift kept.narrow kept.inside kept.power (size ∙ kept.known) zeros
-    (λ set l. ap length (set_in-spread m now set l) ∙ (go (is_own m set) set ∙ (sym (ap length (set_in-spread m own set l)) ∙ kept.formed.widths set l)))
-    none
-  where
-    go : (b : Bool) (set : ℕ) → length (cond b (set_in now (set / m.slices)) []) ≡ length (cond b (set_in own (set / m.slices)) [])
-    go true set = widths (set / m.slices)
-    go false set = refl
+    IsKept-empty m rmids (clock + 1) now new shift kept.narrow kept.inside kept.power (size ∙ kept.known) zeros (length-set_in_spread_same m rmids clock own now counts shift kept widths) none

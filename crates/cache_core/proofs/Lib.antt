@@ -1,13 +1,16 @@
 pub mod Accesses
 pub mod Commands
 pub mod Counts
+pub mod DroppedLines
 pub mod FlatChanges
-pub mod FlatLists
 pub mod FlatPlaces
 pub mod FlatReads
 pub mod FlatViews
 pub mod Formed
 pub mod Keeping
+pub mod LazyChanges
+pub mod LazyViews
+pub mod LoadedSlices
 pub mod KeptPlaces
 pub mod Occupancy
 pub mod Powers

@@ -1,5 +1,5 @@
 -- How an access changes the counts of lines.
-use Rattle.std.specs.Prelude.{◌≡◌, ℕ, ◌+◌, ◌<◌, ◌==◌, Bool, false, List, length, Option, option_map, slice_index}
+use Rattle.std.specs.Prelude.{◌≡◌, ℕ, ◌+◌, ◌<◌, ◌==◌, Bool, false, List, length, Option, Some, None, option_map, slice_index}
 use Rattle.std.specs.Option.{option_map_or}
 use Rattle.cache_core.specs.declared.place.Place.{Place}
 use Rattle.cache_core.specs.declared.touched.Touched.{Touched}
@@ -15,6 +15,11 @@ pub record IsCounted (counts : List ℕ) (rmid : ℕ) : Type 0 where
 -- whether this is the RMID
 abbrev pub is_rmid : Option ℕ → ℕ → Bool
 is_rmid left rmid = option_map_or (λ (r : ℕ). r == rmid) left false
+
+-- a drop takes the line that left from its count, where a way held it
+abbrev pub Uncounts : List ℕ → List ℕ → List (Option Place) → Option ℕ → Type 0
+Uncounts old new set (Some way) = (r : ℕ) → slice_index new r + one_if (is_rmid (option_map (λ (p : Place). p.rmid) (place_in set way)) r) ≡ slice_index old r
+Uncounts old new set None = new ≡ old
 
 -- a hit leaves the counts, and a fill counts its line in place of the one that left
 abbrev pub Recounts : List ℕ → List ℕ → List (Option Place) → Place → Touched → Type 0

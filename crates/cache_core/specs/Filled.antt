@@ -1,8 +1,7 @@
 -- The places of a slice by what each holds, and the entries that empty them all.
-use Rattle.std.specs.Prelude.{◌≡◌, ℕ, ◌<◌, Bool, true, false, ◌||◌, if◌then◌else◌, List, [], ◌∷◌, Option}
-use Rattle.cache_core.specs.declared.entry.SliceEntry.{SliceEntry}
+use Rattle.std.specs.Prelude.{◌≡◌, ℕ, ◌<◌, Bool, true, false, if◌then◌else◌, Option}
 use Rattle.cache_core.specs.declared.entry.What.{What}
-use Rattle.cache_core.specs.declared.entry.What.TheVariants.{Access, Raise, Flush, Lock, Look}
+use Rattle.cache_core.specs.declared.entry.What.TheVariants.{Access, Raise, Flush, Lock, Look, Drop}
 use Rattle.cache_core.specs.Fills.{Resident}
 use Rattle.cache_core.specs.History.{Shape, IsOwn, is_own}
 use Rattle.lists.specs.Sums.{one_if, sum_below}
@@ -22,8 +21,4 @@ empties Raise = false
 empties Flush = true
 empties (Lock mask first_line) = true
 empties (Look rmid lines) = false
-
--- whether one of these entries does
-abbrev pub has_emptying : List SliceEntry → Bool
-has_emptying [] = false
-has_emptying (e ∷ es) = empties e.what || has_emptying es
+empties (Drop line at) = false

@@ -26,3 +26,8 @@ pub record IsVictim (ways mask : ℕ) (residents : ℕ → Option Resident) (age
 abbrev pub IsOutcome : ℕ → ℕ → (ℕ → Option Resident) → (ℕ → ℕ) → ℕ → Bool → ℕ → Type 0
 IsOutcome ways mask residents age line true way = (way < ways) × Holds residents line way
 IsOutcome ways mask residents age line false way = ((w : ℕ) → w < ways → Holds residents line w → ⊥) × IsVictim ways mask residents age way
+
+-- The way that holds the line, and none exactly where no way does.
+abbrev pub IsPlaceOf : ℕ → (ℕ → Option Resident) → ℕ → Option ℕ → Type 0
+IsPlaceOf ways residents line (Some way) = (way < ways) × Holds residents line way
+IsPlaceOf ways residents line None = (w : ℕ) → w < ways → Holds residents line w → ⊥

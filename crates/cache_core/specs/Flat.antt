@@ -1,9 +1,8 @@
 -- The sets of a slice as flat vectors keep them: the ways of set s stand from s * ways on.
-use Rattle.std.specs.Prelude.{◌≡◌, ℕ, ◌+◌, ◌*◌, ◌<◌, ◌≤◌, List, length, map, Option, Some, None, if◌then◌else◌, nat_lt, slice_index}
+use Rattle.std.specs.Prelude.{◌≡◌, ℕ, ◌+◌, ◌*◌, ◌≤◌, List, length, map, Option, Some, None, if◌then◌else◌, slice_index}
 use Rattle.std.specs.List.{range_with_len}
 use Rattle.cbm.specs.Masks.{has_way}
 use Rattle.cache_core.specs.declared.place.Place.{Place}
-use Rattle.lists.specs.Sums.{one_if, sum_below}
 
 -- how many ways a set has, for each set a word of the ways that hold a line, and for each way its line, its stamp and its RMID
 pub record Flat : Type 0 where
@@ -28,17 +27,9 @@ flat_set f set = map (flat_place f set) (range_with_len 0 f.ways)
 unfoldable pub flat_sets : Flat → List (List (Option Place))
 flat_sets f = map (flat_set f) (range_with_len 0 (length f.valid))
 
--- whether a set holds a line
-abbrev pub is_filled : List ℕ → ℕ → ℕ
-is_filled valid set = one_if (nat_lt 0 (slice_index valid set))
-
--- Each way of each set has its line, its stamp and its RMID. The sets that hold a line are listed, each once.
-pub record IsFlat (f : Flat) (filled : List ℕ) (room : ℕ) : Type 0 where
+-- Each way of each set has its line, its stamp and its RMID.
+pub record IsFlat (f : Flat) : Type 0 where
   pub limit : f.ways ≤ 32
   pub lines : length f.lines ≡ length f.valid * f.ways
   pub used : length f.used ≡ length f.valid * f.ways
   pub rmids : length f.rmids ≡ length f.valid * f.ways
-  pub listed : (set : ℕ) → set < length f.valid → 0 < slice_index f.valid set → (i : ℕ) × (i < length filled) × (slice_index filled i ≡ set)
-  pub within : (i : ℕ) → i < length filled → slice_index filled i < length f.valid
-  pub once : length filled ≡ sum_below (length f.valid) (is_filled f.valid)
-  pub fits : length f.valid ≤ room

@@ -4,6 +4,7 @@ pub mod Fills
 pub mod Flat
 pub mod History
 pub mod Kept
+pub mod Lazy
 pub mod Loads
 pub mod Places
 pub mod Stands

@@ -1,5 +1,5 @@
 -- What a lock loads into the places of a slice.
-use Rattle.std.specs.Prelude.{◌≡◌, ℕ, ◌+◌, ◌*◌, ◌/◌, ◌<◌, List, Option, Some, None, if◌then◌else◌, nat_lt}
+use Rattle.std.specs.Prelude.{◌≡◌, ℕ, ◌+◌, ◌*◌, ◌/◌, ◌<◌, List, Option, Some, None, if◌then◌else◌}
 use Rattle.cbm.specs.Masks.{has_way}
 use Rattle.cache_core.specs.declared.place.Place.{Place}
 use Rattle.cache_core.specs.History.{Shape, IsOwn, ways_below}
@@ -16,8 +16,3 @@ loaded_place m mask first_line stamp set way = if has_way mask way then loaded (
 -- the kept sets hold what is loaded, and nothing else
 abbrev pub AreLoaded : Shape → ℕ → ℕ → ℕ → List (List (Option Place)) → Type 0
 AreLoaded m mask first_line stamp own = (set way : ℕ) → IsOwn m set → way < m.ways → place_in (set_in own (set / m.slices)) way ≡ loaded_place m mask first_line stamp set way
-
--- so far in the ways below a limit
-abbrev pub AreLoadedBelow : Shape → ℕ → ℕ → ℕ → ℕ → List (List (Option Place)) → Type 0
-AreLoadedBelow m mask first_line stamp limit own =
-    (set way : ℕ) → IsOwn m set → way < m.ways → place_in (set_in own (set / m.slices)) way ≡ (if nat_lt way limit then loaded_place m mask first_line stamp set way else None)

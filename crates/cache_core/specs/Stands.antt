@@ -1,5 +1,5 @@
 -- Which histories a cache stands for, and what each call adds to them.
-use Rattle.std.specs.Prelude.{◌≡◌, ℕ, ◌<◌, ◌≤◌, ◌+◌, ◌↔◌, true, false, List, [], ◌∷◌, ◌++◌, length, IsSome, Option, Some, option_map, slice_set}
+use Rattle.std.specs.Prelude.{◌≡◌, ℕ, ◌<◌, ◌≤◌, ◌+◌, ◌↔◌, true, false, List, [], ◌∷◌, ◌++◌, length, IsSome, Option, Some, None, option_map, slice_set}
 use Rattle.cache_core.specs.declared.entry.What.{What}
 use Rattle.cache_core.specs.declared.entry.What.TheVariants.{Access}
 use Rattle.cache_core.specs.declared.entry.SliceEntry.{SliceEntry}
@@ -57,3 +57,10 @@ Touches old new mask place (Filled way) =
     ((w : ℕ) → Holds (resident_in old) place.line w → ⊥) × IsVictim (length old) mask (resident_in old) (stamp_in old) way
     × (new ≡ slice_set old way (Some place))
 Touches old new mask place (Stale floor) = ⊥
+
+-- What a drop does to the sets: the way that holds the line is emptied, where one does.
+abbrev pub Drops : List (List (Option Place)) → List (List (Option Place)) → ℕ → ℕ → Option ℕ → Type 0
+Drops old new set line (Some way) =
+    (way < length (set_in old set)) × Holds (resident_in (set_in old set)) line way
+    × (new ≡ slice_set old set (slice_set (set_in old set) way None))
+Drops old new set line None = ((w : ℕ) → Holds (resident_in (set_in old set)) line w → ⊥) × (new ≡ old)

@@ -1,39 +1,40 @@
 //! One slice of a cache.
-ghost use Rattle.std.specs.Prelude.{◌≡◌, ℕ, ◌+◌, ◌-◌, ◌%◌, ◌/◌, ◌^◌, ◌<◌, ◌≤◌, ◌↔◌, List, [], ◌∷◌, ◌++◌, length, if◌then◌else◌, IfOk, None};
+ghost use Rattle.std.specs.Prelude.{◌≡◌, ℕ, ◌+◌, ◌-◌, ◌%◌, ◌/◌, ◌*◌, ◌^◌, ◌<◌, ◌≤◌, ◌↔◌, List, [], ◌∷◌, ◌++◌, length, if◌then◌else◌, IfOk, None};
 ghost use Rattle.machine.specs.Maps.{parameters_of};
 ghost use Rattle.cache_core.specs.declared.entry.SliceEntry.{SliceEntry};
-ghost use Rattle.cache_core.specs.declared.entry.What.TheVariants.{Raise, Flush, Lock, Look};
-ghost use Rattle.cache_core.specs.History.{IsOwn, is_own, shape_of, lines_of, valid_of};
+ghost use Rattle.cache_core.specs.declared.entry.What.TheVariants.{Raise, Flush, Lock, Look, Drop};
+ghost use Rattle.cache_core.specs.History.{IsOwn, is_own, shape_of, lines_of, valid_of, ways_below};
 ghost use Rattle.cache_core.specs.Places.{set_in, place_in};
 ghost use Rattle.cache_core.specs.Stands.{Accesses, Adds, StandsFor, IsStale, Touches, clock_after, entry};
 ghost use Rattle.lists.specs.Sums.{sum_below};
 
-use crate::loading::RegionLoad;
+use crate::lazy_sets::LazySets;
+use crate::loading::{REGION_RMID, RegionLoad};
+use crate::own_sets::{own_set, own_sets, region_lines};
 use crate::place::Place;
-use crate::sets::Sets;
 use crate::touched::Touched;
-use crate::touching::touch;
 use machine::Machine;
 use occupancy::Counts;
 use rc_base::{NoMemory, Tag};
 use std::alloc::Global;
 use std::marker::Model;
 
-/// One slice of a cache. It stands for the legal lists of entries that leave what it holds: `access`, `raise`, `flush` and
-/// `lock` each add the one entry that legality allows. `clock` counts these entries. `sets` has the slice's own sets alone,
-/// set s of the domain at s >> `shift`, and `counts` how many lines each RMID has in them.
+/// One slice of a cache. It stands for the legal lists of entries that leave what it holds: `access`, `raise`, `flush`, `lock`
+/// and `drop_line` each add the one entry that legality allows. `clock` counts these entries. `sets` has the slice's own sets
+/// alone, set s of the domain at s >> `shift`, and `counts` how many lines each RMID has in them.
 #[derive(Drop)]
 pub struct Cache {
     machine: Machine,
     slice: u8,
     shift: u32,
-    sets: Sets,
+    sets: LazySets,
     counts: Counts,
     floor: u64,
     clock: u64,
 }
 
 impl Model for Cache {
+    ghost use Rattle.std.specs.Prelude.{◌≤◌};
     ghost use Rattle.machine.specs.Maps.{parameters_of};
     ghost use Rattle.cache_core.specs.History.{shape_of};
     ghost use Rattle.cache_core.specs.Kept.{IsKept, spread};
@@ -41,9 +42,9 @@ impl Model for Cache {
 
     ghost Value = { CacheValue };
 
-    ghost view = { λ c. record { shape = shape_of (parameters_of c.machine) c.slice; rmids = c.machine.rmids; places = spread (shape_of (parameters_of c.machine) c.slice) c.sets; floor = c.floor; clock = c.clock } };
+    ghost view = { λ c. record { shape = shape_of (parameters_of c.machine) c.slice; rmids = c.machine.rmids; places = spread (shape_of (parameters_of c.machine) c.slice) c.sets.places; floor = c.floor; clock = c.clock } };
 
-    ghost invariant = { λ c. IsKept (shape_of (parameters_of c.machine) c.slice) c.machine.rmids c.clock c.sets c.counts c.shift };
+    ghost invariant = { λ c. IsKept (shape_of (parameters_of c.machine) c.slice) c.machine.rmids c.clock c.sets.places c.counts c.shift × (c.sets.generation ≤ c.clock) };
 }
 
 impl Cache {
@@ -60,7 +61,7 @@ impl Cache {
         ensures empty { IfOk result (λ c. StandsFor c []) }
     {
         let shift = m.slices.trailing_zeros();
-        let sets = Sets::create(alloc, own_sets(m, shift), m.ways)?;
+        let sets = LazySets::create(alloc, own_sets(m, shift), m.ways)?;
         let counts = Counts::create(alloc, m.rmids)?;
         Ok(Cache {
             machine: *m,
@@ -104,7 +105,7 @@ impl Cache {
         ensures clock { self.new.clock ≡ self.old.clock + 1 }
         ensures entry { Adds self.old self.new epoch Flush }
     {
-        self.sets.clear();
+        self.sets.flush();
         self.counts.clear();
         self.floor = epoch;
         self.clock += 1;
@@ -123,17 +124,34 @@ impl Cache {
         ensures clock { self.new.clock ≡ self.old.clock + 1 }
         ensures entry { Adds self.old self.new epoch (Lock mask first_line) }
     {
-        let region = RegionLoad {
-            machine: self.machine,
-            slice: self.slice,
-            shift: self.shift,
+        self.sets.lock(RegionLoad {
             mask,
-            first_line,
+            first_line: first_line + u64::from(self.slice),
+            set_step: self.machine.slices,
+            way_step: self.machine.sets,
             stamp: self.clock,
-        };
-        region.load(&mut self.sets, &mut self.counts);
+        });
+        self.counts.clear();
+        self.counts
+            .add_lines(REGION_RMID, region_lines(&self.machine, self.shift, mask));
         self.floor = epoch;
         self.clock += 1;
+    }
+
+    /// Empties the way that holds a line, and answers it: None exactly where no way does. The floor stays.
+    pub fn drop_line(&mut self, epoch: u64, line: u64) -> Option<u8>
+        requires own { IsOwn self.old.shape (line % self.old.shape.sets) }
+        requires epoch { self.old.floor ≤ epoch }
+        requires room { self.old.clock < 2 ^ 32 }
+        ensures shape { self.new.shape ≡ self.old.shape }
+        ensures rmids { self.new.rmids ≡ self.old.rmids }
+        ensures floor { self.new.floor ≡ self.old.floor }
+        ensures clock { self.new.clock ≡ self.old.clock + 1 }
+        ensures entry { Adds self.old self.new epoch (Drop line result) }
+    {
+        self.clock += 1;
+        let set = own_set(&self.machine, self.shift, line);
+        self.sets.drop_line(&mut self.counts, set, line)
     }
 
     /// How many places hold a line of this RMID, one of the machine (SDM volume 3, cache monitoring: occupancy in lines).
@@ -178,23 +196,6 @@ impl Cache {
         };
         self.clock += 1;
         let set = own_set(&self.machine, self.shift, line);
-        touch(&mut self.sets, &mut self.counts, set, tag.mask, place)
+        self.sets.touch(&mut self.counts, set, tag.mask, place)
     }
-}
-
-// How many sets a slice has room for.
-fn own_sets(m: &Machine, shift: u32) -> u32
-    requires { shift < 32 }
-    ensures { result ≡ (m.now.sets - 1) / 2 ^ shift + 1 }
-{
-    ((m.sets - 1) >> shift) + 1
-}
-
-// The number of a line's set among those of its slice, of which there are as many as a power of two.
-fn own_set(m: &Machine, shift: u32, line: u64) -> u32
-    requires shift { shift < 32 }
-    requires slices { m.now.slices ≡ 2 ^ shift }
-    ensures { result ≡ line % m.now.sets / m.now.slices }
-{
-    m.set_of(line) >> shift
 }

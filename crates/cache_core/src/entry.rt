@@ -28,6 +28,11 @@ pub enum What {
         rmid: u16,
         lines: u64,
     },
+    /// This line was flushed from the way that held it, or from none where no way did.
+    Drop {
+        line: u64,
+        way: Option<u8>,
+    },
 }
 
 /// One step in a slice, with the thread and the number of the op that made it. Fields lie in memory in the order in which they

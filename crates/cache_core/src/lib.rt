@@ -2,13 +2,17 @@
 #![tactic(auto)]
 
 pub mod cache;
+mod emptied;
 pub mod entry;
+mod lazy_sets;
 mod line_table;
 mod loading;
+mod own_sets;
 pub mod place;
 mod sets;
 pub mod touched;
 mod touching;
+mod way_bits;
 
 pub use cache::Cache;
 pub use entry::{SliceEntry, What};

@@ -1,11 +1,12 @@
 //! The sets of a slice, all in flat vectors.
-ghost use Rattle.std.specs.Prelude.{◌≡◌, ℕ, ◌%◌, ◌^◌, ◌<◌, ◌≤◌, length, MatchOption, IfOk, Some, None, replicate, slice_set, option_map, slice_index, ◌≢◌, ◌+◌, ◌*◌, ◌==◌, ◌++◌, ◌∷◌, [], if◌then◌else◌, vec_len, vec_capacity, true};
+ghost use Rattle.std.specs.Prelude.{◌≡◌, ℕ, ◌%◌, ◌^◌, ◌<◌, ◌≤◌, length, MatchOption, IfOk, Some, None, replicate, slice_set, option_map, slice_index, ◌+◌, ◌*◌, if◌then◌else◌};
 ghost use Rattle.cbm.specs.Masks.{has_way};
 ghost use Rattle.cache_core.specs.Fills.{Holds, IsVictim};
 ghost use Rattle.cache_core.specs.Places.{resident_in, stamp_in, place_in, set_in};
 
 use crate::line_table::LineTable;
 use crate::place::Place;
+use crate::way_bits::{holds, with_way, without_way};
 use rc_base::NoMemory;
 use std::alloc::Global;
 use std::marker::Model;
@@ -13,7 +14,7 @@ use std::marker::Model;
 /// Sets of so many ways each, counted from 0. Contracts see for each set the list of its places.
 ///
 /// The line of way w of set s stands at s * ways + w of `lines`, its stamp and its RMID there too. Bit w of word s of
-/// `valid` says whether the way holds a line. `filled` lists the sets that hold any, so that only these are cleared.
+/// `valid` says whether the way holds a line.
 #[derive(Drop)]
 pub struct Sets {
     ways: u8,
@@ -21,11 +22,10 @@ pub struct Sets {
     lines: LineTable,
     used: Vec<u64>,
     rmids: Vec<u16>,
-    filled: Vec<u32>,
 }
 
 impl Model for Sets {
-    ghost use Rattle.std.specs.Prelude.{List, Option, vec_capacity};
+    ghost use Rattle.std.specs.Prelude.{List, Option};
     ghost use Rattle.cache_core.specs.declared.place.Place.{Place};
     ghost use Rattle.cache_core.specs.Flat.{IsFlat, flat_sets};
 
@@ -33,7 +33,7 @@ impl Model for Sets {
 
     ghost view = { λ s. flat_sets (record { ways = s.ways; valid = s.valid.items; lines = s.lines; used = s.used.items; rmids = s.rmids.items }) };
 
-    ghost invariant = { λ s. IsFlat (record { ways = s.ways; valid = s.valid.items; lines = s.lines; used = s.used.items; rmids = s.rmids.items }) s.filled.items (vec_capacity s.filled) };
+    ghost invariant = { λ s. IsFlat (record { ways = s.ways; valid = s.valid.items; lines = s.lines; used = s.used.items; rmids = s.rmids.items }) };
 }
 
 impl Sets {
@@ -49,15 +49,21 @@ impl Sets {
         let lines = LineTable::create(alloc, places)?;
         let used = vec![in alloc; 0; places]?;
         let rmids = vec![in alloc; 0; places]?;
-        let filled = Vec::with_capacity(alloc, count as usize)?;
         Ok(Sets {
             ways,
             valid,
             lines,
             used,
             rmids,
-            filled,
         })
+    }
+
+    /// How many ways each set has.
+    pub fn ways(&self) -> u8
+        ensures limit { result ≤ 32 }
+        ensures widths { (set : ℕ) → set < length self.now → length (set_in self.now set) ≡ result }
+    {
+        self.ways
     }
 
     /// The way of a set that holds the line.
@@ -100,7 +106,6 @@ impl Sets {
     {
         let at = set as usize * self.ways as usize + way as usize;
         let valid = self.valid[set as usize];
-        list_set(&mut self.filled, valid, set);
         let left = rmid_at(valid, way, self.rmids[at]);
         self.valid[set as usize] = with_way(valid, way);
         self.lines.put(at, place.line);
@@ -109,14 +114,25 @@ impl Sets {
         left
     }
 
-    /// Empties every way, in the time of the sets that hold a line.
-    pub fn clear(&mut self)
-        ensures count { length self.new ≡ length self.old }
-        ensures widths { (set : ℕ) → length (set_in self.new set) ≡ length (set_in self.old set) }
-        ensures empty { (set way : ℕ) → place_in (set_in self.new set) way ≡ None }
+    /// Empties a way, and gives the RMID of the line that leaves it.
+    pub fn empty(&mut self, set: u32, way: u8) -> Option<u16>
+        requires set { set < length self.old }
+        requires way { way < length (set_in self.old set) }
+        ensures left { result ≡ option_map (λ (p : Place). p.rmid) (place_in (set_in self.old set) way) }
+        ensures emptied { self.new ≡ slice_set self.old set (slice_set (set_in self.old set) way None) }
     {
-        clear_listed(&mut self.valid, &self.filled);
-        self.filled.clear();
+        let at = set as usize * self.ways as usize + way as usize;
+        let valid = self.valid[set as usize];
+        self.valid[set as usize] = without_way(valid, way);
+        rmid_at(valid, way, self.rmids[at])
+    }
+
+    /// Empties every way of a set.
+    pub fn clear(&mut self, set: u32)
+        requires { set < length self.old }
+        ensures { self.new ≡ slice_set self.old set (replicate (length (set_in self.old set)) None) }
+    {
+        self.valid[set as usize] = 0;
     }
 }
 
@@ -130,46 +146,10 @@ fn part(all: &[u64], set: u32, ways: u8) -> &[u64]
     &all[start..start + ways as usize]
 }
 
-// Lists a set that held no line.
-fn list_set(filled: &mut Vec<u32>, valid: u32, set: u32)
-    requires { valid ≡ 0 → vec_len filled.old < vec_capacity filled.old }
-    ensures listed { filled.new.items ≡ (if valid == 0 then filled.old.items ++ set ∷ [] else filled.old.items) }
-    ensures room { vec_capacity filled.new ≡ vec_capacity filled.old }
-{
-    if valid == 0 {
-        filled.push_reserved(set);
-    }
-}
-
 // The RMID of a way, where it holds a line.
 fn rmid_at(valid: u32, way: u8, rmid: u16) -> Option<u16>
     requires { way < 32 }
     ensures { result ≡ (if has_way valid way then Some rmid else None) }
 {
-    if (valid >> way) & 1 == 1 {
-        Some(rmid)
-    } else {
-        None
-    }
-}
-
-// A word of ways with one way more.
-fn with_way(valid: u32, way: u8) -> u32
-    requires { way < 32 }
-    ensures way { has_way result way ≡ true }
-    ensures others { (w : ℕ) → w ≢ way → has_way result w ≡ has_way valid w }
-{
-    valid | (1 << way)
-}
-
-// Makes the words of the listed sets 0.
-fn clear_listed(valid: &mut Vec<u32>, filled: &[u32])
-    requires { (i : ℕ) → i < length filled.now → slice_index filled.now i < length valid.old.items }
-    ensures size { length valid.new.items ≡ length valid.old.items }
-    ensures listed { (i : ℕ) → i < length filled.now → slice_index valid.new.items (slice_index filled.now i) ≡ 0 }
-    ensures empty { (s : ℕ) → slice_index valid.old.items s ≡ 0 → slice_index valid.new.items s ≡ 0 }
-{
-    for set in filled {
-        valid[*set as usize] = 0;
-    }
+    if holds(valid, way) { Some(rmid) } else { None }
 }

@@ -104,5 +104,43 @@ fn a_lock_loads_its_region(rt: HostRuntime) -> Result<(), Fail> {
         Touched::Hit { way: 3 }
     );
     assert_eq!(rt; cache.access(&tag(1, 3), 0), Touched::Filled { way: 0 });
+    cache.flush(2);
+    assert_eq!(rt;
+        cache.access(&tag(2, 8), FIRST_LINE),
+        Touched::Filled { way: 3 }
+    );
+    cache.lock(3, 2, FIRST_LINE + 4);
+    assert_eq!(rt; (cache.look(0), cache.valid()), (4, 4));
+    assert_eq!(rt;
+        cache.access(&tag(3, 8), FIRST_LINE),
+        Touched::Filled { way: 3 }
+    );
+    assert_eq!(rt; cache.drop_line(3, FIRST_LINE + 5), Some(1));
+    assert_eq!(rt; (cache.look(0), cache.valid()), (4, 4));
+    Ok(())
+}
+
+#[test]
+fn a_dropped_line_makes_room(rt: HostRuntime) -> Result<(), Fail> {
+    let parameters = Parameters {
+        sets: 2,
+        ways: 2,
+        rmids: 2,
+        ..Parameters::default()
+    };
+    let machine = Machine::checked(&parameters).expect(&rt, "the parameters are in range");
+    let mut cache = Cache::create(rt.alloc(), &machine, 0, 0)?;
+    assert_eq!(rt; cache.access(&tag(0, 3), 0), Touched::Filled { way: 0 });
+    assert_eq!(rt; cache.access(&tag(0, 3), 2), Touched::Filled { way: 1 });
+    assert_eq!(rt; cache.drop_line(1, 4), None);
+    assert_eq!(rt; cache.drop_line(1, 0), Some(0));
+    assert_eq!(rt; cache.drop_line(1, 0), None);
+    assert_eq!(rt; (cache.look(0), cache.valid(), cache.floor()), (1, 1, 0));
+    assert_eq!(rt; cache.access(&tag(0, 3), 4), Touched::Filled { way: 0 });
+    assert_eq!(rt; cache.drop_line(1, 4), Some(0));
+    assert_eq!(rt; cache.drop_line(1, 2), Some(1));
+    assert_eq!(rt; cache.access(&tag(0, 2), 6), Touched::Filled { way: 1 });
+    cache.flush(2);
+    assert_eq!(rt; (cache.look(0), cache.valid()), (0, 0));
     Ok(())
 }

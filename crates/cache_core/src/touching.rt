@@ -1,9 +1,9 @@
-//! What an access does to its set, and to the counts.
-ghost use Rattle.std.specs.Prelude.{◌≡◌, ℕ, ◌-◌, ◌+◌, ◌==◌, ◌%◌, ◌^◌, ◌<◌, length, IfSome, Some, slice_set, slice_index};
+//! What an access and a drop do to their set, and to the counts.
+ghost use Rattle.std.specs.Prelude.{◌≡◌, ℕ, ◌-◌, ◌+◌, ◌==◌, ◌%◌, ◌^◌, ◌<◌, length, IfSome, None, Some, slice_set, slice_index};
 ghost use Rattle.lists.specs.Sums.{one_if, sum_below};
-ghost use Rattle.cache_core.specs.Counted.{IsCounted, Recounts, is_rmid};
+ghost use Rattle.cache_core.specs.Counted.{IsCounted, Recounts, Uncounts, is_rmid};
 ghost use Rattle.cache_core.specs.Places.{set_in, place_in};
-ghost use Rattle.cache_core.specs.Stands.{Touches};
+ghost use Rattle.cache_core.specs.Stands.{Drops, Touches};
 ghost use Rattle.cache_core.specs.declared.touched.Touched.TheVariants.{Filled};
 
 use crate::place::Place;
@@ -37,8 +37,8 @@ pub fn touch(sets: &mut Sets, counts: &mut Counts, set: u32, mask: u32, place: P
     }
 }
 
-/// Fills a place into a way of a set, in place of the line that the way held.
-pub fn fill(sets: &mut Sets, counts: &mut Counts, set: u32, way: u8, place: Place)
+// Fills a place into a way of a set, in place of the line that the way held.
+fn fill(sets: &mut Sets, counts: &mut Counts, set: u32, way: u8, place: Place)
     requires set { set < length sets.old }
     requires way { way < length (set_in sets.old set) }
     requires rmid { place.rmid < length counts.old }
@@ -50,6 +50,37 @@ pub fn fill(sets: &mut Sets, counts: &mut Counts, set: u32, way: u8, place: Plac
 {
     let left = sets.put(set, way, place);
     recount(counts, left, place.rmid);
+}
+
+/// Empties the way of a set that holds a line, and answers it.
+pub fn drop_line(sets: &mut Sets, counts: &mut Counts, set: u32, line: u64) -> Option<u8>
+    requires set { set < length sets.old }
+    requires counted { (way : ℕ) → IfSome (place_in (set_in sets.old set) way) (λ p. IsCounted counts.old p.rmid) }
+    ensures dropped { Drops sets.old sets.new set line result }
+    ensures size { length counts.new ≡ length counts.old }
+    ensures counts { Uncounts counts.old counts.new (set_in sets.old set) result }
+{
+    match sets.find(set, line) {
+        Some(way) => {
+            empty(sets, counts, set, way);
+            Some(way)
+        }
+        None => None,
+    }
+}
+
+// Empties a way of a set.
+fn empty(sets: &mut Sets, counts: &mut Counts, set: u32, way: u8)
+    requires set { set < length sets.old }
+    requires way { way < length (set_in sets.old set) }
+    requires counted { IfSome (place_in (set_in sets.old set) way) (λ p. IsCounted counts.old p.rmid) }
+    ensures emptied { sets.new ≡ slice_set sets.old set (slice_set (set_in sets.old set) way None) }
+    ensures size { length counts.new ≡ length counts.old }
+    ensures counts { Uncounts counts.old counts.new (set_in sets.old set) (Some way) }
+{
+    if let Some(left) = sets.empty(set, way) {
+        counts.sub(left);
+    }
 }
 
 // One line more of an RMID, and one less of that whose line left.

@@ -1,5 +1,5 @@
 -- The texts of entries: no byte of them is escaped in a string.
-use Rattle.std.proofs.Common.{◌≡◌, ℕ, zero, suc, ◌+◌, ◌-◌, ◌/◌, ◌%◌, ◌<◌, ◌≤◌, ◌==◌, Bool, true, false, List, [], ◌∷◌, ◌++◌, length, replicate, refl, ◌∙◌, arith, inl, inr}
+use Rattle.std.proofs.Common.{◌≡◌, ℕ, zero, suc, ◌+◌, ◌-◌, ◌/◌, ◌%◌, ◌<◌, ◌≤◌, ◌==◌, Bool, true, false, List, [], ◌∷◌, ◌++◌, length, replicate, Some, None, refl, ◌∙◌, arith, inl, inr}
 use Rattle.std.specs.Prelude.{codes, decimal}
 use Rattle.std.specs.Fmt.{digit_glyph, digits, digits_onto}
 use Rattle.std.proofs.lemmas.Bool.{cases_Bool, cases_lt, le-ltb, lt-ltb, ne_eqb}
@@ -113,6 +113,9 @@ IsPlain-what_text m (whats.Lock mask first_line) =
     (IsPlain-append (codes "lock" ++ mask_text m mask) (codes " first ") (IsPlain-append (codes "lock") (mask_text m mask) refl (IsPlain-mask_text m mask)) refl)
 IsPlain-what_text m (whats.Look rmid lines) =
     IsPlain-number (codes "look rmid " ++ decimal rmid ++ codes " lines ") lines (IsPlain-append (codes "look rmid " ++ decimal rmid) (codes " lines ") (IsPlain-number (codes "look rmid ") rmid refl) refl)
+IsPlain-what_text m (whats.Drop line (Some way)) =
+    IsPlain-number (codes "drop line " ++ decimal line ++ codes " way ") way (IsPlain-append (codes "drop line " ++ decimal line) (codes " way ") (IsPlain-number (codes "drop line ") line refl) refl)
+IsPlain-what_text m (whats.Drop line None) = IsPlain-append (codes "drop line " ++ decimal line) (codes " none") (IsPlain-number (codes "drop line ") line refl) refl
 
 -- where an entry stands
 IsPlain-entry_place : (p : ℕ) (e : SliceEntry) → IsPlain (entry_place p e)

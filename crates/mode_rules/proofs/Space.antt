@@ -6,7 +6,7 @@ use Rattle.cbm.specs.Masks.{has_way, lowest_run, ways_of}
 use Rattle.cbm.specs.Validity.{is_too_few}
 use Rattle.cbm.proofs.laws.Ways.{has_way-from}
 use Rattle.lists.proofs.Filters.{length-filter_some}
-use Rattle.mode_rules.specs.Space.{space_in}
+use Rattle.mode_rules.specs.Space.{granted_ways, space_in}
 
 -- a mask that is not 0 has a way
 pub length-ways_of : (mask : ℕ) → mask < 2 ^ 64 → mask ≢ 0 → 0 < length (ways_of mask)
@@ -29,5 +29,5 @@ space_in-few g ways lt = either (eqb (length ways) 0) (is_too_few g ways) (lt-lt
     either false false e x = absurd cc
 
 -- a lowest run that is long enough
-pub space_in-some : (g : Geometry) (ways : List ℕ) → 0 < length ways → g.min ≤ length (lowest_run ways) → space_in g ways ≡ Some (lowest_run ways)
+pub space_in-some : (g : Geometry) (ways : List ℕ) → 0 < length ways → g.min ≤ length (lowest_run ways) → space_in g ways ≡ Some (granted_ways g ways)
 space_in-some g ways some le = rw (ne_eqb (length ways) 0 (omega arith), le-ltb (length (lowest_run ways)) g.min le) refl

@@ -9,7 +9,7 @@ use Rattle.mode_rules.specs.declared.overlap.Overlap.{Overlap}
 use Rattle.mode_rules.specs.declared.overlap.Overlap.TheVariants.{Exclusive, Region, Other, Hardware, HasRegion}
 use Rattle.mode_rules.specs.Refusals.{first_of}
 
--- whether the masks of a group of this mode keep apart from all others
+-- whether the masks of a group of this mode keep apart from those of shareable and exclusive groups and from shareable bits
 abbrev pub keeps_apart : Mode → Bool
 keeps_apart Shareable = false
 keeps_apart modes.Exclusive = true

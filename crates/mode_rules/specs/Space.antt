@@ -23,9 +23,13 @@ starting_ways len others = filter (may_start_with others) (range_with_len 0 len)
 abbrev pub has_no_space : Geometry → List ℕ → Bool
 has_no_space g ways = (length ways == 0) || is_too_few g ways
 
--- what a new group gets of these ways where there is space: their lowest run
+-- what a new group gets of these ways: all of them on a sparse machine, and on any other their lowest run
+abbrev pub granted_ways : Geometry → List ℕ → List ℕ
+granted_ways g ways = if g.sparse then ways else lowest_run ways
+
+-- what a new group gets of these ways where there is space
 abbrev pub space_in : Geometry → List ℕ → Option (List ℕ)
-space_in g ways = if has_no_space g ways then None else Some (lowest_run ways)
+space_in g ways = if has_no_space g ways then None else Some (granted_ways g ways)
 
 -- the ways of a new group, where the cache has space for one
 unfoldable pub initial_ways : Geometry → DomainUse → Option (List ℕ)

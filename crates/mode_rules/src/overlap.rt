@@ -14,7 +14,8 @@ pub enum Overlap {
     Exclusive,
     /// It overlaps a pseudo-locked region.
     Region,
-    /// It overlaps the mask of another group, and its own group is exclusive or in pseudo-locksetup.
+    /// It overlaps the mask of another group that is shareable or exclusive, and its own group is exclusive or in
+    /// pseudo-locksetup.
     Other,
     /// It overlaps ways that other hardware uses, and its group is exclusive or in pseudo-locksetup.
     Hardware,

@@ -11,8 +11,9 @@ use cbm::{Geometry, count, lowest_run};
 
 /// The mask of a new group in a cache that others use like this, and None exactly where there is no space.
 ///
-/// It is the lowest run of adjacent ways among those that other hardware or shareable groups use and those that nobody
-/// uses. There is no space where that run has fewer than `min` ways, or there is none (this project's profile).
+/// A new group may start with the ways that other hardware or shareable groups use and those that nobody uses. It gets
+/// all of them on a sparse machine, and on any other their lowest run of adjacent ways. On either there is no space where
+/// that run has fewer than `min` ways, or there is none (this project's profile).
 pub fn initial_mask(others: &DomainUse, g: &Geometry) -> Option<u32>
     requires { g.now.len ≤ 32 }
     ensures ways { option_map ways_of result ≡ initial_ways g.now others.now }
@@ -25,7 +26,7 @@ pub fn initial_mask(others: &DomainUse, g: &Geometry) -> Option<u32>
     if run == 0 || count(run) < u32::from(g.min) {
         return None;
     }
-    Some(run)
+    if g.sparse { Some(ways) } else { Some(run) }
 }
 
 // The ways that a new group may start with.

@@ -17,6 +17,7 @@ fn used(hardware: u32, shared: u32, exclusive: u32, region: u32) -> DomainUse {
     }
 }
 
+// A cache whose masks have no gaps.
 fn geometry(len: u8, min: u8) -> Geometry
     ensures { result.len ≡ len }
 {
@@ -24,6 +25,17 @@ fn geometry(len: u8, min: u8) -> Geometry
         len,
         min,
         sparse: false,
+    }
+}
+
+// A cache whose masks may have gaps.
+fn sparse(len: u8, min: u8) -> Geometry
+    ensures { result.len ≡ len }
+{
+    Geometry {
+        len,
+        min,
+        sparse: true,
     }
 }
 
@@ -76,7 +88,7 @@ fn masks_are_refused_in_order(rt: HostRuntime) {
 }
 
 #[test]
-fn new_groups_get_the_lowest_run(rt: HostRuntime) {
+fn new_groups_get_the_lowest_run_or_all_ways(rt: HostRuntime) {
     for (others, shape, want) in [
         (used(0x0, 0x0, 0x0, 0x0), geometry(8, 1), Some(0xff)),
         (
@@ -94,6 +106,10 @@ fn new_groups_get_the_lowest_run(rt: HostRuntime) {
         (used(0xc0, 0x0, 0x3f, 0x0), geometry(8, 1), Some(0xc0)),
         (used(0x0, 0x5, 0xa, 0x0), geometry(4, 1), Some(0x1)),
         (used(0x0, 0x0, 0x0, 0x3), geometry(4, 1), Some(0xc)),
+        (used(0x0, 0x0, 0x5, 0x0), sparse(4, 1), Some(0xa)),
+        (used(0x0, 0x1, 0x4, 0x20), sparse(8, 2), Some(0xdb)),
+        (used(0x0, 0x0, 0x2, 0x0), sparse(8, 2), None),
+        (used(0x0, 0x0, 0xf, 0x0), sparse(4, 1), None),
     ] {
         assert_eq!(rt; initial_mask(&others, &shape), want, "{others:?} {shape:?}");
     }

@@ -1,5 +1,5 @@
 -- Numbers of which one is changed, and their sum.
-use Rattle.std.proofs.Common.{◌≡◌, ℕ, zero, suc, ◌+◌, ◌<◌, ◌≤◌, ◌==◌, false, cond, List, length, set, get_or, replicate, refl, ap, sym, ◌∙◌, arith, inl, inr}
+use Rattle.std.proofs.Common.{◌≡◌, ℕ, zero, suc, ◌+◌, ◌<◌, ◌≤◌, ◌==◌, false, cond, List, length, set, get_or, refl, ap, sym, ◌∙◌, arith, inl, inr}
 use Rattle.std.proofs.lemmas.Bool.{cases_Bool, cases_lt, eqb-true, eqb-false}
 use Rattle.std.proofs.lemmas.List.{get_or-set_same, get_or-set_other}
 use Rattle.std.proofs.Math.ListN.{get_or-eq_default}
@@ -13,20 +13,20 @@ get_or-set_more xs k r y d within is = elim (cases_Bool (k == r)) [
   | inr other ↦ rw other (get_or-set_other xs k r y 0 (λ e. eqb-false k r other (sym e)) ∙ omega arith)
 ]
 
--- a sum of which one number grows by 1
-pub sum_below-one_more : (n k : ℕ) (f g : ℕ → ℕ) → k < n → ((r : ℕ) → g r ≡ f r + one_if (k == r)) → sum_below n g ≡ sum_below n f + 1
-sum_below-one_more zero k f g within more = absurd (omega arith)
-sum_below-one_more (suc n) k f g within more = elim (cases_Bool (k == n)) [
+-- a sum of which one number grows by d
+pub sum_below-more : (n k d : ℕ) (f g : ℕ → ℕ) → k < n → ((r : ℕ) → g r ≡ f r + cond (k == r) d 0) → sum_below n g ≡ sum_below n f + d
+sum_below-more zero k d f g within more = absurd (omega arith)
+sum_below-more (suc n) k d f g within more = elim (cases_Bool (k == n)) [
   | inl same ↦
       let is : k ≡ n = eqb-true k n same in
-      let rest : sum_below n g ≡ sum_below n f = sum_below-same n g f (λ r l. more r ∙ ap (λ b. f r + one_if b) (apart r l is) ∙ omega arith) in
-      let last : g n ≡ f n + 1 = more n ∙ ap (λ b. f n + one_if b) same in
+      let rest : sum_below n g ≡ sum_below n f = sum_below-same n g f (λ r l. more r ∙ ap (λ b. f r + cond b d 0) (apart r l is) ∙ omega arith) in
+      let last : g n ≡ f n + d = more n ∙ ap (λ b. f n + cond b d 0) same in
       omega arith
   | inr other ↦
       let ne : k ≡ n → ⊥ = eqb-false k n other in
       let less : k < n = elim (cases_lt k n) [ inl l ↦ l | inr l ↦ absurd (ne (omega arith)) ] in
-      let rest : sum_below n g ≡ sum_below n f + 1 = sum_below-one_more n k f g less more in
-      let last : g n ≡ f n + 0 = more n ∙ ap (λ b. f n + one_if b) other in
+      let rest : sum_below n g ≡ sum_below n f + d = sum_below-more n k d f g less more in
+      let last : g n ≡ f n + 0 = more n ∙ ap (λ b. f n + cond b d 0) other in
       omega arith
 ]
   where
@@ -57,12 +57,6 @@ get_or-set_less xs k r y within is = elim (cases_Bool (k == r)) [
 -- numbers that are all 0 have the sum 0
 pub sum_below-none : (n : ℕ) (f : ℕ → ℕ) → ((r : ℕ) → f r ≡ 0) → 0 ≡ sum_below n f
 sum_below-none n f none = sym (sum_below-zero n f (λ k _. none k))
-
--- a list of zeros has zero everywhere
-pub get_or-zeros : (n r : ℕ) → get_or {A = ℕ} (replicate n 0) r 0 ≡ 0
-get_or-zeros zero r = refl
-get_or-zeros (suc n) zero = refl
-get_or-zeros (suc n) (suc r) = get_or-zeros n r
 
 -- numbers whose sum is 0 are all 0
 pub get_or-none : (xs : List ℕ) → 0 ≡ sum_below (length xs) (λ k. get_or xs k 0) → (r : ℕ) → get_or xs r 0 ≡ 0

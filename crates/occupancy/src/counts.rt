@@ -45,6 +45,17 @@ impl Counts {
         self.total += 1;
     }
 
+    /// So many lines more of this RMID.
+    pub fn add_lines(&mut self, rmid: u16, lines: u64)
+        requires rmid { rmid < length self.old }
+        requires room { sum_below (length self.old) (slice_index self.old) + lines < 2 ^ 64 }
+        ensures size { length self.new ≡ length self.old }
+        ensures more { (r : ℕ) → slice_index self.new r ≡ slice_index self.old r + (if rmid == r then lines else 0) }
+    {
+        self.each[rmid as usize] += lines;
+        self.total += lines;
+    }
+
     /// One line less of this RMID.
     pub fn sub(&mut self, rmid: u16)
         requires rmid { rmid < length self.old }

@@ -4,7 +4,7 @@ use Rattle.std.specs.List.{filter, list_any, position, position_or_len, prefix_l
 use Rattle.std.proofs.lemmas.Bool.{and_parts, cases_Bool, ltb-false, true≢false, false≢true}
 use Rattle.std.proofs.lemmas.List.Folds.{list_any-append}
 use Rattle.cache_core.specs.declared.entry.What.{What}
-use Rattle.cache_core.specs.declared.entry.What.TheVariants.{Access, Raise, Flush, Lock, Look}
+use Rattle.cache_core.specs.declared.entry.What.TheVariants.{Access, Raise, Flush, Lock, Look, Drop}
 use Rattle.cache_core.specs.declared.entry.SliceEntry.{SliceEntry}
 use Rattle.std.proofs.lemmas.List.Sums.{length-filter}
 use Rattle.private_lru.specs.Counted.{hits_of_group, is_own_hit}
@@ -40,6 +40,7 @@ is_own-other_use group window Raise other = refl
 is_own-other_use group window Flush other = refl
 is_own-other_use group window (Lock mask first_line) other = refl
 is_own-other_use group window (Look rmid lines) other = refl
+is_own-other_use group window (Drop line at) other = refl
 
 module _ (sets group : ℕ) (opening : What) (window : List SliceEntry) where
   abbrev other : SliceEntry → Bool
@@ -95,6 +96,7 @@ is_own-hit group Raise is = is
 is_own-hit group Flush is = is
 is_own-hit group (Lock mask first_line) is = is
 is_own-hit group (Look rmid lines) is = is
+is_own-hit group (Drop line at) is = is
 
 -- so all hits are among its accesses
 pub hits_of_group-filter : (group : ℕ) (es : List SliceEntry) → hits_of_group group (filter (λ (e : SliceEntry). is_own group e.what) es) ≡ hits_of_group group es

@@ -1,5 +1,5 @@
 -- What the ways of the mask keep after each entry of a window.
-use Rattle.std.proofs.Common.{◌≡◌, ℕ, ◌+◌, ◌%◌, ◌*◌, ◌<◌, ◌≤◌, Bool, true, false, not, ◌&&◌, ◌==◌, List, [], ◌∷◌, ◌++◌, length, reverse, Option, Some, None, IsSome, arith, refl, sym, ◌∙◌, ap, subst, inl, inr}
+use Rattle.std.proofs.Common.{◌≡◌, ℕ, ◌+◌, ◌%◌, ◌*◌, ◌<◌, ◌≤◌, Bool, true, false, not, ◌&&◌, ◌==◌, List, [], ◌∷◌, ◌++◌, cond, length, reverse, Option, Some, None, IsSome, arith, refl, sym, ◌∙◌, ap, subst, inl, inr}
 use Rattle.std.specs.Prelude.{MatchBool}
 use Rattle.std.proofs.Math.Path.{fun_ext}
 use Rattle.std.proofs.lemmas.Bool.{cases_Bool, eqb-true, eq-eqb, true≢false, false≢true, cond-false}
@@ -7,39 +7,43 @@ use Rattle.std.proofs.lemmas.Option.{none-some}
 use Rattle.std.proofs.lemmas.List.{append_assoc, append-nil, reverse-append}
 use Rattle.rc_base.specs.declared.names.Gid.{Gid}
 use Rattle.cache_core.specs.declared.entry.What.{What}
-use Rattle.cache_core.specs.declared.entry.What.TheVariants.{Access, Raise, Flush, Lock, Look}
+use Rattle.cache_core.specs.declared.entry.What.TheVariants.{Access, Raise, Flush, Lock, Look, Drop}
 use Rattle.cache_core.specs.declared.entry.SliceEntry.{SliceEntry}
 use Rattle.rc_base.specs.Follows.{GoesOn}
 use Rattle.cbm.specs.Masks.{has_way, overlaps}
 use Rattle.cbm.proofs.laws.Overlaps.{has_way-apart}
-use Rattle.cache_core.specs.Fills.{Resident, IsOutcome}
+use Rattle.cache_core.specs.Filled.{empties}
+use Rattle.cache_core.specs.Fills.{Resident, IsOutcome, IsPlaceOf}
 use Rattle.cache_core.specs.History.{Shape, ways_below, held, used, decides, left_by, uses, EntryMayFollow, MayHappen}
 use Rattle.cache_core.specs.Stands.{entry}
 use Rattle.cache_core.proofs.laws.Histories.{held-push, used-push, used-le}
-use Rattle.private_lru.specs.Private.{without}
+use Rattle.private_lru.specs.Private.{among, without}
+use Rattle.private_lru.specs.declared.item.Item.{Item}
+use Rattle.private_lru.specs.declared.item.Item.TheVariants.{Drop as Dropped}
 use Rattle.private_lru.specs.Covered.{item_of, items}
 use Rattle.private_lru.specs.Isolation.{Opens}
 use Rattle.private_lru.proofs.OtherUsers.{Loads}
-use Rattle.private_lru.proofs.Recency.{kept}
-use Rattle.private_lru.proofs.KeptWays.{Keeps, Keeps-used, Keeps-passed, Keeps-emptied, has_way-other}
+use Rattle.private_lru.proofs.Recency.{kept, without-absent}
+use Rattle.private_lru.proofs.KeptWays.{Keeps, Keeps-used, Keeps-passed, Keeps-emptied, Keeps-dropped, among-nowhere, has_way-foreign, has_way-other}
 use Rattle.private_lru.proofs.WayLines.{line_in, Some-same}
 
+-- a line that passes a test
+abbrev pub Own : (ℕ → Bool) → ℕ → Type 0
+Own own x = own x ≡ true
+
 -- an entry of the window before which no other user was seen
-abbrev pub Fits : ℕ → ℕ → (ℕ → Type 0) → What → Type 0
-Fits group mask Own (Access hit way owner rmid its line) = MatchBool (owner.0 == group) ((its ≡ mask) × Own line) (overlaps its mask ≡ false × (Own line → ⊥))
-Fits group mask Own Raise = Unit {0}
-Fits group mask Own Flush = ⊥
-Fits group mask Own (Lock others first_line) = ⊥
-Fits group mask Own (Look rmid lines) = Unit {0}
+abbrev pub Fits : ℕ → ℕ → (ℕ → Bool) → What → Type 0
+Fits group mask own (Access hit way owner rmid its line) = MatchBool (owner.0 == group) ((its ≡ mask) × (own line ≡ true)) (overlaps its mask ≡ false × (own line ≡ true → ⊥))
+Fits group mask own what = empties what ≡ false
 
 -- entries of which each fits
-abbrev pub AllFit : ℕ → ℕ → (ℕ → Type 0) → List SliceEntry → Type 0
-AllFit group mask Own [] = Unit {0}
-AllFit group mask Own (e ∷ es) = Fits group mask Own e.what × AllFit group mask Own es
+abbrev pub AllFit : ℕ → ℕ → (ℕ → Bool) → List SliceEntry → Type 0
+AllFit group mask own [] = Unit {0}
+AllFit group mask own (e ∷ es) = Fits group mask own e.what × AllFit group mask own es
 
 -- the places of a set after a history keep these lines
-abbrev pub KeepsAfter : Shape → ℕ → (ℕ → Type 0) → ℕ → List SliceEntry → List ℕ → Type 0
-KeepsAfter m mask Own set history back = (order : List ℕ) × Keeps m.ways mask Own (held m history set) (used m history set) order (kept (ways_below mask m.ways) back)
+abbrev pub KeepsAfter : Shape → ℕ → (ℕ → Bool) → ℕ → List SliceEntry → List Item → Type 0
+KeepsAfter m mask own set history back = (order : List ℕ) × Keeps m.ways mask (Own own) (held m history set) (used m history set) order (kept (ways_below mask m.ways) back)
 
 -- of three tests the third fails
 pub and-third_false : (a b c : Bool) → c ≡ false → (a && b && c) ≡ false
@@ -66,16 +70,16 @@ and-left_false true b h = absurd (true≢false h)
 and-left_false false b h = refl
 
 -- an entry that touches no place of the set
-KeepsAfter-unchanged : (m : Shape) (mask set : ℕ) (Own : ℕ → Type 0) (history : List SliceEntry) (e : SliceEntry) (back : List ℕ)
+KeepsAfter-unchanged : (m : Shape) (mask set : ℕ) (own : ℕ → Bool) (history : List SliceEntry) (e : SliceEntry) (back : List Item)
     → ((w : ℕ) → decides m set w e.what ≡ false) → ((w : ℕ) → uses m set w e.what ≡ false)
-    → KeepsAfter m mask Own set history back → KeepsAfter m mask Own set (history ++ e ∷ []) back
-KeepsAfter-unchanged m mask set Own history e back keep idle keeps =
+    → KeepsAfter m mask own set history back → KeepsAfter m mask own set (history ++ e ∷ []) back
+KeepsAfter-unchanged m mask set own history e back keep idle keeps =
     let same : held m history set ≡ held m (history ++ e ∷ []) set = fun_ext (λ w. sym (held-push m history e set w ∙ cond-false (decides m set w e.what) _ _ (keep w))) in
     let old : used m history set ≡ used m (history ++ e ∷ []) set = fun_ext (λ w. sym (used-push m history e set w ∙ cond-false (uses m set w e.what) _ _ (idle w))) in
     let lines : List ℕ = kept (ways_below mask m.ways) back in (
       keeps.0,
-      subst (λ (a : ℕ → ℕ). Keeps m.ways mask Own (held m (history ++ e ∷ []) set) a keeps.0 lines) old
-          (subst (λ (r : ℕ → Option Resident). Keeps m.ways mask Own r (used m history set) keeps.0 lines) same keeps.1),
+      subst (λ (a : ℕ → ℕ). Keeps m.ways mask (Own own) (held m (history ++ e ∷ []) set) a keeps.0 lines) old
+          (subst (λ (r : ℕ → Option Resident). Keeps m.ways mask (Own own) r (used m history set) keeps.0 lines) same keeps.1),
     )
 
 -- an access uses its way and leaves its line there
@@ -89,17 +93,17 @@ held-access m history thread op epoch owner rmid its line way set false at outco
     ap line_in (held-push m history (entry thread op epoch (Access false way owner rmid its line)) set way) ∙ rw (at, there) refl
 
 -- an access more
-KeepsAfter-access : (m : Shape) (narrow : m.ways ≤ 64) (group mask set : ℕ) (Own : ℕ → Type 0) (history : List SliceEntry) (thread op epoch : ℕ) (owner : Gid) (rmid its line way : ℕ) (hit : Bool) (back : List ℕ)
-    → MayHappen m history epoch (Access hit way owner rmid its line) → Fits group mask Own (Access hit way owner rmid its line)
-    → KeepsAfter m mask Own set history back
-    → KeepsAfter m mask Own set (history ++ entry thread op epoch (Access hit way owner rmid its line) ∷ []) (reverse (item_of m.sets group set (Access hit way owner rmid its line)) ++ back)
-KeepsAfter-access m narrow group mask set Own history thread op epoch owner rmid its line way hit back may fits keeps =
+KeepsAfter-access : (m : Shape) (narrow : m.ways ≤ 64) (group mask set : ℕ) (own : ℕ → Bool) (history : List SliceEntry) (thread op epoch : ℕ) (owner : Gid) (rmid its line way : ℕ) (hit : Bool) (back : List Item)
+    → MayHappen m history epoch (Access hit way owner rmid its line) → Fits group mask own (Access hit way owner rmid its line)
+    → KeepsAfter m mask own set history back
+    → KeepsAfter m mask own set (history ++ entry thread op epoch (Access hit way owner rmid its line) ∷ []) (reverse (item_of m.sets group set own (Access hit way owner rmid its line)) ++ back)
+KeepsAfter-access m narrow group mask set own history thread op epoch owner rmid its line way hit back may fits keeps =
     let e : SliceEntry = entry thread op epoch (Access hit way owner rmid its line) in
     elim (cases_Bool (line % m.sets == set)) [
       | inr c ↦
           let none : ((owner.0 == group) && (line % m.sets == set)) ≡ false = and-right_false (owner.0 == group) _ c in
           rw none
-          (KeepsAfter-unchanged m mask set Own history e back (λ w. and-second_false (not hit) (line % m.sets == set) (way == w) c) (λ w. and-left_false (line % m.sets == set) (way == w) c) keeps)
+          (KeepsAfter-unchanged m mask set own history e back (λ w. and-second_false (not hit) (line % m.sets == set) (way == w) c) (λ w. and-left_false (line % m.sets == set) (way == w) c) keeps)
       | inl c ↦
           let outcome : IsOutcome m.ways its (held m history set) (used m history set) line hit way =
           subst (λ s. IsOutcome m.ways its (held m history s) (used m history s) line hit way) (eqb-true (line % m.sets) set c) may.1 in
@@ -111,67 +115,128 @@ KeepsAfter-access m narrow group mask set Own history thread op epoch owner rmid
           let there : (way == way) ≡ true = eq-eqb way way refl in
           elim (cases_Bool (owner.0 == group)) [
             | inl o ↦
-                let own : (its ≡ mask) × Own line = rw o at fits in
+                let mine : (its ≡ mask) × (own line ≡ true) = rw o at fits in
                 let outcome' : IsOutcome m.ways mask (held m history set) (used m history set) line hit way =
-                subst (λ k. IsOutcome m.ways k (held m history set) (used m history set) line hit way) own.0 outcome in
+                subst (λ k. IsOutcome m.ways k (held m history set) (used m history set) line hit way) mine.0 outcome in
                 let age_now : used m (history ++ e ∷ []) set way ≡ length history + 1 = used-push m history e set way ∙ rw (c, there) refl in
                 rw (o, c) (
                   way ∷ without way keeps.0,
-                  Keeps-used m.ways mask line way (length history + 1) hit Own (held m history set) (held m (history ++ e ∷ []) set) (used m history set) (used m (history ++ e ∷ []) set) keeps.0 _ own.1 outcome'
+                  Keeps-used m.ways mask line way (length history + 1) hit (Own own) (held m history set) (held m (history ++ e ∷ []) set) (used m history set) (used m (history ++ e ∷ []) set) keeps.0 _ mine.1 outcome'
                       same now same_age age_now (λ u. let l : used m history set u ≤ length history = used-le m history set u in omega arith) keeps.1,
                 )
             | inr o ↦
-                let other : overlaps its mask ≡ false × (Own line → ⊥) = rw o at fits in
+                let other : overlaps its mask ≡ false × (own line ≡ true → ⊥) = rw o at fits in
                 let none : ((owner.0 == group) && (line % m.sets == set)) ≡ false = and-left_false (owner.0 == group) _ o in
                 rw none (
                   keeps.0,
-                  Keeps-passed m.ways mask way Own (held m history set) (held m (history ++ e ∷ []) set) (used m history set) (used m (history ++ e ∷ []) set) keeps.0 _
-                      (has_way-other m.ways mask its line way hit Own (held m history set) (used m history set) keeps.0 _ narrow other.0 other.1 outcome keeps.1)
-                      same (λ y h f. other.1 (subst Own (Some-same (sym h ∙ now)) f)) same_age keeps.1,
+                  Keeps-passed m.ways mask way (Own own) (held m history set) (held m (history ++ e ∷ []) set) (used m history set) (used m (history ++ e ∷ []) set) keeps.0 _
+                      (has_way-other m.ways mask its line way hit (Own own) (held m history set) (used m history set) keeps.0 _ narrow other.0 other.1 outcome keeps.1)
+                      same (λ y h f. other.1 (subst (Own own) (Some-same (sym h ∙ now)) f)) same_age keeps.1,
                 )
           ]
     ]
 
+-- a drop in this set
+KeepsAfter-drop : (m : Shape) (group mask set : ℕ) (own : ℕ → Bool) (history : List SliceEntry) (thread op epoch line : ℕ) (at : Option ℕ) (back : List Item)
+    → (line % m.sets == set) ≡ true → IsPlaceOf m.ways (held m history set) line at → KeepsAfter m mask own set history back
+    → KeepsAfter m mask own set (history ++ entry thread op epoch (Drop line at) ∷ []) (cond (own line) (Dropped line ∷ back) back)
+KeepsAfter-drop m group mask set own history thread op epoch line None back c place keeps =
+    let e : SliceEntry = entry thread op epoch (Drop line None) in
+    let lines : List ℕ = kept (ways_below mask m.ways) back in
+    let after = KeepsAfter-unchanged m mask set own history e back (λ _. refl) (λ _. refl) keeps in
+    let absent : among line lines ≡ false = among-nowhere m.ways mask line (Own own) (held m history set) (used m history set) keeps.0 lines place keeps.1 in
+    let less : lines ≡ without line lines = sym (without-absent line lines absent) in
+    elim (cases_Bool (own line)) [
+      | inl k ↦ rw k (after.0, subst (λ (l : List ℕ). Keeps m.ways mask (Own own) (held m (history ++ e ∷ []) set) (used m (history ++ e ∷ []) set) after.0 l) less after.1)
+      | inr k ↦ rw k after
+    ]
+KeepsAfter-drop m group mask set own history thread op epoch line (Some way) back c place keeps =
+    let e : SliceEntry = entry thread op epoch (Drop line (Some way)) in
+    let lines : List ℕ = kept (ways_below mask m.ways) back in
+    let there : (way == way) ≡ true = eq-eqb way way refl in
+    let same : (u : ℕ) → (way == u) ≡ false → held m (history ++ e ∷ []) set u ≡ held m history set u =
+    λ u k. held-push m history e set u ∙ cond-false (decides m set u e.what) _ _ (and-right_false (line % m.sets == set) (way == u) k) in
+    let none : held m (history ++ e ∷ []) set way ≡ None = held-push m history e set way ∙ rw (c, there) refl in
+    let old : (u : ℕ) → used m (history ++ e ∷ []) set u ≡ used m history set u = λ u. used-push m history e set u in
+    elim (cases_Bool (own line)) [
+      | inl k ↦
+          rw k (
+            without way keeps.0,
+            subst (λ (a : ℕ → ℕ). Keeps m.ways mask (Own own) (held m (history ++ e ∷ []) set) a (without way keeps.0) (without line lines)) (sym (fun_ext old))
+                (Keeps-dropped m.ways mask line way (Own own) (held m history set) (held m (history ++ e ∷ []) set) (used m history set) keeps.0 lines k place.0 place.1 same none keeps.1),
+          )
+      | inr k ↦
+          let foreign : own line ≡ true → ⊥ = λ t. true≢false (sym t ∙ k) in
+          rw k (
+            keeps.0,
+            Keeps-passed m.ways mask way (Own own) (held m history set) (held m (history ++ e ∷ []) set) (used m history set) (used m (history ++ e ∷ []) set) keeps.0 lines
+                (has_way-foreign m.ways mask line way (Own own) (held m history set) (used m history set) keeps.0 lines foreign place.0 place.1 keeps.1)
+                same (λ y h f. none-some y (sym (ap line_in none) ∙ h)) (λ u _. old u) keeps.1,
+          )
+    ]
+
+-- the item of a drop in this set
+reverse-dropped : (b c : Bool) (line : ℕ) (back : List Item) → c ≡ true → cond b (Dropped line ∷ back) back ≡ reverse (cond (b && c) (Dropped line ∷ []) []) ++ back
+reverse-dropped true c line back h = rw h refl
+reverse-dropped false c line back h = refl
+
+-- a drop in another set
+KeepsAfter-drop_elsewhere : (m : Shape) (mask set : ℕ) (own : ℕ → Bool) (history : List SliceEntry) (thread op epoch line : ℕ) (at : Option ℕ) (back : List Item)
+    → (line % m.sets == set) ≡ false → KeepsAfter m mask own set history back → KeepsAfter m mask own set (history ++ entry thread op epoch (Drop line at) ∷ []) back
+KeepsAfter-drop_elsewhere m mask set own history thread op epoch line None back c keeps = KeepsAfter-unchanged m mask set own history (entry thread op epoch (Drop line None)) back (λ _. refl) (λ _. refl) keeps
+KeepsAfter-drop_elsewhere m mask set own history thread op epoch line (Some way) back c keeps =
+    KeepsAfter-unchanged m mask set own history (entry thread op epoch (Drop line (Some way))) back (λ w. and-left_false (line % m.sets == set) (way == w) c) (λ _. refl) keeps
+
 -- one entry more
-KeepsAfter-push : (m : Shape) (narrow : m.ways ≤ 64) (group mask set : ℕ) (Own : ℕ → Type 0) (history : List SliceEntry) (thread op epoch : ℕ) (what : What) (back : List ℕ)
-    → MayHappen m history epoch what → Fits group mask Own what
-    → KeepsAfter m mask Own set history back
-    → KeepsAfter m mask Own set (history ++ entry thread op epoch what ∷ []) (reverse (item_of m.sets group set what) ++ back)
-KeepsAfter-push m narrow group mask set Own history thread op epoch (Access hit way owner rmid its line) back may fits keeps = KeepsAfter-access m narrow group mask set Own history thread op epoch owner rmid its line way hit back may fits keeps
-KeepsAfter-push m narrow group mask set Own history thread op epoch Raise back may fits keeps = KeepsAfter-unchanged m mask set Own history (entry thread op epoch Raise) back (λ _. refl) (λ _. refl) keeps
-KeepsAfter-push m narrow group mask set Own history thread op epoch Flush back may fits keeps = absurd fits
-KeepsAfter-push m narrow group mask set Own history thread op epoch (Lock others first_line) back may fits keeps = absurd fits
-KeepsAfter-push m narrow group mask set Own history thread op epoch (Look rmid lines) back may fits keeps = KeepsAfter-unchanged m mask set Own history (entry thread op epoch (Look rmid lines)) back (λ _. refl) (λ _. refl) keeps
+KeepsAfter-push : (m : Shape) (narrow : m.ways ≤ 64) (group mask set : ℕ) (own : ℕ → Bool) (history : List SliceEntry) (thread op epoch : ℕ) (what : What) (back : List Item)
+    → MayHappen m history epoch what → Fits group mask own what
+    → KeepsAfter m mask own set history back
+    → KeepsAfter m mask own set (history ++ entry thread op epoch what ∷ []) (reverse (item_of m.sets group set own what) ++ back)
+KeepsAfter-push m narrow group mask set own history thread op epoch (Access hit way owner rmid its line) back may fits keeps = KeepsAfter-access m narrow group mask set own history thread op epoch owner rmid its line way hit back may fits keeps
+KeepsAfter-push m narrow group mask set own history thread op epoch Raise back may fits keeps = KeepsAfter-unchanged m mask set own history (entry thread op epoch Raise) back (λ _. refl) (λ _. refl) keeps
+KeepsAfter-push m narrow group mask set own history thread op epoch Flush back may fits keeps = absurd (true≢false fits)
+KeepsAfter-push m narrow group mask set own history thread op epoch (Lock others first_line) back may fits keeps = absurd (true≢false fits)
+KeepsAfter-push m narrow group mask set own history thread op epoch (Look rmid lines) back may fits keeps = KeepsAfter-unchanged m mask set own history (entry thread op epoch (Look rmid lines)) back (λ _. refl) (λ _. refl) keeps
+KeepsAfter-push m narrow group mask set own history thread op epoch (Drop line at) back may fits keeps =
+    elim (cases_Bool (line % m.sets == set)) [
+      | inl c ↦
+          let place : IsPlaceOf m.ways (held m history set) line at = subst (λ s. IsPlaceOf m.ways (held m history s) line at) (eqb-true (line % m.sets) set c) may.1 in
+          subst (λ (l : List Item). KeepsAfter m mask own set (history ++ entry thread op epoch (Drop line at) ∷ []) l) (reverse-dropped (own line) (line % m.sets == set) line back c)
+          (KeepsAfter-drop m group mask set own history thread op epoch line at back c place keeps)
+      | inr c ↦
+          let none : (own line && (line % m.sets == set)) ≡ false = and-right_false (own line) _ c in
+          rw none (KeepsAfter-drop_elsewhere m mask set own history thread op epoch line at back c keeps)
+    ]
 
 -- all the entries
-pub KeepsAfter-append : (m : Shape) (narrow : m.ways ≤ 64) (group mask set : ℕ) (Own : ℕ → Type 0) (history entries : List SliceEntry) (back : List ℕ)
-    → GoesOn (EntryMayFollow m) history entries → AllFit group mask Own entries
-    → KeepsAfter m mask Own set history back
-    → KeepsAfter m mask Own set (history ++ entries) (reverse (items m.sets group set entries) ++ back)
-KeepsAfter-append m narrow group mask set Own history [] back goes fits keeps = subst (λ h. KeepsAfter m mask Own set h back) (sym (append-nil history)) keeps
-KeepsAfter-append m narrow group mask set Own history (e ∷ es) back goes fits keeps =
-    let first : List ℕ = item_of m.sets group set e.what in
-    let rest : List ℕ = items m.sets group set es in
-    let one : KeepsAfter m mask Own set (history ++ e ∷ []) (reverse first ++ back) = KeepsAfter-push m narrow group mask set Own history e.thread e.op e.epoch e.what back goes.0 fits.0 keeps in
-    let all : KeepsAfter m mask Own set ((history ++ e ∷ []) ++ es) (reverse rest ++ (reverse first ++ back)) = KeepsAfter-append m narrow group mask set Own (history ++ e ∷ []) es (reverse first ++ back) goes.1 fits.1 one in
+pub KeepsAfter-append : (m : Shape) (narrow : m.ways ≤ 64) (group mask set : ℕ) (own : ℕ → Bool) (history entries : List SliceEntry) (back : List Item)
+    → GoesOn (EntryMayFollow m) history entries → AllFit group mask own entries
+    → KeepsAfter m mask own set history back
+    → KeepsAfter m mask own set (history ++ entries) (reverse (items m.sets group set own entries) ++ back)
+KeepsAfter-append m narrow group mask set own history [] back goes fits keeps = subst (λ h. KeepsAfter m mask own set h back) (sym (append-nil history)) keeps
+KeepsAfter-append m narrow group mask set own history (e ∷ es) back goes fits keeps =
+    let first : List Item = item_of m.sets group set own e.what in
+    let rest : List Item = items m.sets group set own es in
+    let one : KeepsAfter m mask own set (history ++ e ∷ []) (reverse first ++ back) = KeepsAfter-push m narrow group mask set own history e.thread e.op e.epoch e.what back goes.0 fits.0 keeps in
+    let all : KeepsAfter m mask own set ((history ++ e ∷ []) ++ es) (reverse rest ++ (reverse first ++ back)) = KeepsAfter-append m narrow group mask set own (history ++ e ∷ []) es (reverse first ++ back) goes.1 fits.1 one in
     let lines : reverse rest ++ (reverse first ++ back) ≡ reverse (first ++ rest) ++ back = sym (append_assoc (reverse rest) (reverse first) back) ∙ ap (λ l. l ++ back) (sym (reverse-append first rest)) in
-    subst (λ l. KeepsAfter m mask Own set (history ++ e ∷ es) l) lines (subst (λ h. KeepsAfter m mask Own set h (reverse rest ++ (reverse first ++ back))) (append_assoc history (e ∷ []) es) all)
+    subst (λ l. KeepsAfter m mask own set (history ++ e ∷ es) l) lines (subst (λ h. KeepsAfter m mask own set h (reverse rest ++ (reverse first ++ back))) (append_assoc history (e ∷ []) es) all)
 
 -- what a window's opening leaves in a set
-pub KeepsAfter-opening : (m : Shape) (narrow : m.ways ≤ 64) (group mask set : ℕ) (Own : ℕ → Type 0) (history : List SliceEntry) (thread op epoch : ℕ) (what : What)
-    → set < m.sets → Opens mask what → ((x : ℕ) → Own x → Loads m what x → ⊥)
-    → KeepsAfter m mask Own set (history ++ entry thread op epoch what ∷ []) []
-KeepsAfter-opening m narrow group mask set Own history thread op epoch (Access hit way owner rmid its line) inside opens free = absurd opens
-KeepsAfter-opening m narrow group mask set Own history thread op epoch Raise inside opens free = absurd opens
-KeepsAfter-opening m narrow group mask set Own history thread op epoch Flush inside opens free =
+pub KeepsAfter-opening : (m : Shape) (narrow : m.ways ≤ 64) (group mask set : ℕ) (own : ℕ → Bool) (history : List SliceEntry) (thread op epoch : ℕ) (what : What)
+    → set < m.sets → Opens mask what → ((x : ℕ) → own x ≡ true → Loads m what x → ⊥)
+    → KeepsAfter m mask own set (history ++ entry thread op epoch what ∷ []) []
+KeepsAfter-opening m narrow group mask set own history thread op epoch (Access hit way owner rmid its line) inside opens free = absurd opens
+KeepsAfter-opening m narrow group mask set own history thread op epoch Raise inside opens free = absurd opens
+KeepsAfter-opening m narrow group mask set own history thread op epoch Flush inside opens free =
     let e : SliceEntry = entry thread op epoch Flush in
     let none : (w : ℕ) → held m (history ++ e ∷ []) set w ≡ None = λ w. held-push m history e set w in (
       [],
-      Keeps-emptied m.ways mask Own (held m (history ++ e ∷ []) set) (used m (history ++ e ∷ []) set)
+      Keeps-emptied m.ways mask (Own own) (held m (history ++ e ∷ []) set) (used m (history ++ e ∷ []) set)
           (λ v l k s. false≢true (subst (λ (o : Option Resident). IsSome o) (none v) s))
           (λ v y l k h o. none-some y (sym (ap line_in (none v)) ∙ h)),
     )
-KeepsAfter-opening m narrow group mask set Own history thread op epoch (Lock others first_line) inside opens free =
+KeepsAfter-opening m narrow group mask set own history thread op epoch (Lock others first_line) inside opens free =
     let e : SliceEntry = entry thread op epoch (Lock others first_line) in
     let is : (w : ℕ) → held m (history ++ e ∷ []) set w ≡ left_by m set w (Lock others first_line) = λ w. held-push m history e set w in
     let locked : (w : ℕ) → IsSome (held m (history ++ e ∷ []) set w) → has_way others w ≡ true = λ w s. elim (cases_Bool (has_way others w)) [
@@ -179,7 +244,7 @@ KeepsAfter-opening m narrow group mask set Own history thread op epoch (Lock oth
       | inr k ↦ absurd (false≢true (rw k at (subst (λ (o : Option Resident). IsSome o) (is w) s)))
     ] in (
       [],
-      Keeps-emptied m.ways mask Own (held m (history ++ e ∷ []) set) (used m (history ++ e ∷ []) set)
+      Keeps-emptied m.ways mask (Own own) (held m (history ++ e ∷ []) set) (used m (history ++ e ∷ []) set)
           (λ v l k s. true≢false (sym k ∙ has_way-apart others mask v opens (omega arith) (locked v s)))
           (λ v y l k h o. elim (cases_Bool (has_way others v)) [
             | inl b ↦
@@ -188,4 +253,5 @@ KeepsAfter-opening m narrow group mask set Own history thread op epoch (Lock oth
             | inr b ↦ let no : None ≡ Some y = rw b at (sym (ap line_in (is v)) ∙ h) in none-some y no
           ]),
     )
-KeepsAfter-opening m narrow group mask set Own history thread op epoch (Look rmid lines) inside opens free = absurd opens
+KeepsAfter-opening m narrow group mask set own history thread op epoch (Look rmid lines) inside opens free = absurd opens
+KeepsAfter-opening m narrow group mask set own history thread op epoch (Drop line at) inside opens free = absurd opens

@@ -8,9 +8,9 @@ use Rattle.cbm.proofs.laws.Overlaps.{has_way-apart}
 use Rattle.cache_core.specs.Fills.{Resident, Holds, IsVictim, IsOutcome}
 use Rattle.cache_core.specs.History.{ways_below}
 use Rattle.private_lru.specs.Private.{among, without}
-use Rattle.private_lru.proofs.Recency.{among-without_other, without-absent}
+use Rattle.private_lru.proofs.Recency.{among-take_some, among-without_other, without-absent}
 use Rattle.private_lru.proofs.MissingWays.{length-order, missing, missing-all}
-use Rattle.private_lru.proofs.WayLines.{Descends, Descends-same, Descends-without, IsSome-line_in, Some-same, among-line_of_way, among-take_some, among-way_of_line, among-without_parts, line_in, map-same, map-without, map-without_oldest}
+use Rattle.private_lru.proofs.WayLines.{Descends, Descends-same, Descends-without, IsSome-line_in, Some-same, among-line_of_way, among-way_of_line, among-without_parts, line_in, map-same, map-without, map-without_oldest}
 
 -- The ways of the mask hold just these lines, the one used last in map-without_used; no other way holds a line of the group.
 pub record Keeps (ways mask : ℕ) (Own : ℕ → Type 0) (residents : ℕ → Option Resident) (age : ℕ → ℕ) (order lines : List ℕ) : Type 0 where
@@ -203,20 +203,64 @@ Keeps-emptied n mask Own residents age empty others = record {
   known = λ y a. elim (false≢true a) [ ];
 }
 
--- the way of another's access, to a line that is none of the group's, is of another mask
-pub has_way-other : (n mask its x v : ℕ) (hit : Bool) (Own : ℕ → Type 0) (residents : ℕ → Option Resident) (age : ℕ → ℕ) (order lines : List ℕ) → n ≤ 64 → overlaps its mask ≡ false → (Own x → ⊥) → IsOutcome n its residents age x hit v
+-- a way that holds a line that is none of the group's is of another mask
+pub has_way-foreign : (n mask x v : ℕ) (Own : ℕ → Type 0) (residents : ℕ → Option Resident) (age : ℕ → ℕ) (order lines : List ℕ) → (Own x → ⊥) → v < n → Holds residents x v
     → Keeps n mask Own residents age order lines → has_way mask v ≡ false
-has_way-other n mask its x v true Own residents age order lines narrow apart foreign outcome keeps =
+has_way-foreign n mask x v Own residents age order lines foreign inside holds keeps =
     elim (cases_Bool (has_way mask v)) [
       | inl m ↦
-          let a : among v order ≡ true = keeps.complete v outcome.0 m (IsSome-line_in (residents v) x outcome.1) in
+          let a : among v order ≡ true = keeps.complete v inside m (IsSome-line_in (residents v) x holds) in
           let r = among-line_of_way (λ (u : ℕ). line_in (residents u)) v order lines keeps.hold a in
-          let same : r.0 ≡ x = Some-same (sym r.1 ∙ outcome.1) in
+          let same : r.0 ≡ x = Some-same (sym r.1 ∙ holds) in
           absurd (foreign (subst Own same (keeps.known r.0 r.2)))
       | inr m ↦ m
     ]
+
+-- the way of another's access, to a line that is none of the group's, is of another mask
+pub has_way-other : (n mask its x v : ℕ) (hit : Bool) (Own : ℕ → Type 0) (residents : ℕ → Option Resident) (age : ℕ → ℕ) (order lines : List ℕ) → n ≤ 64 → overlaps its mask ≡ false → (Own x → ⊥) → IsOutcome n its residents age x hit v
+    → Keeps n mask Own residents age order lines → has_way mask v ≡ false
+has_way-other n mask its x v true Own residents age order lines narrow apart foreign outcome keeps = has_way-foreign n mask x v Own residents age order lines foreign outcome.0 outcome.1 keeps
 has_way-other n mask its x v false Own residents age order lines narrow apart foreign outcome keeps =
     elim (cases_Bool (has_way mask v)) [
       | inl m ↦ absurd (true≢false (sym m ∙ has_way-apart its mask v apart (let l : v < n = outcome.1.within in omega arith) outcome.1.allowed))
       | inr m ↦ m
     ]
+
+-- ---- drops
+
+-- a line that no way holds is not kept
+pub among-nowhere : (n mask x : ℕ) (Own : ℕ → Type 0) (residents : ℕ → Option Resident) (age : ℕ → ℕ) (order lines : List ℕ) → ((w : ℕ) → w < n → Holds residents x w → ⊥)
+    → Keeps n mask Own residents age order lines → among x lines ≡ false
+among-nowhere n mask x Own residents age order lines nowhere keeps =
+    elim (cases_Bool (among x lines)) [
+      | inl a ↦
+          let r = among-way_of_line (λ (u : ℕ). line_in (residents u)) x order lines keeps.hold a in
+          absurd (nowhere r.0 (keeps.inside r.0 r.1).0 r.2)
+      | inr a ↦ a
+    ]
+
+-- the way of one of the group's lines is emptied
+pub Keeps-dropped : (n mask x v : ℕ) (Own : ℕ → Type 0) (residents residents' : ℕ → Option Resident) (age : ℕ → ℕ) (order lines : List ℕ) → Own x → v < n → Holds residents x v
+    → ((u : ℕ) → (v == u) ≡ false → residents' u ≡ residents u) → residents' v ≡ None
+    → Keeps n mask Own residents age order lines → Keeps n mask Own residents' age (without v order) (without x lines)
+Keeps-dropped n mask x v Own residents residents' age order lines own inside holds same none keeps =
+    let f : ℕ → Option ℕ = λ u. line_in (residents u) in
+    let f' : ℕ → Option ℕ = λ u. line_in (residents' u) in
+    let m : has_way mask v ≡ true = elim (cases_Bool (has_way mask v)) [ inl m ↦ m | inr m ↦ absurd (keeps.others v x inside m holds own) ] in
+    let back : (u y : ℕ) → Holds residents' y u → Holds residents y u = λ u y h. elim (cases_Bool (v == u)) [
+      | inl k ↦ let gone : None ≡ Some y = sym (ap line_in (subst (λ w. residents' w ≡ None) (eqb-true v u k) none)) ∙ h in elim (none-some y gone) [ ]
+      | inr k ↦ subst (λ (o : Option Resident). line_in o ≡ Some y) (same u k) h
+    ] in
+    record {
+      inside = λ u a. keeps.inside u (among-without_parts u v order a).1;
+      complete = λ u l k s. elim (cases_Bool (v == u)) [
+        | inl e ↦ elim (false≢true (subst (λ (o : Option Resident). IsSome o) (subst (λ w. residents' w ≡ None) (eqb-true v u e) none) s)) [ ]
+        | inr e ↦ among-without_other u v order (ne_eqb u v (λ t. eqb-false v u e (sym t))) ∙ keeps.complete u l k (subst (λ (o : Option Resident). IsSome o) (same u e) s)
+      ];
+      hold = map-same f' f (without v order) (λ u a. ap line_in (same u (among-without_parts u v order a).0))
+          ∙ map-without f v x order lines keeps.hold holds (λ u a h. keeps.alone u v x (keeps.inside u a).0 inside (keeps.inside u a).1 m h holds);
+      descends = Descends-without age v order keeps.descends;
+      alone = λ u w y lu lw mu mw hu hw. keeps.alone u w y lu lw mu mw (back u y hu) (back w y hw);
+      others = λ u y l k h o. keeps.others u y l k (back u y h) o;
+      known = λ y a. keeps.known y (among-without_parts y x lines a).1;
+    }

@@ -4,7 +4,7 @@ use Rattle.std.specs.List.{list_any}
 use Rattle.std.proofs.lemmas.Bool.{and_parts, cases_Bool, cases_lt, eqb-true, le-leb, leb-true, lt-ltb, ltb-true, true≢false, false≢true}
 use Rattle.std.proofs.lemmas.List.Folds.{Any-from_list_any, list_any_at}
 use Rattle.cache_core.specs.declared.entry.What.{What}
-use Rattle.cache_core.specs.declared.entry.What.TheVariants.{Access, Raise, Flush, Lock, Look}
+use Rattle.cache_core.specs.declared.entry.What.TheVariants.{Access, Raise, Flush, Lock, Look, Drop}
 use Rattle.cache_core.specs.declared.entry.SliceEntry.{SliceEntry}
 use Rattle.cache_core.specs.History.{Shape, ways_below}
 use Rattle.cbm.specs.Masks.{has_way, ways_of}
@@ -34,6 +34,7 @@ loads-place m (Access hit way owner rmid mask line) x narrow l = absurd l
 loads-place m Raise x narrow l = absurd l
 loads-place m Flush x narrow l = absurd l
 loads-place m (Look rmid lines) x narrow l = absurd l
+loads-place m (Drop line at) x narrow l = absurd l
 loads-place m (Lock mask first_line) x narrow l =
     let k : ℕ = ways_below mask l.1 in
     let less : k < ways_below mask m.ways = ways_below-lt mask l.1 m.ways l.3 l.4 in
@@ -97,6 +98,7 @@ is_loaded_use-loads m group x opening Raise used loaded = absurd (false≢true u
 is_loaded_use-loads m group x opening Flush used loaded = absurd (false≢true used)
 is_loaded_use-loads m group x opening (Lock mask first_line) used loaded = absurd (false≢true used)
 is_loaded_use-loads m group x opening (Look rmid lines) used loaded = absurd (false≢true used)
+is_loaded_use-loads m group x opening (Drop line at) used loaded = absurd (false≢true used)
 
 -- a use of another of the group's lines
 is_other_use-line : (group x : ℕ) (window : List SliceEntry) (what : What) → is_use_of_other group x what ≡ true → Uses group window x → is_other_use group window what ≡ true
@@ -108,6 +110,7 @@ is_other_use-line group x window Raise other uses = absurd (false≢true other)
 is_other_use-line group x window Flush other uses = absurd (false≢true other)
 is_other_use-line group x window (Lock mask first_line) other uses = absurd (false≢true other)
 is_other_use-line group x window (Look rmid lines) other uses = absurd (false≢true other)
+is_other_use-line group x window (Drop line at) other uses = absurd (false≢true other)
 
 -- neither of two
 not-both : (a b : Bool) → (not a && not b) ≡ true → (a ≡ false) × (b ≡ false)

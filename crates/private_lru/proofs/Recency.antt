@@ -1,19 +1,19 @@
 -- A private cache as a list of lines, the one used last in front.
-use Rattle.std.proofs.Common.{◌≡◌, ℕ, zero, suc, Bool, true, false, cond, not, ◌&&◌, ◌||◌, ◌==◌, nat_lt, List, [], ◌∷◌, length, take, reverse, arith, refl, sym, ◌∙◌, ap, subst, inl, inr}
-use Rattle.std.proofs.lemmas.Bool.{cases_Bool, eqb-true, eqb-false, eq-eqb, ne_eqb, lt-ltb, le-ltb, cases_lt, or_parts}
-use Rattle.std.proofs.lemmas.List.{reverse-append, take-take}
-use Rattle.std.proofs.lemmas.List.Folds.{list_any-append}
-use Rattle.private_lru.specs.Private.{among, without, distinct, before_first, private_hit}
+use Rattle.std.proofs.Common.{◌≡◌, ℕ, zero, suc, ◌<◌, ◌≤◌, Bool, true, false, cond, not, ◌&&◌, ◌||◌, ◌==◌, nat_lt, List, [], ◌∷◌, length, take, reverse, arith, refl, sym, ◌∙◌, ap, subst, inl, inr}
+use Rattle.std.proofs.lemmas.Bool.{cases_Bool, eqb-true, eqb-false, eq-eqb, ne_eqb, false≢true, lt-ltb, le-ltb, cases_lt, or_parts, and_parts, ltb-true}
+use Rattle.private_lru.specs.Private.{among, without, alive, is_used, since, always_fewer, private_hit, is_hit, kept_after, was_kept}
+use Rattle.private_lru.specs.declared.item.Item.{Item}
+use Rattle.private_lru.specs.declared.item.Item.TheVariants.{Use, Drop}
 
--- the lines that a private cache of this many ways keeps after uses of these lines, the latest first
-abbrev pub kept : ℕ → List ℕ → List ℕ
+-- the lines that a private cache of this many ways keeps after these items, the latest first
+abbrev pub kept : ℕ → List Item → List ℕ
 kept ways [] = []
-kept ways (x ∷ xs) = take ways (x ∷ without x (kept ways xs))
+kept ways (item ∷ items) = kept_after ways (kept ways items) item
 
--- no line occurs twice
-abbrev pub Differ : List ℕ → Type 0
-Differ [] = Unit {0}
-Differ (x ∷ xs) = (among x xs ≡ false) × Differ xs
+-- the lines in front of the first x
+abbrev before_first : ℕ → List ℕ → List ℕ
+before_first x [] = []
+before_first x (y ∷ ys) = cond (y == x) [] (y ∷ before_first x ys)
 
 -- a choice whose first test fails
 or-false_left : (x y : ℕ) (b : Bool) → (y == x) ≡ false → ((y == x) || b) ≡ b
@@ -56,19 +56,6 @@ without-absent x (y ∷ ys) h =
     let here : (y == x) ≡ false = parts.0 in
     rw here (ap (λ l. y ∷ l) (without-absent x ys parts.1))
 
--- taking out a line leaves lines that differ
-Differ-without : (x : ℕ) (l : List ℕ) → Differ l → Differ (without x l)
-Differ-without x [] d = tt
-Differ-without x (y ∷ ys) d = elim (cases_Bool (y == x)) [
-  | inl h ↦ rw h (Differ-without x ys d.1)
-  | inr h ↦ rw h (among-without_other y x ys h ∙ d.0, Differ-without x ys d.1)
-]
-
--- each line once
-Differ-distinct : (l : List ℕ) → Differ (distinct l)
-Differ-distinct [] = tt
-Differ-distinct (x ∷ xs) = (among-without_same x (distinct xs), Differ-without x (distinct xs) (Differ-distinct xs))
-
 -- what is not in a list is not in its front
 pub among-take_none : (x n : ℕ) (l : List ℕ) → among x l ≡ false → among x (take n l) ≡ false
 among-take_none x zero l h = refl
@@ -76,23 +63,6 @@ among-take_none x (suc n) [] h = refl
 among-take_none x (suc n) (y ∷ ys) h =
     let parts = or_parts (y == x) (among x ys) h in
     let here : (y == x) ≡ false = parts.0 in rw here (among-take_none x n ys parts.1)
-
--- one line less in front of what was taken
-take-without_taken : (k x : ℕ) (l : List ℕ) → Differ l → take k (without x (take (suc k) l)) ≡ take k (without x l)
-take-without_taken k x [] d = refl
-take-without_taken zero x (y ∷ ys) d = refl
-take-without_taken (suc k) x (y ∷ ys) d = elim (cases_Bool (y == x)) [
-  | inl h ↦ let same : y ≡ x = eqb-true y x h in let gone : among x ys ≡ false = subst (λ z. among z ys ≡ false) same d.0 in
-      rw h (ap (λ l. take (suc k) l) (without-absent x (take (suc k) ys) (among-take_none x (suc k) ys gone)) ∙ (take-take (suc k) (suc k) ys (omega arith) ∙ ap (λ l. take (suc k) l) (sym (without-absent x ys gone))))
-  | inr h ↦ rw h (ap (λ l. y ∷ l) (take-without_taken k x ys d.1))
-]
-
--- what is kept is the front of the distinct lines
-pub kept-distinct : (ways : ℕ) (l : List ℕ) → kept ways l ≡ take ways (distinct l)
-kept-distinct zero [] = refl
-kept-distinct (suc k) [] = refl
-kept-distinct zero (x ∷ xs) = refl
-kept-distinct (suc k) (x ∷ xs) = ap (λ l. x ∷ l) (ap (λ l. take k (without x l)) (kept-distinct (suc k) xs) ∙ take-without_taken k x (distinct xs) (Differ-distinct xs))
 
 -- taking out a line behind another
 before_first-without : (x y : ℕ) (l : List ℕ) → (y == x) ≡ false → before_first x (without y l) ≡ without y (before_first x l)
@@ -106,22 +76,6 @@ before_first-without x y (z ∷ zs) h =
         | inr e ↦ rw (k, e) (rw k (ap (λ l. z ∷ l) ih))
       ]
     ]
-
--- what stands before a line, each once
-pub before_first-distinct : (x : ℕ) (l : List ℕ) → before_first x (distinct l) ≡ distinct (before_first x l)
-before_first-distinct x [] = refl
-before_first-distinct x (y ∷ ys) = elim (cases_Bool (y == x)) [
-  | inl h ↦ rw h refl
-  | inr h ↦ rw h (ap (λ l. y ∷ l) (before_first-without x y (distinct ys) h ∙ ap (λ l. without y l) (before_first-distinct x ys)))
-]
-
--- a line that is there is there once
-pub among-distinct : (x : ℕ) (l : List ℕ) → among x (distinct l) ≡ among x l
-among-distinct x [] = refl
-among-distinct x (y ∷ ys) = elim (cases_Bool (y == x)) [
-  | inl h ↦ rw h refl
-  | inr h ↦ rw h (among-without_other x y (distinct ys) (ne_eqb x y (λ e. eqb-false y x h (sym e))) ∙ among-distinct x ys)
-]
 
 -- one more on each side
 nat_lt-suc : (a b : ℕ) → nat_lt (suc a) (suc b) ≡ nat_lt a b
@@ -144,25 +98,104 @@ among-take x (suc n) (y ∷ ys) = elim (cases_Bool (y == x)) [
   | inr h ↦ rw h (among-take x n ys ∙ ap (λ b. among x ys && b) (sym (nat_lt-suc (length (before_first x ys)) n)))
 ]
 
--- the order of two tests
-or-swap : (a b : Bool) → (a || (b || false)) ≡ (b || a)
-or-swap true true = refl
-or-swap true false = refl
-or-swap false true = refl
-or-swap false false = refl
+-- a line that stays in the front has the same lines before it
+before_first-take : (x n : ℕ) (l : List ℕ) → among x (take n l) ≡ true → before_first x (take n l) ≡ before_first x l
+before_first-take x zero l h = elim (false≢true h) [ ]
+before_first-take x (suc n) [] h = refl
+before_first-take x (suc n) (y ∷ ys) h = elim (cases_Bool (y == x)) [
+  | inl k ↦ rw k refl
+  | inr k ↦ let h' : among x (take n ys) ≡ true = rw k at h in rw k (ap (λ l. y ∷ l) (before_first-take x n ys h'))
+]
 
--- the order of a list
-pub among-reverse : (x : ℕ) (l : List ℕ) → among x (reverse l) ≡ among x l
-among-reverse x [] = refl
-among-reverse x (y ∷ ys) =
-    ap (λ l. among x l) (reverse-append (y ∷ []) ys)
-    ∙ (list_any-append (λ (z : ℕ). z == x) (reverse ys) (y ∷ []) ∙ (ap (λ b. b || ((y == x) || false)) (among-reverse x ys) ∙ or-swap (among x ys) (y == x)))
+-- no more lines than before
+length-without_le : (x : ℕ) (l : List ℕ) → length (without x l) ≤ length l
+length-without_le x [] = omega arith
+length-without_le x (y ∷ ys) = let ih : length (without x ys) ≤ length ys = length-without_le x ys in elim (cases_Bool (y == x)) [ inl k ↦ rw k (omega arith) | inr k ↦ rw k (omega arith) ]
+
+-- where always fewer lines are alive, fewer are now
+alive-lt : (ways : ℕ) (l : List Item) → always_fewer ways l ≡ true → length (alive l) < ways
+alive-lt ways [] h = ltb-true 0 ways h
+alive-lt ways (i ∷ is) h = ltb-true (length (alive (i ∷ is))) ways (and_parts (nat_lt (length (alive (i ∷ is))) ways) (always_fewer ways is) h).0
+
+-- a test more leaves what fails
+and-false_both : (u f c : Bool) → false ≡ (u && f) → false ≡ (u && (c && f))
+and-false_both true f true e = e
+and-false_both true f false e = refl
+and-false_both false f c e = refl
+
+-- a test that holds
+and-true_right : (c : Bool) → (c && true) ≡ c
+and-true_right true = refl
+and-true_right false = refl
+
+-- a test more on each side
+and-both_tested : (a u f : Bool) → a ≡ (u && f) → (b c : Bool) → (a ≡ true → b ≡ c) → (a && b) ≡ (u && (c && f))
+and-both_tested true u f e b c h =
+    let parts = and_parts u f (sym e) in
+    let left : u ≡ true = parts.0 in
+    let right : f ≡ true = parts.1 in rw (left, right) (h refl ∙ sym (and-true_right c))
+and-both_tested false u f e b c h = and-false_both u f c e
+
+-- a test more that holds
+and-more_tested : (a u f : Bool) → a ≡ (u && f) → (b : Bool) → (a ≡ true → b ≡ true) → a ≡ (u && (b && f))
+and-more_tested true u f e b h = let t : b ≡ true = h refl in rw t e
+and-more_tested false u f e b h = and-false_both u f b e
+
+-- what is in a front is in the list
+pub among-take_some : (x n : ℕ) (l : List ℕ) → among x (take n l) ≡ true → among x l ≡ true
+among-take_some x n l h = elim (cases_Bool (among x l)) [ inl k ↦ k | inr k ↦ elim (false≢true (sym (among-take_none x n l k) ∙ h)) [ ] ]
+
+-- the lines kept are those whose later lines were always fewer than the ways, and these are the lines before them
+pub among-kept : (ways x : ℕ) (l : List Item) → (among x (kept ways l) ≡ (is_used x l && always_fewer ways (since x l))) × (among x (kept ways l) ≡ true → before_first x (kept ways l) ≡ alive (since x l))
+among-kept ways x [] = (refl, λ h. elim (false≢true h) [ ])
+among-kept ways x (Use y ∷ is) =
+    let K : List ℕ = kept ways is in
+    let W : List ℕ = without y K in
+    let ih = among-kept ways x is in
+    elim (cases_Bool (y == x)) [
+      | inl k ↦ (among-take x ways (y ∷ W) ∙ rw k refl, λ h. before_first-take x ways (y ∷ W) h ∙ rw k refl)
+      | inr k ↦
+          let other : (x == y) ≡ false = ne_eqb x y (λ e. eqb-false y x k (sym e)) in
+          let lines : before_first x W ≡ without y (before_first x K) = before_first-without x y K k in (
+            among-take x ways (y ∷ W)
+                ∙ rw k
+                (ap (λ b. b && nat_lt (suc (length (before_first x W))) ways) (among-without_other x y K other)
+                ∙ and-both_tested (among x K) (is_used x is) (always_fewer ways (since x is)) ih.0 (nat_lt (suc (length (before_first x W))) ways) (nat_lt (suc (length (without y (alive (since x is))))) ways)
+                (λ h. ap (λ l. nat_lt (suc (length l)) ways) (lines ∙ ap (λ l. without y l) (ih.1 h)))),
+            λ h.
+                let m : among x (y ∷ W) ≡ true = among-take_some x ways (y ∷ W) h in
+                let m' : among x W ≡ true = rw k at m in
+                let m'' : among x K ≡ true = sym (among-without_other x y K other) ∙ m' in
+                before_first-take x ways (y ∷ W) h ∙ rw k (ap (λ l. y ∷ l) (lines ∙ ap (λ l. without y l) (ih.1 m''))),
+          )
+    ]
+among-kept ways x (Drop y ∷ is) =
+    let K : List ℕ = kept ways is in
+    let ih = among-kept ways x is in
+    elim (cases_Bool (y == x)) [
+      | inl k ↦
+          let gone : among x (without y K) ≡ false = subst (λ z. among x (without z K) ≡ false) (sym (eqb-true y x k)) (among-without_same x K) in
+          (gone ∙ rw k refl, λ h. elim (false≢true (sym gone ∙ h)) [ ])
+      | inr k ↦
+          let other : (x == y) ≡ false = ne_eqb x y (λ e. eqb-false y x k (sym e)) in
+          let same : among x (without y K) ≡ among x K = among-without_other x y K other in
+          let lines : before_first x (without y K) ≡ without y (before_first x K) = before_first-without x y K k in (
+            same
+                ∙ rw k
+                (and-more_tested (among x K) (is_used x is) (always_fewer ways (since x is)) ih.0 (nat_lt (length (without y (alive (since x is)))) ways)
+                (λ h.
+                let now : length (alive (since x is)) < ways = alive-lt ways (since x is) (and_parts (is_used x is) (always_fewer ways (since x is)) (sym ih.0 ∙ h)).1 in
+                let less : length (without y (alive (since x is))) ≤ length (alive (since x is)) = length-without_le y (alive (since x is)) in
+                lt-ltb _ ways (omega arith))),
+            λ h. lines ∙ rw k (ap (λ l. without y l) (ih.1 (sym same ∙ h))),
+          )
+    ]
 
 -- a private cache hits just the lines that it keeps
-pub private_hit-kept : (ways x : ℕ) (earlier : List ℕ) → private_hit ways earlier x ≡ among x (kept ways (reverse earlier))
-private_hit-kept ways x earlier =
-    let l : List ℕ = reverse earlier in
-    let a : among x (distinct l) ≡ among x earlier = among-distinct x l ∙ among-reverse x earlier in
-    let b : length (before_first x (distinct l)) ≡ length (distinct (before_first x l)) = ap length (before_first-distinct x l) in
-    let c : among x (kept ways l) ≡ (among x (distinct l) && nat_lt (length (before_first x (distinct l))) ways) = ap (λ k. among x k) (kept-distinct ways l) ∙ among-take x ways (distinct l) in
-    sym (c ∙ (ap (λ t. t && nat_lt (length (before_first x (distinct l))) ways) a ∙ ap (λ n. among x earlier && nat_lt n ways) b))
+pub private_hit-kept : (ways x : ℕ) (earlier : List Item) → private_hit ways earlier x ≡ among x (kept ways (reverse earlier))
+private_hit-kept ways x earlier = sym (among-kept ways x (reverse earlier)).0
+
+-- so is a use that hits
+pub is_hit-kept : (ways : ℕ) (earlier : List Item) (item : Item) → is_hit ways earlier item ≡ was_kept (kept ways (reverse earlier)) item
+is_hit-kept ways earlier (Use x) = private_hit-kept ways x earlier
+is_hit-kept ways earlier (Drop x) = refl

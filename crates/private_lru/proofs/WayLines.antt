@@ -4,7 +4,7 @@ use Rattle.std.proofs.lemmas.Bool.{cases_Bool, eqb-true, eqb-false, eq-eqb, ne_e
 use Rattle.std.proofs.lemmas.Option.{none-some}
 use Rattle.cache_core.specs.Fills.{Resident}
 use Rattle.private_lru.specs.Private.{among, without}
-use Rattle.private_lru.proofs.Recency.{among-without, among-take_none}
+use Rattle.private_lru.proofs.Recency.{among-without}
 
 -- the line of a resident
 abbrev pub line_in : Option Resident → Option ℕ
@@ -133,10 +133,6 @@ Descends-same age born (u ∷ us) same d =
     let first : age u ≡ born u = same u (rw t refl) in
     let rest : (w : ℕ) → among w us ≡ true → age w ≡ born w = λ w a. same w (elim (cases_Bool (u == w)) [ inl k ↦ rw k refl | inr k ↦ rw k a ]) in
     ((λ w a. let e : age w ≡ born w = rest w a in let l : age w < age u = d.0 w a in omega arith), Descends-same age born us rest d.1)
-
--- what is in a front is in the list
-pub among-take_some : (x n : ℕ) (l : List ℕ) → among x (take n l) ≡ true → among x l ≡ true
-among-take_some x n l h = elim (cases_Bool (among x l)) [ inl k ↦ k | inr k ↦ elim (false≢true (sym (among-take_none x n l k) ∙ h)) [ ] ]
 
 -- what is left when a way is taken out
 pub among-without_parts : (w v : ℕ) (l : List ℕ) → among w (without v l) ≡ true → ((v == w) ≡ false) × (among w l ≡ true)

@@ -1,10 +1,12 @@
 -- Who uses which lines in a window of a slice, and which accesses of a group are covered: nobody else has used its lines.
-use Rattle.std.specs.Prelude.{ℕ, ◌+◌, ◌*◌, ◌%◌, Bool, false, not, ◌&&◌, ◌==◌, nat_le, nat_lt, if◌then◌else◌, List, [], ◌∷◌, ◌++◌, length}
+use Rattle.std.specs.Prelude.{ℕ, ◌+◌, ◌*◌, ◌%◌, Bool, true, false, not, ◌&&◌, ◌==◌, nat_le, nat_lt, if◌then◌else◌, List, [], ◌∷◌, ◌++◌, length}
 use Rattle.std.specs.List.{list_any, flat_map}
 use Rattle.cache_core.specs.declared.entry.What.{What}
-use Rattle.cache_core.specs.declared.entry.What.TheVariants.{Access, Lock}
+use Rattle.cache_core.specs.declared.entry.What.TheVariants.{Access, Lock, Drop}
 use Rattle.cache_core.specs.declared.entry.SliceEntry.{SliceEntry}
 use Rattle.cbm.specs.Masks.{ways_of}
+use Rattle.private_lru.specs.declared.item.Item.{Item}
+use Rattle.private_lru.specs.declared.item.Item.TheVariants.{Use, Drop as Dropped}
 
 -- ---- users of lines
 
@@ -58,22 +60,48 @@ covered_after sets group opening window earlier (e ∷ es) =
 abbrev pub covered : ℕ → ℕ → What → List SliceEntry → List SliceEntry
 covered sets group opening window = covered_after sets group opening window [] window
 
--- ---- a set's lines and hits
+-- an entry before others that stand after it; it is left out where nothing stands after it that counts, and it does not
+abbrev pub with_front : Bool → SliceEntry → List SliceEntry → List SliceEntry
+with_front true e rest = e ∷ rest
+with_front false e [] = []
+with_front false e (r ∷ rest) = e ∷ r ∷ rest
 
--- the line of an access of the group to this set
-abbrev pub item_of : ℕ → ℕ → ℕ → What → List ℕ
-item_of sets group set (Access hit way owner rmid mask line) = if (owner.0 == group) && (line % sets == set) then line ∷ [] else []
-item_of sets group set what = []
+-- of these entries of the window, which stand after some earlier ones, those up to the last covered access of the group
+abbrev pub covered_front_after : ℕ → ℕ → What → List SliceEntry → List SliceEntry → List SliceEntry → List SliceEntry
+covered_front_after sets group opening window earlier [] = []
+covered_front_after sets group opening window earlier (e ∷ es) =
+    with_front (is_own group e.what && is_covered sets group opening window earlier) e (covered_front_after sets group opening window (earlier ++ e ∷ []) es)
 
--- the lines that the group accesses in this set, in order
-abbrev pub items : ℕ → ℕ → ℕ → List SliceEntry → List ℕ
-items sets group set entries = flat_map (λ (e : SliceEntry). item_of sets group set e.what) entries
+-- the entries of the window up to the last covered access of the group
+abbrev pub covered_front : ℕ → ℕ → What → List SliceEntry → List SliceEntry
+covered_front sets group opening window = covered_front_after sets group opening window [] window
 
--- whether an access of the group to this set hit
-abbrev pub hit_of : ℕ → ℕ → ℕ → What → List Bool
-hit_of sets group set (Access hit way owner rmid mask line) = if (owner.0 == group) && (line % sets == set) then hit ∷ [] else []
-hit_of sets group set what = []
+-- ---- a set's items and hits
 
--- whether each access of the group to this set hit, in order
-abbrev pub hits_in : ℕ → ℕ → ℕ → List SliceEntry → List Bool
-hits_in sets group set entries = flat_map (λ (e : SliceEntry). hit_of sets group set e.what) entries
+-- What an entry is to this set's private cache of a group with these lines: a use by the group, or anyone's drop of its line.
+abbrev pub item_of : ℕ → ℕ → ℕ → (ℕ → Bool) → What → List Item
+item_of sets group set own (Access hit way owner rmid mask line) = if (owner.0 == group) && (line % sets == set) then Use line ∷ [] else []
+item_of sets group set own (Drop line at) = if own line && (line % sets == set) then Dropped line ∷ [] else []
+item_of sets group set own what = []
+
+-- the group's items in this set, in order
+abbrev pub items : ℕ → ℕ → ℕ → (ℕ → Bool) → List SliceEntry → List Item
+items sets group set own entries = flat_map (λ (e : SliceEntry). item_of sets group set own e.what) entries
+
+-- whether an item is an access that hit
+abbrev pub hit_of : ℕ → ℕ → ℕ → (ℕ → Bool) → What → List Bool
+hit_of sets group set own (Access hit way owner rmid mask line) = if (owner.0 == group) && (line % sets == set) then hit ∷ [] else []
+hit_of sets group set own (Drop line at) = if own line && (line % sets == set) then false ∷ [] else []
+hit_of sets group set own what = []
+
+-- whether each of the group's items in this set is, in order
+abbrev pub hits_in : ℕ → ℕ → ℕ → (ℕ → Bool) → List SliceEntry → List Bool
+hits_in sets group set own entries = flat_map (λ (e : SliceEntry). hit_of sets group set own e.what) entries
+
+-- the group's items in this set of the window up to the last covered access
+abbrev pub covered_items : ℕ → ℕ → ℕ → What → List SliceEntry → List Item
+covered_items sets group set opening window = items sets group set (uses_line group window) (covered_front sets group opening window)
+
+-- and whether each of them is an access that hit
+abbrev pub covered_hits : ℕ → ℕ → ℕ → What → List SliceEntry → List Bool
+covered_hits sets group set opening window = hits_in sets group set (uses_line group window) (covered_front sets group opening window)

@@ -6,10 +6,10 @@ use Rattle.cache_core.specs.declared.entry.What.TheVariants.{Lock}
 use Rattle.cache_core.specs.declared.entry.SliceEntry.{SliceEntry}
 use Rattle.cache_core.specs.History.{Shape, IsLegal}
 use Rattle.cbm.specs.Masks.{ways_of}
-use Rattle.private_lru.specs.Counted.{hits_of_group, private_hits_of}
-use Rattle.private_lru.specs.Covered.{covered, hits_in, items}
+use Rattle.private_lru.specs.Counted.{covered_private_hits, hits_of_group}
+use Rattle.private_lru.specs.Covered.{covered, covered_hits, covered_items}
 use Rattle.private_lru.specs.Isolation.{IsIsolated, Opens, Respects, between}
-use Rattle.private_lru.specs.Locked.{HitsLoaded, Spares}
+use Rattle.private_lru.specs.Locked.{HoldsLoaded, Spares}
 use Rattle.private_lru.specs.Private.{hits_of}
 
 -- From a flush or a lock on, as long as each entry leaves the ways of the mask to the group, the group is isolated, in a
@@ -22,32 +22,33 @@ SliceIsolation =
     → All (λ (e : SliceEntry). Respects group mask e.what) (between entries from to)
     → IsIsolated m.sets group (length (ways_of mask)) opening.what (between entries from to)
 
--- From a lock on, as long as each entry leaves the ways of the region alone, each access to a line of the region hits.
+-- From a lock on, as long as each entry leaves the ways of the region alone, each access to a line of the region hits, unless
+-- the line was dropped.
 abbrev pub SliceHolds : Type 0
 SliceHolds =
     (m : Shape) (entries : List SliceEntry) (from to mask first_line : ℕ) (opening : SliceEntry)
     → m.ways ≤ 64 → mask < 2 ^ m.ways → first_line % m.sets ≡ 0 → IsLegal m entries → from < to → to ≤ length entries
     → opening ≡ slice_index_or entries from opening → opening.what ≡ Lock mask first_line
     → All (λ (e : SliceEntry). Spares mask e.what) (between entries from to)
-    → All (λ (e : SliceEntry). HitsLoaded m.sets (Lock mask first_line) e.what) (between entries from to)
+    → HoldsLoaded m.sets (Lock mask first_line) (between entries from to)
 
--- Where a group is isolated, its covered accesses hit, set by set, as their lines do in a private cache.
+-- Where a group is isolated, its covered accesses hit, set by set, as in a private cache that sees its items up to the last of them.
 abbrev pub CoveredHits : Type 0
 CoveredHits =
     (sets group ways set : ℕ) (opening : What) (window : List SliceEntry) → IsIsolated sets group ways opening window
-    → hits_in sets group set (covered sets group opening window) ≡ hits_of ways (items sets group set (covered sets group opening window))
+    → covered_hits sets group set opening window ≡ hits_of ways (covered_items sets group set opening window)
 
 -- So as many of them hit as would in a private cache.
 abbrev pub CoveredHitsAreCounted : Type 0
 CoveredHitsAreCounted =
     (sets group ways : ℕ) (opening : What) (window : List SliceEntry) → IsIsolated sets group ways opening window
-    → hits_of_group group (covered sets group opening window) ≡ private_hits_of sets group ways (covered sets group opening window)
+    → hits_of_group group (covered sets group opening window) ≡ covered_private_hits sets group ways opening window
 
--- Two isolated windows, in caches of as many sets and of groups with as many ways: where the covered accesses have the same
--- lines in a set, in order, they have the same hits there, whatever the others did.
+-- Two isolated windows, in caches of as many sets and of groups with as many ways: where the groups' items in a set up to the
+-- last covered access are the same, in order, these accesses have the same hits there, whatever the others did.
 abbrev pub TwoWorlds : Type 0
 TwoWorlds =
     (sets group its_group ways set : ℕ) (opening its_opening : What) (window its_window : List SliceEntry)
     → IsIsolated sets group ways opening window → IsIsolated sets its_group ways its_opening its_window
-    → items sets group set (covered sets group opening window) ≡ items sets its_group set (covered sets its_group its_opening its_window)
-    → hits_in sets group set (covered sets group opening window) ≡ hits_in sets its_group set (covered sets its_group its_opening its_window)
+    → covered_items sets group set opening window ≡ covered_items sets its_group set its_opening its_window
+    → covered_hits sets group set opening window ≡ covered_hits sets its_group set its_opening its_window

@@ -2,11 +2,13 @@
 #![tactic(auto)]
 
 pub mod counts;
+pub mod item;
 pub mod private;
 pub mod theorems;
 pub mod users;
 
 pub use counts::{WindowCounts, count_window};
+pub use item::Item;
 pub use private::private_hits;
 
 #[cfg(test)]

@@ -1,6 +1,6 @@
 //! Private caches of small lists, and the counts of small windows.
 
-use crate::{WindowCounts, count_window, private_hits};
+use crate::{Item, WindowCounts, count_window, private_hits};
 use cache_core::{SliceEntry, What};
 use rc_base::Gid;
 use std::test::Fail;
@@ -30,14 +30,37 @@ const LOCK: What = What::Lock {
 
 #[test]
 fn distinct_lines_are_counted(rt: HostRuntime) -> Result<(), Fail> {
-    let lines: [u64; 5] = [1, 2, 1, 3, 2];
+    let items = [
+        Item::Use { line: 1 },
+        Item::Use { line: 2 },
+        Item::Use { line: 1 },
+        Item::Use { line: 3 },
+        Item::Use { line: 2 },
+    ];
     assert_eq!(rt;
-        private_hits(rt.alloc(), &lines, 2)?.as_slice(),
+        private_hits(rt.alloc(), &items, 2)?.as_slice(),
         [false, false, true, false, false].as_slice()
     );
     assert_eq!(rt;
-        private_hits(rt.alloc(), &lines, 3)?.as_slice(),
+        private_hits(rt.alloc(), &items, 3)?.as_slice(),
         [false, false, true, false, true].as_slice()
+    );
+    Ok(())
+}
+
+#[test]
+fn dropped_lines_make_room(rt: HostRuntime) -> Result<(), Fail> {
+    let items = [
+        Item::Use { line: 0 },
+        Item::Use { line: 1 },
+        Item::Drop { line: 1 },
+        Item::Use { line: 2 },
+        Item::Use { line: 0 },
+        Item::Use { line: 1 },
+    ];
+    assert_eq!(rt;
+        private_hits(rt.alloc(), &items, 2)?.as_slice(),
+        [false, false, false, false, true, false].as_slice()
     );
     Ok(())
 }

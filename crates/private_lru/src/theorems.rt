@@ -2,23 +2,26 @@
 
 ghost use Rattle.private_lru.specs.Laws.{CoveredHits, CoveredHitsAreCounted, SliceHolds, SliceIsolation, TwoWorlds};
 
-/// In a window of one slice, a group that has its ways for itself hits as in a private cache.
+/// In a window of one slice, the covered accesses of a group that has its ways for itself hit as in a private cache.
 pub fn slice_isolation()
     ensures { SliceIsolation }
 {}
 
-/// As long as no access may fill in the ways of a locked region, its lines hit.
+/// As long as no access may fill in the ways of a locked region and the slice is not emptied, its lines hit, but for those
+/// that were dropped.
 pub fn slice_holds()
     ensures { SliceHolds }
 {}
 
-/// The covered accesses of an isolated group hit, set by set, as a private cache does on their lines.
+/// The covered accesses of an isolated group hit, set by set, as a private cache does that sees the group's uses of lines and
+/// all drops of these lines.
 pub fn covered_hits()
     ensures lists { CoveredHits }
     ensures counts { CoveredHitsAreCounted }
 {}
 
-/// What others do in two worlds makes no difference to the covered accesses of two isolated groups.
+/// The covered accesses of two isolated groups, in worlds with equal sets and for equally many ways, hit alike where the groups
+/// use and lose the same lines: what others did besides makes no difference.
 pub fn two_worlds()
     ensures { TwoWorlds }
 {}

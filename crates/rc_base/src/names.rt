@@ -41,7 +41,7 @@ impl Gid {
 pub enum Mode {
     /// Its part of the cache may be shared with other groups.
     Shareable,
-    /// Its part of the cache overlaps no other group's.
+    /// Its part of the cache overlaps no other shareable or exclusive group's.
     Exclusive,
     /// `pseudo-locksetup`: a region is about to be set up.
     LockSetup,

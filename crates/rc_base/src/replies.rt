@@ -94,19 +94,19 @@ pub enum Why {
     NotHex,
     /// A mask is 0 or has a bit past the ways; the argument is the mask.
     OutOfRange,
-    /// A mask has a 0-bit between two 1-bits; the argument is the mask.
+    /// A mask has a 0-bit between two 1-bits, where masks may have no gaps; the argument is the mask.
     Gaps,
-    /// A mask has fewer 1-bits than the least number; the argument is the mask.
+    /// A mask's lowest run of adjacent 1-bits is shorter than the least number of bits; the argument is the mask.
     TooFew,
     /// A mask overlaps an exclusive group's.
     OverlapExclusive,
     /// A mask overlaps a pseudo-locked region.
     OverlapRegion,
-    /// A mask overlaps another group's.
+    /// A mask overlaps another shareable or exclusive group's.
     OverlapOther,
     /// A mask overlaps the bits that other hardware shares.
     OverlapShareable,
-    /// A group cannot become exclusive, since its masks overlap another group's or shareable bits.
+    /// A group cannot become exclusive, since its masks overlap another shareable or exclusive group's or shareable bits.
     SchemataOverlap,
     /// The text is the name of no mode that may be written.
     UnknownMode,

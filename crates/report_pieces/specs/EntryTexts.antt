@@ -1,5 +1,5 @@
 -- The texts of the entries of slices.
-use Rattle.std.specs.Prelude.{ℕ, Bool, if◌then◌else◌, List, ◌++◌, codes, decimal}
+use Rattle.std.specs.Prelude.{ℕ, Bool, if◌then◌else◌, List, ◌++◌, Option, Some, None, codes, decimal}
 use Rattle.cache_core.specs.declared.entry.SliceEntry.{SliceEntry}
 use Rattle.cache_core.specs.declared.entry.What.{What}
 use Rattle.cache_core.specs.declared.entry.What.TheVariants as whats
@@ -36,6 +36,11 @@ lock_text m mask first_line = codes "lock" ++ mask_text m mask ++ codes " first 
 abbrev pub look_text : ℕ → ℕ → List ℕ
 look_text rmid lines = codes "look rmid " ++ decimal rmid ++ codes " lines " ++ decimal lines
 
+-- `drop line L way W`, or `drop line L none`
+abbrev pub drop_text : ℕ → Option ℕ → List ℕ
+drop_text line (Some way) = codes "drop line " ++ decimal line ++ codes " way " ++ decimal way
+drop_text line None = codes "drop line " ++ decimal line ++ codes " none"
+
 -- what happened
 abbrev pub what_text : Parameters → What → List ℕ
 what_text m (whats.Access hit way owner rmid mask line) = tag_text m owner.0 rmid mask ++ place_text m line hit way
@@ -43,6 +48,7 @@ what_text m whats.Raise = codes "raise"
 what_text m whats.Flush = codes "flush"
 what_text m (whats.Lock mask first_line) = lock_text m mask first_line
 what_text m (whats.Look rmid lines) = look_text rmid lines
+what_text m (whats.Drop line at) = drop_text line at
 
 -- `P T.O eE `: the position, the thread and the op's number, and the epoch
 abbrev pub entry_place : ℕ → SliceEntry → List ℕ
@@ -51,3 +57,7 @@ entry_place p e = decimal p ++ codes " " ++ decimal e.thread ++ codes "." ++ dec
 -- the same, and what happened
 unfoldable pub entry_text : Parameters → ℕ → SliceEntry → List ℕ
 entry_text m p e = entry_place p e ++ what_text m e.what
+
+-- the same with a newline: the line of an entry
+unfoldable pub entry_line : Parameters → ℕ → SliceEntry → List ℕ
+entry_line m p e = entry_text m p e ++ codes "\n"

@@ -1,12 +1,13 @@
 //! The text of an entry of a slice.
-ghost use Rattle.std.specs.Prelude.{◌≡◌, ◌++◌, OnOk};
+ghost use Rattle.std.specs.Prelude.{◌≡◌, ◌++◌, OnOk, OnErr};
 ghost use Rattle.machine.specs.Maps.{parameters_of};
-ghost use Rattle.report_pieces.specs.EntryTexts.{entry_place, entry_text, lock_text, look_text, mask_text, owner_text, place_text, tag_text, way_text, what_text};
+ghost use Rattle.report_pieces.specs.EntryTexts.{drop_text, entry_line, entry_place, entry_text, lock_text, look_text, mask_text, owner_text, place_text, tag_text, way_text, what_text};
 
 use crate::buffer::ReportText;
 use cache_core::{SliceEntry, What};
 use machine::Machine;
 use rc_base::NoMemory;
+use std::alloc::Global;
 
 // Adds a mask.
 fn push_mask(report: &mut ReportText, machine: &Machine, mask: u32) -> Result<(), NoMemory>
@@ -86,6 +87,17 @@ fn push_look(report: &mut ReportText, rmid: u16, lines: u64) -> Result<(), NoMem
     report.push_number(b" lines ".as_slice(), lines)
 }
 
+// Adds a drop.
+fn push_drop(report: &mut ReportText, line: u64, way: Option<u8>) -> Result<(), NoMemory>
+    ensures { OnOk result (report.new ≡ report.old ++ drop_text line way) }
+{
+    report.push_number(b"drop line ".as_slice(), line)?;
+    match way {
+        Some(way) => report.push_number(b" way ".as_slice(), u64::from(way)),
+        None => report.push(b" none".as_slice()),
+    }
+}
+
 // Adds what happened.
 fn push_what(report: &mut ReportText, machine: &Machine, what: &What) -> Result<(), NoMemory>
     ensures { OnOk result (report.new ≡ report.old ++ what_text (parameters_of machine.now) what.now) }
@@ -106,6 +118,7 @@ fn push_what(report: &mut ReportText, machine: &Machine, what: &What) -> Result<
         What::Flush => report.push(b"flush".as_slice()),
         What::Lock { mask, first_line } => push_lock(report, machine, *mask, *first_line),
         What::Look { rmid, lines } => push_look(report, *rmid, *lines),
+        What::Drop { line, way } => push_drop(report, *line, *way),
     }
 }
 
@@ -132,4 +145,40 @@ pub fn push_entry_text(
 {
     push_entry_place(report, p, entry)?;
     push_what(report, machine, &entry.what)
+}
+
+/// Adds the line of an entry at a position. NoMemory where the system is out of memory.
+#[tactic(auto, unfolding(crate::specs::EntryTexts::entry_line))]
+pub fn push_entry_line(
+    report: &mut ReportText,
+    machine: &Machine,
+    p: u64,
+    entry: &SliceEntry,
+) -> Result<(), NoMemory>
+    ensures { OnOk result
+        (report.new ≡ report.old ++ entry_line (parameters_of machine.now) p entry.now) }
+{
+    push_entry_text(report, machine, p, entry)?;
+    report.push(b"\n".as_slice())
+}
+
+/// Adds the line of an entry at a position to bytes that are no report (this project's profile). Nothing is added where it is
+/// out of memory.
+pub fn push_entry(
+    alloc: Global,
+    position: u32,
+    entry: &SliceEntry,
+    machine: &Machine,
+    out: &mut Vec<u8>,
+) -> Result<(), NoMemory>
+    ensures ok { OnOk result (out.new.items ≡
+        out.old.items ++ entry_line (parameters_of machine.now) position entry.now) }
+    ensures err { OnErr result (out.new.items ≡ out.old.items) }
+{
+    let mut line = ReportText::create(alloc)?;
+    push_entry_line(&mut line, machine, u64::from(position), entry)?;
+    match out.extend_from_slice(&line.into_bytes()) {
+        Ok(()) => Ok(()),
+        Err(_) => Err(NoMemory),
+    }
 }

@@ -3,56 +3,71 @@ use Rattle.std.proofs.Common.{◌≡◌, ℕ, true, false, inl, inr, ◌⊎◌, 
 use Rattle.std.specs.Io.KnownBytes.{Keeps}
 use Rattle.resctrl_top.specs.declared.ended.Status.{Status}
 use Rattle.resctrl_top.specs.declared.ended.Status.TheVariants.{Done, Refused, Usage, ReadFault, WriteFault, NoMemory}
+use Rattle.top_parts.specs.declared.command.Command.{Command}
+use Rattle.top_parts.specs.declared.command.Command.TheVariants.{Gen, Step}
 use Rattle.top_parts.specs.declared.form.Form.{Form}
 use Rattle.top_parts.specs.declared.refusal.Refusal.{Refusal}
-use Rattle.resctrl_top.specs.Endings.{Call, Ends, IsComplete, IsDue, IsPromised, ReadsWell, Reports, Says, SaysNothing, WritesWell}
+use Rattle.resctrl_top.specs.Endings.{Call, Ends, IsComplete, IsDue, IsPromised, PlaysAs, ReadsWell, Reports, Says, SaysNothing, WritesWell}
 use Rattle.top_parts.specs.Forms.{input_of, is_of_source, reads_source, usage_line}
 use Rattle.resctrl_top.specs.Outputs.{IsOutput}
 use Rattle.top_parts.specs.Meaning.{meaning, refusal_line}
-use Rattle.top_parts.specs.Outside.{IsMeant, IsToTheEnd}
+use Rattle.top_parts.specs.Outside.{IsMeant, IsToTheEnd, LeavesNothing, LeavesPlayed, LeavesRefused}
 use Rattle.run_law.specs.Journals.{JournalsValue}
 use Rattle.script_ops.specs.Values.{ScriptValue}
+use Rattle.step_world.specs.Play.{IsPlay}
 
 -- a sink that was not called keeps what it took
 pub Keeps-same : (taken : Option (List ℕ)) → Keeps taken taken
 Keeps-same None = tt
 Keeps-same (Some xs) = refl
 
+-- ---- parts
+
+-- a play by the order lines is one of every command
+pub PlaysAs-play : (command : Command) (script : ScriptValue) (run : JournalsValue) → IsPlay script run → PlaysAs command script run
+PlaysAs-play Step script run play = play
+PlaysAs-play (Gen n) script run play = play
+
+-- what is left of a source that was read, and of one that was not
+pub LeavesPlayed-of : (command : Command) (left now : Option (List ℕ)) → (is_of_source command ≡ true → LeavesNothing left now) → (is_of_source command ≡ false → now ≡ left) → LeavesPlayed command left now
+LeavesPlayed-of Step left now read unread = read refl
+LeavesPlayed-of (Gen n) left now read unread = unread refl
+
 -- ---- ends
 
 -- with the usage line
-pub Ends-usage : (c : Call) (status : Status) (journals : Option JournalsValue) → c.form ≡ None → ReadsWell c → Says Usage None usage_line c.sink status journals → Ends c status journals
-Ends-usage c status journals no_form read (none, inl said) = subst (λ s. Ends c s journals) (sym said.0) (read, record { no_form = no_form; no_run = none; line = said.1 })
-Ends-usage c status journals no_form read (none, inr failed) = subst (λ s. Ends c s journals) (sym failed.0) (read, inr (inr (record { no_form = no_form; no_run = none; line = failed.1 })))
+pub Ends-usage : (c : Call) (status : Status) (journals : Option JournalsValue) → c.form ≡ None → c.source.left_now ≡ c.source.left → ReadsWell c → Says Usage None usage_line c.sink status journals → Ends c status journals
+Ends-usage c status journals no_form leaves read (none, inl said) = subst (λ s. Ends c s journals) (sym said.0) (read, record { no_form = no_form; leaves = leaves; no_run = none; line = said.1 })
+Ends-usage c status journals no_form leaves read (none, inr failed) = subst (λ s. Ends c s journals) (sym failed.0) (read, inr (inr (record { no_form = no_form; leaves = leaves; no_run = none; line = failed.1 })))
 
 -- out of memory
 pub Ends-nothing : (c : Call) (status : Status) (journals : Option JournalsValue) (form : Form) → c.form ≡ Some form → ReadsWell c → SaysNothing c.sink status journals → Ends c status journals
 Ends-nothing c status journals form has_form read (none, is, nothing) = subst (λ s. Ends c s journals) (sym is) (read, record { form = form; has_form = has_form; no_run = none; nothing = nothing })
 
 -- with the line of a refusal
-pub Ends-refused : (c : Call) (status : Status) (journals : Option JournalsValue) (form : Form) (refusal : Refusal) → c.form ≡ Some form → reads_source c.form ≡ true → ReadsWell c → IsMeant (input_of form c.source.left) (Err refusal)
+pub Ends-refused : (c : Call) (status : Status) (journals : Option JournalsValue) (form : Form) (refusal : Refusal) → c.form ≡ Some form → reads_source c.form ≡ true → ReadsWell c → IsMeant (input_of form c.source.left) (Err refusal) → LeavesRefused refusal c.source.left c.source.left_now
     → Says Refused None (refusal_line refusal) c.sink status journals → Ends c status journals
-Ends-refused c status journals form refusal has_form reads read meant (none, inl said) =
+Ends-refused c status journals form refusal has_form reads read meant leaves (none, inl said) =
     subst (λ s. Ends c s journals) (sym said.0)
-    (read, record { form = form; bytes = meant.bytes; refusal = refusal; has_form = has_form; reads = reads; to_the_end = meant.to_the_end; no_script = meant.meant; no_run = none; line = said.1 })
-Ends-refused c status journals form refusal has_form reads read meant (none, inr failed) =
+    (read, record { form = form; bytes = meant.bytes; refusal = refusal; has_form = has_form; reads = reads; to_the_end = meant.to_the_end; leaves = leaves; no_script = meant.meant; no_run = none; line = said.1 })
+Ends-refused c status journals form refusal has_form reads read meant leaves (none, inr failed) =
     subst (λ s. Ends c s journals) (sym failed.0)
-    (read, inr (inl (record { form = form; bytes = meant.bytes; refusal = refusal; has_form = has_form; reads = reads; to_the_end = meant.to_the_end; no_script = meant.meant; no_run = none; line = failed.1 })))
+    (read, inr (inl (record { form = form; bytes = meant.bytes; refusal = refusal; has_form = has_form; reads = reads; to_the_end = meant.to_the_end; leaves = leaves; no_script = meant.meant; no_run = none; line = failed.1 })))
 
 -- with the report or a beginning of it
-Ends-reported : (c : Call) (status : Status) (journals : Option JournalsValue) (form : Form) (script : ScriptValue) (run : JournalsValue) (text : List ℕ) → c.form ≡ Some form → ReadsWell c → IsMeant (input_of form c.source.left) (Ok script) → IsPromised script run → IsOutput script run form.flags text
+Ends-reported : (c : Call) (status : Status) (journals : Option JournalsValue) (form : Form) (script : ScriptValue) (run : JournalsValue) (text : List ℕ) → c.form ≡ Some form → ReadsWell c → IsMeant (input_of form c.source.left) (Ok script) → LeavesPlayed form.command c.source.left c.source.left_now → IsPromised form.command script run → IsOutput script run form.flags text
     → Says Done (Some run) text c.sink status journals → Ends c status journals
-Ends-reported c status journals form script run text has_form read meant promised output (has_run, inl told) =
+Ends-reported c status journals form script run text has_form read meant leaves promised output (has_run, inl told) =
     subst (λ s. Ends c s journals) (sym told.0)
-    (read, record { form = form; bytes = meant.bytes; script = script; run = run; has_form = has_form; to_the_end = meant.to_the_end; is_script = meant.meant; has_run = has_run; promised = promised; text = text; output = output; report = told.1 })
-Ends-reported c status journals form script run text has_form read meant promised output (has_run, inr failed) =
+    (read, record { form = form; bytes = meant.bytes; script = script; run = run; has_form = has_form; to_the_end = meant.to_the_end; leaves = leaves; is_script = meant.meant; has_run = has_run; promised = promised; text = text; output = output; report = told.1 })
+Ends-reported c status journals form script run text has_form read meant leaves promised output (has_run, inr failed) =
     subst (λ s. Ends c s journals) (sym failed.0)
-    (read, inl (record { form = form; bytes = meant.bytes; script = script; run = run; has_form = has_form; to_the_end = meant.to_the_end; is_script = meant.meant; has_run = has_run; promised = promised; text = text; output = output; report = failed.1 }))
+    (read, inl (record { form = form; bytes = meant.bytes; script = script; run = run; has_form = has_form; to_the_end = meant.to_the_end; leaves = leaves; is_script = meant.meant; has_run = has_run; promised = promised; text = text; output = output; report = failed.1 }))
 
 -- with a report
-pub Ends-played : (c : Call) (status : Status) (journals : Option JournalsValue) (form : Form) (script : ScriptValue) → c.form ≡ Some form → ReadsWell c → IsMeant (input_of form c.source.left) (Ok script)
-    → Reports script form.flags c.sink status journals → Ends c status journals
-Ends-played c status journals form script has_form read meant reports = Ends-reported c status journals form script reports.run reports.text has_form read meant reports.promised reports.output reports.report
+pub Ends-played : (c : Call) (status : Status) (journals : Option JournalsValue) (form : Form) (script : ScriptValue) → c.form ≡ Some form → ReadsWell c → IsMeant (input_of form c.source.left) (Ok script) → LeavesPlayed form.command c.source.left c.source.left_now
+    → Reports form script c.sink status journals → Ends c status journals
+Ends-played c status journals form script has_form read meant leaves reports = Ends-reported c status journals form script reports.run reports.text has_form read meant leaves reports.promised reports.output reports.report
 
 -- ---- completeness
 

@@ -2,15 +2,16 @@
 use Rattle.std.specs.Prelude.{◌≡◌, ℕ, ◌<◌, ◌⊎◌, false, true, List, Option, Some, None, Result, Ok, Err}
 use Rattle.resctrl_top.specs.declared.ended.Status.{Status}
 use Rattle.resctrl_top.specs.declared.ended.Status.TheVariants.{Done, Refused, Usage, ReadFault, WriteFault, NoMemory}
+use Rattle.top_parts.specs.declared.command.Command.{Command}
+use Rattle.top_parts.specs.declared.command.Command.TheVariants.{Gen, Step}
 use Rattle.top_parts.specs.declared.form.Form.{Form}
 use Rattle.top_parts.specs.Forms.{input_of, is_of_source, reads_source, usage_line}
-use Rattle.resctrl_top.specs.Isolation.{HoldsRegions, IsolatesGroups}
+use Rattle.resctrl_top.specs.Isolation.{BeginsLockWindows, HoldsRegions, IsolatesGroups}
 use Rattle.top_parts.specs.Meaning.{meaning, refusal_line}
 use Rattle.resctrl_top.specs.Outputs.{IsOutput}
-use Rattle.top_parts.specs.Outside.{IsToTheEnd, Reading, TakesAll, TakesNone, TakesSome, Writing}
+use Rattle.top_parts.specs.Outside.{IsToTheEnd, LeavesPlayed, LeavesRefused, Reading, TakesAll, TakesNone, TakesSome, Writing}
 use Rattle.top_parts.specs.declared.refusal.Refusal.{Refusal}
 use Rattle.run_law.specs.Runs.{IsRun}
-use Rattle.run_law.specs.declared.flags.Flags.{Flags}
 use Rattle.run_law.specs.Journals.{JournalsValue}
 use Rattle.script_ops.specs.Values.{ScriptValue}
 use Rattle.step_world.specs.Play.{IsPlay}
@@ -32,15 +33,22 @@ ReadsWell c = c.source.faults_now ≡ c.source.faults
 abbrev pub WritesWell : Call → Type 0
 WritesWell c = c.sink.faults_now ≡ c.sink.faults
 
--- What is promised of the journals of a script that was played: they are a run of it, that of its play by its order lines, which
--- isolates groups and holds regions.
-pub record IsPromised (script : ScriptValue) (run : JournalsValue) : Type 0 where
+-- how a command plays a script: `step` and `gen` by its order lines
+abbrev pub PlaysAs : Command → ScriptValue → JournalsValue → Type 0
+PlaysAs Step script run = IsPlay script run
+PlaysAs (Gen n) script run = IsPlay script run
+
+-- What is promised of the journals of a script that was played: they are a run of it, played as the command says, which isolates
+-- groups, holds regions, and has a window of a region at each lock.
+pub record IsPromised (command : Command) (script : ScriptValue) (run : JournalsValue) : Type 0 where
   pub is_run : IsRun script run
-  pub is_play : IsPlay script run
+  pub plays : PlaysAs command script run
   pub isolates : IsolatesGroups script run
   pub holds : HoldsRegions script run
+  pub begins_windows : BeginsLockWindows script run
 
--- The bytes that the form plays are a script, the journals are those of its play, and the sink took this of their report.
+-- The bytes that the form plays are a script, the journals are those of its play, and the sink took this of their report. Of the
+-- source nothing is left where it was read, and else all that there was.
 pub record IsPlayed (c : Call) (journals : Option JournalsValue) (Takes : Writing → List ℕ → Type 0) : Type 0 where
   pub form : Form
   pub bytes : List ℕ
@@ -48,14 +56,16 @@ pub record IsPlayed (c : Call) (journals : Option JournalsValue) (Takes : Writin
   pub run : JournalsValue
   pub has_form : c.form ≡ Some form
   pub to_the_end : IsToTheEnd (input_of form c.source.left) bytes
+  pub leaves : LeavesPlayed form.command c.source.left c.source.left_now
   pub is_script : meaning bytes ≡ Ok script
   pub has_run : journals ≡ Some run
-  pub promised : IsPromised script run
+  pub promised : IsPromised form.command script run
   pub text : List ℕ
   pub output : IsOutput script run form.flags text
   pub report : Takes c.sink text
 
--- The bytes that the source had are no script, there are no journals, and the sink took this of the line of the refusal.
+-- The bytes that the source had are no script, there are no journals, and the sink took this of the line of the refusal. Of the
+-- source nothing is left, and what follows the first bytes where there were too many.
 pub record IsRefused (c : Call) (journals : Option JournalsValue) (Takes : Writing → List ℕ → Type 0) : Type 0 where
   pub form : Form
   pub bytes : List ℕ
@@ -63,13 +73,15 @@ pub record IsRefused (c : Call) (journals : Option JournalsValue) (Takes : Writi
   pub has_form : c.form ≡ Some form
   pub reads : reads_source c.form ≡ true
   pub to_the_end : IsToTheEnd (input_of form c.source.left) bytes
+  pub leaves : LeavesRefused refusal c.source.left c.source.left_now
   pub no_script : meaning bytes ≡ Err refusal
   pub no_run : journals ≡ None
   pub line : Takes c.sink (refusal_line refusal)
 
--- The words are no form, there are no journals, and the sink took this of the usage line.
+-- The words are no form, the source has left what it had, there are no journals, and the sink took this of the usage line.
 pub record IsUsage (c : Call) (journals : Option JournalsValue) (Takes : Writing → List ℕ → Type 0) : Type 0 where
   pub no_form : c.form ≡ None
+  pub leaves : c.source.left_now ≡ c.source.left
   pub no_run : journals ≡ None
   pub line : Takes c.sink usage_line
 
@@ -119,9 +131,9 @@ abbrev pub SaysNothing : Writing → Status → Option JournalsValue → Type 0
 SaysNothing sink status journals = (journals ≡ None) × (status ≡ NoMemory) × TakesNone sink
 
 -- the script was played, and the sink took the report, or it failed and took a beginning of it
-pub record Reports (script : ScriptValue) (flags : Flags) (sink : Writing) (status : Status) (journals : Option JournalsValue) : Type 0 where
+pub record Reports (form : Form) (script : ScriptValue) (sink : Writing) (status : Status) (journals : Option JournalsValue) : Type 0 where
   pub run : JournalsValue
-  pub promised : IsPromised script run
+  pub promised : IsPromised form.command script run
   pub text : List ℕ
-  pub output : IsOutput script run flags text
+  pub output : IsOutput script run form.flags text
   pub report : Says Done (Some run) text sink status journals

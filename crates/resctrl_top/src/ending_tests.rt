@@ -39,8 +39,8 @@ fn bad_scripts_are_refused(rt: HostRuntime) -> Result<(), Fail> {
             b"machine sets=1 ways=4\ntasks 1\nphase\nthread\nsweep 1 0 0 4000000 0\naccess 1 0 0\n",
             b"line 6: script too large\n",
         ),
-        (b"machine slices=2\n", b"line 1: bad machine line\n"),
-        (b"machine sparse=1\n", b"line 1: bad machine line\n"),
+        (b"machine slices=3\n", b"line 1: bad machine line\n"),
+        (b"machine sparse=2\n", b"line 1: bad machine line\n"),
         (
             b"machine sets=1 ways=4\ntasks 1\nphase\nthread\naccess 1 0 281474976710656\n",
             b"line 5: bad argument\n",

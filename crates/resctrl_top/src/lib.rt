@@ -13,6 +13,8 @@ mod answer_tests;
 #[cfg(test)]
 mod binding_tests;
 #[cfg(test)]
+mod drop_tests;
+#[cfg(test)]
 mod ending_tests;
 #[cfg(test)]
 mod flag_tests;
@@ -22,6 +24,8 @@ mod form_tests;
 mod info_tests;
 #[cfg(test)]
 mod journal_tests;
+#[cfg(test)]
+mod machine_tests;
 #[cfg(test)]
 mod mode_tests;
 #[cfg(test)]

@@ -3,6 +3,7 @@
 use crate::{Status, top_step};
 use rc_stream::{MemSink, MemSource};
 use std::alloc::Global;
+use std::process::Abort;
 use std::test::Fail;
 
 pub(crate) const FOUR_ACCESSES: &[u8] =
@@ -37,6 +38,20 @@ pub(crate) fn told_by(
 /// The status of a script and what it writes.
 pub(crate) fn told(alloc: Global, script: &[u8]) -> Result<(Status, Vec<u8>), Fail> {
     told_by(alloc, &["step"], script)
+}
+
+/// Plays each script by its words, and compares what is written.
+pub(crate) fn reports_are(
+    rt: &impl Abort,
+    alloc: Global,
+    rows: &[(&[&str], &[u8], &[u8])],
+) -> Result<(), Fail> {
+    for (texts, script, report) in rows {
+        let (status, taken) = told_by(alloc, texts, script)?;
+        assert_eq!(rt; status, Status::Done);
+        assert_eq!(rt; taken.as_slice(), *report);
+    }
+    Ok(())
 }
 
 #[test]

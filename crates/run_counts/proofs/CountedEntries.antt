@@ -1,91 +1,108 @@
 -- Counts of the places that the entries of a slice filled, from the last entry back.
-use Rattle.std.proofs.Common.{◌≡◌, ℕ, suc, ◌+◌, ◌*◌, ◌%◌, ◌<◌, ◌≤◌, ◌==◌, Bool, true, false, cond, ◌&&◌, ◌||◌, List, [], ◌∷◌, ◌++◌, length, take, drop, get_or, Option, Some, None, refl, sym, ap, ◌∙◌, subst, arith, inl, inr}
-use Rattle.std.specs.Prelude.{is_some}
+use Rattle.std.proofs.Common.{◌≡◌, ℕ, suc, ◌+◌, ◌*◌, ◌%◌, ◌<◌, ◌≤◌, ◌==◌, Bool, true, false, cond, ◌&&◌, List, [], ◌∷◌, ◌++◌, length, take, drop, get_or, Option, Some, None, refl, sym, ap, ap₂, ◌∙◌, subst, arith, inl, inr}
+use Rattle.std.specs.Prelude.{is_some, option_and_then}
 use Rattle.std.specs.Option.{option_or}
 use Rattle.std.proofs.lemmas.Bool.{cases_lt}
 use Rattle.std.proofs.lemmas.List.{get_or_past, take-append-drop}
 use Rattle.std.proofs.Math.Seq.{drop-cons, drop-length}
 use Rattle.cache_core.proofs.laws.Places.{places_with-le}
-use Rattle.cache_core.proofs.laws.Suffixes.{held-append_emptied, held-cons}
-use Rattle.cache_core.specs.Filled.{empties, has_emptying, places_with}
+use Rattle.cache_core.proofs.laws.Suffixes.{decided-cons, decides-empties, held-append_emptied, held-decided}
+use Rattle.cache_core.specs.Filled.{empties, places_with}
 use Rattle.cache_core.specs.Fills.{Resident}
-use Rattle.cache_core.specs.History.{Shape, decides, held, is_of, is_own, left_by, lines_of, valid_of, ways_below}
+use Rattle.cache_core.specs.History.{Shape, decided, decides, held, is_of, is_own, left_by, lines_of, valid_of, ways_below}
 use Rattle.cache_core.specs.declared.entry.SliceEntry.{SliceEntry}
 use Rattle.cache_core.specs.declared.entry.What.{What}
-use Rattle.cache_core.specs.declared.entry.What.TheVariants.{Access, Raise, Flush, Lock, Look}
+use Rattle.cache_core.specs.declared.entry.What.TheVariants.{Access, Flush, Lock, Drop}
 use Rattle.cbm.specs.Masks.{has_way}
 use Rattle.lists.proofs.Sums.{sum_below-zero}
 use Rattle.lists.specs.Sums.{one_if}
 use Rattle.rc_base.specs.declared.names.Gid.{Gid}
-use Rattle.run_counts.proofs.Occupancies.{HasCounted-alike}
-use Rattle.run_counts.specs.Occupancies.{AddsPlaces, HasCounted, IsAtMost, OccupancyValue, is_seen, lines_told, with_lines}
+use Rattle.run_counts.proofs.Occupancies.{HasCounted-alike, HasDecided-alike}
+use Rattle.run_counts.specs.Occupancies.{AddsPlaces, HasCounted, HasDecided, IsAtMost, OccupancyValue, SkipsPlaces, held_in, is_seen, lines_told, with_left}
 
 -- ---- entries, from the last one back
 
 -- a list of entries, with one that is followed by others
-module _ (m : Shape) (base old new : OccupancyValue) (e : SliceEntry) (es : List SliceEntry) (fills : has_emptying es ≡ false) where
-  -- what the places hold before this one is counted
-  abbrev later : ℕ → ℕ → Option Resident
-  later s w = held m es s w
+module _ (m : Shape) (base old new : OccupancyValue) (e : SliceEntry) (es : List SliceEntry) where
+  -- which places are decided before this one is counted
+  abbrev later : ℕ → ℕ → Option (Option Resident)
+  later s w = decided m es s w
 
-  -- what they hold once it is counted
-  abbrev all : ℕ → ℕ → Option Resident
-  all s w = held m (e ∷ es) s w
+  -- and once it is counted
+  abbrev all : ℕ → ℕ → Option (Option Resident)
+  all s w = decided m (e ∷ es) s w
+
+  -- what was decided holds what the entries leave
+  pub HasCounted-decided : (now : OccupancyValue) → HasDecided m base all now → HasCounted m base (λ s w. held m (e ∷ es) s w) now
+  HasCounted-decided now before = HasCounted-alike m base now (held_in all) (λ s w. held m (e ∷ es) s w) (λ s w own there. sym (held-decided m (e ∷ es) s w)) before.counted
 
   -- what is there, or else nothing
-  option_or-none : (o : Option Resident) → option_or o None ≡ o
+  option_or-none : (o : Option (Option Resident)) → option_or o None ≡ o
   option_or-none None = refl
   option_or-none (Some r) = refl
 
-  -- an entry that leaves nothing more
-  HasCounted-same : ((s w : ℕ) → cond (decides m s w e.what) (left_by m s w e.what) None ≡ None) → HasCounted m base later old → HasCounted m base all old
-  HasCounted-same nothing before =
-      HasCounted-alike m base old later all (λ s w own there. sym (held-cons m e es s w fills ∙ (ap (λ o. option_or (later s w) o) (nothing s w) ∙ option_or-none (later s w)))) before
+  -- an entry that decides nothing
+  pub HasDecided-quiet : ((s w : ℕ) → decides m s w e.what ≡ false) → HasDecided m base later old → HasDecided m base all old
+  HasDecided-quiet nothing before =
+      HasDecided-alike m base old later all (λ s w own there. sym (decided-cons m e es s w ∙ (ap (λ b. option_or (later s w) (cond b (Some (left_by m s w e.what)) None)) (nothing s w) ∙ option_or-none (later s w)))) before
 
-  -- a hit
-  pub HasCounted-hit : (owner : Gid) (rmid mask line way : ℕ) → e.what ≡ Access true way owner rmid mask line → HasCounted m base later old → HasCounted m base all old
-  HasCounted-hit owner rmid mask line way is before =
-      HasCounted-same (λ s w. ap (λ (x : What). cond (decides m s w x) (left_by m s w x) None) is) before
-
-  -- a raise of the floor
-  pub HasCounted-raise : e.what ≡ Raise → HasCounted m base later old → HasCounted m base all old
-  HasCounted-raise is before = HasCounted-same (λ s w. ap (λ (x : What). cond (decides m s w x) (left_by m s w x) None) is) before
-
-  -- a look
-  pub HasCounted-look : (rmid lines : ℕ) → e.what ≡ Look rmid lines → HasCounted m base later old → HasCounted m base all old
-  HasCounted-look rmid lines is before = HasCounted-same (λ s w. ap (λ (x : What). cond (decides m s w x) (left_by m s w x) None) is) before
-
-  -- a flush, after which no place is filled
-  pub HasCounted-flush : e.what ≡ Flush → HasCounted m base later old → HasCounted m base all old
-  HasCounted-flush is before = HasCounted-same (λ s w. ap (λ (x : What). cond (decides m s w x) (left_by m s w x) None) is) before
+  -- an entry that decides the places that pass a test
+  HasDecided-left : (what : What) → e.what ≡ what → (test : ℕ → ℕ → Bool) (left : ℕ → ℕ → Option Resident) → ((s w : ℕ) → decides m s w what ≡ test s w) → ((s w : ℕ) → left_by m s w what ≡ left s w)
+      → HasDecided m base (with_left test left later) new → HasDecided m base all new
+  HasDecided-left what is test left when then after =
+      HasDecided-alike m base new (with_left test left later) all
+      (λ s w own there. sym (decided-cons m e es s w ∙ (ap (λ (x : What). option_or (later s w) (cond (decides m s w x) (Some (left_by m s w x)) None)) is ∙ ap₂ (λ b o. option_or (later s w) (cond b (Some o) None)) (when s w) (then s w)))) after
 
   -- a fill
-  pub HasCounted-fill : (owner : Gid) (rmid mask line way : ℕ) → e.what ≡ Access false way owner rmid mask line → AddsPlaces m old new rmid (λ s w. (line % m.sets == s) && (way == w))
-      → HasCounted m base later old → HasCounted m base all new
-  HasCounted-fill owner rmid mask line way is adds before =
+  pub HasDecided-fill : (owner : Gid) (rmid mask line way : ℕ) → e.what ≡ Access false way owner rmid mask line → AddsPlaces m old new rmid (λ s w. (line % m.sets == s) && (way == w))
+      → HasDecided m base later old → HasDecided m base all new
+  HasDecided-fill owner rmid mask line way is adds before =
       let lines : ℕ → ℕ → Resident = λ s w. record { line = line; rmid = rmid } in
-      HasCounted-alike m base new (with_lines (λ s w. (line % m.sets == s) && (way == w)) lines later) all
-      (λ s w own there. sym (held-cons m e es s w fills ∙ ap (λ (x : What). option_or (later s w) (cond (decides m s w x) (left_by m s w x) None)) is))
-      (adds base later lines (λ s w. refl) before)
+      HasDecided-left (Access false way owner rmid mask line) is (λ s w. (line % m.sets == s) && (way == w)) (λ s w. Some (lines s w)) (λ s w. refl) (λ s w. refl) (adds base later lines (λ s w. refl) before)
+
+  -- a drop
+  pub HasDecided-drop : (line : ℕ) (at : Option ℕ) → e.what ≡ Drop line at → SkipsPlaces m old new (λ s w. decides m s w (Drop line at))
+      → HasDecided m base later old → HasDecided m base all new
+  HasDecided-drop line at is skips before =
+      HasDecided-left (Drop line at) is (λ s w. decides m s w (Drop line at)) (λ s w. None) (λ s w. refl) (λ s w. refl) (skips base later before)
+
+  -- the places that an entry decides besides, of which it leaves some empty
+  HasCounted-emptying : (now : OccupancyValue) (test : ℕ → ℕ → Bool) (left : ℕ → ℕ → Option Resident) → empties e.what ≡ true
+      → ((s w : ℕ) → left_by m s w e.what ≡ cond (test s w) (left s w) None) → HasDecided m base (with_left test left later) now → HasCounted m base (λ s w. held m (e ∷ es) s w) now
+  HasCounted-emptying now test left empty leaves after =
+      HasCounted-alike m base now (held_in (with_left test left later)) (λ s w. held m (e ∷ es) s w)
+      (λ s w own there. sym (held-decided m (e ∷ es) s w ∙ (ap (option_and_then (λ (o : Option Resident). o)) (decided-cons m e es s w) ∙ go (later s w) (decides m s w e.what) (test s w) (left s w) (left_by m s w e.what) (decides-empties m s w e.what empty) (leaves s w)))) after.counted
+    where
+      go : (o : Option (Option Resident)) (d b : Bool) (x y : Option Resident) → d ≡ true → y ≡ cond b x None
+          → option_and_then (λ (o : Option Resident). o) (option_or o (cond d (Some y) None)) ≡ option_and_then (λ (o : Option Resident). o) (option_or o (cond b (Some x) None))
+      go (Some z) d b x y is leaves = refl
+      go None d true x y is leaves = rw is leaves
+      go None d false x y is leaves = rw is leaves
+
+  -- a flush, before which no place is filled
+  pub HasCounted-flush : e.what ≡ Flush → HasDecided m base later old → HasCounted m base (λ s w. held m (e ∷ es) s w) old
+  HasCounted-flush is before =
+      HasCounted-emptying old (λ s w. false) (λ s w. None) (ap empties is) (λ s w. ap (left_by m s w) is)
+      (HasDecided-alike m base old later (with_left (λ s w. false) (λ s w. None) later) (λ s w own there. sym (option_or-none (later s w))) before)
 
   -- a region
-  pub HasCounted-lock : (mask first_line : ℕ) → e.what ≡ Lock mask first_line → AddsPlaces m old new 0 (λ s w. has_way mask w) → HasCounted m base later old → HasCounted m base all new
+  pub HasCounted-lock : (mask first_line : ℕ) → e.what ≡ Lock mask first_line → AddsPlaces m old new 0 (λ s w. has_way mask w) → HasDecided m base later old → HasCounted m base (λ s w. held m (e ∷ es) s w) new
   HasCounted-lock mask first_line is adds before =
       let lines : ℕ → ℕ → Resident = λ s w. record { line = first_line + s + ways_below mask w * m.sets; rmid = 0 } in
-      HasCounted-alike m base new (with_lines (λ s w. has_way mask w) lines later) all
-      (λ s w own there. sym (held-cons m e es s w fills ∙ ap (λ (x : What). option_or (later s w) (cond (decides m s w x) (left_by m s w x) None)) is))
-      (adds base later lines (λ s w. refl) before)
+      HasCounted-emptying new (λ s w. has_way mask w) (λ s w. Some (lines s w)) (ap empties is) (λ s w. ap (left_by m s w) is) (adds base later lines (λ s w. refl) before)
 
 -- ---- the whole list
 
 -- no entry
-pub HasCounted-none : (m : Shape) (now : OccupancyValue) → length now.seen ≡ m.sets → ((set way : ℕ) → is_seen now set way ≡ false) → HasCounted m now (λ s w. held m [] s w) now
-HasCounted-none m now sets none = record {
-  sets = sets;
-  rmids = refl;
+pub HasDecided-none : (m : Shape) (now : OccupancyValue) → length now.seen ≡ m.sets → ((set way : ℕ) → is_seen now set way ≡ false) → HasDecided m now (decided m []) now
+HasDecided-none m now sets none = record {
+  counted = record {
+    sets = sets;
+    rmids = refl;
+    counts = λ r there. let zero_lines = places_with-none m (is_of r) refl in omega (arith, zero_lines);
+    valid = let zero_lines = places_with-none m (λ o. is_some o) refl in omega (arith, zero_lines);
+  };
   seen = λ s w own there. none s w;
-  counts = λ r there. let zero_lines = places_with-none m (is_of r) refl in omega (arith, zero_lines);
-  valid = let zero_lines = places_with-none m (λ o. is_some o) refl in omega (arith, zero_lines);
 }
   where
     cond-zero : (b : Bool) (n : ℕ) → n ≡ 0 → cond b n 0 ≡ 0
@@ -119,23 +136,18 @@ IsAtMost-slice m base now holds most few counted least = record {
 }
 
 -- before the last entry
-pub HasCounted-begun : (m : Shape) (now : OccupancyValue) (es : List SliceEntry) → length now.seen ≡ m.sets → ((set way : ℕ) → is_seen now set way ≡ false) → HasCounted m now (λ s w. held m (drop (length es) es) s w) now
-HasCounted-begun m now es sets none = subst (λ (left : List SliceEntry). HasCounted m now (λ s w. held m left s w) now) (sym (drop-length es)) (HasCounted-none m now sets none)
-
--- nothing empties places after the last entry
-pub has_emptying-drop_length : (es : List SliceEntry) → has_emptying (drop (length es) es) ≡ false
-has_emptying-drop_length es = ap has_emptying (drop-length es)
-
--- nothing empties places from an entry on that does not itself
-pub has_emptying-drop : (es : List SliceEntry) (k left : ℕ) (e : SliceEntry) → k + 1 ≡ left → k < length es → e ≡ get_or es k e → empties e.what ≡ false → has_emptying (drop left es) ≡ false → has_emptying (drop k es) ≡ false
-has_emptying-drop es k left e next within is here later =
-    ap has_emptying (drop-at es k e within is) ∙ (ap (λ b. b || has_emptying (drop (k + 1) es)) here ∙ (ap (λ n. has_emptying (drop n es)) next ∙ later))
+pub HasDecided-begun : (m : Shape) (now : OccupancyValue) (es : List SliceEntry) → length now.seen ≡ m.sets → ((set way : ℕ) → is_seen now set way ≡ false) → HasDecided m now (decided m (drop (length es) es)) now
+HasDecided-begun m now es sets none = subst (λ (left : List SliceEntry). HasDecided m now (decided m left) now) (sym (drop-length es)) (HasDecided-none m now sets none)
 
 -- the count with one entry more is that from this entry on
-pub HasCounted-more : (m : Shape) (base now : OccupancyValue) (es : List SliceEntry) (k left : ℕ) (e : SliceEntry) → k + 1 ≡ left → k < length es → e ≡ get_or es k e
-    → HasCounted m base (λ s w. held m (e ∷ drop left es) s w) now → HasCounted m base (λ s w. held m (drop k es) s w) now
-HasCounted-more m base now es k left e next within is counted =
-    subst (λ (all : List SliceEntry). HasCounted m base (λ s w. held m all s w) now) (ap (λ n. e ∷ drop n es) (sym next) ∙ sym (drop-at es k e within is)) counted
+pub HasDecided-more : (m : Shape) (base now : OccupancyValue) (es : List SliceEntry) (k left : ℕ) (e : SliceEntry) → k + 1 ≡ left → k < length es → e ≡ get_or es k e
+    → HasDecided m base (decided m (e ∷ drop left es)) now → HasDecided m base (decided m (drop k es)) now
+HasDecided-more m base now es k left e next within is counted =
+    subst (λ (all : List SliceEntry). HasDecided m base (decided m all) now) (ap (λ n. e ∷ drop n es) (sym next) ∙ sym (drop-at es k e within is)) counted
+
+-- what was decided from an entry on is what is held from there on
+pub HasCounted-from : (m : Shape) (base now : OccupancyValue) (es : List SliceEntry) → HasDecided m base (decided m es) now → HasCounted m base (λ s w. held m es s w) now
+HasCounted-from m base now es before = HasCounted-alike m base now (held_in (decided m es)) (λ s w. held m es s w) (λ s w own there. sym (held-decided m es s w)) before.counted
 
 -- the count with an entry that empties every place is that of all entries
 pub HasCounted-ended : (m : Shape) (base now : OccupancyValue) (es : List SliceEntry) (k left : ℕ) (e : SliceEntry) → k + 1 ≡ left → k < length es → e ≡ get_or es k e → empties e.what ≡ true

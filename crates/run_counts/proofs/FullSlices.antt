@@ -4,7 +4,7 @@ use Rattle.std.specs.Prelude.{is_some, option_and_then}
 use Rattle.std.proofs.lemmas.Bool.{cases_Bool, eq-eqb, eqb-true}
 use Rattle.std.proofs.lemmas.List.{take-append-drop}
 use Rattle.std.proofs.lemmas.Nat.{div-add-mod', mod-mul-add}
-use Rattle.cache_core.proofs.laws.Places.{sum_below-greater}
+use Rattle.cache_core.proofs.laws.Places.{places_with-changed, sum_below-greater}
 use Rattle.cache_core.proofs.laws.Suffixes.{last_such-append_later}
 use Rattle.cache_core.specs.Filled.{places_with}
 use Rattle.cache_core.specs.Fills.{Resident}
@@ -12,8 +12,8 @@ use Rattle.cache_core.specs.History.{IsOwn, Shape, decides, held, is_own, last_s
 use Rattle.cache_core.specs.declared.entry.SliceEntry.{SliceEntry}
 use Rattle.lists.proofs.Sums.{one_if-le, sum_below-le, sum_below-zero}
 use Rattle.lists.specs.Sums.{one_if, sum_below}
-use Rattle.run_counts.proofs.Occupancies.{HasCounted-alike, is_at, places_with-at}
-use Rattle.run_counts.specs.Occupancies.{HasCounted, OccupancyValue, with_lines}
+use Rattle.run_counts.proofs.Occupancies.{HasCounted-alike, is_at, is_at-other}
+use Rattle.run_counts.specs.Occupancies.{HasCounted, OccupancyValue}
 
 -- ---- how many places a slice has
 
@@ -83,11 +83,12 @@ is_some-full : (m : Shape) (holds : ℕ → ℕ → Option Resident) → m.slice
 is_some-full m holds there whole full set way own inside = elim (cases_Bool (is_some (holds set way))) [
   | inl held_there ↦ held_there
   | inr empty ↦
-      let lines : ℕ → ℕ → Resident = λ s w. record { line = 0; rmid = 0 } in
-      let more : places_with m (λ o. is_some o) (with_lines (is_at set way) lines holds) ≡ places_with m (λ o. is_some o) holds + cond (is_some (holds set way)) 0 (one_if true) = places_with-at m (λ o. is_some o) holds lines set way own inside refl in
-      let one : cond (is_some (holds set way)) 0 (one_if true) ≡ 1 = rw empty refl in
-      let most : places_with m (λ o. is_some o) (with_lines (is_at set way) lines holds) ≤ m.sets / m.slices * m.ways = places_with-le_slice m (λ o. is_some o) (with_lines (is_at set way) lines holds) there whole in
-      absurd (omega (arith, more, one, most, full))
+      let other : ℕ → ℕ → Option Resident = λ s w. cond (is_at set way s w) (Some (record { line = 0; rmid = 0 })) (holds s w) in
+      let here : is_at set way set way ≡ true = rw (eq-eqb set set refl, eq-eqb way way refl) refl in
+      let more : places_with m (λ o. is_some o) other ≡ places_with m (λ o. is_some o) holds + 1 =
+      places_with-changed m (λ o. is_some o) holds other set way 1 own inside (λ s w apart. rw (is_at-other set way s w apart) refl) (rw (here, empty) refl) in
+      let most : places_with m (λ o. is_some o) other ≤ m.sets / m.slices * m.ways = places_with-le_slice m (λ o. is_some o) other there whole in
+      absurd (omega (arith, more, most, full))
 ]
 
 -- what stands before entries that leave a line in a place adds nothing there

@@ -1,12 +1,12 @@
--- Counts of the places that a fill or a lock fills.
+-- Counts of the places that a fill or a lock fills, and that a drop empties.
 use Rattle.std.proofs.Common.{◌≡◌, ℕ, ◌+◌, ◌%◌, ◌<◌, ◌≤◌, ◌==◌, nat_lt, Bool, true, false, ◌&&◌, ◌||◌, ◌⊎◌, refl, sym, ap, ◌∙◌, subst, arith, inl, inr}
 use Rattle.std.proofs.Math.Bool.{and-false, and-or_distrib_right, and-true, or-false}
 use Rattle.std.proofs.lemmas.Bool.{cases_Bool, eqb-false, eqb-true, lt-ltb}
 use Rattle.std.proofs.lemmas.Bool.Decides.{nat_tests}
 use Rattle.cache_core.specs.History.{IsOwn, Shape, is_own}
 use Rattle.cbm.specs.Masks.{has_way}
-use Rattle.run_counts.proofs.Occupancies.{AddsPlaces-both, AddsPlaces-none, AddsPlaces-one, AddsPlaces-same, is_at, is_at-other}
-use Rattle.run_counts.specs.Occupancies.{AddsPlace, AddsPlaces, OccupancyValue}
+use Rattle.run_counts.proofs.Occupancies.{AddsPlaces-both, AddsPlaces-none, AddsPlaces-one, AddsPlaces-same, SkipsPlaces-none, SkipsPlaces-one, is_at, is_at-other}
+use Rattle.run_counts.specs.Occupancies.{AddsPlace, AddsPlaces, OccupancyValue, SkipsPlace, SkipsPlaces}
 
 -- ---- one fill
 
@@ -17,15 +17,31 @@ AddsPlaces-fill m old new set place way rmid few is inside own there adds =
     subst (λ (k : ℕ). AddsPlaces m old new rmid (λ s w. (k == s) && (way == w))) is
     (AddsPlaces-one m old new set way rmid few (inside, eqb-true (set % m.slices) m.slice own) there adds)
 
+-- a place that is not of the slice is none of its places
+elsewhere : (m : Shape) (set place way : ℕ) → set ≡ place → (s w : ℕ) → IsOwn m s → w < m.ways → (s ≡ place) × (w ≡ way) → (is_own m set ≡ false) ⊎ (m.ways ≤ way) → ⊥
+elsewhere m set place way is s w own there same (inl not_own) = eqb-false (set % m.slices) m.slice not_own (subst (λ (k : ℕ). k % m.slices ≡ m.slice) (same.0 ∙ sym is) own.1)
+elsewhere m set place way is s w own there same (inr past) = let place_is = same.1 in omega (arith, place_is, past, there)
+
 -- a fill of another place
 pub AddsPlaces-other_fill : (m : Shape) (now : OccupancyValue) (set place way rmid : ℕ) → set ≡ place → (is_own m set ≡ false) ⊎ (m.ways ≤ way)
     → AddsPlaces m now now rmid (λ s w. (place == s) && (way == w))
 AddsPlaces-other_fill m now set place way rmid is other =
-    AddsPlaces-none m now rmid (λ s w. (place == s) && (way == w)) (λ s w own there. is_at-other place way s w (λ same. none s w own there same other))
-  where
-    none : (s w : ℕ) → IsOwn m s → w < m.ways → (s ≡ place) × (w ≡ way) → (is_own m set ≡ false) ⊎ (m.ways ≤ way) → ⊥
-    none s w own there same (inl not_own) = eqb-false (set % m.slices) m.slice not_own (subst (λ (k : ℕ). k % m.slices ≡ m.slice) (same.0 ∙ sym is) own.1)
-    none s w own there same (inr past) = let place_is = same.1 in omega (arith, place_is, past, there)
+    AddsPlaces-none m now rmid (λ s w. (place == s) && (way == w)) (λ s w own there. is_at-other place way s w (λ same. elsewhere m set place way is s w own there same other))
+
+-- ---- one drop
+
+-- a drop from a place of the slice
+pub SkipsPlaces-drop : (m : Shape) (old new : OccupancyValue) (set place way : ℕ) → m.ways ≤ 32 → set ≡ place → set < m.sets → is_own m set ≡ true → way < m.ways → SkipsPlace old new set way
+    → SkipsPlaces m old new (λ s w. (place == s) && (way == w))
+SkipsPlaces-drop m old new set place way few is inside own there skips =
+    subst (λ (k : ℕ). SkipsPlaces m old new (λ s w. (k == s) && (way == w))) is
+    (SkipsPlaces-one m old new set way few (inside, eqb-true (set % m.slices) m.slice own) there skips)
+
+-- a drop from another place
+pub SkipsPlaces-other_drop : (m : Shape) (now : OccupancyValue) (set place way : ℕ) → set ≡ place → (is_own m set ≡ false) ⊎ (m.ways ≤ way)
+    → SkipsPlaces m now now (λ s w. (place == s) && (way == w))
+SkipsPlaces-other_drop m now set place way is other =
+    SkipsPlaces-none m now (λ s w. (place == s) && (way == w)) (λ s w own there. is_at-other place way s w (λ same. elsewhere m set place way is s w own there same other))
 
 -- ---- the ways of a mask
 

@@ -7,6 +7,7 @@ use Rattle.std.proofs.lemmas.Map.Keys.{any_passes_from_place}
 use Rattle.std.proofs.lemmas.Option.{slice_get-map}
 use Rattle.cache_core.specs.declared.entry.SliceEntry.{SliceEntry}
 use Rattle.cache_core.specs.declared.entry.What.TheVariants as whats
+use Rattle.machine.specs.Maps.{line_of}
 use Rattle.machine.specs.declared.parameters.Parameters.{Parameters}
 use Rattle.path_names.specs.declared.files.FileKind.TheVariants as kinds
 use Rattle.path_names.specs.declared.path_ref.PathRef.{PathRef}
@@ -33,7 +34,9 @@ use Rattle.tree_law.specs.Places.{control_at}
 use Rattle.tree_law.specs.Refusals.{Refusal, reply_of}
 use Rattle.tree_law.specs.State.{State}
 use Rattle.tree_law.specs.Steps.{after, after_accepted, needs, next, refusal}
+use Rattle.tree_law.specs.commands.Drop as clflush
 use Rattle.tree_law.specs.commands.Flush as flush
+use Rattle.tree_law.specs.commands.Touch.{touched}
 use Rattle.tree_law.specs.commands.Mode as mode
 use Rattle.tree_law.specs.commands.Schemata as schemata
 use Rattle.tree_law.specs.commands.Write as write
@@ -86,12 +89,28 @@ unfolding flush.after
 quiet-flush m None = AllByRecursion-map IsQuiet (λ d. follows.Flush d) (range_with_len 0 m.domains) (λ d. refl)
 quiet-flush m (Some domain) = (refl, tt)
 
+-- after a flush of a line
+quiet-line : (m : Parameters) (addr : ℕ) → AllByRecursion IsQuiet (clflush.after_line m addr)
+unfolding clflush.after_line
+quiet-line m addr = AllByRecursion-map IsQuiet (λ d. follows.Drop d (line_of addr)) (range_with_len 0 m.domains) (λ d. refl)
+
+-- after a flush of a line of a region
+quiet-region : (s : State) (path : PathRef) (offset : ℕ) → AllByRecursion IsQuiet (clflush.after_region s path offset)
+unfolding clflush.after_region
+quiet-region s path offset = at (touched s path)
+  where
+    at : (o : Option _) → AllByRecursion IsQuiet (clflush.follow offset o)
+    at None = tt
+    at (Some (domain, r)) = (refl, tt)
+
 -- after an accepted command that is no touch
 quiet-accepted : (m : Parameters) (s : State) (k : ℕ) (op : Op) → is_accepted_touch op replies.Ok ≡ false → AllByRecursion IsQuiet (after_accepted m s k op)
 quiet-accepted m s k (ops.Rmdir path) other = AllByRecursion-map IsQuiet (λ d. follows.Raise d) (range_with_len 0 m.domains) (λ d. refl)
 quiet-accepted m s k (ops.Write path text) other = quiet-write m s path text
 quiet-accepted m s k (ops.Flush domain) other = quiet-flush m domain
 quiet-accepted m s k (ops.Touch cpu path task offset) other = absurd cc
+quiet-accepted m s k (ops.DropLine addr) other = quiet-line m addr
+quiet-accepted m s k (ops.DropRegion path offset) other = quiet-region s path offset
 quiet-accepted m s k op other = tt
 
 -- after a command that is no accepted touch

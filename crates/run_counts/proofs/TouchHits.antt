@@ -88,6 +88,8 @@ ByKind-of_command A C (ops.Write path text) is h = h
 ByKind-of_command A C (ops.Read path) is h = h
 ByKind-of_command A C (ops.List path) is h = h
 ByKind-of_command A C (ops.Touch cpu path task offset) is h = h
+ByKind-of_command A C (ops.DropLine addr) is h = h
+ByKind-of_command A C (ops.DropRegion path offset) is h = h
 ByKind-of_command A C (ops.Flush domain) is h = h
 ByKind-of_command A C ops.Tick is h = h
 
@@ -98,6 +100,7 @@ is_access-undecided whats.Raise = refl
 is_access-undecided whats.Flush = refl
 is_access-undecided (whats.Lock mask first_line) = refl
 is_access-undecided (whats.Look rmid lines) = refl
+is_access-undecided (whats.Drop line at) = refl
 
 -- what each entry of a command among these pays
 abbrev pub ArePaid : (Owed → Type 0) → TreeEntryValue → List SliceEntry → Type 0

@@ -1,11 +1,12 @@
 //! Counts of the lines that the entries of a slice left, from the last entry back.
 ghost use Rattle.std.specs.Prelude.{◌≡◌, ℕ, List, ◌+◌, ◌-◌, ◌*◌, ◌/◌, ◌%◌, ◌<◌, ◌≤◌, ◌==◌, ◌&&◌, ◌∷◌, not, false, length};
-ghost use Rattle.cache_core.specs.Filled.{empties, has_emptying};
+ghost use Rattle.cache_core.specs.Filled.{empties};
 ghost use Rattle.cache_core.specs.declared.entry.SliceEntry.{SliceEntry};
-ghost use Rattle.cache_core.specs.History.{IsOwn, held, is_own, lines_of, valid_of};
+ghost use Rattle.cache_core.specs.History.{IsOwn, decided, decides, held, is_own, lines_of, valid_of};
+ghost use Rattle.cache_core.specs.declared.entry.What.TheVariants.{Drop};
 ghost use Rattle.cbm.specs.Masks.{has_way as has};
 ghost use Rattle.machine.specs.Maps.{parameters_of};
-ghost use Rattle.run_counts.specs.Occupancies.{AddsPlaces, HasCounted, IsAtMost, OccupancyValue, lines_told};
+ghost use Rattle.run_counts.specs.Occupancies.{AddsPlaces, HasCounted, HasDecided, IsAtMost, OccupancyValue, SkipsPlaces, lines_told};
 ghost use Rattle.run_counts.specs.declared.line_counts.TheConstants.{MOST_COUNT};
 ghost use Rattle.run_law.specs.Slices.{shape_in};
 
@@ -37,6 +38,28 @@ impl Occupancy {
         let set = machine.set_of(line);
         if is_of_slice(machine, i, set) && way < machine.ways {
             self.put(set, way, rmid);
+        }
+    }
+
+    // Is done with the place of a line that was dropped, where the place is of slice i.
+    fn empty(&mut self, machine: &Machine, i: u32, line: u64, way: u8)
+        requires sets { length self.old.seen ≡ machine.now.sets }
+        ensures { SkipsPlaces (shape_in (parameters_of machine.now) i) self.old self.new (λ s w. (line % machine.now.sets == s) && (way == w)) }
+    {
+        let set = machine.set_of(line);
+        if is_of_slice(machine, i, set) && way < machine.ways {
+            self.skip(set, way);
+        }
+    }
+
+    // The same, where a way held the line.
+    fn empty_if_held(&mut self, machine: &Machine, i: u32, line: u64, way: Option<u8>)
+        requires sets { length self.old.seen ≡ machine.now.sets }
+        ensures { SkipsPlaces (shape_in (parameters_of machine.now) i) self.old self.new (λ s w. decides (shape_in (parameters_of machine.now) i) s w (Drop line way)) }
+    {
+        match way {
+            Some(way) => self.empty(machine, i, line, way),
+            None => {}
         }
     }
 
@@ -74,8 +97,10 @@ impl Occupancy {
         requires sets { length self.old.seen ≡ machine.now.sets }
         requires few { IsAtMost (MOST_COUNT / 2) self.old }
         ensures more { result ≡ not (empties entry.now.what) }
-        ensures counted { (base : OccupancyValue) (es : List SliceEntry) → has_emptying es ≡ false → HasCounted (shape_in (parameters_of machine.now) i) base (λ s w. held (shape_in (parameters_of machine.now) i) es s w) self.old
+        ensures counted { (base : OccupancyValue) (es : List SliceEntry) → HasDecided (shape_in (parameters_of machine.now) i) base (decided (shape_in (parameters_of machine.now) i) es) self.old
             → HasCounted (shape_in (parameters_of machine.now) i) base (λ s w. held (shape_in (parameters_of machine.now) i) (entry.now ∷ es) s w) self.new }
+        ensures decided { (base : OccupancyValue) (es : List SliceEntry) → empties entry.now.what ≡ false → HasDecided (shape_in (parameters_of machine.now) i) base (decided (shape_in (parameters_of machine.now) i) es) self.old
+            → HasDecided (shape_in (parameters_of machine.now) i) base (decided (shape_in (parameters_of machine.now) i) (entry.now ∷ es)) self.new }
     {
         match entry.what {
             What::Access { hit: true, .. } => true,
@@ -95,6 +120,10 @@ impl Occupancy {
             What::Flush => false,
             What::Raise => true,
             What::Look { .. } => true,
+            What::Drop { line, way } => {
+                self.empty_if_held(machine, i, line, way);
+                true
+            }
         }
     }
 

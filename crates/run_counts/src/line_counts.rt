@@ -2,7 +2,7 @@
 ghost use Rattle.std.specs.Prelude.{◌≡◌, ℕ, ◌+◌, ◌<◌, ◌≤◌, ◌^◌, ◌==◌, ◌&&◌, ◌||◌, false, IfOk, length};
 ghost use Rattle.cbm.specs.Masks.{has_way};
 ghost use Rattle.lists.specs.Sums.{one_if};
-ghost use Rattle.run_counts.specs.Occupancies.{AddsPlace, IsAtMost, is_seen, lines_told};
+ghost use Rattle.run_counts.specs.Occupancies.{AddsPlace, IsAtMost, SkipsPlace, is_seen, lines_told};
 ghost use Rattle.run_counts.specs.declared.line_counts.TheConstants.{MOST_COUNT};
 
 use machine::Machine;
@@ -14,8 +14,8 @@ use std::marker::Model;
 pub(crate) const MOST_COUNT: u64 = 1 << 62;
 
 /// How many lines each RMID has in the slices of a domain, and how many there are. The entries of a slice are counted from
-/// the last one back: a place holds what its last fill put there, so that a word for each set, with a bit for each way,
-/// says which places are done with.
+/// the last one back: a place holds what the last entry that decides it left there, so that a word for each set, with a bit
+/// for each way, says which places are done with.
 #[derive(Drop)]
 pub struct Occupancy {
     seen: Vec<u32>,
@@ -99,7 +99,17 @@ impl Occupancy {
         self.valid += 1;
     }
 
-    /// Counts the line of a place for an RMID, unless a later entry put one there.
+    /// Is done with a place that was left empty, unless a later entry decided it.
+    pub(crate) fn skip(&mut self, set: u32, way: u8)
+        requires set { set < length self.old.seen }
+        requires way { way < 32 }
+        ensures { SkipsPlace self.old self.new set way }
+    {
+        let word = self.seen[set as usize];
+        self.seen[set as usize] = with_way(word, way);
+    }
+
+    /// Counts the line of a place for an RMID, unless a later entry decided the place.
     pub(crate) fn put(&mut self, set: u32, way: u8, rmid: u16)
         requires set { set < length self.old.seen }
         requires way { way < 32 }

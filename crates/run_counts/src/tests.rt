@@ -73,6 +73,35 @@ fn only_the_last_fill_of_a_place_since_a_flush_counts(rt: HostRuntime) -> Result
 }
 
 #[test]
+fn a_dropped_line_counts_no_more(rt: HostRuntime) -> Result<(), Fail> {
+    let machine = machine(&rt);
+    let mut occupancy = Occupancy::create(rt.alloc(), &machine)?;
+    occupancy.clear();
+    let gone = What::Drop {
+        line: 11,
+        way: Some(1),
+    };
+    let nowhere = What::Drop {
+        line: 14,
+        way: None,
+    };
+    let entries = [
+        fill(1, 10, 0),
+        fill(1, 11, 1),
+        fill(2, 12, 2),
+        entry(gone),
+        entry(nowhere),
+        fill(3, 13, 0),
+    ];
+    occupancy.count_slice(&machine, 0, &entries);
+    assert_eq!(rt; occupancy.valid(), 2);
+    assert_eq!(rt; occupancy.lines(1), 0);
+    assert_eq!(rt; occupancy.lines(2), 1);
+    assert_eq!(rt; occupancy.lines(3), 1);
+    Ok(())
+}
+
+#[test]
 fn a_region_keeps_the_places_that_no_later_line_took(rt: HostRuntime) -> Result<(), Fail> {
     let machine = machine(&rt);
     let mut occupancy = Occupancy::create(rt.alloc(), &machine)?;

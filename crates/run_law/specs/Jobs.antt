@@ -8,8 +8,7 @@ use Rattle.run_law.specs.Owed.{Owed, what_of}
 use Rattle.run_law.specs.TreeHistory.{TreeEntryValue, tree_after}
 use Rattle.script_ops.specs.Values.{ScriptValue}
 use Rattle.script_ops.specs.declared.op.Op.{Op}
-use Rattle.tree_law.specs.Steps.{after, follow_domain, needs}
-use Rattle.tree_law.specs.declared.follow.Follow.TheVariants as follows
+use Rattle.tree_law.specs.Steps.{Target, EachSlice, SliceOf, after, goes_to, needs}
 use Rattle.tree_law.specs.declared.follow.Follow.{Follow}
 
 -- one entry that a command owes, and the slice that it owes it to
@@ -25,10 +24,14 @@ in_domain m domain owed = map (λ x. record { slice = slice_number m domain x; o
 abbrev pub look_jobs : Parameters → ℕ → ℕ × ℕ → List Job
 look_jobs m epoch need = in_domain m need.0 (record { epoch = epoch; what = whats.Look need.1 0 })
 
--- what one follow-up makes: a touch an entry in the slice of its line, and the others one in each slice of their domain
+-- the same in each slice to which a follow-up goes
+abbrev pub at_target : Parameters → Target → Owed → List Job
+at_target m (EachSlice domain) owed = in_domain m domain owed
+at_target m (SliceOf domain line) owed = record { slice = slice_of_line m domain line; owed = owed } ∷ []
+
+-- what one follow-up makes
 abbrev pub follow_jobs : Parameters → ℕ → Follow → List Job
-follow_jobs m epoch (follows.Touch tag line) = record { slice = slice_of_line m tag.domain line; owed = record { epoch = epoch; what = what_of (follows.Touch tag line) } } ∷ []
-follow_jobs m epoch f = in_domain m (follow_domain f) (record { epoch = epoch; what = what_of f })
+follow_jobs m epoch f = at_target m (goes_to f) (record { epoch = epoch; what = what_of f })
 
 -- the looks before a command that is decided at position k of the tree's history
 unfoldable pub looks_of : ScriptValue → List TreeEntryValue → ℕ → Op → List Job

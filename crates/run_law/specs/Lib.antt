@@ -1,3 +1,5 @@
+pub mod Caches
+pub mod Clauses
 pub mod Entries
 pub mod FoundLooks
 pub mod Growth
@@ -8,7 +10,10 @@ pub mod Ops
 pub mod Order
 pub mod Owed
 pub mod Progress
+pub mod Quotas
+pub mod Rooms
 pub mod Runs
 pub mod Slices
+pub mod Targets
 pub mod TreeHistory
 pub mod Truth

@@ -21,6 +21,7 @@ look_number rmid whats.Raise = None
 look_number rmid whats.Flush = None
 look_number rmid (whats.Lock mask first_line) = None
 look_number rmid (whats.Look r lines) = if r == rmid then Some lines else None
+look_number rmid (whats.Drop line at) = None
 
 -- the first of two, where it is there
 abbrev pub first_of : Option ℕ → Option ℕ → Option ℕ

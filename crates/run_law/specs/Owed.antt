@@ -1,5 +1,5 @@
 -- What an op owes to a slice: the entries that must stand there.
-use Rattle.std.specs.Prelude.{ℕ, ◌+◌, Bool, false, ◌==◌, if◌then◌else◌, List, [], ◌∷◌, ◌++◌, take}
+use Rattle.std.specs.Prelude.{ℕ, ◌+◌, Bool, false, ◌==◌, if◌then◌else◌, List, [], ◌∷◌, ◌++◌, None, take}
 use Rattle.std.specs.List.{flat_map}
 use Rattle.cache_core.specs.declared.entry.SliceEntry.{SliceEntry}
 use Rattle.cache_core.specs.declared.entry.What.{What}
@@ -11,17 +11,18 @@ use Rattle.run_law.specs.TreeHistory.{TreeEntryValue, tree_after}
 use Rattle.script_ops.specs.Values.{ScriptValue}
 use Rattle.script_ops.specs.declared.op.Op.{Op}
 use Rattle.tree_law.specs.Resolving.{resolve}
-use Rattle.tree_law.specs.Steps.{after, follow_domain, needs}
+use Rattle.tree_law.specs.Steps.{Target, EachSlice, SliceOf, after, goes_to, needs}
 use Rattle.tree_law.specs.declared.follow.Follow.{Follow}
 use Rattle.tree_law.specs.declared.follow.Follow.TheVariants as follows
 
--- an entry but for what the slice itself decides: the hit and the way of an access, and the number of a look
+-- an entry but for what the slice itself decides: the hit and the way of an access, the number of a look, and the way of a drop
 abbrev pub undecided : What → What
 undecided (whats.Access hit way owner rmid mask line) = whats.Access false 0 owner rmid mask line
 undecided whats.Raise = whats.Raise
 undecided whats.Flush = whats.Flush
 undecided (whats.Lock mask first_line) = whats.Lock mask first_line
 undecided (whats.Look rmid lines) = whats.Look rmid 0
+undecided (whats.Drop line at) = whats.Drop line None
 
 -- an entry that an op owes to a slice
 pub record Owed : Type 0 where
@@ -44,12 +45,16 @@ what_of (follows.Raise domain) = whats.Raise
 what_of (follows.Flush domain) = whats.Flush
 what_of (follows.Lock domain mask first_line) = whats.Lock mask first_line
 what_of (follows.Touch tag line) = whats.Access false 0 tag.owner tag.rmid tag.mask line
+what_of (follows.Drop domain line) = whats.Drop line None
 
--- whether a follow-up is entered in slice i: a touch in the slice of its line in its tag's domain, and the others in each
--- slice of their domain
+-- whether what goes there goes to slice i
+abbrev pub is_target : Parameters → ℕ → Target → Bool
+is_target m i (EachSlice domain) = domain == domain_in m i
+is_target m i (SliceOf domain line) = slice_of_line m domain line == i
+
+-- whether a follow-up is entered in slice i
 abbrev pub is_entered_in : Parameters → ℕ → Follow → Bool
-is_entered_in m i (follows.Touch tag line) = slice_of_line m tag.domain line == i
-is_entered_in m i f = follow_domain f == domain_in m i
+is_entered_in m i f = is_target m i (goes_to f)
 
 -- the entry of a follow-up in a slice, one or none
 abbrev pub follow_in : Parameters → ℕ → ℕ → Follow → List Owed

@@ -43,7 +43,7 @@ abbrev pub IsTrueCommand : ScriptValue → List TreeEntryValue → ℕ → Slice
 IsTrueCommand script tree i e op = ByKind (λ task cpu addr. ⊥) (IsOwed script tree i e op) op
 
 -- The entries are true to their ops, and an entry of an epoch stands after all entries of other commands before that epoch.
--- An entry that is of no op of the script is none of these.
+-- Of an entry that is of no op of the script the first two say nothing.
 pub record AreTrue (script : ScriptValue) (j : JournalsValue) : Type 0 where
   pub accesses :
       (i p : ℕ) (e : SliceEntry) (op : Op) → At (slice_at j i) p e → op_at script e.thread e.op ≡ Some op → is_of_access op e.what ≡ true

@@ -1,12 +1,19 @@
-//! The law of runs: what the journals of a run are, and when they are a run of a script.
+//! The law of runs: what the journals of a run are, when they are a run of a script, and what room a script's journals need.
 #![tactic(auto)]
 
 pub mod flags;
 pub mod journals;
+mod quotas;
+mod rooms;
+mod targets;
+pub mod theorems;
 pub mod window;
 
 pub use flags::Flags;
 pub use journals::{Journals, TreeEntry};
+pub use quotas::most_counts;
+pub use rooms::{command_counts, command_room, count_commands, slice_rooms};
+pub use targets::{slice_for, slices_for};
 pub use window::Window;
 
 #[cfg(test)]

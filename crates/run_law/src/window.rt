@@ -20,7 +20,7 @@ pub struct Window {
     pub accesses: u64,
     /// Those that hit.
     pub hits: u64,
-    /// Those whose lines nobody else used in the window.
+    /// The covered ones: nobody else had used a line, in the window and before them, that the group uses anywhere in it.
     pub covered: u64,
     /// Those of the covered that hit.
     pub covered_hits: u64,

@@ -49,6 +49,8 @@ AreKnownGroups-made_by names s (ops.Flush domain) reply known = AreKnownGroups-n
 AreKnownGroups-made_by names s ops.Tick reply known = AreKnownGroups-nil names
 AreKnownGroups-made_by names s (ops.Access task cpu addr) reply known = AreKnownGroups-nil names
 AreKnownGroups-made_by names s (ops.Touch cpu path task offset) reply known = AreKnownGroups-nil names
+AreKnownGroups-made_by names s (ops.DropLine addr) reply known = AreKnownGroups-nil names
+AreKnownGroups-made_by names s (ops.DropRegion path offset) reply known = AreKnownGroups-nil names
 
 -- and those of before
 pub AreKnownGroups-append : (names : List (List ℕ)) (made more : List Made) → AreKnownGroups names made → AreKnownGroups names more → AreKnownGroups names (made ++ more)

@@ -11,7 +11,7 @@ use Rattle.machine.specs.Slices.{slice_number}
 use Rattle.rc_base.specs.declared.names.Gid.{Gid}
 use Rattle.cbm.specs.Masks.{ways_of}
 use Rattle.private_lru.proofs.laws.CoveredAccesses.{hits_of_group-covered}
-use Rattle.private_lru.specs.Counted.{accesses_of, hits_of_group, private_hits_of}
+use Rattle.private_lru.specs.Counted.{accesses_of, covered_private_hits, hits_of_group}
 use Rattle.private_lru.specs.Covered.{covered}
 use Rattle.private_lru.specs.Isolation.{IsIsolated, between}
 use Rattle.run_law.specs.Runs.{IsRun}
@@ -91,7 +91,7 @@ IsCountedWindow-from script j domain slice from to opening group mask last entri
     let ws : ℕ = length (ways_of mask) in
     let i : ℕ = slice_number script.machine domain slice in
     let isolated : IsIsolated sets group.0 ws opening.what entries = subst (λ (l : List SliceEntry). IsIsolated sets group.0 ws opening.what l) (sym holds) (IsIsolated-window script j i from to opening group mask last lawful run window) in
-    let privates : hits_of_group group.0 (covered sets group.0 opening.what entries) ≡ private_hits_of sets group.0 ws (covered sets group.0 opening.what entries) = hits_of_group-covered sets group.0 ws opening.what entries isolated in
+    let privates : hits_of_group group.0 (covered sets group.0 opening.what entries) ≡ covered_private_hits sets group.0 ws opening.what entries = hits_of_group-covered sets group.0 ws opening.what entries isolated in
     let counts : AreCounts sets group.0 ws opening entries w = record { ways_is = ways; accesses_is = accesses; hits_is = hits; covered_is = covered_is; covered_hits_is = covered_hits; private_is = private ∙ covered_hits ∙ privates; same = sym private } in
     let all : Both domain slice from group = (window, subst (λ (l : List SliceEntry). AreCounts sets group.0 ws opening l w) holds counts) in
     let placed : Both w.domain w.slice w.from w.gid =

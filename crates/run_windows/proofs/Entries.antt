@@ -40,6 +40,7 @@ IsGiven m domain s (whats.Lock mask first_line) = IsRegionOf s domain mask first
 IsGiven m domain s whats.Raise = Unit {0}
 IsGiven m domain s whats.Flush = Unit {0}
 IsGiven m domain s (whats.Look rmid lines) = Unit {0}
+IsGiven m domain s (whats.Drop line at) = Unit {0}
 
 -- what the slice decides says nothing of it
 undecided-given : (m : Parameters) (domain : ℕ) (s : State) (what : What) → IsGiven m domain s (undecided what) → IsGiven m domain s what
@@ -48,6 +49,7 @@ undecided-given m domain s whats.Raise given = tt
 undecided-given m domain s whats.Flush given = tt
 undecided-given m domain s (whats.Lock mask first_line) given = given
 undecided-given m domain s (whats.Look rmid lines) given = tt
+undecided-given m domain s (whats.Drop line at) given = tt
 
 -- ---- slices and domains
 
@@ -79,6 +81,7 @@ pub record IsGivenOwed (script : ScriptValue) (j : JournalsValue) (i : ℕ) (o :
 what_of-given : (m : Parameters) (i : ℕ) (s : State) (f : Follow) → 0 < m.slices → is_entered_in m i f ≡ true → IsGivenFollow m s f → IsGiven m (domain_in m i) s (what_of f)
 what_of-given m i s (follows.Raise domain) some entered given = tt
 what_of-given m i s (follows.Flush domain) some entered given = tt
+what_of-given m i s (follows.Drop domain line) some entered given = tt
 what_of-given m i s (follows.Lock domain mask first_line) some entered given = subst (λ d. IsRegionOf s d mask first_line) (eqb-true domain (domain_in m i) entered) given
 what_of-given m i s (follows.Touch tag line) some entered given =
     subst (λ d. IsResolved m s d tag.owner tag.mask) (sym (domain_in-slice_of_line m tag.domain line some) ∙ ap (domain_in m) (eqb-true (slice_of_line m tag.domain line) i entered)) given
@@ -185,6 +188,7 @@ IsTrueAccess-given script j i e task cpu addr exists domain paid = by_what e.wha
     by_what whats.Flush is = tt
     by_what (whats.Lock mask first_line) is = absurd cc
     by_what (whats.Look rmid lines) is = tt
+    by_what (whats.Drop line at) is = tt
 
 -- Each entry of a run says what the tree of its epoch gives.
 pub IsRun-given : (script : ScriptValue) (j : JournalsValue) (i p : ℕ) (e : SliceEntry) → IsLawful script → IsRun script j → i < slice_count script.machine → At (slice_at j i) p e → IsGivenEntry script j i e

@@ -7,7 +7,7 @@ use Rattle.cache_core.specs.Filled.{empties}
 use Rattle.cache_core.specs.History.{EntryMayFollow, IsLegal, MayHappen, Shape, floor_of, sets_floor}
 use Rattle.cache_core.specs.declared.entry.SliceEntry.{SliceEntry}
 use Rattle.cache_core.specs.declared.entry.What.{What}
-use Rattle.cache_core.specs.declared.entry.What.TheVariants.{Access, Raise, Flush, Lock, Look}
+use Rattle.cache_core.specs.declared.entry.What.TheVariants.{Access, Raise, Flush, Lock, Look, Drop}
 use Rattle.rc_base.proofs.laws.Histories.{EachFollows-at}
 use Rattle.run_law.specs.Journals.{At}
 use Rattle.run_windows.proofs.Epochs.{At-within}
@@ -30,6 +30,7 @@ floor_of-le m before epoch Raise access may = absurd (false≢true access)
 floor_of-le m before epoch Flush access may = absurd (false≢true access)
 floor_of-le m before epoch (Lock mask first_line) access may = absurd (false≢true access)
 floor_of-le m before epoch (Look rmid lines) access may = absurd (false≢true access)
+floor_of-le m before epoch (Drop line at) access may = absurd (false≢true access)
 
 -- so an access is of no earlier epoch than an entry before it that set the floor
 pub epoch-le : (m : Shape) (es : List SliceEntry) (q p : ℕ) (earlier e : SliceEntry) → IsLegal m es → At es q earlier → At es p e → q < p → sets_floor earlier.what ≡ true → is_access e.what ≡ true
@@ -52,3 +53,4 @@ sets_floor-empties Raise h = refl
 sets_floor-empties Flush h = refl
 sets_floor-empties (Lock mask first_line) h = refl
 sets_floor-empties (Look rmid lines) h = h
+sets_floor-empties (Drop line at) h = h

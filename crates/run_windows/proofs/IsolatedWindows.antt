@@ -7,7 +7,7 @@ use Rattle.cache_core.specs.declared.entry.SliceEntry.{SliceEntry}
 use Rattle.cbm.specs.Masks.{ways_of}
 use Rattle.private_lru.specs.Isolation.{IsIsolated, Respects, between}
 use Rattle.private_lru.proofs.laws.SliceWindows.{IsIsolated-between}
-use Rattle.private_lru.proofs.laws.CoveredAccesses.{hits_in-two_worlds}
+use Rattle.private_lru.proofs.laws.CoveredAccesses.{covered_hits-two_worlds}
 use Rattle.rc_base.specs.declared.names.Gid.{Gid}
 use Rattle.run_law.specs.Journals.{At, JournalsValue, slice_at}
 use Rattle.run_law.specs.Runs.{IsRun}
@@ -45,8 +45,8 @@ IsIsolated-window_of script j i group ways opening window lawful run of =
     (subst (λ (l : List SliceEntry). IsIsolated script.machine.sets group.0 (length (ways_of of.mask)) opening.what l) (sym of.holds) is)
 
 -- what others do in two runs makes no difference
-pub hits_in-worlds : WorldsAgree
-hits_in-worlds script other j k i x group its_group sets ways set opening its_opening window its_window lawful run its_lawful its_run one two first second same =
-    hits_in-two_worlds sets group.0 its_group.0 ways set opening.what its_opening.what window its_window
+pub covered_hits-worlds : WorldsAgree
+covered_hits-worlds script other j k i x group its_group sets ways set opening its_opening window its_window lawful run its_lawful its_run one two first second same =
+    covered_hits-two_worlds sets group.0 its_group.0 ways set opening.what its_opening.what window its_window
     (subst (λ n. IsIsolated n group.0 ways opening.what window) one (IsIsolated-window_of script j i group ways opening window lawful run first))
     (subst (λ n. IsIsolated n its_group.0 ways its_opening.what its_window) two (IsIsolated-window_of other k x its_group ways its_opening its_window its_lawful its_run second)) same

@@ -4,6 +4,7 @@ mod Epochs
 mod Floors
 mod IsolatedWindows
 mod KeptStays
+mod LockEnds
 mod LockWindows
 mod OneWindow
 mod Openings

@@ -14,6 +14,7 @@ use Rattle.group_tree.specs.declared.group.Group.{Group}
 use Rattle.lists.proofs.Choices.{cond-both}
 use Rattle.lists.proofs.Pairs.{AllPairs-map}
 use Rattle.lists.proofs.Tests.{All-kept}
+use Rattle.machine.specs.Maps.{line_of}
 use Rattle.machine.specs.Slices.{domain_in}
 use Rattle.machine.specs.declared.parameters.Parameters.{Parameters}
 use Rattle.path_names.specs.declared.dirs.DirRef.TheVariants.{MonDomain}
@@ -32,6 +33,7 @@ use Rattle.tree_law.specs.LawsCounts.{CanLook, NamesDomain}
 use Rattle.tree_law.specs.Places.{control_at}
 use Rattle.tree_law.specs.State.{State}
 use Rattle.tree_law.specs.Steps.{after, after_accepted, refusal}
+use Rattle.tree_law.specs.commands.Drop as clflush
 use Rattle.tree_law.specs.commands.Flush as flush
 use Rattle.tree_law.specs.commands.Mode as mode
 use Rattle.tree_law.specs.commands.Schemata as schemata
@@ -151,7 +153,7 @@ module _ (m : Parameters) (s : State) (few : m.domains ≤ 8) where
   write-few path text = omega arith
 
   after_accepted-few : (k : ℕ) (op : Op) → length (after_accepted m s k op) ≤ 8
-  unfolding flush.after touch.after
+  unfolding clflush.after_line clflush.after_region flush.after touch.after
   after_accepted-few k (ops.Rmdir path) = each-few (λ d. follows.Raise d)
   after_accepted-few k (ops.Write path text) = write-few path text
   after_accepted-few k (ops.Flush None) = each-few (λ d. follows.Flush d)
@@ -159,6 +161,12 @@ module _ (m : Parameters) (s : State) (few : m.domains ≤ 8) where
   after_accepted-few k (ops.Touch cpu path task offset) = at (touch.touched s path)
     where
       at : (o : Option _) → length (touch.follow m s k offset task cpu o) ≤ 8
+      at None = omega arith
+      at (Some r) = omega arith
+  after_accepted-few k (ops.DropLine addr) = each-few (λ d. follows.Drop d (line_of addr))
+  after_accepted-few k (ops.DropRegion path offset) = at (touch.touched s path)
+    where
+      at : (o : Option _) → length (clflush.follow offset o) ≤ 8
       at None = omega arith
       at (Some r) = omega arith
   after_accepted-few k op = omega arith

@@ -7,7 +7,7 @@ use Rattle.group_tree.specs.declared.group.Group.{Group}
 use Rattle.lists.proofs.Choices.{cond-both}
 use Rattle.lists.proofs.Tests.{All-one}
 use Rattle.lists.proofs.Updates.{slice_get-set_same}
-use Rattle.machine.specs.Maps.{domain_of}
+use Rattle.machine.specs.Maps.{domain_of, line_of}
 use Rattle.machine.specs.Ranges.{InRange}
 use Rattle.machine.specs.declared.parameters.Parameters.{Parameters}
 use Rattle.path_names.specs.declared.files.FileKind.TheVariants as kinds
@@ -30,6 +30,7 @@ use Rattle.tree_law.specs.Resolving.{mask_of_group, owner_of, resolve}
 use Rattle.tree_law.specs.Sound.{IsSound}
 use Rattle.tree_law.specs.State.{State, tasks_of}
 use Rattle.tree_law.specs.Steps.{accepted, after, after_accepted, follow_domain, next, next_if, refusal, with_status}
+use Rattle.tree_law.specs.commands.Drop as clflush
 use Rattle.tree_law.specs.commands.Flush as flush
 use Rattle.tree_law.specs.commands.Mode as mode
 use Rattle.tree_law.specs.commands.Schemata as schemata
@@ -59,6 +60,7 @@ IsGivenFollow m s (follows.Raise domain) = Unit {0}
 IsGivenFollow m s (follows.Flush domain) = Unit {0}
 IsGivenFollow m s (follows.Lock domain mask first_line) = IsRegionOf s domain mask first_line
 IsGivenFollow m s (follows.Touch tag line) = IsResolved m s tag.domain tag.owner tag.mask
+IsGivenFollow m s (follows.Drop domain line) = Unit {0}
 
 -- raises say nothing
 map-raise_given : (m : Parameters) (s : State) (domains : List ℕ) → All (IsGivenFollow m s) (map (λ d. follows.Raise d) domains)
@@ -118,10 +120,25 @@ unfolding flush.after
 flush-given m s None = All-map (IsGivenFollow m s) (λ d. follows.Flush d) (range_with_len 0 m.domains) (λ k d within. tt)
 flush-given m s (Some domain) = All-one (IsGivenFollow m s) (follows.Flush domain) tt
 
+-- after a flush of a line
+line-given : (m : Parameters) (s : State) (addr : ℕ) → All (IsGivenFollow m s) (clflush.after_line m addr)
+unfolding clflush.after_line
+line-given m s addr = All-map (IsGivenFollow m s) (λ d. follows.Drop d (line_of addr)) (range_with_len 0 m.domains) (λ k d within. tt)
+
+-- after a flush of a line of a region
+region-given : (m : Parameters) (s : State) (path : PathRef) (offset : ℕ) → All (IsGivenFollow m s) (clflush.after_region s path offset)
+unfolding clflush.after_region
+region-given m s path offset = at (touch.touched s path)
+  where
+    at : (o : Option (ℕ × Region)) → All (IsGivenFollow m s) (clflush.follow offset o)
+    at None = All-nil (IsGivenFollow m s)
+    at (Some (domain, r)) = All-one (IsGivenFollow m s) (follows.Drop domain (r.first_line + offset / 64)) tt
+
 -- the last status says nothing of follow-ups
 status-given : (m : Parameters) (s : State) (reply : Reply) (f : Follow) → IsGivenFollow m s f → IsGivenFollow m (record s { status = reply }) f
 status-given m s reply (follows.Raise domain) given = tt
 status-given m s reply (follows.Flush domain) given = tt
+status-given m s reply (follows.Drop domain line) given = tt
 status-given m s reply (follows.Lock domain mask first_line) given = record { region = given.region; there = given.there; mask_is = given.mask_is; first_line_is = given.first_line_is }
 status-given m s reply (follows.Touch tag line) given = record { task = given.task; cpu = given.cpu; exists = given.exists; owner_is = given.owner_is; mask_is = given.mask_is }
 
@@ -132,13 +149,15 @@ after_accepted-given m s k (ops.Rmdir path) looks reply fits within = map-raise_
 after_accepted-given m s k (ops.Write path text) looks reply fits within = λ i d lt. status-given m (write.accepted m s path text looks) reply (get_or (write.after m s path text) i d) (write-given m s path text looks within i d lt)
 after_accepted-given m s k (ops.Flush domain) looks reply fits within = flush-given m s domain
 after_accepted-given m s k (ops.Touch cpu path task offset) looks reply fits within = touch-given m s k path offset task cpu fits.1
+after_accepted-given m s k (ops.DropLine addr) looks reply fits within = line-given m s addr
+after_accepted-given m s k (ops.DropRegion path offset) looks reply fits within = region-given m s path offset
 after_accepted-given m s k op looks reply fits within = All-nil (IsGivenFollow m _)
 
 -- What follows a command that fits says what the state after it gives.
 pub after-given : (m : Parameters) (s : State) (k : ℕ) (op : Op) (looks : List ℕ) → InRange m → IsSound m s → Fits m (tasks_of s) op → All (IsGivenFollow m (next m s op looks).state) (after m s k op)
 unfolding after next
 after-given m s k op looks range sound fits =
-    let good = after-good m s k op range fits in
+    let good = after-good m s k op range sound fits in
     at (refusal m s op) (λ i d within. let lt = (good i d within).0 in let count = sound.regions.each in omega arith)
   where
     at : (o : Option Refusal) → All (λ (f : Follow). follow_domain f < length s.regions) (cond (is_some o) [] (after_accepted m s k op))

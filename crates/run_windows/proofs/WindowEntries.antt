@@ -1,11 +1,11 @@
 -- A window begins at a flush, or at a lock of other ways, and its entries leave the ways of the mask to the group.
 use Rattle.std.proofs.Common.{◌≡◌, ℕ, ◌<◌, true, false, ◌==◌, refl, sym, subst, ap, ◌∙◌, arith}
 use Rattle.std.specs.Prelude.{MatchBool}
-use Rattle.std.proofs.lemmas.Bool.{true≢false, false≢true}
+use Rattle.std.proofs.lemmas.Bool.{false≢true}
 use Rattle.cache_core.specs.Filled.{empties}
 use Rattle.cache_core.specs.declared.entry.SliceEntry.{SliceEntry}
 use Rattle.cache_core.specs.declared.entry.What.{What}
-use Rattle.cache_core.specs.declared.entry.What.TheVariants.{Access, Raise, Flush, Lock, Look}
+use Rattle.cache_core.specs.declared.entry.What.TheVariants.{Access, Raise, Flush, Lock, Look, Drop}
 use Rattle.cbm.specs.Masks.{overlaps}
 use Rattle.machine.specs.Slices.{domain_in}
 use Rattle.machine.specs.declared.parameters.Parameters.{Parameters}
@@ -33,10 +33,11 @@ respects-given m s domain group mask (Access hit way owner rmid its line) sound 
     let holds = mask_of_group-exclusive m s sound domain group (owner_of s given.task given.cpu) mask exists (exclusive refl) (owner_of-counted m s sound given.task given.cpu given.exists) in
     subst (λ (o : Gid). MatchBool (o.0 == group.0) (its ≡ mask) (overlaps its mask ≡ false)) (sym given.owner_is)
     (subst (λ k. MatchBool ((owner_of s given.task given.cpu).0 == group.0) (k ≡ mask) (overlaps k mask ≡ false)) (sym given.mask_is) holds)
-respects-given m s domain group mask Raise sound exists exclusive goes_on given = tt
-respects-given m s domain group mask Flush sound exists exclusive goes_on given = absurd (true≢false goes_on)
-respects-given m s domain group mask (Lock others first_line) sound exists exclusive goes_on given = absurd (true≢false goes_on)
-respects-given m s domain group mask (Look rmid lines) sound exists exclusive goes_on given = tt
+respects-given m s domain group mask Raise sound exists exclusive goes_on given = goes_on
+respects-given m s domain group mask Flush sound exists exclusive goes_on given = goes_on
+respects-given m s domain group mask (Lock others first_line) sound exists exclusive goes_on given = goes_on
+respects-given m s domain group mask (Look rmid lines) sound exists exclusive goes_on given = goes_on
+respects-given m s domain group mask (Drop line at) sound exists exclusive goes_on given = goes_on
 
 -- an entry that empties the slice in such a state
 opens-given : (m : Parameters) (s : State) (domain : ℕ) (group : Gid) (mask : ℕ) (what : What) → IsSound m s → IsExclusive domain group mask s → empties what ≡ true → IsGiven m domain s what → Opens mask what
@@ -45,6 +46,7 @@ opens-given m s domain group mask Raise sound exclusive empty given = absurd (fa
 opens-given m s domain group mask Flush sound exclusive empty given = tt
 opens-given m s domain group mask (Lock others first_line) sound exclusive empty given = ap (λ k. overlaps k mask) (sym given.mask_is) ∙ overlaps-region m s sound domain group mask given.region given.there exclusive
 opens-given m s domain group mask (Look rmid lines) sound exclusive empty given = absurd (false≢true empty)
+opens-given m s domain group mask (Drop line at) sound exclusive empty given = absurd (false≢true empty)
 
 module _ (script : ScriptValue) (j : JournalsValue) (i from to : ℕ) (opening : SliceEntry) (group : Gid) (mask last : ℕ) (lawful : IsLawful script) (run : IsRun script j) (window : IsWindow script j i from to opening group mask last) where
   -- the group is exclusive at the opening

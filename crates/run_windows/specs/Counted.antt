@@ -3,7 +3,7 @@ use Rattle.std.specs.Prelude.{◌≡◌, ℕ, List, length}
 use Rattle.cache_core.specs.declared.entry.SliceEntry.{SliceEntry}
 use Rattle.cbm.specs.Masks.{ways_of}
 use Rattle.machine.specs.Slices.{slice_number}
-use Rattle.private_lru.specs.Counted.{accesses_of, hits_of_group, private_hits_of}
+use Rattle.private_lru.specs.Counted.{accesses_of, covered_private_hits, hits_of_group}
 use Rattle.private_lru.specs.Covered.{covered}
 use Rattle.private_lru.specs.Isolation.{between}
 use Rattle.run_law.specs.Journals.{JournalsValue, slice_at}
@@ -19,7 +19,7 @@ pub record AreCounts (sets group ways : ℕ) (opening : SliceEntry) (entries : L
   pub hits_is : w.hits ≡ hits_of_group group entries
   pub covered_is : w.covered ≡ length (covered sets group opening.what entries)
   pub covered_hits_is : w.covered_hits ≡ hits_of_group group (covered sets group opening.what entries)
-  pub private_is : w.private ≡ private_hits_of sets group ways (covered sets group opening.what entries)
+  pub private_is : w.private ≡ covered_private_hits sets group ways opening.what entries
   pub same : w.covered_hits ≡ w.private
 
 -- A window of a run, with its place and its counts.

@@ -1,18 +1,19 @@
 -- Laws of the windows of a run.
-use Rattle.std.specs.Prelude.{◌≡◌, ℕ, ◌<◌, true, All, List, length}
+use Rattle.std.specs.Prelude.{◌≡◌, ℕ, ◌<◌, true, List, length}
 use Rattle.cache_core.specs.Filled.{empties}
 use Rattle.cache_core.specs.declared.entry.SliceEntry.{SliceEntry}
+use Rattle.cache_core.specs.declared.entry.What.TheVariants.{Lock}
 use Rattle.cbm.specs.Masks.{ways_of}
 use Rattle.machine.specs.Slices.{domain_in, slice_count}
-use Rattle.private_lru.specs.Covered.{covered, hits_in, items}
+use Rattle.private_lru.specs.Covered.{covered_hits, covered_items}
 use Rattle.private_lru.specs.Isolation.{IsIsolated, between}
-use Rattle.private_lru.specs.Locked.{HitsLoaded}
+use Rattle.private_lru.specs.Locked.{HoldsLoaded}
 use Rattle.pseudo_lock.specs.declared.region.Region.{Region}
 use Rattle.rc_base.specs.declared.names.Gid.{Gid}
 use Rattle.run_law.specs.Journals.{At, JournalsValue, slice_at}
 use Rattle.run_law.specs.Runs.{IsRun}
 use Rattle.run_windows.specs.Epochs.{AreSound, state_at}
-use Rattle.run_windows.specs.Regions.{IsLockWindow}
+use Rattle.run_windows.specs.Regions.{HasRegion, IsLockWindow}
 use Rattle.run_windows.specs.Windows.{IsExclusive, IsWindow}
 use Rattle.script_ops.specs.Values.{IsLawful, ScriptValue}
 
@@ -35,15 +36,15 @@ pub record IsWindowOf (script : ScriptValue) (j : JournalsValue) (i : ℕ) (grou
   pub holds : window ≡ between (slice_at j i) from to
   pub wide : length (ways_of mask) ≡ ways
 
--- Two windows of two runs, or of one, on machines with as many sets, of groups with as many ways: where their covered accesses
--- have the same lines in a set, in order, they have the same hits there, whatever the others did.
+-- Two windows of two runs, or of one, on machines with as many sets, of groups with as many ways: where the groups' items in a
+-- set up to the last covered access are the same, in order, these accesses have the same hits there, whatever the others did.
 abbrev pub WorldsAgree : Type 0
 WorldsAgree =
     (script other : ScriptValue) (j k : JournalsValue) (i x : ℕ) (group its_group : Gid) (sets ways set : ℕ) (opening its_opening : SliceEntry) (window its_window : List SliceEntry)
     → IsLawful script → IsRun script j → IsLawful other → IsRun other k → script.machine.sets ≡ sets → other.machine.sets ≡ sets
     → IsWindowOf script j i group ways opening window → IsWindowOf other k x its_group ways its_opening its_window
-    → items sets group.0 set (covered sets group.0 opening.what window) ≡ items sets its_group.0 set (covered sets its_group.0 its_opening.what its_window)
-    → hits_in sets group.0 set (covered sets group.0 opening.what window) ≡ hits_in sets its_group.0 set (covered sets its_group.0 its_opening.what its_window)
+    → covered_items sets group.0 set opening.what window ≡ covered_items sets its_group.0 set its_opening.what its_window
+    → covered_hits sets group.0 set opening.what window ≡ covered_hits sets its_group.0 set its_opening.what its_window
 
 -- ---- windows
 
@@ -70,12 +71,20 @@ WindowsAreUnique =
 
 -- ---- regions
 
--- From the lock of a region on, each access to a line that the lock loaded hits, until the slice is emptied or the region is gone.
+-- From the lock of a region on, each access to a line that the lock loaded hits, unless the line was dropped, until the slice
+-- is emptied or the region is gone.
 abbrev pub RegionsHold : Type 0
 RegionsHold =
     (script : ScriptValue) (j : JournalsValue) (i from to : ℕ) (opening : SliceEntry) (r : Region)
     → IsLawful script → IsRun script j → IsLockWindow script j i from to opening r
-    → All (λ (e : SliceEntry). HitsLoaded script.machine.sets opening.what e.what) (between (slice_at j i) from to)
+    → HoldsLoaded script.machine.sets opening.what (between (slice_at j i) from to)
+
+-- Each lock of a run is of the region that its domain has in the state of its epoch, and begins a window of it.
+abbrev pub LockWindowsExist : Type 0
+LockWindowsExist =
+    (script : ScriptValue) (j : JournalsValue) (i from mask first_line : ℕ) (opening : SliceEntry)
+    → IsLawful script → IsRun script j → i < slice_count script.machine → At (slice_at j i) from opening → opening.what ≡ Lock mask first_line
+    → (to : ℕ) × (r : Region) × HasRegion (domain_in script.machine i) r (state_at script j opening.epoch) × IsLockWindow script j i from to opening r
 
 -- ---- states
 

@@ -1,6 +1,6 @@
 //! The laws of the windows of a run, each proved with an empty body.
 
-ghost use Rattle.run_windows.specs.Laws.{EpochsAreSound, RegionsHold, WindowsAreIsolated, WindowsAreUnique, WindowsExist, WorldsAgree};
+ghost use Rattle.run_windows.specs.Laws.{EpochsAreSound, LockWindowsExist, RegionsHold, WindowsAreIsolated, WindowsAreUnique, WindowsExist, WorldsAgree};
 
 /// The tree of a run is sound at every epoch.
 pub fn epochs_are_sound()
@@ -12,7 +12,8 @@ pub fn windows_are_isolated()
     ensures { WindowsAreIsolated }
 {}
 
-/// What others do in two worlds makes no difference to the covered accesses of two windows.
+/// The covered accesses of two windows, on machines with equal sets and of groups with equally many ways, hit alike where the
+/// groups use and lose the same lines: what others did besides makes no difference.
 pub fn worlds_agree()
     ensures { WorldsAgree }
 {}
@@ -23,7 +24,9 @@ pub fn windows_are_one()
     ensures unique { WindowsAreUnique }
 {}
 
-/// A locked region holds its lines until its slice is emptied or the region is gone.
+/// A locked region holds its lines, but for those that are dropped, until its slice is emptied or the region is gone; and each
+/// lock begins a window of the region that its domain then has.
 pub fn regions_hold()
-    ensures { RegionsHold }
+    ensures hold { RegionsHold }
+    ensures exist { LockWindowsExist }
 {}

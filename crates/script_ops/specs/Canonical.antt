@@ -28,6 +28,8 @@ op_text names (ops.Flush (Some domain)) = codes "flush " ++ decimal domain
 op_text names ops.Tick = codes "tick"
 op_text names (ops.Access task cpu addr) = codes "access " ++ decimal task ++ codes " " ++ decimal cpu ++ codes " " ++ decimal addr
 op_text names (ops.Touch cpu path task offset) = codes "touch " ++ path_text names path ++ codes " " ++ decimal offset ++ codes " " ++ decimal task ++ codes " " ++ decimal cpu
+op_text names (ops.DropLine addr) = codes "clflush " ++ decimal addr
+op_text names (ops.DropRegion path offset) = codes "clflush " ++ path_text names path ++ codes " " ++ decimal offset
 
 -- the numbers of the names in an op
 abbrev pub op_ids : Op → List ℕ
@@ -40,6 +42,8 @@ op_ids (ops.Flush domain) = []
 op_ids ops.Tick = []
 op_ids (ops.Access task cpu addr) = []
 op_ids (ops.Touch cpu path task offset) = path_ids path
+op_ids (ops.DropLine addr) = []
+op_ids (ops.DropRegion path offset) = path_ids path
 
 -- the numbers of the names of components in an op
 abbrev pub op_component_ids : Op → List ℕ
@@ -52,6 +56,8 @@ op_component_ids (ops.Flush domain) = []
 op_component_ids ops.Tick = []
 op_component_ids (ops.Access task cpu addr) = []
 op_component_ids (ops.Touch cpu path task offset) = component_ids path
+op_component_ids (ops.DropLine addr) = []
+op_component_ids (ops.DropRegion path offset) = component_ids path
 
 -- an op whose components have short names
 abbrev pub IsShort : List (List ℕ) → Op → Type 0

@@ -8,11 +8,12 @@ use Rattle.script_ops.specs.declared.op.Op.{Op}
 use Rattle.script_ops.specs.declared.op.Op.TheVariants as ops
 
 -- An op of a machine with these tasks: its task is declared, its CPU and its domain exist, also that of a file which it reads,
--- its address is below 2 ^ 48, and its text is no longer than a script allows.
+-- its address or that of a line which it flushes is below 2 ^ 48, and its text is no longer than a script allows.
 abbrev pub Fits : Parameters → List ℕ → Op → Type 0
 Fits m tasks (ops.Access task cpu addr) = Contains tasks task × (cpu < m.cpus) × (addr < 2 ^ 48)
 Fits m tasks (ops.Touch cpu path task offset) = Contains tasks task × (cpu < m.cpus)
 Fits m tasks (ops.Flush (Some domain)) = domain < m.domains
+Fits m tasks (ops.DropLine addr) = addr < 2 ^ 48
 Fits m tasks (ops.Write path text) = length text ≤ MOST_TEXT_BYTES
 Fits m tasks (ops.Read (File (MonDomain holder domain) kind)) = domain < m.domains
 Fits m tasks op = Unit {0}

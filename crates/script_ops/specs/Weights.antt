@@ -37,6 +37,8 @@ weight_of m (ops.Flush domain) = slices_of m + 1
 weight_of m ops.Tick = looks_weight m
 weight_of m (ops.Access task cpu addr) = 1
 weight_of m (ops.Touch cpu path task offset) = 2
+weight_of m (ops.DropLine addr) = slices_of m + 1
+weight_of m (ops.DropRegion path offset) = slices_of m + 1
 
 -- what ops weigh together
 abbrev pub weights_of : Parameters → List Op → ℕ

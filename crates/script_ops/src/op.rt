@@ -47,4 +47,13 @@ pub enum Op {
         task: u32,
         offset: u64,
     },
+    /// `clflush ADDR`: flushes the line of an address, in bytes and below 2^48, from the cache of every domain.
+    DropLine {
+        addr: u64,
+    },
+    /// `clflush PATH OFFSET`: flushes the line of a byte of a group's pseudo-locked region.
+    DropRegion {
+        path: PathRef,
+        offset: u64,
+    },
 }

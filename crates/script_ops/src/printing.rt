@@ -110,6 +110,15 @@ impl GrowingText {
                 push_command(self, b"touch ", names, *path)?;
                 push_use(self, *offset, *task, *cpu)
             }
+            Op::DropLine { addr } => {
+                self.push(b"clflush ")?;
+                self.push_decimal(*addr)
+            }
+            Op::DropRegion { path, offset } => {
+                push_command(self, b"clflush ", names, *path)?;
+                self.push(b" ")?;
+                self.push_decimal(*offset)
+            }
         }
     }
 }

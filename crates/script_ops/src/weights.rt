@@ -39,7 +39,8 @@ fn read_weight(m: &Machine, path: PathRef) -> u64
     }
 }
 
-/// The weight of an op on a machine: at most how many numbers its entry holds and its counts need.
+/// The weight of an op on a machine: in all journals together it makes at most as many entries, and it needs at most as many
+/// counts.
 pub fn weight_of(m: &Machine, op: &Op) -> u64
     ensures value { result ≡ weight_of (parameters_of m.now) op.now }
     ensures some { 0 < result }
@@ -49,7 +50,9 @@ pub fn weight_of(m: &Machine, op: &Op) -> u64
         Op::Rmdir { .. } | Op::Tick => looks_weight(m),
         Op::Write { path, .. } => write_weight(m, *path),
         Op::Read { path } => read_weight(m, *path),
-        Op::Flush { .. } => u64::from(m.domains) * u64::from(m.slices) + 1,
+        Op::Flush { .. } | Op::DropLine { .. } | Op::DropRegion { .. } => u64::from(m.domains)
+            * u64::from(m.slices)
+            + 1,
         Op::Touch { .. } => 2,
     }
 }

@@ -10,15 +10,15 @@ use Rattle.script_ops.specs.declared.op.Op.{Op}
 use Rattle.script_ops.specs.declared.op.Op.TheVariants as ops
 use Rattle.script_text.specs.declared.kind.Kind.{Kind}
 use Rattle.script_text.specs.declared.kind.Kind.TheVariants as kinds
-use Rattle.script_text.specs.Arguments.{access_of, flush_of, sweep_of, touch_of, order_of, only, first_of}
+use Rattle.script_text.specs.Arguments.{access_of, flush_of, sweep_of, touch_of, drop_line_of, drop_region_of, has_path, order_of, only, first_of}
 use Rattle.script_text.specs.Escapes.{unescaped, text_behind}
 use Rattle.script_text.specs.Keys.{machine_of}
 use Rattle.script_text.specs.Kinds.{kind_of, may_stand}
 use Rattle.script_text.specs.Lines.{is_bad, is_comment, words, behind_word}
-use Rattle.script_text.specs.Meaning.{means, path_alone, named_in, with_names, word_means, said_by, says, line_meaning, with_op, with_ops, unless, or_fault, ◌>>=◌}
+use Rattle.script_text.specs.Meaning.{means, path_alone, drop_line, drop_region, named_in, with_names, word_means, said_by, says, line_meaning, with_op, with_ops, unless, or_fault, ◌>>=◌}
 use Rattle.script_text.specs.Paths.{Named}
 use Rattle.script_text.specs.States.{ReaderState, close_thread, close_phase, is_start}
-use Rattle.script_text.specs.Table.{has_fault, word_fault, said_fault, argument_fault, path_fault, fault_of, is_over, is_over_at, path_over, passes, FaultsInOrder}
+use Rattle.script_text.specs.Table.{has_fault, word_fault, said_fault, argument_fault, path_fault, drop_line_fault, drop_region_fault, fault_of, is_over, is_over_at, path_over, passes, FaultsInOrder}
 use Rattle.script_text.specs.Tasks.{declared, task_of, count_of}
 use Rattle.script_ops.specs.Weights.{weight_of}
 use Rattle.script_ops.specs.declared.limits.TheConstants.{MOST_TASKS, MOST_TEXT_BYTES, MOST_ORDER, MOST_PHASES, MOST_PHASE_THREADS}
@@ -66,6 +66,15 @@ find-path_fault s op rest = at (only (words rest))
     at None = refl
     at (Some word) = found (named_in s word)
 
+-- the faults of a `clflush`, by whether it names a path
+find-clflush_fault : (s : ReaderState) (rest : List ℕ) (b : Bool) → find (λ fault. cond b (drop_region_fault s rest fault) (drop_line_fault s rest fault)) argument_faults ≡ fault_of (cond b (drop_region s rest) (drop_line s rest))
+unfolding drop_region drop_line
+find-clflush_fault s rest true =
+    cond-or_fault (drop_region_of (words rest)) BadArgument _ _ (λ t e.
+    rw e (cond-or_fault (named_in s t.0) BadPath _ _ (λ found h.
+    rw h (cond-with_op s (λ path. ops.DropRegion path t.1) found))))
+find-clflush_fault s rest false = cond-or_fault (drop_line_of (words rest)) BadArgument _ _ (λ addr e. rw e (cond-with_ops s (weight_of s.machine (ops.DropLine addr)) _))
+
 -- the faults of what stands after the first word
 find-argument_fault : (k : Kind) (s : ReaderState) (rest : List ℕ) → find (argument_fault k s rest) argument_faults ≡ fault_of (means k s rest)
 unfolding argument_fault means
@@ -85,6 +94,7 @@ find-argument_fault kinds.Write s rest =
     rw (g, h) (cond-text_over s text found)))))
 find-argument_fault kinds.Flush s rest = cond-or_fault (flush_of s.machine (words rest)) BadArgument _ _ (λ d e. rw e (cond-with_ops s (weight_of s.machine (ops.Flush d)) _))
 find-argument_fault kinds.Tick s rest = cond-unless (not (eqb (length (words rest)) 0)) BadArgument _ _ (cond-with_ops s (weight_of s.machine ops.Tick) _)
+find-argument_fault kinds.Clflush s rest = find-clflush_fault s rest (has_path (words rest))
 find-argument_fault kinds.Access s rest = cond-or_fault (access_of s.machine (words rest)) BadArgument _ _ (λ u e. rw e (cond-or_fault (task_of s.tasks u.task) UnknownTask _ _ (λ t h. cond-with_ops s 1 _)))
 find-argument_fault kinds.Sweep s rest = cond-or_fault (sweep_of s.machine (words rest)) BadArgument _ _ (λ w e. rw e (cond-or_fault (task_of s.tasks w.first.task) UnknownTask _ _ (λ t h. cond-with_ops s w.count _)))
 find-argument_fault kinds.Touch s rest =

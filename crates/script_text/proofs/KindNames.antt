@@ -52,7 +52,7 @@ Named-kind_of word =
     Named-or word _ _
     (Named-if word kinds.Machine _ (Named-if word kinds.Tasks _ (Named-if word kinds.Phase _ (Named-if word kinds.Order _ (Named-if word kinds.Thread _ (Named-none word))))))
     (Named-or word _ _
-    (Named-if word kinds.Mkdir _ (Named-if word kinds.Rmdir _ (Named-if word kinds.Write _ (Named-if word kinds.Read _ (Named-if word kinds.List _ (Named-if word kinds.Flush _ (Named-if word kinds.Tick _ (Named-none word))))))))
+    (Named-if word kinds.Mkdir _ (Named-if word kinds.Rmdir _ (Named-if word kinds.Write _ (Named-if word kinds.Read _ (Named-if word kinds.List _ (Named-if word kinds.Flush _ (Named-if word kinds.Tick _ (Named-if word kinds.Clflush _ (Named-none word)))))))))
     (Named-if word kinds.Access _ (Named-if word kinds.Sweep _ (Named-if word kinds.Touch _ (Named-none word)))))
 
 -- the kind of the name of each kind
@@ -70,6 +70,7 @@ kind_of-kind_name kinds.Read = refl
 kind_of-kind_name kinds.List = refl
 kind_of-kind_name kinds.Flush = refl
 kind_of-kind_name kinds.Tick = refl
+kind_of-kind_name kinds.Clflush = refl
 kind_of-kind_name kinds.Access = refl
 kind_of-kind_name kinds.Sweep = refl
 kind_of-kind_name kinds.Touch = refl
@@ -91,6 +92,7 @@ begins kinds.Read first second rest e = same_kind first second 114 101 (cc) (cc)
 begins kinds.List first second rest e = same_kind first second 108 105 (cc) (cc)
 begins kinds.Flush first second rest e = same_kind first second 102 108 (cc) (cc)
 begins kinds.Tick first second rest e = same_kind first second 116 105 (cc) (cc)
+begins kinds.Clflush first second rest e = same_kind first second 99 108 (cc) (cc)
 begins kinds.Access first second rest e = same_kind first second 97 99 (cc) (cc)
 begins kinds.Sweep first second rest e = same_kind first second 115 119 (cc) (cc)
 begins kinds.Touch first second rest e = same_kind first second 116 111 (cc) (cc)
@@ -109,6 +111,7 @@ length-kind_name kinds.Read = omega arith
 length-kind_name kinds.List = omega arith
 length-kind_name kinds.Flush = omega arith
 length-kind_name kinds.Tick = omega arith
+length-kind_name kinds.Clflush = omega arith
 length-kind_name kinds.Access = omega arith
 length-kind_name kinds.Sweep = omega arith
 length-kind_name kinds.Touch = omega arith

@@ -18,13 +18,13 @@ use Rattle.script_text.specs.declared.kind.Kind.{Kind}
 use Rattle.script_text.specs.declared.kind.Kind.TheVariants as kinds
 use Rattle.script_text.specs.declared.kind.Place.{Place}
 use Rattle.script_text.specs.declared.kind.Place.TheVariants as places
-use Rattle.script_text.specs.Arguments.{access_of, flush_of, sweep_of, touch_of, order_of, first_of}
+use Rattle.script_text.specs.Arguments.{access_of, flush_of, sweep_of, touch_of, drop_line_of, drop_region_of, has_path, order_of, first_of}
 use Rattle.script_text.specs.Escapes.{unescaped, text_behind}
 use Rattle.script_ops.specs.Fits.{Fits, AreFit}
 use Rattle.script_text.specs.Keys.{machine_of}
 use Rattle.script_text.specs.Kinds.{kind_of, may_stand}
 use Rattle.script_text.specs.Lines.{is_bad, is_comment, words, behind_word}
-use Rattle.script_text.specs.Meaning.{Means, means, path_alone, named_in, with_names, word_means, said_by, says, line_meaning, with_op, with_ops, sweep_ops, ◌>>=◌}
+use Rattle.script_text.specs.Meaning.{Means, means, path_alone, drop_line, drop_region, named_in, with_names, word_means, said_by, says, line_meaning, with_op, with_ops, sweep_ops, ◌>>=◌}
 use Rattle.script_text.specs.Reading.{nothing_read}
 use Rattle.script_text.specs.Paths.{Named}
 use Rattle.script_text.specs.States.{ReaderState, close_thread, close_phase, is_start, is_thread, is_early, IsFit, IsReady, IsSound}
@@ -36,7 +36,7 @@ use Rattle.script_ops.specs.Weights.{weight_of, weights_of}
 use Rattle.script_text.proofs.Guards.{IfOk-unless, IfOk-or_fault, IfOk-bind}
 use Rattle.script_text.proofs.Places.{is_early-thread, is_early-machine, is_early-tasks}
 use Rattle.script_text.proofs.FitOps.{IsFit-no_ops, IsFit-close_thread, IsFit-close_phase, IsFit-with_names}
-use Rattle.script_text.proofs.Uses.{access_of-fits, flush_of-fits, AreFit-sweep_ops, weights_of-sweep_ops, AreAllShort-sweep_ops, touch_of-fits, task_of-declared}
+use Rattle.script_text.proofs.Uses.{access_of-fits, flush_of-fits, drop_line_of-fits, AreFit-sweep_ops, weights_of-sweep_ops, AreAllShort-sweep_ops, touch_of-fits, task_of-declared}
 use Rattle.script_ops.specs.declared.limits.TheConstants.{MOST_WEIGHT, MOST_TASKS, MOST_TEXT_BYTES, MOST_ORDER, MOST_PHASES, MOST_PHASE_THREADS}
 
 -- ---- lines that give a script its parts
@@ -125,6 +125,17 @@ Fits-Read : (m : Parameters) (tasks : List ℕ) (path : PathRef) → IsWithin m.
 Fits-Read m tasks (File (MonDomain holder domain) kind) within = within
 Fits-Read m tasks path within = tt
 
+-- after a `clflush`, by whether it names a path
+IsReady-clflush : (s : ReaderState) (rest : List ℕ) (b : Bool) → is_thread s.place ≡ true → IsSound s → IsReady s → IfOk (cond b (drop_region s rest) (drop_line s rest)) IsReady
+unfolding drop_region drop_line
+IsReady-clflush s rest true stands sound ready =
+    IfOk-or_fault IsReady (drop_region_of (words rest)) BadArgument _ (λ t e.
+    IfOk-or_fault IsReady (named_in s t.0) BadPath _ (λ found h.
+    IfOk-or_fault IsReady found TooLarge _ (λ p i.
+    IsReady-with_path s (λ path. ops.DropRegion path t.1) p stands sound ready.fit (AddsShort-named s.machine.domains s.names t.0 p (h ∙ ap Some i)) tt (λ path. refl))))
+IsReady-clflush s rest false stands sound ready =
+    IfOk-or_fault IsReady (drop_line_of (words rest)) BadArgument _ (λ addr e. IsReady-with_op s (ops.DropLine addr) stands ready.fit (drop_line_of-fits (words rest) addr e) (All-nil _))
+
 -- ---- a line of each kind
 
 -- after a line of any kind
@@ -157,6 +168,7 @@ IsReady-means kinds.Write s rest stands sound ready =
 IsReady-means kinds.Flush s rest stands sound ready =
     IfOk-or_fault IsReady (flush_of s.machine (words rest)) BadArgument _ (λ domain e. IsReady-with_op s (ops.Flush domain) stands ready.fit (flush_of-fits s.machine (ids_of s.tasks) (words rest) domain e) (All-nil _))
 IsReady-means kinds.Tick s rest stands sound ready = IfOk-unless IsReady (not (eqb (length (words rest)) 0)) BadArgument _ (λ a. IsReady-with_op s ops.Tick stands ready.fit tt (All-nil _))
+IsReady-means kinds.Clflush s rest stands sound ready = IsReady-clflush s rest (has_path (words rest)) stands sound ready
 IsReady-means kinds.Access s rest stands sound ready =
     IfOk-or_fault IsReady (access_of s.machine (words rest)) BadArgument _ (λ u e.
     IfOk-or_fault IsReady (task_of s.tasks u.task) UnknownTask _ (λ task h.

@@ -12,7 +12,7 @@ use Rattle.script_text.specs.declared.arguments.Use.{Use}
 use Rattle.script_text.specs.declared.arguments.Sweep.{Sweep}
 use Rattle.script_ops.specs.declared.op.Op.TheVariants as ops
 use Rattle.script_text.specs.declared.tasks.TaskRange.{TaskRange}
-use Rattle.script_text.specs.Arguments.{cpu_of, addr_of, use_of, access_of, flush_of, sweep_of, touch_of}
+use Rattle.script_text.specs.Arguments.{cpu_of, addr_of, use_of, access_of, flush_of, sweep_of, touch_of, drop_line_of}
 use Rattle.path_names.specs.ShortNames.{IsShortName}
 use Rattle.script_ops.specs.Canonical.{AreAllShort, IsShort}
 use Rattle.script_ops.specs.Fits.{Fits, AreFit}
@@ -72,6 +72,22 @@ IfSome-touch_of m (path ∷ offset ∷ task ∷ cpu ∷ more ∷ rest) = tt
 -- a touch
 pub touch_of-fits : (m : Parameters) (words : List (List ℕ)) (t : List ℕ × Use) → touch_of m words ≡ Some t → t.1.cpu < m.cpus
 touch_of-fits m words t e = IfSome-some (λ t. t.1.cpu < m.cpus) (touch_of m words) t e (IfSome-touch_of m words)
+
+-- ---- an address alone
+
+-- `clflush ADDR`
+IfSome-drop_line_of : (words : List (List ℕ)) → IfSome (drop_line_of words) (λ addr. addr < 2 ^ 48)
+IfSome-drop_line_of [] = tt
+IfSome-drop_line_of (word ∷ []) = at (addr_of word) refl
+  where
+    at : (o : Option ℕ) → addr_of word ≡ o → IfSome o (λ addr. addr < 2 ^ 48)
+    at None e = tt
+    at (Some addr) e = below-lt (2 ^ 48) (num_of word) addr e
+IfSome-drop_line_of (word ∷ more ∷ rest) = tt
+
+-- its address is below 2^48
+pub drop_line_of-fits : (words : List (List ℕ)) (addr : ℕ) → drop_line_of words ≡ Some addr → addr < 2 ^ 48
+drop_line_of-fits words addr e = IfSome-some (λ addr. addr < 2 ^ 48) (drop_line_of words) addr e (IfSome-drop_line_of words)
 
 -- ---- a domain
 

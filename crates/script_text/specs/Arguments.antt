@@ -1,5 +1,5 @@
 -- The arguments of a line.
-use Rattle.std.specs.Prelude.{◌≡◌, Result, Ok, Err, ℕ, ◌+◌, ◌-◌, ◌*◌, ◌^◌, ◌||◌, ◌==◌, nat_le, List, [], ◌∷◌, ◌++◌, Option, Some, None, if◌then◌else◌}
+use Rattle.std.specs.Prelude.{◌≡◌, Bool, false, Result, Ok, Err, ℕ, ◌+◌, ◌-◌, ◌*◌, ◌^◌, ◌||◌, ◌==◌, nat_le, List, [], ◌∷◌, ◌++◌, Option, Some, None, if◌then◌else◌}
 use Rattle.std.specs.Option.{option_and_then}
 use Rattle.num_text.specs.Numbers.{dec_of, num_of, below, capped}
 use Rattle.machine.specs.declared.parameters.Parameters.{Parameters}
@@ -20,6 +20,21 @@ addr_of word = below (2 ^ 48) (num_of word)
 -- TASK CPU at a place, which is an address or an offset
 unfoldable pub use_of : Parameters → List ℕ → List ℕ → Option ℕ → Option Use
 use_of m task cpu place = option_and_then (λ t. option_and_then (λ c. option_and_then (λ at. Some (record { task = t; cpu = c; at = at })) place) (cpu_of m cpu)) (capped (dec_of task))
+
+-- ADDR: an address alone
+abbrev pub drop_line_of : List (List ℕ) → Option ℕ
+drop_line_of (addr ∷ []) = addr_of addr
+drop_line_of words = None
+
+-- PATH OFFSET: the path, and the offset
+unfoldable pub drop_region_of : List (List ℕ) → Option (List ℕ × ℕ)
+drop_region_of (path ∷ offset ∷ []) = option_and_then (λ at. Some (path, at)) (below (2 ^ 64) (num_of offset))
+drop_region_of words = None
+
+-- whether the first word begins with a `/`
+abbrev pub has_path : List (List ℕ) → Bool
+has_path ((b ∷ bs) ∷ words) = b == 47
+has_path words = false
 
 -- the words TASK CPU ADDR
 abbrev pub access_of : Parameters → List (List ℕ) → Option Use

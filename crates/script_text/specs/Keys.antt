@@ -24,13 +24,13 @@ once given high number = if given then None else at_most high number
 abbrev pub mask_of : List ℕ → Option ℕ
 mask_of text = number_of 16 (if starts_with nat_eq text (codes "0x") then drop 2 text else text)
 
--- the keys of the caches; so far a cache has one slice
+-- the keys of the caches
 unfoldable pub cache_key : Keys → List ℕ → List ℕ → Option Keys
 cache_key keys key value =
     if is_text key (codes "domains") then option_and_then (λ n. Some (record keys { domains = Some n })) (once (is_some keys.domains) 8 (dec_of value)) else
     if is_text key (codes "sets") then option_and_then (λ n. Some (record keys { sets = Some n })) (once (is_some keys.sets) 65536 (dec_of value)) else
     if is_text key (codes "ways") then option_and_then (λ n. Some (record keys { ways = Some n })) (once (is_some keys.ways) 32 (dec_of value)) else
-    if is_text key (codes "slices") then option_and_then (λ n. Some (record keys { slices = Some n })) (once (is_some keys.slices) 1 (dec_of value)) else
+    if is_text key (codes "slices") then option_and_then (λ n. Some (record keys { slices = Some n })) (once (is_some keys.slices) 16 (dec_of value)) else
     None
 
 -- the keys of classes, RMIDs and CPUs
@@ -41,13 +41,13 @@ id_key keys key value =
     if is_text key (codes "cpus") then option_and_then (λ n. Some (record keys { cpus = Some n })) (once (is_some keys.cpus) 64 (dec_of value)) else
     None
 
--- the keys of masks and of limbo; so far no mask may have gaps
+-- the keys of masks and of limbo
 unfoldable pub mask_key : Keys → List ℕ → List ℕ → Option Keys
 mask_key keys key value =
     if is_text key (codes "min") then option_and_then (λ n. Some (record keys { min = Some n })) (once (is_some keys.min) 32 (dec_of value)) else
     if is_text key (codes "shareable") then option_and_then (λ n. Some (record keys { shareable = Some n })) (once (is_some keys.shareable) 4294967295 (mask_of value)) else
     if is_text key (codes "threshold") then option_and_then (λ n. Some (record keys { threshold = Some n })) (once (is_some keys.threshold) 67108864 (dec_of value)) else
-    if is_text key (codes "sparse") then option_and_then (λ n. Some (record keys { sparse = Some n })) (once (is_some keys.sparse) 0 (dec_of value)) else
+    if is_text key (codes "sparse") then option_and_then (λ n. Some (record keys { sparse = Some n })) (once (is_some keys.sparse) 1 (dec_of value)) else
     None
 
 -- these keys, and one more

@@ -26,7 +26,8 @@ command_kind word =
     if is_text word (codes "read") then Some kinds.Read else
     if is_text word (codes "list") then Some kinds.List else
     if is_text word (codes "flush") then Some kinds.Flush else
-    if is_text word (codes "tick") then Some kinds.Tick else None
+    if is_text word (codes "tick") then Some kinds.Tick else
+    if is_text word (codes "clflush") then Some kinds.Clflush else None
 
 -- lines that are accesses
 unfoldable pub access_kind : List ℕ → Option Kind
@@ -53,6 +54,7 @@ kind_name kinds.Read = codes "read"
 kind_name kinds.List = codes "list"
 kind_name kinds.Flush = codes "flush"
 kind_name kinds.Tick = codes "tick"
+kind_name kinds.Clflush = codes "clflush"
 kind_name kinds.Access = codes "access"
 kind_name kinds.Sweep = codes "sweep"
 kind_name kinds.Touch = codes "touch"
@@ -75,7 +77,8 @@ kind_with first second =
     if first == 108 then kinds.List else
     if first == 102 then kinds.Flush else
     if first == 115 then kinds.Sweep else
-    if first == 112 then kinds.Phase else kinds.Order
+    if first == 112 then kinds.Phase else
+    if first == 99 then kinds.Clflush else kinds.Order
 
 -- Where a line may stand: the machine line first, tasks after it, an order directly after `phase`, a thread in a phase, and
 -- an op in a thread.

@@ -15,7 +15,7 @@ use Rattle.script_text.specs.declared.kind.Kind.{Kind}
 use Rattle.script_text.specs.declared.kind.Kind.TheVariants as kinds
 use Rattle.script_text.specs.Lines.{is_bad, is_comment, words, behind_word}
 use Rattle.script_text.specs.States.{ReaderState, close_thread, close_phase, is_start}
-use Rattle.script_text.specs.Arguments.{access_of, flush_of, sweep_of, touch_of, order_of, only, first_of}
+use Rattle.script_text.specs.Arguments.{access_of, flush_of, sweep_of, touch_of, drop_line_of, drop_region_of, has_path, order_of, only, first_of}
 use Rattle.script_text.specs.Escapes.{unescaped, text_behind}
 use Rattle.script_text.specs.Keys.{machine_of}
 use Rattle.script_text.specs.Kinds.{kind_of, may_stand}
@@ -72,6 +72,20 @@ access_at task w i = ops.Access task w.first.cpu (w.first.at + i * w.stride)
 abbrev pub sweep_ops : ℕ → Sweep → List Op
 sweep_ops task w = map (access_at task w) (range_with_len 0 w.count)
 
+-- `clflush ADDR`: flushes the line of an address
+unfoldable pub drop_line : ReaderState → List ℕ → Result ReaderState LineFault
+drop_line s rest = do
+  addr ← or_fault (drop_line_of (words rest)) BadArgument
+  with_op s (ops.DropLine addr)
+
+-- `clflush PATH OFFSET`: flushes the line of a byte of a group's locked region
+unfoldable pub drop_region : ReaderState → List ℕ → Result ReaderState LineFault
+drop_region s rest = do
+  t ← or_fault (drop_region_of (words rest)) BadArgument
+  found ← or_fault (named_in s t.0) BadPath
+  p ← or_fault found TooLarge
+  with_op (with_names s p.1) (ops.DropRegion p.0 t.1)
+
 -- ---- what a line of each kind means, by what stands after its first word
 
 -- the state after a line of this kind, or its first fault
@@ -120,6 +134,7 @@ means kinds.Flush s rest = do
 means kinds.Tick s rest = do
   a ← unless (not (length (words rest) == 0)) BadArgument
   with_op s ops.Tick
+means kinds.Clflush s rest = if has_path (words rest) then drop_region s rest else drop_line s rest
 means kinds.Access s rest = do
   u ← or_fault (access_of s.machine (words rest)) BadArgument
   task ← or_fault (task_of s.tasks u.task) UnknownTask

@@ -1,5 +1,5 @@
 -- The faults of a line as a table: which faults it has, and the order in which they are tried.
-use Rattle.std.specs.Prelude.{◌≡◌, ℕ, ◌+◌, Bool, true, false, not, ◌&&◌, ◌||◌, ◌==◌, nat_lt, nat_le, List, [], ◌∷◌, length, codes, Option, Some, None, Result, Ok, Err, is_none}
+use Rattle.std.specs.Prelude.{◌≡◌, ℕ, ◌+◌, Bool, true, false, not, ◌&&◌, ◌||◌, ◌==◌, nat_lt, nat_le, List, [], ◌∷◌, length, codes, Option, Some, None, Result, Ok, Err, is_none, if◌then◌else◌}
 use Rattle.std.specs.List.{list_any, find}
 use Rattle.rc_base.specs.Texts.{is_text}
 use Rattle.path_names.specs.declared.path_ref.PathRef.{PathRef}
@@ -11,7 +11,7 @@ use Rattle.script_ops.specs.declared.op.Op.{Op}
 use Rattle.script_ops.specs.declared.op.Op.TheVariants as ops
 use Rattle.script_text.specs.declared.kind.Kind.{Kind}
 use Rattle.script_text.specs.declared.kind.Kind.TheVariants as kinds
-use Rattle.script_text.specs.Arguments.{access_of, flush_of, sweep_of, touch_of, order_of, only, first_of}
+use Rattle.script_text.specs.Arguments.{access_of, flush_of, sweep_of, touch_of, drop_line_of, drop_region_of, has_path, order_of, only, first_of}
 use Rattle.script_text.specs.Escapes.{unescaped, text_behind}
 use Rattle.script_text.specs.Keys.{machine_of}
 use Rattle.script_text.specs.Kinds.{kind_of, may_stand}
@@ -64,6 +64,19 @@ path_fault s op rest fault = false
 abbrev pub text_over : ReaderState → List ℕ → List ℕ → Bool
 text_over s word text = nat_lt MOST_TEXT_BYTES (length text) || path_over s (λ path. ops.Write path text) word
 
+-- the faults of `clflush ADDR`
+abbrev pub drop_line_fault : ReaderState → List ℕ → LineFault → Bool
+drop_line_fault s rest BadArgument = is_none (drop_line_of (words rest))
+drop_line_fault s rest TooLarge = passes (λ addr. is_over s (weight_of s.machine (ops.DropLine addr))) (drop_line_of (words rest))
+drop_line_fault s rest fault = false
+
+-- the faults of `clflush PATH OFFSET`
+abbrev pub drop_region_fault : ReaderState → List ℕ → LineFault → Bool
+drop_region_fault s rest BadArgument = is_none (drop_region_of (words rest))
+drop_region_fault s rest BadPath = passes (λ (t : List ℕ × ℕ). no_path s t.0) (drop_region_of (words rest))
+drop_region_fault s rest TooLarge = passes (λ (t : List ℕ × ℕ). path_over s (λ path. ops.DropRegion path t.1) t.0) (drop_region_of (words rest))
+drop_region_fault s rest fault = false
+
 -- the faults of what stands after the first word, in a line of each kind
 unfoldable pub argument_fault : Kind → ReaderState → List ℕ → LineFault → Bool
 argument_fault kinds.Machine s rest BadMachine = is_none (machine_of (words rest))
@@ -87,6 +100,7 @@ argument_fault kinds.Flush s rest BadArgument = is_none (flush_of s.machine (wor
 argument_fault kinds.Flush s rest TooLarge = passes (λ domain. is_over s (weight_of s.machine (ops.Flush domain))) (flush_of s.machine (words rest))
 argument_fault kinds.Tick s rest BadArgument = not (length (words rest) == 0)
 argument_fault kinds.Tick s rest TooLarge = is_over s (weight_of s.machine ops.Tick)
+argument_fault kinds.Clflush s rest fault = if has_path (words rest) then drop_region_fault s rest fault else drop_line_fault s rest fault
 argument_fault kinds.Access s rest BadArgument = is_none (access_of s.machine (words rest))
 argument_fault kinds.Access s rest UnknownTask = passes (λ (u : Use). no_task s u.task) (access_of s.machine (words rest))
 argument_fault kinds.Access s rest TooLarge = is_over s 1

@@ -3,9 +3,9 @@ ghost use Rattle.std.specs.Prelude.{◌≡◌, ◌<◌, ◌+◌, ◌*◌, ◌-�
 ghost use Rattle.num_text.specs.Numbers.{dec_of, below};
 ghost use Rattle.machine.specs.Maps.{parameters_of};
 ghost use Rattle.script_text.specs.Lines.{words};
-ghost use Rattle.script_text.specs.Arguments.{access_of, flush_of, sweep_of, touch_of, use_of, cpu_of, addr_of};
+ghost use Rattle.script_text.specs.Arguments.{access_of, flush_of, sweep_of, touch_of, use_of, cpu_of, addr_of, drop_line_of, drop_region_of, has_path};
 
-use crate::words::{five_words, four_words, no_word, one_word, three_words};
+use crate::words::{five_words, four_words, next_word, no_word, one_word, three_words, two_words};
 use machine::Machine;
 use num_text::{read_dec, read_dec_capped, read_num};
 
@@ -62,6 +62,31 @@ fn one_use(m: &Machine, task: &[u8], cpu_word: &[u8], place: Option<u64>) -> Opt
     let cpu = cpu(m, cpu_word)?;
     let at = place?;
     Some(Use { task, cpu, at })
+}
+
+/// Whether the first word begins with a `/`.
+pub fn has_path(text: &[u8]) -> bool
+    ensures { result ≡ has_path (words text.now) }
+{
+    matches!(next_word(text), Some(([b'/', ..], _)))
+}
+
+/// ADDR, an address alone.
+pub fn drop_line_args(text: &[u8]) -> Option<u64>
+    ensures { result ≡ drop_line_of (words text.now) }
+{
+    let word = one_word(text)?;
+    addr(word)
+}
+
+/// PATH OFFSET: the path, and the offset.
+#[tactic(auto, unfolding(crate::specs::Arguments::drop_region_of))]
+pub fn drop_region_args(text: &[u8]) -> Option<(&[u8], u64)>
+    ensures { MatchOption result (drop_region_of (words text.now) ≡ None) (λ p. drop_region_of (words text.now) ≡ Some (p.0.now, p.1)) }
+{
+    let words = two_words(text)?;
+    let offset = read_num(words.1)?;
+    Some((words.0, offset))
 }
 
 /// TASK CPU ADDR

@@ -2,11 +2,11 @@
 ghost use Rattle.std.specs.Prelude.{IfOk, length, OnOk};
 ghost use Rattle.script_text.specs.States.{state_of, InLimits, IsSound};
 ghost use Rattle.path_names.specs.NamesIn.{path_ids, AreKnown};
-ghost use Rattle.script_text.specs.Meaning.{means, Means, FindsAlone, path_alone};
+ghost use Rattle.script_text.specs.Meaning.{means, Means, FindsAlone, path_alone, drop_line, drop_region};
 ghost use Rattle.script_text.specs.declared.kind.Kind.TheVariants as kinds;
 ghost use Rattle.path_names.specs.declared.paths.TheConstants.{MOST_PATH_NAMES};
 
-use crate::arguments::flush_args;
+use crate::arguments::{drop_line_args, drop_region_args, flush_args, has_path};
 use crate::escapes::{behind_one, unescape};
 use crate::fault::{LineError, LineFault};
 use crate::paths::find_path;
@@ -137,5 +137,52 @@ impl Reader {
             return Err(LineError::Fault(LineFault::BadArgument));
         }
         self.push(Op::Tick)
+    }
+
+    // `clflush ADDR`
+    #[tactic(auto, unfolding(crate::specs::Meaning::drop_line), using(crate::proofs::Limits::keeping))]
+    fn drop_line(&mut self, text: &[u8]) -> Result<(), LineError>
+        requires { IsSound (state_of self.old) }
+        ensures said { Means result (state_of self.new) (drop_line (state_of self.old) text.now) }
+        ensures sound { OnOk result (IsSound (state_of self.new)) }
+    {
+        let Some(addr) = drop_line_args(text) else {
+            return Err(LineError::Fault(LineFault::BadArgument));
+        };
+        self.push(Op::DropLine { addr })
+    }
+
+    // `clflush PATH OFFSET`
+    #[tactic(auto, unfolding(crate::specs::Meaning::drop_region), using(crate::proofs::Limits::keeping))]
+    fn drop_region(&mut self, text: &[u8]) -> Result<(), LineError>
+        requires { IsSound (state_of self.old) }
+        ensures said { Means result (state_of self.new) (drop_region (state_of self.old) text.now) }
+        ensures sound { OnOk result (IsSound (state_of self.new)) }
+    {
+        let Some((word, offset)) = drop_region_args(text) else {
+            return Err(LineError::Fault(LineFault::BadArgument));
+        };
+        let path = match find_path(word, self.machine.domains, &mut self.names) {
+            Ok(path) => path,
+            Err(error) => return Err(error),
+        };
+        let Some(path) = path else {
+            return Err(LineError::Fault(LineFault::TooLarge));
+        };
+        self.push(Op::DropRegion { path, offset })
+    }
+
+    /// `clflush ADDR` or `clflush PATH OFFSET`
+    #[tactic(auto, unfolding(crate::specs::Meaning::means))]
+    pub fn clflush(&mut self, text: &[u8]) -> Result<(), LineError>
+        requires { IsSound (state_of self.old) }
+        ensures said { Means result (state_of self.new) (means kinds.Clflush (state_of self.old) text.now) }
+        ensures sound { OnOk result (IsSound (state_of self.new)) }
+    {
+        if has_path(text) {
+            self.drop_region(text)
+        } else {
+            self.drop_line(text)
+        }
     }
 }

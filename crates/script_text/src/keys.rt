@@ -77,7 +77,7 @@ fn cache_key(keys: Keys, key: &[u8], value: &[u8]) -> Option<Keys>
         let ways = Some(n as u8);
         Some(Keys { ways, ..keys })
     } else if is_text(key, b"slices") {
-        let n = number(keys.slices.is_some(), 1, value)?;
+        let n = number(keys.slices.is_some(), 16, value)?;
         let slices = Some(n as u8);
         Some(Keys { slices, ..keys })
     } else {
@@ -123,7 +123,7 @@ fn mask_key(keys: Keys, key: &[u8], value: &[u8]) -> Option<Keys>
         let threshold = Some(n);
         Some(Keys { threshold, ..keys })
     } else if is_text(key, b"sparse") {
-        let n = number(keys.sparse.is_some(), 0, value)?;
+        let n = number(keys.sparse.is_some(), 1, value)?;
         let sparse = Some(n as u8);
         Some(Keys { sparse, ..keys })
     } else {

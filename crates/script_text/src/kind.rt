@@ -9,11 +9,11 @@ use rc_base::is_text;
 pub enum Place {
     /// Before the machine line.
     Start,
-    /// Behind it, and before the first phase.
+    /// After the machine line, before the first phase.
     Head,
     /// Directly after `phase`.
     Opened,
-    /// Behind a phase's order.
+    /// After a phase's order.
     Ordered,
     /// In a thread.
     Thread,
@@ -34,6 +34,7 @@ pub enum Kind {
     List,
     Flush,
     Tick,
+    Clflush,
     Access,
     Sweep,
     Touch,
@@ -57,6 +58,7 @@ impl Kind {
             Kind::List => b"list",
             Kind::Flush => b"flush",
             Kind::Tick => b"tick",
+            Kind::Clflush => b"clflush",
             Kind::Access => b"access",
             Kind::Sweep => b"sweep",
             Kind::Touch => b"touch",
@@ -109,6 +111,8 @@ fn kind_with(first: u8, second: u8) -> Kind
         Kind::Sweep
     } else if first == b'p' {
         Kind::Phase
+    } else if first == b'c' {
+        Kind::Clflush
     } else {
         Kind::Order
     }

@@ -32,6 +32,7 @@ impl Reader {
             Kind::List => self.list(text),
             Kind::Flush => self.flush(text),
             Kind::Tick => self.tick(text),
+            Kind::Clflush => self.clflush(text),
             Kind::Access => self.access(text),
             Kind::Sweep => self.sweep(text),
             Kind::Touch => self.touch(text),

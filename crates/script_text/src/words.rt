@@ -50,6 +50,19 @@ pub fn one_word(text: &[u8]) -> Option<&[u8]>
     if no_word(rest) { Some(word) } else { None }
 }
 
+/// The two words that are left.
+pub fn two_words(text: &[u8]) -> Option<(&[u8], &[u8])>
+    ensures { MatchOption result (length (words text.now) ≡ 2 → ⊥) (λ p. words text.now ≡ p.0.now ∷ p.1.now ∷ []) }
+{
+    let (first, rest) = next_word(text)?;
+    let (second, rest) = next_word(rest)?;
+    if no_word(rest) {
+        Some((first, second))
+    } else {
+        None
+    }
+}
+
 /// The three words that are left.
 pub fn three_words(text: &[u8]) -> Option<(&[u8], &[u8], &[u8])>
     ensures { MatchOption result (length (words text.now) ≡ 3 → ⊥) (λ p. words text.now ≡ p.0.now ∷ p.1.now ∷ p.2.now ∷ []) }

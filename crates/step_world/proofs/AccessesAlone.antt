@@ -1,27 +1,13 @@
--- Ops that are accesses alone: they make one entry each where there is one slice, and need no counts.
-use Rattle.std.proofs.Common.{◌≡◌, ℕ, ◌+◌, ◌<◌, Bool, true, false, cond, List, [], ◌∷◌, length, refl, sym, ap, ◌∙◌, arith}
-use Rattle.std.specs.Prelude.{All}
-use Rattle.std.proofs.lemmas.Bool.{eq-eqb}
-use Rattle.std.proofs.lemmas.List.Elements.{All-head, All-tail}
+-- Ops that are accesses alone need no room for counts.
+use Rattle.std.proofs.Common.{◌≡◌, cond, List, [], ◌∷◌, refl, sym, ap, ◌∙◌}
 use Rattle.std.proofs.lemmas.List.Sums.{sum_by-cons}
 use Rattle.lists.specs.Sums.{one_if}
-use Rattle.machine.specs.Maps.{domain_of, line_of, set_of, slice_of}
-use Rattle.machine.specs.Ranges.{InRange}
-use Rattle.machine.specs.Slices.{slice_count, slice_of_line}
 use Rattle.machine.specs.declared.parameters.Parameters.{Parameters}
-use Rattle.machine.proofs.laws.Domains.{domain_of-lt}
-use Rattle.machine.proofs.laws.Slices.{slice_number-lt}
+use Rattle.run_law.proofs.laws.AccessesAlone.{first_none}
 use Rattle.run_law.specs.Ops.{is_command}
-use Rattle.script_ops.specs.Fits.{Fits}
+use Rattle.run_law.specs.Quotas.{commands_of, most_counts}
 use Rattle.script_ops.specs.declared.op.Op.{Op}
-use Rattle.script_ops.specs.declared.op.Op.TheVariants as ops
 use Rattle.step_world.specs.LookLists.{rooms_of}
-use Rattle.step_world.specs.Quotas.{commands_of, most_counts, quota, quotas_of}
-
--- where one of two is none, both are
-first_none : (b : Bool) (n : ℕ) → one_if b + n ≡ 0 → (b ≡ false) × (n ≡ 0)
-first_none true n h = absurd (omega (arith, h))
-first_none false n h = (refl, omega (arith, h))
 
 -- they need no room for counts
 pub rooms_of-accesses : (m : Parameters) (ops : List Op) → commands_of ops ≡ 0 → rooms_of m ops ≡ []
@@ -29,28 +15,3 @@ rooms_of-accesses m [] none = refl
 rooms_of-accesses m (op ∷ ops) none =
     let both = first_none (is_command op) (commands_of ops) (sym (sum_by-cons (λ o. one_if (is_command o)) op ops) ∙ none) in
     ap (λ b. cond b (most_counts m op ∷ rooms_of m ops) (rooms_of m ops)) both.0 ∙ rooms_of-accesses m ops both.1
-
--- where there is one slice, an access makes one entry in it
-quota-access : (m : Parameters) (tasks : List ℕ) (i : ℕ) (op : Op) → InRange m → slice_count m ≡ 1 → i < 1 → Fits m tasks op → is_command op ≡ false → quota m i op ≡ 1
-quota-access m tasks i (ops.Access task cpu addr) range one first fits is =
-    let line = line_of addr in
-    let domain : domain_of m cpu < m.domains = domain_of-lt m cpu range fits.1 in
-    let some : 0 < m.slices = range.some_slice in
-    let slice : slice_of m (set_of m line) < m.slices = omega (arith, some) in
-    let lt : slice_of_line m (domain_of m cpu) line < slice_count m = slice_number-lt m (domain_of m cpu) (slice_of m (set_of m line)) domain slice in
-    ap one_if (eq-eqb i (slice_of_line m (domain_of m cpu) line) (omega (arith, first, lt, one)))
-quota-access m tasks i (ops.Mkdir path) range one first fits is = absurd cc
-quota-access m tasks i (ops.Rmdir path) range one first fits is = absurd cc
-quota-access m tasks i (ops.Write path text) range one first fits is = absurd cc
-quota-access m tasks i (ops.Read path) range one first fits is = absurd cc
-quota-access m tasks i (ops.List path) range one first fits is = absurd cc
-quota-access m tasks i (ops.Flush domain) range one first fits is = absurd cc
-quota-access m tasks i ops.Tick range one first fits is = absurd cc
-quota-access m tasks i (ops.Touch cpu path task offset) range one first fits is = absurd cc
-
--- so that all make as many entries as they are
-pub quotas_of-accesses : (m : Parameters) (tasks : List ℕ) (i : ℕ) (ops : List Op) → InRange m → slice_count m ≡ 1 → i < slice_count m → All (Fits m tasks) ops → commands_of ops ≡ 0 → quotas_of m i ops ≡ length ops
-quotas_of-accesses m tasks i [] range one within fit none = refl
-quotas_of-accesses m tasks i (op ∷ ops) range one within fit none =
-    let both = first_none (is_command op) (commands_of ops) (sym (sum_by-cons (λ o. one_if (is_command o)) op ops) ∙ none) in
-    sum_by-cons (quota m i) op ops ∙ omega (arith, quota-access m tasks i op range one (omega (arith, within, one)) (All-head (Fits m tasks) op ops fit) both.0, quotas_of-accesses m tasks i ops range one within (All-tail (Fits m tasks) op ops fit) both.1)

@@ -1,34 +1,29 @@
 -- The tree has not yet had all commands of the script while one is looking.
 use Rattle.std.proofs.Common.{◌≡◌, ℕ, ◌-◌, ◌<◌, ◌≤◌, inl, inr, List, [], ◌∷◌, ◌++◌, length, filter, take, get_or, Option, Some, refl, sym, ap, ◌∙◌, subst, arith}
 use Rattle.std.specs.Prelude.{IsSome, IsTrue}
-use Rattle.std.proofs.lemmas.Bool.{cases_Bool, cases_lt}
+use Rattle.std.proofs.lemmas.Bool.{cases_lt}
 use Rattle.std.proofs.lemmas.List.{length_push}
-use Rattle.std.proofs.lemmas.List.Sums.{sum_by-le-sum_by}
 use Rattle.std.proofs.lemmas.Option.{get_or_from_slice_get, slice_get_within}
 use Rattle.lists.specs.Sums.{one_if}
-use Rattle.machine.specs.declared.parameters.Parameters.{Parameters}
 use Rattle.rc_base.proofs.laws.Histories.{EachFollows-at}
 use Rattle.rc_base.specs.declared.replies.Reply.TheVariants as replies
+use Rattle.run_law.proofs.laws.CountedOps.{length-quotas}
 use Rattle.run_law.proofs.laws.Pairs.{both_eqb-true}
 use Rattle.run_law.proofs.laws.Positions.{At-append, At-one}
+use Rattle.run_law.proofs.laws.SoundHistories.{taken}
 use Rattle.run_law.specs.Growth.{IsKept}
 use Rattle.run_law.specs.Journals.{At}
 use Rattle.run_law.specs.Ops.{is_command}
 use Rattle.run_law.specs.Progress.{HasBegun, Progress}
+use Rattle.run_law.specs.Quotas.{command_count}
 use Rattle.run_law.specs.TreeHistory.{CommandMayFollow, TreeEntryValue}
 use Rattle.run_law.specs.Truth.{is_taken_from}
-use Rattle.script_ops.proofs.laws.Weights.{weight_of-some}
-use Rattle.script_ops.specs.Values.{IsLawful, ScriptValue, op_at, threads_of}
-use Rattle.script_ops.specs.Weights.{weight_of, weights_of}
-use Rattle.script_ops.specs.declared.limits.TheConstants.{MOST_WEIGHT}
+use Rattle.script_ops.specs.Values.{ScriptValue, op_at}
 use Rattle.script_ops.specs.declared.op.Op.{Op}
-use Rattle.step_world.proofs.CountedOps.{length-quotas}
 use Rattle.step_world.proofs.EntryRooms.{found}
 use Rattle.step_world.proofs.MachineStates.{at_can_be}
-use Rattle.step_world.proofs.SoundStates.{taken}
 use Rattle.step_world.specs.Machine.{MachineValue, thread_at}
 use Rattle.step_world.specs.Moments.{IsRunSoFar, progress_by, progress_in}
-use Rattle.step_world.specs.Quotas.{command_count, commands_of}
 use Rattle.step_world.specs.declared.place.Place.TheVariants.{Looking}
 
 -- equal options of ops
@@ -96,15 +91,3 @@ module _ (script : ScriptValue) (s : MachineValue) (t made : ℕ) (op : Op) (so_
   commands-less =
       let most = length-quotas (λ (e : TreeEntryValue). e.thread) (λ (e : TreeEntryValue). e.op) script (λ c. one_if (is_command c)) all each few in
       omega (arith, most, length_push s.journals.tree claim)
-
--- ---- weight
-
--- a command weighs something
-command-light : (m : Parameters) (op : Op) → one_if (is_command op) ≤ weight_of m op
-command-light m op = elim (cases_Bool (is_command op)) [ inl here ↦ rw here (omega (arith, weight_of-some m op)) | inr away ↦ rw away (omega arith) ]
-
--- there are no more commands than the greatest weight
-pub commands-light : (script : ScriptValue) → IsLawful script → command_count script ≤ MOST_WEIGHT
-unfolding command_count
-commands-light script lawful =
-    omega (arith, sum_by-le-sum_by commands_of (weights_of script.machine) (threads_of script) (λ ops. sum_by-le-sum_by (λ op. one_if (is_command op)) (weight_of script.machine) ops (command-light script.machine)), lawful.light)

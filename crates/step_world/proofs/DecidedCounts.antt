@@ -3,6 +3,7 @@ use Rattle.std.proofs.Common.{◌≡◌, ℕ, ◌+◌, ◌*◌, ◌≤◌, List,
 use Rattle.std.specs.Prelude.{IsTrue}
 use Rattle.std.proofs.lemmas.List.{same_from_push}
 use Rattle.rc_base.specs.Buffers.{Looks}
+use Rattle.run_law.proofs.laws.FollowCounts.{length-looks}
 use Rattle.run_law.specs.Jobs.{looks_of}
 use Rattle.run_law.specs.Ops.{is_command}
 use Rattle.run_law.specs.Progress.{Progress}
@@ -10,7 +11,6 @@ use Rattle.run_law.specs.TreeHistory.{TreeEntryValue, tree_after}
 use Rattle.script_ops.specs.Values.{ScriptValue, op_at}
 use Rattle.script_ops.specs.declared.op.Op.{Op}
 use Rattle.step_world.proofs.AccessSteps.{some_can_be}
-use Rattle.step_world.proofs.FollowCounts.{length-looks}
 use Rattle.step_world.proofs.LookingWorlds.{held, made-is}
 use Rattle.step_world.specs.Answers.{HasNext}
 use Rattle.step_world.specs.LookLists.{AreReady}

@@ -11,11 +11,12 @@ use Rattle.run_law.proofs.laws.TreeHistory.{tree_after-push}
 use Rattle.run_law.specs.Entries.{entry_value}
 use Rattle.run_law.specs.Jobs.{follow_jobs, follows_of, jobs_of, looks_of}
 use Rattle.run_law.specs.Looks.{lines_looked}
+use Rattle.run_law.specs.Targets.{slices_for}
 use Rattle.run_law.specs.TreeHistory.{CommandMayFollow, IsCommandThat, TreeEntryValue, tree_after}
 use Rattle.run_law.specs.declared.journals.TreeEntry.{TreeEntry}
 use Rattle.script_ops.specs.Values.{ScriptValue, op_at}
 use Rattle.script_ops.specs.declared.op.Op.{Op}
-use Rattle.step_world.proofs.FollowCounts.{follows-are, length-follows, none-follow, some-follow, some-slices}
+use Rattle.run_law.proofs.laws.FollowCounts.{follows-are, length-follows, none-follow, some-follow, some-slices}
 use Rattle.step_world.proofs.KeptWorlds.{IsWorldOf-step, Leaves, moves-leaves}
 use Rattle.step_world.proofs.LookedCounts.{looked_given}
 use Rattle.step_world.proofs.LookingWorlds.{held, lists-there, looks-few}
@@ -25,7 +26,7 @@ use Rattle.step_world.proofs.TakenWorlds.{within-next}
 use Rattle.step_world.specs.Answers.{HasDecided, HasNext}
 use Rattle.step_world.specs.LookLists.{AreReady}
 use Rattle.step_world.specs.Machine.{Decides, Moves, Steps, holder_behind, place_behind, thread_at}
-use Rattle.step_world.specs.Slices.{SliceValue, slices_for}
+use Rattle.step_world.specs.Slices.{SliceValue}
 use Rattle.step_world.specs.Works.{Settles}
 use Rattle.step_world.specs.Worlds.{AreInPlay, IsFollowing, IsLookingAt, IsTreeOf, IsWorldOf, machine_of, rooms_from}
 use Rattle.step_world.specs.declared.place.Place.TheVariants.{Following, Looking, Ready}

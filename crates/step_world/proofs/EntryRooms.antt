@@ -6,52 +6,34 @@ use Rattle.std.proofs.lemmas.List.{length-append, length-map, take-append-le, ta
 use Rattle.std.proofs.lemmas.Option.{slice_get_within}
 use Rattle.cache_core.specs.declared.entry.SliceEntry.{SliceEntry}
 use Rattle.machine.specs.Slices.{slice_count}
-use Rattle.machine.specs.declared.parameters.Parameters.{Parameters}
-use Rattle.path_names.specs.declared.dirs.DirRef.TheVariants.{MonDomain}
-use Rattle.path_names.specs.declared.path_ref.PathRef.TheVariants.{File}
+use Rattle.run_law.proofs.laws.CountedOps.{length-quotas}
 use Rattle.run_law.proofs.laws.JobLists.{in_slice_append, owed_are}
+use Rattle.run_law.proofs.laws.OpQuotas.{owed_by_command-few}
 use Rattle.run_law.proofs.laws.Pairs.{both_eqb-true}
 use Rattle.run_law.proofs.laws.Positions.{filter-none_at}
+use Rattle.run_law.proofs.laws.SoundHistories.{Fits-op_at, IsSound-take, NamesDomain-fits}
 use Rattle.run_law.proofs.laws.TakenCommands.{fails, idle_not_begun}
 use Rattle.run_law.specs.Growth.{HasMade, IsKept}
 use Rattle.run_law.specs.Jobs.{in_slice, jobs_of}
 use Rattle.run_law.specs.Journals.{At, JournalsValue, slice_at}
-use Rattle.run_law.specs.Ops.{is_command}
 use Rattle.run_law.specs.Order.{Makes, Pays}
 use Rattle.run_law.specs.Owed.{owed_by_command, paid_by}
 use Rattle.run_law.specs.Progress.{HasBegun}
+use Rattle.run_law.specs.Quotas.{quota, room_of}
 use Rattle.run_law.specs.TreeHistory.{TreeEntryValue, tree_after}
 use Rattle.run_law.specs.Truth.{is_made_by, is_taken_from}
-use Rattle.script_ops.specs.Fits.{Fits}
 use Rattle.script_ops.specs.Values.{IsLawful, ScriptValue, op_at}
 use Rattle.script_ops.specs.declared.op.Op.{Op}
 use Rattle.script_ops.specs.declared.op.Op.TheVariants as ops
-use Rattle.step_world.proofs.CountedOps.{length-quotas}
 use Rattle.step_world.proofs.AccessSteps.{some_can_be}
 use Rattle.step_world.proofs.MachineStates.{can_be_is}
-use Rattle.step_world.proofs.OpQuotas.{owed_by_command-few}
-use Rattle.step_world.proofs.SoundStates.{Fits-op_at, IsSound-take}
 use Rattle.step_world.specs.Machine.{MachineValue}
 use Rattle.step_world.specs.Moments.{CanBe, IsRunSoFar, progress_in}
-use Rattle.step_world.specs.Quotas.{command_quota, quota, room_of}
-use Rattle.tree_law.specs.LawsCounts.{NamesDomain}
 use Rattle.tree_law.specs.Sound.{IsSound}
 
 -- equal options of ops
 equal_ops : (a b : Op) → Some a ≡ Some b → a ≡ b
 equal_ops a b h = cc
-
--- ---- quotas
-
--- a command that fits names a domain that exists
-pub NamesDomain-fits : (m : Parameters) (tasks : List ℕ) (op : Op) → Fits m tasks op → NamesDomain m op
-NamesDomain-fits m tasks (ops.Read (File (MonDomain holder domain) kind)) fits = fits
-NamesDomain-fits m tasks op fits = tt
-
--- the quota of a command is the same in each slice
-pub quota-command : (m : Parameters) (i : ℕ) (op : Op) → IsTrue (is_command op) → quota m i op ≡ command_quota m op
-quota-command m i (ops.Access task cpu addr) command = absurd cc
-quota-command m i op command = refl
 
 -- one that a filter keeps is there
 pub found : {A : Type 0} (p : A → Bool) (xs : List A) → 0 < length (filter p xs) → (k : ℕ) × (x : A) × At xs k x × IsTrue (p x)
@@ -73,11 +55,11 @@ module _ (script : ScriptValue) (s : MachineValue) (lawful : IsLawful script) (s
         (within, ap (take k) more.2 ∙ take-append-le k s.journals.tree (more.0 ∷ []) within)
   ]
 
-  -- what a command of the history owes is within its quota
-  pub owed-few : (all : List TreeEntryValue) → CanBe s s.holder all → (i k t o : ℕ) (c : Op) → k < length all → op_at script t o ≡ Some c → length (owed_by_command script all i k c) ≤ command_quota script.machine c
+  -- what a command of the history owes to a slice is within its quota there
+  pub owed-few : (all : List TreeEntryValue) → CanBe s s.holder all → (i k t o : ℕ) (c : Op) → k < length all → op_at script t o ≡ Some c → length (owed_by_command script all i k c) ≤ quota script.machine i c
   owed-few all can i k t o c less is =
       let known = take-can_be all can k less in
-      owed_by_command-few script all i k c (subst (λ hs. IsSound script.machine (tree_after script hs)) (sym known.1) (IsSound-take script s.journals.tree lawful so_far.legal.tree_legal k known.0))
+      owed_by_command-few script all i k c lawful.in_range (subst (λ hs. IsSound script.machine (tree_after script hs)) (sym known.1) (IsSound-take script s.journals.tree lawful so_far.legal.tree_legal k known.0))
       (NamesDomain-fits script.machine script.tasks c (Fits-op_at script t o c lawful is))
 
   module _ (all : List TreeEntryValue) (can : CanBe s s.holder all) (i : ℕ) (there : i < slice_count script.machine) where
@@ -99,7 +81,7 @@ module _ (script : ScriptValue) (s : MachineValue) (lawful : IsLawful script) (s
         fresh (subst (λ u. HasBegun (progress_in s u) o) is.0 (subst (λ x. HasBegun (progress_in s e.thread) x) is.1 (kept.of_begun.entries i p e at)))))
 
     -- what a command that the tree took has made is within its quota
-    taken-few : (t o : ℕ) (c : Op) (made : List SliceEntry) → op_at script t o ≡ Some c → length (filter (is_taken_from t o) all) ≡ 1 → Pays script whole i t o c made → length made ≤ command_quota script.machine c
+    taken-few : (t o : ℕ) (c : Op) (made : List SliceEntry) → op_at script t o ≡ Some c → length (filter (is_taken_from t o) all) ≡ 1 → Pays script whole i t o c made → length made ≤ quota script.machine i c
     taken-few t o c made is once pays =
         let (k, h, at, mine) = found (is_taken_from t o) all (omega (arith, once)) in
         let paid : map paid_by made ≡ owed_by_command script all i k c = pays k h at mine in
@@ -121,7 +103,7 @@ module _ (script : ScriptValue) (s : MachineValue) (lawful : IsLawful script) (s
         let jobs = jobs_of script all k c in
         let parts : in_slice i jobs ≡ in_slice i (take made jobs) ++ in_slice i (drop made jobs) = ap (in_slice i) (sym (take-append-drop made jobs)) ∙ in_slice_append i (take made jobs) (drop made jobs) in
         let count : length (in_slice i jobs) ≡ length (in_slice i (take made jobs)) + length (in_slice i (drop made jobs)) = ap length parts ∙ length-append (in_slice i (take made jobs)) (in_slice i (drop made jobs)) in
-        omega (arith, length-map (entries t n) paid_by, ap length has, count, ap length (owed_are script all i k c lawful.in_range.some_slice), owed-few all can i k t n c (omega (arith, last)) is, quota-command script.machine i c (kept.in_order.commands_hold t c is some))
+        omega (arith, length-map (entries t n) paid_by, ap length has, count, ap length (owed_are script all i k c lawful.in_range.some_slice), owed-few all can i k t n c (omega (arith, last)) is)
 
     -- so has each op
     pub op-few : (t o : ℕ) (c : Op) → op_at script t o ≡ Some c → length (entries t o) ≤ quota script.machine i c

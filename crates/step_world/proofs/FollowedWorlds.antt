@@ -10,10 +10,11 @@ use Rattle.rc_base.specs.Buffers.{Looks}
 use Rattle.run_law.specs.Entries.{entry_value}
 use Rattle.run_law.specs.Jobs.{jobs_of, looks_of}
 use Rattle.run_law.specs.Owed.{what_of}
+use Rattle.run_law.specs.Targets.{slice_for, slices_for}
 use Rattle.run_law.specs.TreeHistory.{TreeEntryValue}
 use Rattle.script_ops.specs.Values.{ScriptValue, op_at}
 use Rattle.script_ops.specs.declared.op.Op.{Op}
-use Rattle.step_world.proofs.FollowCounts.{some-slices, sum-next}
+use Rattle.run_law.proofs.laws.FollowCounts.{some-slices, sum-next}
 use Rattle.step_world.proofs.KeptWorlds.{AreInPlay-set, IsWorldOf-step, Leaves, moves-leaves, notes-grows}
 use Rattle.step_world.proofs.MachineStates.{holder_off, holder_on, place_off, place_on, some_same}
 use Rattle.step_world.proofs.StepRows.{step_follows}
@@ -21,7 +22,7 @@ use Rattle.step_world.proofs.TakenWorlds.{within-next}
 use Rattle.step_world.specs.Answers.{HasDone, HasNext}
 use Rattle.step_world.specs.LookLists.{AreReady}
 use Rattle.step_world.specs.Machine.{Follows, Moves, Notes, Steps, holder_behind, place_behind, thread_at}
-use Rattle.step_world.specs.Slices.{FollowsUp, SliceValue, slice_for, slices_for}
+use Rattle.step_world.specs.Slices.{FollowsUp, SliceValue}
 use Rattle.step_world.specs.Works.{FollowsOn, Settles}
 use Rattle.step_world.specs.Worlds.{AreInPlay, HasLists, IsFollowing, IsTreeOf, IsWorldOf, machine_of, rooms_from}
 use Rattle.step_world.specs.declared.place.Place.TheVariants.{Following, Ready}

@@ -11,40 +11,44 @@ use Rattle.cache_core.specs.Places.{CacheValue}
 use Rattle.machine.specs.Ranges.{InRange}
 use Rattle.machine.specs.Slices.{slice_of_line}
 use Rattle.machine.specs.declared.parameters.Parameters.{Parameters}
+use Rattle.run_law.proofs.laws.FollowCounts.{follow-at, follow_job, follows-are, job_behind, length-follows}
+use Rattle.run_law.proofs.laws.OwnLines.{IsOwn-shape_in, mod-some_way}
 use Rattle.run_law.specs.Jobs.{Job, follow_jobs, follows_of, jobs_of, looks_of}
 use Rattle.run_law.specs.Journals.{At, slice_at}
 use Rattle.run_law.specs.Progress.{Progress}
+use Rattle.run_law.specs.Quotas.{room_of}
 use Rattle.run_law.specs.Slices.{shape_in}
+use Rattle.run_law.specs.Targets.{slice_for, slices_at, slices_for}
 use Rattle.run_law.specs.TreeHistory.{TreeEntryValue}
 use Rattle.script_ops.specs.Values.{ScriptValue, op_at}
 use Rattle.script_ops.specs.declared.op.Op.{Op}
 use Rattle.step_world.proofs.NextRooms.{room-job}
-use Rattle.step_world.proofs.FollowCounts.{follow-at, follow_job, follows-are, job_behind, length-follows}
 use Rattle.step_world.proofs.KeptWorlds.{slice_at-journals}
 use Rattle.step_world.proofs.MachineStates.{at_can_be}
-use Rattle.step_world.proofs.RoomLeft.{IsOwn-shape_in, has-room, mod-some_way}
+use Rattle.step_world.proofs.RoomLeft.{has-room}
 use Rattle.step_world.proofs.SliceFloors.{floor_following}
 use Rattle.step_world.specs.Answers.{HasNext}
 use Rattle.step_world.specs.Machine.{thread_at}
 use Rattle.step_world.specs.Moments.{progress_by, progress_in}
-use Rattle.step_world.specs.Quotas.{room_of}
-use Rattle.step_world.specs.Slices.{CanFollow, SliceValue, slice_for, slices_for}
+use Rattle.step_world.specs.Slices.{CanFollow, SliceValue}
 use Rattle.step_world.specs.Worlds.{IsAtWork, IsFollowing, IsWorldOf, machine_of}
 use Rattle.step_world.specs.declared.place.Place.TheVariants.{Following}
 use Rattle.step_world.specs.declared.world.World.{World}
 use Rattle.tree_core.specs.Follows.{IsReady}
-use Rattle.tree_law.specs.Steps.{follow_domain}
+use Rattle.tree_law.specs.Steps.{Target, EachSlice, SliceOf, follow_domain, goes_to}
 use Rattle.tree_law.specs.declared.follow.Follow.{Follow}
-use Rattle.tree_law.specs.declared.follow.Follow.TheVariants.{Raise, Flush, Lock, Touch}
+use Rattle.tree_law.specs.declared.follow.Follow.TheVariants.{Raise, Flush, Lock, Touch, Drop}
 
 -- ---- one follow-up
 
+-- these are no more slices than a domain has
+slices_at-few : (m : Parameters) (t : Target) → 0 < m.slices → slices_at m t ≤ m.slices
+slices_at-few m (EachSlice domain) some = omega arith
+slices_at-few m (SliceOf domain line) some = some
+
 -- it is entered in no more slices than a domain has
 slices-few : (m : Parameters) (f : Follow) → 0 < m.slices → slices_for m f ≤ m.slices
-slices-few m (Touch tag line) some = some
-slices-few m (Raise domain) some = omega arith
-slices-few m (Flush domain) some = omega arith
-slices-few m (Lock domain mask first_line) some = omega arith
+slices-few m f some = slices_at-few m (goes_to f) some
 
 -- a slice that it goes to can take it
 can-follow : (m : Parameters) (f : Follow) (i x : ℕ) (cache : CacheValue) → InRange m → i ≡ slice_for m f x → cache.shape ≡ shape_in m i → cache.rmids ≡ m.rmids → IsReady m f → CanFollow f cache
@@ -57,6 +61,9 @@ can-follow m (Touch tag line) i x cache range number shape rmids ready =
       subst (λ (s : Shape). 0 < tag.mask % 2 ^ s.ways) (sym shape) (mod-some_way tag.mask m.ways ready.1 ready.2),
       omega (arith, rmids, ready.0),
     )
+can-follow m (Drop domain line) i x cache range number shape rmids ready =
+    let its : cache.shape ≡ shape_in m (slice_of_line m domain line) = shape ∙ ap (shape_in m) number in
+    subst (λ (s : Shape). IsOwn s (line % s.sets)) (sym its) (IsOwn-shape_in m domain line range.some_set range.some_slice)
 
 module _ (script : ScriptValue) (t made : ℕ) (op : Op) (w : World) (world : IsWorldOf script w) (nexts : HasNext script (machine_of w) t op) (place : (thread_at (machine_of w) t).place ≡ Following made) where
   abbrev tree : List TreeEntryValue

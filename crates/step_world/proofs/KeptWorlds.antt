@@ -12,14 +12,14 @@ use Rattle.rc_base.proofs.laws.Histories.{EachFollows-at}
 use Rattle.rc_base.specs.Buffers.{Looks}
 use Rattle.run_law.specs.Entries.{entry_value}
 use Rattle.run_law.specs.Journals.{slice_at}
+use Rattle.run_law.specs.Quotas.{room_of}
 use Rattle.run_law.specs.Slices.{shape_in}
 use Rattle.run_law.specs.TreeHistory.{TreeEntryValue, tree_after}
 use Rattle.script_ops.specs.Values.{ScriptValue, op_at}
 use Rattle.script_ops.specs.declared.op.Op.{Op}
-use Rattle.step_world.specs.Caches.{IsCacheOf}
+use Rattle.run_law.specs.Caches.{IsCacheOf}
 use Rattle.step_world.specs.Machine.{MachineValue, Moves, Notes, Steps, thread_at}
 use Rattle.step_world.specs.Moments.{IsRunSoFar}
-use Rattle.step_world.specs.Quotas.{room_of}
 use Rattle.step_world.specs.Slices.{Grows, SliceValue}
 use Rattle.step_world.specs.Worlds.{AreInPlay, HasList, HasLists, IsAtWork, IsFollowing, IsTreeOf, IsWorldOf, journals_of, machine_of}
 use Rattle.step_world.specs.declared.place.Place.{Place}

@@ -8,8 +8,12 @@ use Rattle.cache_core.specs.declared.entry.SliceEntry.{SliceEntry}
 use Rattle.cache_core.specs.declared.entry.What.{What}
 use Rattle.cache_core.specs.declared.entry.What.TheVariants as whats
 use Rattle.rc_base.specs.declared.names.Tag.{Tag}
+use Rattle.run_law.proofs.laws.TakenCommands.{fails, idle_not_begun}
+use Rattle.run_law.specs.FoundLooks.{AreDistinct, HasFound, pairs_for}
+use Rattle.run_law.specs.Growth.{IsKept}
 use Rattle.run_law.specs.Ops.{phase_in}
 use Rattle.run_law.specs.Journals.{At, JournalsValue, slice_at}
+use Rattle.run_law.specs.Progress.{HasBegun, Progress}
 use Rattle.run_law.specs.Truth.{is_made_by}
 use Rattle.run_law.specs.Looks.{lines_looked}
 use Rattle.run_law.specs.Owed.{undecided}
@@ -24,15 +28,11 @@ use Rattle.run_law.proofs.laws.MatchedLooks.{not_by}
 use Rattle.run_law.proofs.laws.Pairs.{both_eqb-true, both_eqb-same}
 use Rattle.run_law.proofs.laws.GrownLists.{Adds, with_slices}
 use Rattle.step_world.proofs.MachineStates.{some_same, tree_can_be}
-use Rattle.run_law.proofs.laws.TakenCommands.{fails, idle_not_begun}
-use Rattle.run_law.specs.FoundLooks.{AreDistinct, HasFound, pairs_for}
 use Rattle.step_world.specs.Looked.{HasLooked}
 use Rattle.step_world.specs.Machine.{Begins, Looks, MachineValue, Reaches, StepFrom, StepOf, Steps, TagsAgain, Takes, Touches, floor_for, thread_at}
 use Rattle.step_world.specs.declared.place.Place.{Place}
 use Rattle.step_world.specs.declared.place.Place.TheVariants.{Following, Looking, Ready, Tagged}
 use Rattle.step_world.specs.declared.place.Thread.{Thread}
-use Rattle.run_law.specs.Progress.{HasBegun, Progress}
-use Rattle.run_law.specs.Growth.{IsKept}
 use Rattle.step_world.specs.Moments.{IsRunSoFar, progress_by, progress_in}
 
 -- ---- a command has taken the tree
@@ -62,6 +62,7 @@ take_looked script t op old new place free takes so_far =
 look_is : (w : What) (rmid : ℕ) → undecided w ≡ whats.Look rmid 0 → (lines : ℕ) × (w ≡ whats.Look rmid lines)
 look_is (whats.Access hit way owner r mask line) rmid h = absurd cc
 look_is whats.Raise rmid h = absurd cc
+look_is (whats.Drop line at) rmid h = absurd cc
 look_is whats.Flush rmid h = absurd cc
 look_is (whats.Lock mask first_line) rmid h = absurd cc
 look_is (whats.Look r lines) rmid h = (lines, let same : r ≡ rmid = cc in ap (λ x. whats.Look x lines) same)

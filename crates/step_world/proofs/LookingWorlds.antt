@@ -11,30 +11,31 @@ use Rattle.run_law.proofs.laws.FoundLooks.{pair_at}
 use Rattle.run_law.proofs.laws.JobKinds.{look_of, looks_are}
 use Rattle.run_law.proofs.laws.Lines.{lines_of-few}
 use Rattle.run_law.proofs.laws.LongerHistories.{jobs_front}
+use Rattle.run_law.proofs.laws.NeededCounts.{needs-few}
 use Rattle.run_law.proofs.laws.Positions.{At-append_front}
+use Rattle.run_law.proofs.laws.SoundHistories.{NamesDomain-fits}
+use Rattle.run_law.proofs.laws.SoundHistories.{Fits-op_at}
 use Rattle.run_law.specs.FoundLooks.{look_pairs}
 use Rattle.run_law.specs.Jobs.{Job, follows_of, jobs_of, looks_of}
 use Rattle.run_law.specs.Journals.{At, slice_at}
 use Rattle.run_law.specs.Progress.{Progress}
+use Rattle.run_law.specs.Quotas.{most_counts, room_of}
 use Rattle.run_law.specs.TreeHistory.{tree_after}
 use Rattle.script_ops.specs.Values.{ScriptValue, op_at}
 use Rattle.script_ops.specs.declared.op.Op.{Op}
 use Rattle.step_world.proofs.AccessSteps.{some_can_be}
-use Rattle.step_world.proofs.EntryRooms.{NamesDomain-fits}
 use Rattle.step_world.proofs.NextRooms.{room-job}
 use Rattle.step_world.proofs.FoundSums.{At-map, spare_in-last}
 use Rattle.step_world.proofs.LookedWorlds.{counted}
 use Rattle.step_world.proofs.MachineStates.{can_be_at, some_same}
-use Rattle.step_world.proofs.NeededCounts.{needs-few}
 use Rattle.step_world.proofs.RoomLeft.{has-room}
-use Rattle.step_world.proofs.SoundStates.{Fits-op_at, IsSound-now}
+use Rattle.step_world.proofs.SoundStates.{IsSound-now}
 use Rattle.step_world.proofs.StepParts.{looking_is}
 use Rattle.step_world.proofs.TakenWorlds.{within-next}
 use Rattle.step_world.specs.Answers.{HasCounted, HasNext}
 use Rattle.step_world.specs.LookLists.{spare_in}
 use Rattle.step_world.specs.Machine.{thread_at}
 use Rattle.step_world.specs.Moments.{progress_by, progress_in}
-use Rattle.step_world.specs.Quotas.{most_counts, room_of}
 use Rattle.step_world.specs.Slices.{CountsLines, SliceValue}
 use Rattle.step_world.specs.Works.{CountsOn}
 use Rattle.step_world.specs.Worlds.{IsAtWork, IsLookingAt, IsWorldOf, machine_of}

@@ -8,6 +8,7 @@ use Rattle.cache_core.specs.declared.entry.SliceEntry.{SliceEntry}
 use Rattle.cache_core.specs.declared.entry.What.TheVariants as whats
 use Rattle.machine.specs.Maps.{domain_of, line_of}
 use Rattle.machine.specs.Slices.{slice_count, slice_of_line}
+use Rattle.run_law.proofs.laws.CountedOps.{length-quotas}
 use Rattle.run_law.proofs.laws.JobLists.{in_slice_append, in_slice_more, owed_are}
 use Rattle.run_law.proofs.laws.Pairs.{both_eqb-true}
 use Rattle.run_law.proofs.laws.Positions.{At-append, At-one}
@@ -16,17 +17,16 @@ use Rattle.run_law.specs.Growth.{HasMade, IsKept}
 use Rattle.run_law.specs.Jobs.{Job, in_slice, jobs_of}
 use Rattle.run_law.specs.Journals.{At, slice_at}
 use Rattle.run_law.specs.Owed.{paid_by}
+use Rattle.run_law.specs.Quotas.{quota, room_of}
 use Rattle.run_law.specs.TreeHistory.{TreeEntryValue}
 use Rattle.run_law.specs.Truth.{is_made_by}
 use Rattle.script_ops.specs.Values.{IsLawful, ScriptValue, op_at}
 use Rattle.script_ops.specs.declared.op.Op.{Op}
 use Rattle.script_ops.specs.declared.op.Op.TheVariants as ops
-use Rattle.step_world.proofs.CountedOps.{length-quotas}
 use Rattle.step_world.proofs.AccessSteps.{some_can_be}
 use Rattle.step_world.specs.Machine.{MachineValue}
 use Rattle.step_world.specs.Moments.{CanBe, IsRunSoFar, progress_in}
-use Rattle.step_world.specs.Quotas.{quota, room_of}
-use Rattle.step_world.proofs.EntryRooms.{none_yet, op-few, owed-few, quota-command}
+use Rattle.step_world.proofs.EntryRooms.{none_yet, op-few, owed-few}
 
 -- equal options of ops
 equal_ops : (a b : Op) → Some a ≡ Some b → a ≡ b
@@ -63,7 +63,6 @@ module _ (script : ScriptValue) (s : MachineValue) (lawful : IsLawful script) (s
           count,
           ap length (owed_are script all i k c lawful.in_range.some_slice),
           owed-few script s lawful so_far all can i k t n c (omega (arith, last)) is,
-          quota-command script.machine i c (kept.in_order.commands_hold t c is some),
         )
 
     -- where some op has made less than its quota, there is room

@@ -4,15 +4,15 @@ use Rattle.std.specs.Prelude.{vec_capacity}
 use Rattle.std.proofs.lemmas.Bool.{cases_lt}
 use Rattle.std.proofs.lemmas.List.{get_or-map, get_or_past, length-map}
 use Rattle.machine.specs.Slices.{slice_count}
+use Rattle.run_law.specs.Caches.{IsCacheOf}
 use Rattle.run_law.specs.Entries.{entry_value}
 use Rattle.run_law.specs.Journals.{slice_at}
+use Rattle.run_law.specs.Quotas.{command_count}
 use Rattle.run_law.specs.TreeHistory.{TreeEntryValue, tree_after}
 use Rattle.script_ops.specs.Values.{IsLawful, ScriptValue, threads_of}
 use Rattle.step_world.proofs.Schedules.{opening_so_far}
-use Rattle.step_world.specs.Caches.{IsCacheOf}
 use Rattle.step_world.specs.Machine.{IsOpening, opening_thread}
-use Rattle.step_world.specs.Openings.{AreFirst, AreFresh, AreListed}
-use Rattle.step_world.specs.Quotas.{command_count}
+use Rattle.step_world.specs.Openings.{AreFirst, AreFresh, AreListed, HasRooms}
 use Rattle.step_world.specs.Slices.{SliceValue}
 use Rattle.step_world.specs.Worlds.{AreInPlay, HasLists, IsTreeOf, IsWithin, IsWorldOf, journals_of, machine_of}
 use Rattle.step_world.specs.declared.place.Thread.{Thread}
@@ -26,7 +26,7 @@ AreInPlay-fresh script slices fresh = record {
   caches = λ i d within.
       let one = fresh.each i d (omega (arith, within, fresh.count)) in
       subst (λ es. IsCacheOf script.machine i es (get_or slices i d).cache) (sym one.empty) one.cache;
-  rooms = λ i d within. fresh.rooms i d (omega (arith, within, fresh.count));
+  rooms = λ i d within. omega (arith, fresh.rooms i d (omega (arith, within, fresh.count)));
 }
 
 -- and have no entries
@@ -47,7 +47,7 @@ pub record IsMade (script : ScriptValue) (w : World) : Type 0 where
   pub state : w.tree.state ≡ opening script.machine script.tasks
   pub epoch : w.tree.epoch ≡ 0
   pub commands : w.commands.items ≡ []
-  pub room : command_count script ≤ vec_capacity w.commands
+  pub room : vec_capacity w.commands ≡ command_count script
   pub slices : AreFresh script (slice_count script.machine) w.slices.items
   pub threads : AreFirst (length (threads_of script)) w.threads.items
   pub lists : AreListed script (length (threads_of script)) w.lists.items
@@ -67,6 +67,10 @@ module _ (script : ScriptValue) (w : World) (made : IsMade script w) where
     holder = made.holder;
     threads = made.threads.each;
   }
+
+  -- it has just the rooms that the script needs
+  pub HasRooms-made : HasRooms script w
+  HasRooms-made = record { commands = made.room; count = made.slices.count; slices = made.slices.rooms }
 
   -- each thread is at its beginning
   first_within : (t : ℕ) → IsWithin script t opening_thread
@@ -88,7 +92,7 @@ module _ (script : ScriptValue) (w : World) (made : IsMade script w) where
     phase = omega (arith, made.phase);
     tree = tree_made;
     slices = AreInPlay-fresh script w.slices.items made.slices;
-    room = made.room;
+    room = omega (arith, made.room);
     closing = (made.closing, omega (arith, made.closing_room, made.slices.count));
     threads = made.threads.count;
     within = λ t. subst (λ v. IsWithin script t v) (sym (made.threads.each t)) (first_within t);

@@ -8,15 +8,14 @@ use Rattle.machine.specs.declared.parameters.Parameters.{Parameters}
 use Rattle.rc_base.specs.Buffers.{Looks}
 use Rattle.run_law.specs.Journals.{At}
 use Rattle.run_law.specs.Ops.{is_command}
+use Rattle.run_law.specs.Quotas.{most_counts, room_of}
 use Rattle.script_ops.specs.Values.{ScriptValue, ops_of}
-use Rattle.script_ops.specs.declared.limits.TheConstants.{MOST_WEIGHT}
 use Rattle.script_ops.specs.declared.op.Op.{Op}
 use Rattle.script_ops.specs.declared.op.Op.TheVariants.{Access}
 use Rattle.step_world.proofs.TakenWorlds.{drop-at}
 use Rattle.step_world.specs.LookLists.{AreReady, rooms_of}
 use Rattle.step_world.specs.Machine.{opening_thread}
-use Rattle.step_world.specs.Openings.{AreCounted, AreFirst, AreFresh, AreListed}
-use Rattle.step_world.specs.Quotas.{commands_of, most_counts, room_of}
+use Rattle.step_world.specs.Openings.{AreFirst, AreFresh, AreListed}
 use Rattle.step_world.specs.Slices.{IsFresh, SliceValue}
 use Rattle.step_world.specs.declared.place.Thread.{Thread}
 
@@ -32,11 +31,11 @@ all-push P n xs x count each one i d within = elim (cases_lt i (length xs)) [
 -- ---- slices
 
 -- one slice more
-pub AreFresh-push : (script : ScriptValue) (n : ℕ) (slices : List SliceValue) (s : SliceValue) → AreFresh script n slices → IsFresh script.machine n s → room_of script n ≤ s.room → AreFresh script (n + 1) (slices ++ s ∷ [])
+pub AreFresh-push : (script : ScriptValue) (n : ℕ) (slices : List SliceValue) (s : SliceValue) → AreFresh script n slices → IsFresh script.machine n s → s.room ≡ room_of script n → AreFresh script (n + 1) (slices ++ s ∷ [])
 AreFresh-push script n slices s all one room = record {
   count = length-append slices (s ∷ []) ∙ omega (arith, all.count);
   each = all-push (λ i x. IsFresh script.machine i x) n slices s all.count all.each one;
-  rooms = all-push (λ i (x : SliceValue). room_of script i ≤ x.room) n slices s all.count all.rooms room;
+  rooms = all-push (λ i (x : SliceValue). x.room ≡ room_of script i) n slices s all.count all.rooms room;
 }
 
 -- none yet
@@ -115,21 +114,3 @@ AreReady-command_back m ops k op lists l below is command empty room ready =
 pub is_command-not_access : (op : Op) → ((task cpu addr : ℕ) → op ≡ Access task cpu addr → ⊥) → is_command op ≡ true
 is_command-not_access (Access task cpu addr) not = absurd (not task cpu addr refl)
 is_command-not_access op not = refl
-
--- ---- numbers of commands
-
--- those of no thread
-pub AreCounted-nil : (script : ScriptValue) (counts : List ℕ) → counts ≡ [] → AreCounted script 0 counts
-AreCounted-nil script counts empty = record {
-  count = ap length empty;
-  each = λ t d within. absurd (omega (arith, within));
-  few = λ t d within. absurd (omega (arith, within));
-}
-
--- that of one thread more
-pub AreCounted-push : (script : ScriptValue) (n : ℕ) (counts : List ℕ) (count : ℕ) → AreCounted script n counts → count ≡ commands_of (ops_of script n) → count ≤ MOST_WEIGHT → AreCounted script (n + 1) (counts ++ count ∷ [])
-AreCounted-push script n counts count all is few = record {
-  count = length-append counts (count ∷ []) ∙ omega (arith, all.count);
-  each = all-push (λ t c. c ≡ commands_of (ops_of script t)) n counts count all.count all.each is;
-  few = all-push (λ t c. c ≤ MOST_WEIGHT) n counts count all.count all.few few;
-}

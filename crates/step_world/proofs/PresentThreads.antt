@@ -8,7 +8,7 @@ use Rattle.run_law.specs.Ops.{is_command, phase_in}
 use Rattle.script_ops.specs.Values.{PhaseValue, ScriptValue, first_thread, op_at, phase_at, threads_in, threads_of}
 use Rattle.script_ops.specs.declared.op.Op.{Op}
 use Rattle.script_ops.specs.declared.op.Op.TheVariants as ops
-use Rattle.step_world.proofs.CountedOps.{thread_within}
+use Rattle.run_law.proofs.laws.CountedOps.{thread_within}
 use Rattle.step_world.proofs.PhaseThreads.{of_phase}
 use Rattle.step_world.proofs.TakenWorlds.{within-next}
 use Rattle.step_world.specs.Answers.{HasNext, IsAtEnd}

@@ -8,7 +8,8 @@ use Rattle.rc_base.specs.declared.names.Tag.{Tag}
 use Rattle.run_law.specs.Slices.{shape_in}
 use Rattle.script_ops.specs.Values.{ScriptValue}
 use Rattle.script_ops.specs.declared.op.Op.TheVariants as ops
-use Rattle.step_world.proofs.RoomLeft.{IsOwn-shape_in, has-time, mask-some, rmid-there, room-touch}
+use Rattle.run_law.proofs.laws.OwnLines.{IsOwn-shape_in}
+use Rattle.step_world.proofs.RoomLeft.{has-time, mask-some, rmid-there, room-touch}
 use Rattle.step_world.specs.Answers.{HasNext}
 use Rattle.step_world.specs.Machine.{thread_at}
 use Rattle.step_world.specs.Slices.{SliceValue}

@@ -1,21 +1,20 @@
 -- What a slice of a world needs for an entry more: room in its list, and a clock that does not overflow.
 use Rattle.std.proofs.Common.{◌≡◌, ℕ, ◌<◌, length, take, get_or, Some, inl, inr, sym, ap, ◌∙◌, subst, arith}
 use Rattle.std.specs.Prelude.{◌%◌, ◌^◌}
-use Rattle.std.proofs.Math.Nat.{mod-eq_of_lt}
 use Rattle.std.proofs.lemmas.Bool.{cases_lt}
-use Rattle.std.proofs.lemmas.Nat.{mod_below}
 use Rattle.std.proofs.lemmas.Option.{slice_get_within}
-use Rattle.cache_core.specs.History.{IsOwn}
 use Rattle.cbm.proofs.laws.Validity.{checked-zero}
 use Rattle.machine.proofs.laws.Domains.{domain_of-lt}
-use Rattle.machine.proofs.laws.Slices.{slice_number-mod}
-use Rattle.machine.specs.Maps.{domain_of, line_of, set_of, slice_of}
+use Rattle.machine.specs.Maps.{domain_of, line_of}
 use Rattle.machine.specs.Slices.{slice_of_line}
 use Rattle.machine.specs.declared.parameters.Parameters.{Parameters}
 use Rattle.rc_base.specs.declared.names.Tag.{Tag}
+use Rattle.run_law.proofs.laws.LightRooms.{room-light}
+use Rattle.run_law.proofs.laws.OwnLines.{mod-some_way}
+use Rattle.run_law.proofs.laws.SoundHistories.{Fits-op_at, IsSound-take}
 use Rattle.run_law.specs.Journals.{slice_at}
 use Rattle.run_law.specs.Progress.{Progress}
-use Rattle.run_law.specs.Slices.{shape_in}
+use Rattle.run_law.specs.Quotas.{room_of}
 use Rattle.run_law.specs.TreeHistory.{tree_after}
 use Rattle.script_ops.proofs.laws.Weights.{length-get_or}
 use Rattle.script_ops.specs.Values.{IsLawful, ScriptValue, op_at, ops_of, threads_of}
@@ -25,13 +24,10 @@ use Rattle.script_ops.specs.declared.op.Op.TheVariants as ops
 use Rattle.step_world.proofs.EntryRooms.{entries-few}
 use Rattle.step_world.proofs.NextRooms.{room-access}
 use Rattle.step_world.proofs.KeptWorlds.{slice_at-journals}
-use Rattle.step_world.proofs.LightRooms.{room-light}
-use Rattle.step_world.proofs.SoundStates.{Fits-op_at, IsSound-take}
 use Rattle.step_world.proofs.TouchedWorlds.{known}
 use Rattle.step_world.specs.Answers.{HasNext}
 use Rattle.step_world.specs.Machine.{thread_at}
 use Rattle.step_world.specs.Moments.{progress_by, progress_in}
-use Rattle.step_world.specs.Quotas.{room_of}
 use Rattle.step_world.specs.Slices.{SliceValue}
 use Rattle.step_world.specs.Worlds.{IsWorldOf, machine_of}
 use Rattle.step_world.specs.declared.place.Place.TheVariants.{Tagged}
@@ -62,7 +58,7 @@ module _ (script : ScriptValue) (w : World) (world : IsWorldOf script w) (i : �
   pub has-time : (get_or w.slices.items i d).cache.clock < 2 ^ 32
   has-time =
       let few = entries-few script (machine_of w) world.lawful world.so_far i (omega (arith, there, world.slices.count)) in
-      omega (arith, (world.slices.caches i d there).stands.clock, ap length list, few, room-light script i world.lawful)
+      omega (arith, (world.slices.caches i d there).stands.clock, ap length list, few, room-light script i (omega (arith, there, world.slices.count)) world.lawful)
 
 -- ---- ops
 
@@ -71,14 +67,6 @@ pub op-few : (script : ScriptValue) (t n : ℕ) (op : Op) → IsLawful script �
 op-few script t n op lawful is = omega (arith, slice_get_within (ops_of script t) n op is, length-get_or script.machine MOST_WEIGHT (threads_of script) t lawful.light)
 
 -- ---- accesses
-
--- a line's set is of the slice that it goes to
-pub IsOwn-shape_in : (m : Parameters) (domain line : ℕ) → 0 < m.sets → 0 < m.slices → IsOwn (shape_in m (slice_of_line m domain line)) (line % m.sets)
-IsOwn-shape_in m domain line sets slices = (mod_below line m.sets sets, sym (slice_number-mod m domain (slice_of m (set_of m line)) (mod_below (line % m.sets) m.slices slices)))
-
--- a mask of ways that exist has one of them
-pub mod-some_way : (mask ways : ℕ) → 0 < mask → mask < 2 ^ ways → 0 < mask % 2 ^ ways
-mod-some_way mask ways some fits = omega (arith, some, mod-eq_of_lt {n = mask} {m = 2 ^ ways} fits)
 
 module _ (script : ScriptValue) (t task cpu addr : ℕ) (tag : Tag) (w : World) (world : IsWorldOf script w) (next : HasNext script (machine_of w) t (ops.Access task cpu addr)) (place : (thread_at (machine_of w) t).place ≡ Tagged tag) where
   -- its CPU is there

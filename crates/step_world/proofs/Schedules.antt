@@ -2,8 +2,12 @@
 use Rattle.std.proofs.Common.{◌≡◌, ℕ, ◌+◌, ◌<◌, ◌≤◌, List, [], ◌∷◌, length, get_or, Option, Some, None, refl, sym, ap, ◌∙◌, subst, arith}
 use Rattle.std.specs.Prelude.{IsSome}
 use Rattle.cache_core.specs.History.{IsLegal}
+use Rattle.run_law.proofs.laws.TakenCommands.{idle}
+use Rattle.run_law.specs.Growth.{AreLegal}
+use Rattle.run_law.specs.Jobs.{looks_of}
 use Rattle.run_law.specs.Ops.{phase_in}
 use Rattle.run_law.specs.Journals.{At, JournalsValue}
+use Rattle.run_law.specs.Progress.{Progress}
 use Rattle.run_law.specs.Runs.{IsRun}
 use Rattle.run_law.specs.Slices.{shape_in}
 use Rattle.run_law.specs.TreeHistory.{IsLegalTree, TreeEntryValue}
@@ -14,14 +18,10 @@ use Rattle.run_law.proofs.laws.OpMarks.{not_some}
 use Rattle.step_world.proofs.MachineStates.{can_be_same, can_be_tree, kept_as, tree_can_be}
 use Rattle.step_world.proofs.AccessSteps.{some_can_be}
 use Rattle.step_world.proofs.KeptSteps.{step_keeps}
-use Rattle.run_law.proofs.laws.TakenCommands.{idle}
-use Rattle.run_law.specs.Jobs.{looks_of}
 use Rattle.step_world.specs.Machine.{Event, GoesOn, Happens, IsOpening, IsOver, MachineValue, Next, Plays, Step, opening_thread, thread_at}
 use Rattle.step_world.specs.declared.place.Place.{Place}
 use Rattle.step_world.specs.declared.place.Place.TheVariants.{Ready, Looking, Following}
 use Rattle.step_world.specs.declared.place.Thread.{Thread}
-use Rattle.run_law.specs.Progress.{Progress}
-use Rattle.run_law.specs.Growth.{AreLegal}
 use Rattle.step_world.specs.Moments.{CanBe, IsRunSoFar, progress_by, progress_in}
 
 -- ---- the opening state
@@ -71,7 +71,7 @@ opening_so_far script s opening = record {
 -- ---- the next phase
 
 -- the next phase
-next_so_far : (script : ScriptValue) (old new : MachineValue) → GoesOn script old new → IsRunSoFar script old → IsRunSoFar script new
+pub next_so_far : (script : ScriptValue) (old new : MachineValue) → GoesOn script old new → IsRunSoFar script old → IsRunSoFar script new
 next_so_far script old new goes so_far =
     let tree : new.journals.tree ≡ old.journals.tree = ap (λ (j : JournalsValue). j.tree) goes.journals in
     let slices : new.journals.slices ≡ old.journals.slices = ap (λ (j : JournalsValue). j.slices) goes.journals in

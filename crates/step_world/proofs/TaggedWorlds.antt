@@ -2,6 +2,7 @@
 use Rattle.std.proofs.Common.{◌≡◌, ℕ, false, length, map, get_or, Some, None, refl, sym, ap, ◌∙◌, subst}
 use Rattle.machine.specs.Maps.{domain_of}
 use Rattle.rc_base.specs.declared.names.Tag.{Tag}
+use Rattle.run_law.proofs.laws.SoundHistories.{Fits-tree_after}
 use Rattle.run_law.specs.Entries.{entry_value}
 use Rattle.run_law.specs.Growth.{tag_of}
 use Rattle.run_law.specs.Ops.{is_command}
@@ -10,7 +11,6 @@ use Rattle.script_ops.specs.Fits.{Fits}
 use Rattle.script_ops.specs.Values.{ScriptValue}
 use Rattle.script_ops.specs.declared.op.Op.TheVariants as ops
 use Rattle.step_world.proofs.KeptWorlds.{IsWorldOf-step, Leaves, moves-leaves}
-use Rattle.step_world.proofs.SoundStates.{Fits-tree_after}
 use Rattle.step_world.proofs.StepRows.{step_tags}
 use Rattle.step_world.specs.Answers.{HasNext, HasTagged}
 use Rattle.step_world.specs.Machine.{Moves, Steps, Tags, thread_at}

@@ -5,11 +5,12 @@ use Rattle.rc_base.specs.Buffers.{Looks}
 use Rattle.run_law.specs.Entries.{entry_value}
 use Rattle.run_law.specs.Journals.{At, JournalsValue}
 use Rattle.run_law.specs.Ops.{is_command}
+use Rattle.run_law.specs.Quotas.{most_counts}
 use Rattle.run_law.specs.TreeHistory.{tree_after}
 use Rattle.script_ops.specs.Values.{ScriptValue, op_at, ops_of, threads_of}
 use Rattle.script_ops.specs.declared.op.Op.{Op}
 use Rattle.script_ops.specs.declared.op.Op.TheVariants as ops
-use Rattle.step_world.proofs.CountedOps.{thread_within}
+use Rattle.run_law.proofs.laws.CountedOps.{thread_within}
 use Rattle.step_world.proofs.KeptWorlds.{IsWorldOf-step, Leaves, moves-leaves}
 use Rattle.step_world.proofs.LookedCounts.{take_looked}
 use Rattle.step_world.proofs.StepRows.{step_takes}
@@ -17,7 +18,6 @@ use Rattle.step_world.specs.Answers.{HasNext, HasTaken}
 use Rattle.step_world.specs.LookLists.{AreReady, rooms_of}
 use Rattle.step_world.specs.Looked.{HasLooked}
 use Rattle.step_world.specs.Machine.{Moves, Steps, Takes, thread_at}
-use Rattle.step_world.specs.Quotas.{most_counts}
 use Rattle.step_world.specs.Worlds.{AreInPlay, HasList, HasLists, IsLookingAt, IsTreeOf, IsWorldOf, found_at, journals_of, machine_of, rooms_from}
 use Rattle.step_world.specs.declared.place.Place.{Place}
 use Rattle.step_world.specs.declared.place.Place.TheVariants.{Ready, Looking}

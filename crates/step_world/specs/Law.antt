@@ -1,13 +1,13 @@
 -- The law of schedules: whatever steps the threads take, and in whatever order, the journals are those of a run.
-use Rattle.std.specs.Prelude.{ℕ, ◌<◌, ◌≤◌, List, length}
+use Rattle.std.specs.Prelude.{◌≡◌, ℕ, ◌<◌, ◌≤◌, List, length}
 use Rattle.machine.specs.Slices.{slice_count}
 use Rattle.run_law.specs.Journals.{JournalsValue, slice_at}
+use Rattle.run_law.specs.Quotas.{room_of}
 use Rattle.run_law.specs.Runs.{IsRun}
 use Rattle.script_ops.specs.Values.{IsLawful, ScriptValue}
 use Rattle.step_world.specs.Machine.{MachineValue, IsOpening, IsOver, Event, Plays}
 use Rattle.step_world.specs.Moments.{IsRunSoFar}
 use Rattle.step_world.specs.Play.{IsPlay}
-use Rattle.step_world.specs.Quotas.{room_of}
 
 -- at every moment of every schedule the journals are those of a run so far
 abbrev pub EachMomentIsSoFar : Type 0
@@ -30,3 +30,7 @@ abbrev pub EachMomentHasRoom : Type 0
 EachMomentHasRoom =
     (script : ScriptValue) (events : List Event) (first last : MachineValue) → IsLawful script → IsOpening script first → Plays script events first last
     → (i : ℕ) → i < slice_count script.machine → length (slice_at last.journals i) ≤ room_of script i
+
+-- two plays of a script have the same journals
+abbrev pub PlaysAreOne : Type 0
+PlaysAreOne = (script : ScriptValue) (one other : JournalsValue) → IsLawful script → IsPlay script one → IsPlay script other → one ≡ other

@@ -1,5 +1,4 @@
 pub mod Answers
-pub mod Caches
 pub mod Law
 pub mod Listed
 pub mod LookLists
@@ -9,7 +8,6 @@ pub mod Moments
 pub mod Openings
 pub mod Passing
 pub mod Play
-pub mod Quotas
 pub mod Slices
 pub mod Turns
 pub mod Works

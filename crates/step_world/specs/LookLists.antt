@@ -4,7 +4,7 @@ use Rattle.machine.specs.declared.parameters.Parameters.{Parameters}
 use Rattle.rc_base.specs.Buffers.{Looks}
 use Rattle.run_law.specs.Ops.{is_command}
 use Rattle.script_ops.specs.declared.op.Op.{Op}
-use Rattle.step_world.specs.Quotas.{most_counts}
+use Rattle.run_law.specs.Quotas.{most_counts}
 
 -- the room that each command of these ops can need
 abbrev pub rooms_of : Parameters → List Op → List ℕ

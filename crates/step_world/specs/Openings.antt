@@ -1,19 +1,20 @@
 -- The slices, the threads and their lists before the first step.
-use Rattle.std.specs.Prelude.{◌≡◌, ℕ, ◌<◌, ◌≤◌, List, length, slice_index_or}
+use Rattle.std.specs.Prelude.{◌≡◌, ℕ, ◌<◌, List, length, slice_index_or, vec_capacity}
+use Rattle.machine.specs.Slices.{slice_count}
 use Rattle.rc_base.specs.Buffers.{Looks}
+use Rattle.run_law.specs.Quotas.{command_count, room_of}
 use Rattle.script_ops.specs.Values.{ScriptValue, ops_of}
-use Rattle.script_ops.specs.declared.limits.TheConstants.{MOST_WEIGHT}
 use Rattle.step_world.specs.LookLists.{AreReady, rooms_of}
 use Rattle.step_world.specs.Machine.{opening_thread}
-use Rattle.step_world.specs.Quotas.{commands_of, room_of}
 use Rattle.step_world.specs.Slices.{IsFresh, SliceValue}
 use Rattle.step_world.specs.declared.place.Thread.{Thread}
+use Rattle.step_world.specs.declared.world.World.{World}
 
 -- these are the first n slices, empty, each with its room
 pub record AreFresh (script : ScriptValue) (n : ℕ) (slices : List SliceValue) : Type 0 where
   pub count : length slices ≡ n
   pub each : (i : ℕ) (d : SliceValue) → i < n → IsFresh script.machine i (slice_index_or slices i d)
-  pub rooms : (i : ℕ) (d : SliceValue) → i < n → room_of script i ≤ (slice_index_or slices i d).room
+  pub rooms : (i : ℕ) (d : SliceValue) → i < n → (slice_index_or slices i d).room ≡ room_of script i
 
 -- so many threads, each before its first op
 pub record AreFirst (n : ℕ) (threads : List Thread) : Type 0 where
@@ -25,8 +26,8 @@ pub record AreListed (script : ScriptValue) (n : ℕ) (lists : List (List Looks)
   pub count : length lists ≡ n
   pub each : (t : ℕ) (d : List Looks) → t < n → AreReady (rooms_of script.machine (ops_of script t)) (slice_index_or lists t d)
 
--- so many commands has each of the first n threads
-pub record AreCounted (script : ScriptValue) (n : ℕ) (counts : List ℕ) : Type 0 where
-  pub count : length counts ≡ n
-  pub each : (t d : ℕ) → t < n → slice_index_or counts t d ≡ commands_of (ops_of script t)
-  pub few : (t d : ℕ) → t < n → slice_index_or counts t d ≤ MOST_WEIGHT
+-- the journals of a world have just the rooms that a script needs
+pub record HasRooms (script : ScriptValue) (w : World) : Type 0 where
+  pub commands : vec_capacity w.commands ≡ command_count script
+  pub count : length w.slices.items ≡ slice_count script.machine
+  pub slices : (i : ℕ) (d : SliceValue) → i < slice_count script.machine → (slice_index_or w.slices.items i d).room ≡ room_of script i

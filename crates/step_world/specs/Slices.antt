@@ -7,14 +7,12 @@ use Rattle.cache_core.specs.declared.entry.SliceEntry.{SliceEntry}
 use Rattle.cache_core.specs.declared.entry.What.TheVariants as whats
 use Rattle.cache_core.specs.declared.touched.Touched.{Touched}
 use Rattle.cache_core.specs.declared.touched.Touched.TheVariants.{Hit, Filled, Stale}
-use Rattle.machine.specs.Slices.{slice_number, slice_of_line}
 use Rattle.machine.specs.declared.parameters.Parameters.{Parameters}
 use Rattle.rc_base.specs.declared.names.Tag.{Tag}
 use Rattle.run_law.specs.Owed.{paid_by, what_of}
-use Rattle.step_world.specs.Caches.{IsCacheOf}
-use Rattle.tree_law.specs.Steps.{follow_domain}
+use Rattle.run_law.specs.Caches.{IsCacheOf}
 use Rattle.tree_law.specs.declared.follow.Follow.{Follow}
-use Rattle.tree_law.specs.declared.follow.Follow.TheVariants.{Raise, Flush, Lock, Touch}
+use Rattle.tree_law.specs.declared.follow.Follow.TheVariants.{Raise, Flush, Lock, Touch, Drop}
 
 -- a slice that is played: its cache, its entries so far, and for how many it has room
 pub record SliceValue : Type 0 where
@@ -46,7 +44,8 @@ pub record CountsLines (thread op epoch rmid lines : ℕ) (old new : SliceValue)
   pub grows : Grows (entry thread op epoch (whats.Look rmid lines)) old new
   pub counts : (history : List SliceEntry) → StandsFor old.cache history → lines ≡ lines_of old.cache.shape history rmid
 
--- The slice has made the entry of a follow-up of an op: what the follow-up enters, and for a touch the hit and the way besides.
+-- The slice has made the entry of a follow-up of an op: what the follow-up enters, and for a touch the hit and the way besides,
+-- for a drop the way.
 pub record FollowsUp (thread op epoch : ℕ) (f : Follow) (old new : SliceValue) : Type 0 where
   pub entry : SliceEntry
   pub thread_is : entry.thread ≡ thread
@@ -55,19 +54,10 @@ pub record FollowsUp (thread op epoch : ℕ) (f : Follow) (old new : SliceValue)
   pub grows : Grows entry old new
 
 -- what a slice needs for a follow-up: a touch is of a line of the slice's own, of an RMID that it counts and of some way of it,
--- and a lock has its lines below 2^60
+-- a lock has its lines below 2^60, and a drop is of a line of the slice's own
 abbrev pub CanFollow : Follow → CacheValue → Type 0
 CanFollow (Raise domain) cache = Unit {0}
 CanFollow (Flush domain) cache = Unit {0}
 CanFollow (Lock domain mask first_line) cache = first_line < 2 ^ 60
 CanFollow (Touch tag line) cache = IsOwn cache.shape (line % cache.shape.sets) × (0 < tag.mask % 2 ^ cache.shape.ways) × (tag.rmid < cache.rmids)
-
--- how many slices a follow-up is entered in: a touch in one, and the others in each of their domain
-abbrev pub slices_for : Parameters → Follow → ℕ
-slices_for m (Touch tag line) = 1
-slices_for m f = m.slices
-
--- the x-th of these: a touch goes to the slice of its line
-abbrev pub slice_for : Parameters → Follow → ℕ → ℕ
-slice_for m (Touch tag line) x = slice_of_line m tag.domain line
-slice_for m f x = slice_number m (follow_domain f) x
+CanFollow (Drop domain line) cache = IsOwn cache.shape (line % cache.shape.sets)

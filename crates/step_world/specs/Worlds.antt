@@ -8,17 +8,18 @@ use Rattle.run_law.specs.Entries.{entry_value}
 use Rattle.run_law.specs.Journals.{JournalsValue}
 use Rattle.run_law.specs.Jobs.{looks_of}
 use Rattle.run_law.specs.Ops.{is_command}
+use Rattle.run_law.specs.Quotas.{command_count, most_counts, room_of}
+use Rattle.run_law.specs.Targets.{slices_for}
 use Rattle.run_law.specs.TreeHistory.{TreeEntryValue, tree_after}
 use Rattle.script_ops.specs.Values.{IsLawful, ScriptValue, op_at, ops_of, threads_of}
 use Rattle.script_ops.specs.declared.op.Op.{Op}
 use Rattle.script_ops.specs.declared.op.Op.TheVariants.{Access}
-use Rattle.step_world.specs.Caches.{IsCacheOf}
+use Rattle.run_law.specs.Caches.{IsCacheOf}
 use Rattle.step_world.specs.LookLists.{AreReady, rooms_of}
 use Rattle.step_world.specs.Looked.{HasLooked}
 use Rattle.step_world.specs.Machine.{MachineValue, thread_at}
 use Rattle.step_world.specs.Moments.{IsRunSoFar}
-use Rattle.step_world.specs.Quotas.{command_count, most_counts, room_of}
-use Rattle.step_world.specs.Slices.{SliceValue, slices_for}
+use Rattle.step_world.specs.Slices.{SliceValue}
 use Rattle.step_world.specs.declared.place.Place.{Place}
 use Rattle.step_world.specs.declared.place.Place.TheVariants.{Ready, Looking, Following, Tagged}
 use Rattle.step_world.specs.declared.place.Thread.{Thread}

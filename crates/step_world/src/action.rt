@@ -12,7 +12,7 @@ pub enum Action {
     Looked { lines: u64 },
     /// It was decided, with this reply. Where nothing follows it, it let the tree go.
     Decided { reply: Reply },
-    /// One raise, flush, lock or touch followed it in one slice. After the last it let the tree go.
+    /// One raise, flush, lock, touch or drop followed it in one slice. After the last it let the tree go.
     Followed,
     /// An access read its tag, of this epoch.
     Tagged { epoch: u64 },

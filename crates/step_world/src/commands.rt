@@ -1,26 +1,20 @@
 //! The steps of a command that holds the tree.
 ghost use Rattle.std.specs.Prelude.{◌≡◌, ◌+◌, ◌≤◌, ◌<◌, ◌^◌, Some, length, slice_get};
-ghost use Rattle.machine.specs.Maps.{parameters_of};
-ghost use Rattle.machine.specs.Slices.{slice_count};
 ghost use Rattle.step_world.specs.Answers.{HasCounted, HasDecided, HasDone, HasNext};
 ghost use Rattle.step_world.specs.LookLists.{spare_in};
 ghost use Rattle.step_world.specs.Machine.{thread_at};
-ghost use Rattle.step_world.specs.Slices.{slice_for, slices_for};
 ghost use Rattle.step_world.specs.Works.{CountsOn, Settles};
 ghost use Rattle.step_world.specs.Worlds.{IsWorldOf, machine_of};
 ghost use Rattle.step_world.specs.declared.place.Place.TheVariants.{Following, Looking};
-ghost use Rattle.tree_law.specs.Steps.{follow_domain};
 
 use crate::look_lists::LookLists;
 use crate::place::Place;
 use crate::steps::move_to;
 use crate::work::Work;
 use crate::world::World;
-use machine::Machine;
 use rc_base::Reply;
-use run_law::TreeEntry;
+use run_law::{TreeEntry, slice_for, slices_for};
 use script_ops::{Op, Script};
-use tree_core::Follow;
 
 // A slice was counted: the next slice of its domain comes, and after the last the sum is noted, and the next count comes.
 fn count_on(work: &mut Work, lists: &mut LookLists, slices: u8, lines: u64)
@@ -106,31 +100,6 @@ pub(crate) fn decide(
     world.work.follow_with(after);
     settle(world, t, n, made);
     reply
-}
-
-// How many slices a follow-up is entered in.
-fn slices_for(m: &Machine, follow: Follow) -> u8
-    ensures { result ≡ slices_for (parameters_of m.now) follow }
-{
-    match follow {
-        Follow::Touch { .. } => 1,
-        _ => m.slices,
-    }
-}
-
-// The number of the x-th of these over all domains.
-fn slice_for(m: &Machine, follow: Follow, x: u8) -> usize
-    requires domain { follow_domain follow < m.now.domains }
-    requires slice { x < m.now.slices }
-    ensures number { result ≡ slice_for (parameters_of m.now) follow x }
-    ensures within { result < slice_count (parameters_of m.now) }
-{
-    match follow {
-        Follow::Raise { domain } | Follow::Flush { domain } | Follow::Lock { domain, .. } => {
-            m.slice_number(domain, x)
-        }
-        Follow::Touch { tag, line } => m.line_slice(tag.domain, line),
-    }
 }
 
 /// One entry follows a command that was decided. After the last the tree is let go.

@@ -2,50 +2,50 @@
 ghost use Rattle.std.specs.Prelude.{◌≡◌, ◌+◌, ◌*◌, ◌<◌, ◌≤◌, length, IfOk, OnOk};
 ghost use Rattle.machine.specs.Slices.{slice_count};
 ghost use Rattle.script_ops.specs.Values.{IsLawful, threads_of};
-ghost use Rattle.step_world.specs.Openings.{AreCounted, AreFresh, AreFirst, AreListed};
+ghost use Rattle.run_law.specs.Quotas.{AreCounted, AreRooms};
+ghost use Rattle.step_world.specs.Openings.{AreFresh, AreFirst, AreListed};
 
 use crate::look_lists::LookLists;
 use crate::place::Thread;
-use crate::rooms::slice_room;
 use crate::slice::Slice;
 use rc_base::NoMemory;
 use script_ops::Script;
 use std::alloc::Global;
 
-// Adds the slices of a domain.
+// Adds the slices of a domain. `rooms` are those of all slices.
 fn push_domain(
     alloc: Global,
     script: &Script,
-    counts: &[u64],
+    rooms: &[u64],
     slices: &mut Vec<Slice>,
     domain: u8,
 ) -> Result<(), NoMemory>
-    requires counts { AreCounted script.now (length (threads_of script.now)) counts.now }
+    requires rooms { AreRooms script.now rooms.now }
     requires domain { domain < script.now.machine.domains }
     requires fresh { AreFresh script.now (domain * script.now.machine.slices) slices.old.items }
     ensures { OnOk result (AreFresh script.now (domain * script.now.machine.slices + script.now.machine.slices) slices.new.items) }
 {
     let m = script.machine();
     for slice in 0..m.slices {
-        let room = slice_room(script, m.slice_number(domain, slice), counts);
+        let room = rooms[m.slice_number(domain, slice)];
         slices.push(Slice::create(alloc, m, domain, slice, room)?)?;
     }
     Ok(())
 }
 
-/// The slices of a machine, empty, by domain and then by slice, each with its room. `counts` says how many commands each thread has.
+/// The slices of a machine, empty, by domain and then by slice, each with its room. `rooms` are those of all slices.
 pub(crate) fn fresh_slices(
     alloc: Global,
     script: &Script,
-    counts: &[u64],
+    rooms: &[u64],
 ) -> Result<Vec<Slice>, NoMemory>
-    requires { AreCounted script.now (length (threads_of script.now)) counts.now }
+    requires { AreRooms script.now rooms.now }
     ensures { IfOk result (λ slices. AreFresh script.now (slice_count script.now.machine) slices.items) }
 {
     let m = script.machine();
     let mut slices = Vec::new(alloc);
     for domain in 0..m.domains {
-        push_domain(alloc, script, counts, &mut slices, domain)?;
+        push_domain(alloc, script, rooms, &mut slices, domain)?;
     }
     Ok(slices)
 }

@@ -11,8 +11,6 @@ mod opening;
 mod passing;
 pub mod place;
 mod playback;
-mod quotas;
-mod rooms;
 mod run_phase;
 pub mod slice;
 mod step;

@@ -1,12 +1,12 @@
 //! The lists for the counts of a thread's commands, whose room is taken before the first step.
 ghost use Rattle.std.specs.Prelude.{◌≡◌, ◌+◌, ◌<◌, ◌≤◌, [], ◌∷◌, ◌++◌, length, IfOk};
 ghost use Rattle.machine.specs.Maps.{parameters_of};
+ghost use Rattle.run_law.specs.Quotas.{commands_of};
 ghost use Rattle.step_world.specs.LookLists.{AreReady, HasNoted, rooms_of, spare_in};
-ghost use Rattle.step_world.specs.Quotas.{commands_of};
 
-use crate::quotas::most_counts;
 use machine::Machine;
 use rc_base::{LookList, NoMemory};
+use run_law::most_counts;
 use script_ops::Op;
 use std::alloc::Global;
 use std::marker::Model;

@@ -1,13 +1,14 @@
 //! A world before its first step.
 ghost use Rattle.std.specs.Prelude.{IfOk};
 ghost use Rattle.step_world.specs.Machine.{IsOpening};
+ghost use Rattle.step_world.specs.Openings.{HasRooms};
 ghost use Rattle.step_world.specs.Worlds.{IsWorldOf, machine_of};
 
 use crate::fresh::{first_threads, fresh_lists, fresh_slices};
-use crate::rooms::{command_counts, command_room};
 use crate::work::Work;
 use crate::world::World;
 use rc_base::NoMemory;
+use run_law::{command_counts, command_room, slice_rooms};
 use script_ops::Script;
 use std::alloc::Global;
 use tree_core::Tree;
@@ -19,11 +20,13 @@ impl World {
     pub fn create(alloc: Global, script: &Script) -> Result<World, NoMemory>
         ensures world { IfOk result (λ w. IsWorldOf script.now w) }
         ensures opening { IfOk result (λ w. IsOpening script.now (machine_of w)) }
+        ensures rooms { IfOk result (λ w. HasRooms script.now w) }
     {
         let tree = Tree::create(alloc, script.machine(), script.tasks())?;
         let counts = command_counts(alloc, script)?;
         let commands = Vec::with_capacity(alloc, command_room(script, &counts) as usize)?;
-        let slices = fresh_slices(alloc, script, &counts)?;
+        let rooms = slice_rooms(alloc, script, &counts)?;
+        let slices = fresh_slices(alloc, script, &rooms)?;
         let closing = Vec::with_capacity(alloc, slices.len())?;
         let threads = first_threads(alloc, script)?;
         let lists = fresh_lists(alloc, script, &counts)?;

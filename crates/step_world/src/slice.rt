@@ -73,7 +73,7 @@ impl Slice {
         requires domain { domain < m.now.domains }
         requires slice { slice < m.now.slices }
         ensures fresh { IfOk result (λ s. IsFresh (parameters_of m.now) (slice_number (parameters_of m.now) domain slice) s) }
-        ensures room { IfOk result (λ s. room ≤ s.room) }
+        ensures room { IfOk result (λ s. s.room ≡ room) }
     {
         let cache = Cache::create(alloc, m, domain, slice)?;
         let entries = Vec::with_capacity(alloc, room as usize)?;
@@ -144,6 +144,10 @@ impl Slice {
             }
             Follow::Touch { tag, line } => {
                 self.access(thread, op, &Tag { epoch, ..tag }, line);
+            }
+            Follow::Drop { line, .. } => {
+                let way = self.cache.drop_line(epoch, line);
+                self.note(thread, op, epoch, What::Drop { line, way });
             }
         }
     }

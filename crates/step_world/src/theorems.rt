@@ -1,5 +1,5 @@
 //! The law of schedules.
-ghost use Rattle.step_world.specs.Law.{EachEndIsARun, EachMomentHasRoom, EachMomentIsSoFar, EachPlayIsARun};
+ghost use Rattle.step_world.specs.Law.{EachEndIsARun, EachMomentHasRoom, EachMomentIsSoFar, EachPlayIsARun, PlaysAreOne};
 
 /// Whatever steps the threads of a script take, and in whatever order: at every moment the journals are those of a run so far,
 /// and when the last phase is over they are a run. So are those of the play of a script.
@@ -12,4 +12,9 @@ pub fn each_schedule_is_a_run()
 /// No slice ever has more entries than the quotas of all ops for it, so that its room can be taken before the first step.
 pub fn each_journal_has_room()
     ensures { EachMomentHasRoom }
+{}
+
+/// The play of a script is one: its journals are decided.
+pub fn plays_are_one()
+    ensures { PlaysAreOne }
 {}

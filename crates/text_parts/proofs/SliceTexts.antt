@@ -3,7 +3,8 @@ use Rattle.std.proofs.Common.{◌≡◌, ℕ, suc, ◌+◌, ◌<◌, List, [], �
 use Rattle.std.proofs.lemmas.List.{append-nil, append_assoc, length-take, take_more}
 use Rattle.cache_core.specs.declared.entry.SliceEntry.{SliceEntry}
 use Rattle.machine.specs.declared.parameters.Parameters.{Parameters}
-use Rattle.text_parts.specs.SliceLines.{entry_line, entry_lines}
+use Rattle.report_pieces.specs.EntryTexts.{entry_line}
+use Rattle.text_parts.specs.SliceLines.{entry_lines}
 
 -- one more entry
 entry_lines-push : (m : Parameters) (p : ℕ) (es : List SliceEntry) (e : SliceEntry) → entry_lines m p (es ++ e ∷ []) ≡ entry_lines m p es ++ entry_line m (p + length es) e

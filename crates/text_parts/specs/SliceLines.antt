@@ -4,13 +4,9 @@ use Rattle.std.specs.List.{flat_map, range_with_len}
 use Rattle.cache_core.specs.declared.entry.SliceEntry.{SliceEntry}
 use Rattle.machine.specs.Slices.{slice_number}
 use Rattle.machine.specs.declared.parameters.Parameters.{Parameters}
-use Rattle.report_pieces.specs.EntryTexts.{entry_text}
+use Rattle.report_pieces.specs.EntryTexts.{entry_line}
 use Rattle.run_law.specs.Journals.{JournalsValue, slice_at}
 use Rattle.script_ops.specs.Values.{ScriptValue}
-
--- the line of an entry
-unfoldable pub entry_line : Parameters → ℕ → SliceEntry → List ℕ
-entry_line m p e = entry_text m p e ++ codes "\n"
 
 -- the lines of these entries, numbered from p
 abbrev pub entry_lines : Parameters → ℕ → List SliceEntry → List ℕ

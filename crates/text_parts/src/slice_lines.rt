@@ -2,13 +2,12 @@
 ghost use Rattle.std.specs.Prelude.{◌≡◌, ◌<◌, ◌++◌, OnOk, length};
 ghost use Rattle.machine.specs.Maps.{parameters_of};
 ghost use Rattle.machine.specs.Slices.{slice_count};
-ghost use Rattle.text_parts.specs.SliceLines.{journal_part};
-ghost use Rattle.text_parts.specs.SliceLines.{domain_slices, entry_line, entry_lines, slice_heading, slice_text, slices_text};
+ghost use Rattle.text_parts.specs.SliceLines.{domain_slices, entry_lines, journal_part, slice_heading, slice_text, slices_text};
 
 use cache_core::SliceEntry;
 use machine::Machine;
 use rc_base::NoMemory;
-use report_pieces::{ReportText, push_entry_text};
+use report_pieces::{ReportText, push_entry_line};
 use run_counts::number_of;
 use run_law::Journals;
 use script_ops::Script;
@@ -22,20 +21,6 @@ fn push_heading(report: &mut ReportText, domain: u8, slice: u8) -> Result<(), No
     report.push(b"\n".as_slice())
 }
 
-// Adds the line of an entry at a position.
-#[tactic(auto, unfolding(crate::specs::SliceLines::entry_line))]
-fn push_entry(
-    report: &mut ReportText,
-    machine: &Machine,
-    p: u64,
-    entry: &SliceEntry,
-) -> Result<(), NoMemory>
-    ensures { OnOk result (report.new ≡ report.old ++ entry_line (parameters_of machine.now) p entry.now) }
-{
-    push_entry_text(report, machine, p, entry)?;
-    report.push(b"\n".as_slice())
-}
-
 // Adds the lines of entries.
 fn push_entries(
     report: &mut ReportText,
@@ -45,7 +30,7 @@ fn push_entries(
     ensures { OnOk result (report.new ≡ report.old ++ entry_lines (parameters_of machine.now) 0 entries.now) }
 {
     for (p, entry) in entries.iter().enumerate() {
-        push_entry(report, machine, p as u64, entry)?;
+        push_entry_line(report, machine, p as u64, entry)?;
     }
     Ok(())
 }

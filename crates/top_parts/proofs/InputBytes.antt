@@ -1,14 +1,14 @@
 -- What was read of a source, against what it had left.
-use Rattle.std.proofs.Common.{◌≡◌, ℕ, ◌+◌, ◌<◌, ◌≤◌, List, ◌++◌, length, Option, Some, None, Result, Ok, Err, refl, sym, ap, ◌∙◌, arith, inl, inr}
+use Rattle.std.proofs.Common.{◌≡◌, ℕ, ◌+◌, ◌<◌, ◌≤◌, List, [], ◌++◌, length, take, drop, Option, Some, None, Result, Ok, Err, refl, sym, ap, ◌∙◌, arith, inl, inr}
 use Rattle.std.specs.Io.KnownBytes.{Consumes, IsAtEnd}
 use Rattle.std.proofs.lemmas.Bool.{cases_lt, le-ltb, lt-ltb}
-use Rattle.std.proofs.lemmas.List.{append-nil, length-take, take_all, take-append-le}
+use Rattle.std.proofs.lemmas.List.{append-nil, append_cancel_left, drop_all, length-take, take_all, take-append-drop, take-append-le}
 use Rattle.top_parts.specs.declared.input.InputError.{InputError}
 use Rattle.top_parts.specs.declared.input.InputError.TheVariants as inputs
 use Rattle.top_parts.specs.declared.refusal.Refusal.{Refusal}
 use Rattle.top_parts.specs.declared.refusal.Refusal.TheVariants.{BadLine, TooLarge}
 use Rattle.top_parts.specs.Meaning.{MeansAs, meaning}
-use Rattle.top_parts.specs.Outside.{HasRead, IsInput, IsMeant, first_bytes}
+use Rattle.top_parts.specs.Outside.{HasRead, IsInput, IsMeant, LeavesNothing, LeavesRead, LeavesRest, first_bytes, rest_bytes}
 use Rattle.script_ops.specs.declared.limits.TheConstants.{MOST_SCRIPT_BYTES}
 use Rattle.script_text.specs.Reading.{script_of}
 use Rattle.script_ops.specs.Values.{ScriptValue}
@@ -76,3 +76,47 @@ HasRead-of left reads reads_now bytes (Ok script) input same means = (IsMeant-of
 HasRead-of left reads reads_now bytes (Err (inputs.Bad refusal)) input same means = (IsMeant-of left bytes (Err refusal) input means, same)
 HasRead-of left reads reads_now bytes (Err inputs.NoMemory) input same means = same
 HasRead-of left reads reads_now bytes (Err inputs.Failed) input same means = absurd means
+
+-- ---- what is left of the source
+
+-- what follows the bytes that were taken
+rest_bytes-consumed : (left now bytes : List ℕ) → left ≡ bytes ++ now → bytes ≡ first_bytes left → now ≡ rest_bytes left
+unfolding first_bytes rest_bytes
+rest_bytes-consumed left now bytes consumed first =
+    let rest = drop (MOST_SCRIPT_BYTES + 1) left in
+    append_cancel_left bytes now rest (sym consumed ∙ (sym (take-append-drop (MOST_SCRIPT_BYTES + 1) left) ∙ ap (λ t. t ++ rest) (sym first)))
+
+-- the rest
+LeavesRest-of : (left now : Option (List ℕ)) (bytes : List ℕ) → Consumes left now bytes → IsInput left bytes → LeavesRest left now
+LeavesRest-of None now bytes consumed input = tt
+LeavesRest-of (Some xs) None bytes consumed input = absurd consumed
+LeavesRest-of (Some xs) (Some ys) bytes consumed input = ap Some (rest_bytes-consumed xs ys bytes consumed input)
+
+-- few bytes have no rest
+rest_bytes-few : (left bytes : List ℕ) → bytes ≡ first_bytes left → length bytes ≤ MOST_SCRIPT_BYTES → rest_bytes left ≡ []
+unfolding first_bytes rest_bytes
+rest_bytes-few left bytes first few =
+    let taken = length-take (MOST_SCRIPT_BYTES + 1) left in
+    let same = ap length first in
+    drop_all (MOST_SCRIPT_BYTES + 1) left (omega (arith, taken, same, few))
+
+-- nothing
+LeavesNothing-of : (left now : Option (List ℕ)) (bytes : List ℕ) → Consumes left now bytes → IsInput left bytes → length bytes ≤ MOST_SCRIPT_BYTES → LeavesNothing left now
+LeavesNothing-of None now bytes consumed input few = tt
+LeavesNothing-of (Some xs) None bytes consumed input few = absurd consumed
+LeavesNothing-of (Some xs) (Some ys) bytes consumed input few = ap Some (rest_bytes-consumed xs ys bytes consumed input ∙ rest_bytes-few xs bytes input few)
+
+-- bytes that are not too many
+length-meaning : (bytes : List ℕ) (answer : Result ScriptValue Refusal) → meaning bytes ≡ answer → (Err TooLarge ≡ answer → ⊥) → length bytes ≤ MOST_SCRIPT_BYTES
+length-meaning bytes answer means other = elim (cases_lt MOST_SCRIPT_BYTES (length bytes)) [
+  | inl more ↦ absurd (other (sym (meaning-too_large bytes more) ∙ means))
+  | inr fits ↦ fits
+]
+
+-- what reading a script leaves
+pub LeavesRead-of : (left now : Option (List ℕ)) (bytes : List ℕ) (result : Result ScriptValue InputError) → Consumes left now bytes → IsInput left bytes → MeansAs result (meaning bytes) → LeavesRead result left now
+LeavesRead-of left now bytes (Ok script) consumed input means = LeavesNothing-of left now bytes consumed input (length-meaning bytes (Ok script) means (λ (no : Err TooLarge ≡ Ok script). absurd cc))
+LeavesRead-of left now bytes (Err (inputs.Bad (BadLine fault))) consumed input means = LeavesNothing-of left now bytes consumed input (length-meaning bytes (Err (BadLine fault)) means (λ (no : Err TooLarge ≡ Err (BadLine fault)). absurd cc))
+LeavesRead-of left now bytes (Err (inputs.Bad TooLarge)) consumed input means = LeavesRest-of left now bytes consumed input
+LeavesRead-of left now bytes (Err inputs.NoMemory) consumed input means = tt
+LeavesRead-of left now bytes (Err inputs.Failed) consumed input means = tt

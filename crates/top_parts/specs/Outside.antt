@@ -1,21 +1,26 @@
 -- What a call does to a source and a sink.
-use Rattle.std.specs.Prelude.{◌≡◌, ℕ, ◌+◌, ◌<◌, Bool, false, List, ◌++◌, take, Option, Some, None, Result, Ok, Err}
+use Rattle.std.specs.Prelude.{◌≡◌, ℕ, ◌+◌, ◌<◌, Bool, false, List, [], ◌++◌, take, drop, Option, Some, None, Result, Ok, Err}
 use Rattle.std.specs.Io.KnownBytes.{Appends, Keeps}
+use Rattle.top_parts.specs.declared.command.Command.{Command}
+use Rattle.top_parts.specs.declared.command.Command.TheVariants.{Gen, Step}
 use Rattle.top_parts.specs.declared.input.InputError.{InputError}
 use Rattle.top_parts.specs.declared.input.InputError.TheVariants.{Bad, Failed, NoMemory}
 use Rattle.top_parts.specs.Meaning.{meaning}
 use Rattle.script_ops.specs.declared.limits.TheConstants.{MOST_SCRIPT_BYTES}
 use Rattle.top_parts.specs.declared.refusal.Refusal.{Refusal}
+use Rattle.top_parts.specs.declared.refusal.Refusal.TheVariants.{BadLine, TooLarge}
 use Rattle.script_ops.specs.Values.{ScriptValue}
 
--- A source before and after: the bytes that it had left, where it tells them, and how often it had failed and has failed.
+-- A source before and after: the bytes that it had left and has left, where it tells them, and how often it had failed and has
+-- failed.
 pub record Reading : Type 0 where
   pub left : Option (List ℕ)
+  pub left_now : Option (List ℕ)
   pub faults : ℕ
   pub faults_now : ℕ
 
 abbrev pub reading_of : {S : Type 0} → (S → Option (List ℕ)) → (S → ℕ) → S → S → Reading
-reading_of left faults before now = record { left = left before; faults = faults before; faults_now = faults now }
+reading_of left faults before now = record { left = left before; left_now = left now; faults = faults before; faults_now = faults now }
 
 -- A sink before and after: the bytes that it had taken and has taken, where it tells them, whether it holds some back now, and
 -- how often it had failed and has failed.
@@ -88,3 +93,36 @@ HasRead input faults faults_now (Ok script) = IsMeant input (Ok script) × (faul
 HasRead input faults faults_now (Err (Bad refusal)) = IsMeant input (Err refusal) × (faults_now ≡ faults)
 HasRead input faults faults_now (Err Failed) = faults < faults_now
 HasRead input faults faults_now (Err NoMemory) = faults_now ≡ faults
+
+-- ---- what is left of a source afterwards; of one that told nothing, anything
+
+-- what follows the first bytes that pass the greatest script
+unfoldable pub rest_bytes : List ℕ → List ℕ
+rest_bytes bytes = drop (MOST_SCRIPT_BYTES + 1) bytes
+
+-- nothing: all of it was taken
+abbrev pub LeavesNothing : Option (List ℕ) → Option (List ℕ) → Type 0
+LeavesNothing None now = Unit {0}
+LeavesNothing (Some left) now = now ≡ Some []
+
+-- all but the first bytes: as many as a script may have, and one more, were taken
+abbrev pub LeavesRest : Option (List ℕ) → Option (List ℕ) → Type 0
+LeavesRest None now = Unit {0}
+LeavesRest (Some left) now = now ≡ Some (rest_bytes left)
+
+-- what a refusal leaves: that of a bad line nothing, and that of an input that is too large the rest
+abbrev pub LeavesRefused : Refusal → Option (List ℕ) → Option (List ℕ) → Type 0
+LeavesRefused (BadLine fault) left now = LeavesNothing left now
+LeavesRefused TooLarge left now = LeavesRest left now
+
+-- what a command leaves whose script was played: `step` nothing, and `gen` all that there was
+abbrev pub LeavesPlayed : Command → Option (List ℕ) → Option (List ℕ) → Type 0
+LeavesPlayed Step left now = LeavesNothing left now
+LeavesPlayed (Gen n) left now = now ≡ left
+
+-- what reading a script leaves, unless the source failed or memory was not found
+abbrev pub LeavesRead : Result ScriptValue InputError → Option (List ℕ) → Option (List ℕ) → Type 0
+LeavesRead (Ok script) left now = LeavesNothing left now
+LeavesRead (Err (Bad refusal)) left now = LeavesRefused refusal left now
+LeavesRead (Err Failed) left now = Unit {0}
+LeavesRead (Err NoMemory) left now = Unit {0}

@@ -2,7 +2,7 @@
 ghost use Rattle.std.specs.Prelude.{◌≡◌, ◌+◌, ◌-◌, ◌<◌, ◌≤◌, ◌^◌, List, ℕ, length, true, false, Some, IfOk, Option, Err, Ok, vec_len};
 ghost use Rattle.std.specs.Io.KnownBytes.{Consumes, IsAtEnd};
 ghost use Rattle.top_parts.specs.Forms.{IsInRange, input_of as input_in, reads_source};
-ghost use Rattle.top_parts.specs.Outside.{HasRead, IsInput, IsOfSource};
+ghost use Rattle.top_parts.specs.Outside.{HasRead, IsInput, IsOfSource, LeavesRead};
 ghost use Rattle.top_parts.specs.Meaning.{MeansAs, meaning};
 ghost use Rattle.trace_gen.specs.Trace.{trace_text};
 
@@ -75,6 +75,8 @@ fn room_for_a_piece(alloc: Global) -> Result<Vec<u8>, NoMemory>
 pub(crate) fn read_all<S: Source>(alloc: Global, source: &mut S) -> Result<Vec<u8>, ReadError>
     requires { S.faults source.old < 2 ^ 64 - 1 }
     ensures bytes { IfOk result (λ bytes. IsInput (S.left source.old) bytes.items) }
+    ensures taken { IfOk result
+        (λ bytes. Consumes (S.left source.old) (S.left source.new) bytes.items) }
     ensures faults { IfOk result (λ bytes. S.faults source.new ≡ S.faults source.old) }
     ensures failed { result ≡ Err ReadError.Failed → S.faults source.old < S.faults source.new }
     ensures memory { result ≡ Err ReadError.NoMemory → S.faults source.new ≡ S.faults source.old }
@@ -108,11 +110,12 @@ fn script_in(alloc: Global, bytes: &[u8]) -> Result<Script, InputError>
     }
 }
 
-/// Reads a source to its end and the script there. Failed where the source failed, NoMemory where the system is out of memory, and Bad
-/// with the reason where the bytes are no script.
+/// Reads a source to its end, or to the byte that passes the greatest script, and the script there. Failed where the source
+/// failed, NoMemory where the system is out of memory, and Bad with the reason where the bytes are no script.
 pub fn read_input<S: Source>(alloc: Global, source: &mut S) -> Result<Script, InputError>
     requires { S.faults source.old < 2 ^ 64 - 1 }
-    ensures { HasRead (S.left source.old) (S.faults source.old) (S.faults source.new) result }
+    ensures read { HasRead (S.left source.old) (S.faults source.old) (S.faults source.new) result }
+    ensures leaves { LeavesRead result (S.left source.old) (S.left source.new) }
 {
     match read_all(alloc, source) {
         Ok(bytes) => script_in(alloc, &bytes),
@@ -142,6 +145,8 @@ pub fn input_of<S: Source>(alloc: Global, form: Form, source: &mut S) -> Result<
     requires range { IsInRange form.command }
     ensures read { HasRead (input_in form (S.left source.old)) (S.faults source.old) (S.faults source.new) result }
     ensures of_source { IsOfSource result → reads_source (Some form) ≡ true }
+    ensures leaves { reads_source (Some form) ≡ true →
+        LeavesRead result (S.left source.old) (S.left source.new) }
     ensures unread { reads_source (Some form) ≡ false → source.new ≡ source.old }
 {
     match form.command {

@@ -22,6 +22,7 @@ pub mod Owners
 pub mod Raises
 pub mod ReadCounts
 pub mod Refusals
+pub mod RegionDrops
 pub mod RemovablePaths
 pub mod RemovedControl
 pub mod RemovedGroups

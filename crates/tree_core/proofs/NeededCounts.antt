@@ -71,6 +71,8 @@ needs_accepted-none m s (ops.List path) other = refl
 needs_accepted-none m s (ops.Flush domain) other = refl
 needs_accepted-none m s (ops.Access task cpu addr) other = refl
 needs_accepted-none m s (ops.Touch cpu path task offset) other = refl
+needs_accepted-none m s (ops.DropLine addr) other = refl
+needs_accepted-none m s (ops.DropRegion path offset) other = refl
 
 -- a write of any file but `mode` frees no RMID
 needs_accepted-write : (m : Parameters) (s : State) (path : PathRef) (text : List ℕ) → is_mode_file path ≡ false → needs_accepted m s (ops.Write path text) ≡ []

@@ -129,3 +129,8 @@ refusal-list m s path = refl
 pub refusal-flush : (m : Parameters) (s : State) (domain : Option ℕ) → refusal m s (Flush domain) ≡ None
 unfolding refusal
 refusal-flush m s domain = refl
+
+-- a flush of the line of an address is never refused
+pub refusal-drop_line : (m : Parameters) (s : State) (addr : ℕ) → refusal m s (ops.DropLine addr) ≡ None
+unfolding refusal
+refusal-drop_line m s addr = refl

@@ -1,12 +1,12 @@
 //! What follows a command in the slices.
-ghost use Rattle.std.specs.Prelude.{◌≡◌, ◌<◌, ◌≤◌, [], ◌∷◌, filter, map};
+ghost use Rattle.std.specs.Prelude.{◌≡◌, ◌<◌, ◌≤◌, ◌^◌, [], ◌∷◌, filter, map};
 ghost use Rattle.std.specs.List.{All, list_any, range_with_len};
 ghost use Rattle.machine.specs.declared.parameters.Parameters.{Parameters};
 ghost use Rattle.schemata_text.specs.Reading.{is_of};
 ghost use Rattle.tree_core.specs.Follows.{IsReady};
 ghost use Rattle.tree_law.specs.Steps.{follow_domain};
 ghost use Rattle.tree_law.specs.commands.Schemata.{names_domain};
-ghost use Rattle.tree_law.specs.declared.follow.Follow.TheVariants.{Flush, Raise};
+ghost use Rattle.tree_law.specs.declared.follow.Follow.TheVariants.{Drop, Flush, Raise};
 
 use arrayvec::ArrayVec;
 use schemata_text::Assignment;
@@ -61,6 +61,19 @@ pub(crate) fn flush_all(follows: &mut After, domains: u8)
 {
     for domain in 0..domains {
         follows.push(Follow::Flush { domain });
+    }
+}
+
+/// Adds a drop of a line in every domain, rising.
+pub(crate) fn drop_all(follows: &mut After, domains: u8, line: u64)
+    requires few { domains ≤ 8 }
+    requires nothing { follows.old.items ≡ [] }
+    ensures drops { follows.new.items ≡ map (λ d. Drop d line) (range_with_len 0 domains) }
+    ensures domains { All (λ f. follow_domain f < domains) follows.new.items }
+    ensures ready { (m : Parameters) → line < 2 ^ 60 → All (IsReady m) follows.new.items }
+{
+    for domain in 0..domains {
+        follows.push(Follow::Drop { domain, line });
     }
 }
 

@@ -7,6 +7,7 @@ ghost use Rattle.tree_law.specs.State.{opening};
 ghost use Rattle.tree_law.specs.Sound.{IsSound};
 
 mod apply;
+mod clflush;
 mod cpus;
 mod entering;
 mod existing;

@@ -20,7 +20,7 @@ use Rattle.tree_law.specs.Space.{geometry_of}
 use Rattle.tree_law.specs.State.{State}
 use Rattle.tree_law.specs.Steps.{after, next}
 use Rattle.tree_law.specs.declared.follow.Follow.{Follow}
-use Rattle.tree_law.specs.declared.follow.Follow.TheVariants.{Raise, Flush, Lock, Touch}
+use Rattle.tree_law.specs.declared.follow.Follow.TheVariants.{Raise, Flush, Lock, Touch, Drop}
 
 -- whose class and RMID are the machine's, and whose mask is valid
 pub record IsGood (m : Parameters) (o : Owned) : Type 0 where
@@ -61,6 +61,7 @@ settles domain (Raise d) = d == domain
 settles domain (Flush d) = d == domain
 settles domain (Lock d mask first_line) = d == domain
 settles domain (Touch tag line) = false
+settles domain (Drop d line) = false
 
 -- whether a command moves tasks or CPUs: a write to `tasks`, `cpus` or `cpus_list`
 abbrev pub moves : Op → Bool

@@ -9,6 +9,7 @@ use Rattle.script_ops.specs.declared.op.Op.TheVariants as ops
 use Rattle.tree_law.specs.Freeing.{counts_of}
 use Rattle.tree_law.specs.Refusals.{Refusal, reply_of}
 use Rattle.tree_law.specs.State.{Outcome, State}
+use Rattle.tree_law.specs.commands.Drop as drop
 use Rattle.tree_law.specs.commands.Flush as flush
 use Rattle.tree_law.specs.commands.Mkdir as mkdir
 use Rattle.tree_law.specs.commands.Reads as read
@@ -27,6 +28,7 @@ refusal m s (ops.Write path text) = write.refusal m s path text
 refusal m s (ops.Read path) = read.refusal s path
 refusal m s (ops.List path) = read.list_refusal s path
 refusal m s (ops.Touch cpu path task offset) = touch.refusal m s path offset cpu
+refusal m s (ops.DropRegion path offset) = drop.refusal m s path offset
 refusal m s op = None
 
 -- the counts that an accepted command needs, as pairs of a domain and an RMID
@@ -77,10 +79,25 @@ after_accepted m s k (ops.Rmdir path) = map (λ d. follows.Raise d) (range_with_
 after_accepted m s k (ops.Write path text) = write.after m s path text
 after_accepted m s k (ops.Flush domain) = flush.after m domain
 after_accepted m s k (ops.Touch cpu path task offset) = touch.after m s k path offset task cpu
+after_accepted m s k (ops.DropLine addr) = drop.after_line m addr
+after_accepted m s k (ops.DropRegion path offset) = drop.after_region s path offset
 after_accepted m s k op = []
 
 unfoldable pub after : Parameters → State → ℕ → Op → List Follow
 after m s k op = if is_some (refusal m s op) then [] else after_accepted m s k op
+
+-- where a follow-up goes: to each slice of a domain, or to the slice of one line there
+pub data Target : Type 0 where
+  EachSlice : ℕ → Target
+  SliceOf : ℕ → ℕ → Target
+
+-- a touch and a drop go to the slice of their line, a touch in its tag's domain
+abbrev pub goes_to : Follow → Target
+goes_to (follows.Raise domain) = EachSlice domain
+goes_to (follows.Flush domain) = EachSlice domain
+goes_to (follows.Lock domain mask first_line) = EachSlice domain
+goes_to (follows.Touch tag line) = SliceOf tag.domain line
+goes_to (follows.Drop domain line) = SliceOf domain line
 
 -- the domain of a follow-up; that of a touch is its tag's
 abbrev pub follow_domain : Follow → ℕ
@@ -88,3 +105,4 @@ follow_domain (follows.Raise domain) = domain
 follow_domain (follows.Flush domain) = domain
 follow_domain (follows.Lock domain mask first_line) = domain
 follow_domain (follows.Touch tag line) = tag.domain
+follow_domain (follows.Drop domain line) = domain

@@ -1,5 +1,6 @@
 -- One file a command: its reasons, counts, next state and follow-ups.
 pub mod Cpus
+pub mod Drop
 pub mod Flush
 pub mod Mkdir
 pub mod Mode

@@ -2,7 +2,7 @@
 
 use rc_base::Tag;
 
-/// What an accepted command does next in each slice of a domain.
+/// What an accepted command does next in each slice of a domain, or in the slice of one line there.
 #[derive(Clone, Copy, Debug, PartialEq, Eq)]
 pub enum Follow {
     /// Tags that are older become stale.
@@ -22,6 +22,11 @@ pub enum Follow {
     /// One access to a line of a region.
     Touch {
         tag: Tag,
+        line: u64,
+    },
+    /// One line is flushed.
+    Drop {
+        domain: u8,
         line: u64,
     },
 }

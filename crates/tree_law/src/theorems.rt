@@ -12,7 +12,7 @@ pub fn opening_is_sound()
     ensures { OpeningIsSound }
 {}
 
-/// Each command leaves a sound tree.
+/// A command that fits the machine, given as many counts as it needs, leaves a sound tree sound.
 pub fn next_is_sound()
     ensures { NextIsSound }
 {}
@@ -59,7 +59,8 @@ pub fn needs_are_lawful()
     ensures differ { NeedsDiffer }
 {}
 
-/// What follows a command is of domains of the machine; a lock has a valid mask, and a touch a line of its region.
+/// What follows a command that fits in a sound tree is of domains of the machine; a lock has a valid mask and the next
+/// first line, and a touch a line of its domain's region.
 pub fn follows_are_lawful()
     ensures domains { FollowsExist }
     ensures lawful { FollowsAreLawful }

@@ -57,6 +57,12 @@ list_any-starting_ways others len = list_any-filter_none (may_start_with others)
 checked_ways-valid : (g : Geometry) (mask : ℕ) (ways : List ℕ) → 0 < length ways → list_any (leb g.len) ways ≡ false → (not g.sparse && has_gaps ways) ≡ false → g.min ≤ length (lowest_run ways) → checked_ways g mask ways ≡ Ok mask
 checked_ways-valid g mask ways some within whole enough = rw (ne_eqb (length ways) 0 (omega arith), within, whole, le-ltb (length (lowest_run ways)) g.min enough) refl
 
+-- all of them, on a sparse machine
+pub checked-all_ways : (g : Geometry) (others : DomainUse) (mask : ℕ) → g.sparse ≡ true → ways_of mask ≡ starting_ways g.len others → 0 < length (ways_of mask) → g.min ≤ length (lowest_run (ways_of mask)) → checked g mask ≡ Ok mask
+unfolding checked
+checked-all_ways g others mask sparse ways some enough =
+    checked_ways-valid g mask (ways_of mask) some (ap (list_any (leb g.len)) ways ∙ list_any-starting_ways others g.len) (ap (λ (b : Bool). not b && has_gaps (ways_of mask)) sparse) enough
+
 -- their lowest run
 pub checked-run : (g : Geometry) (others : DomainUse) (mask run : ℕ) → ways_of mask ≡ starting_ways g.len others → ways_of run ≡ lowest_run (ways_of mask) → 0 < length (ways_of run) → g.min ≤ length (ways_of run) → checked g run ≡ Ok run
 unfolding checked
@@ -97,6 +103,11 @@ list_any-has_way mask way small h = elim (cases_lt way 64) [
   | inl lt ↦ list_any-ways_of mask way lt ∙ h
   | inr le ↦ (let none : bit_at mask way ≡ 0 = bit_at_above mask 64 way (omega arith) le in absurd (omega (arith, eqb-true (bit_at mask way) 1 h, none)))
 ]
+
+-- each of all of them
+pub may_start_with-all_ways : (others : DomainUse) (len mask way : ℕ) → mask < 2 ^ 32 → ways_of mask ≡ starting_ways len others → has_way mask way ≡ true → may_start_with others way ≡ true
+may_start_with-all_ways others len mask way small ways h =
+    may_start_with-starting_ways others len way (ap (list_any (eqb way)) (sym ways) ∙ list_any-has_way mask way small h)
 
 -- each way of their lowest run
 pub may_start_with-run : (others : DomainUse) (len mask run way : ℕ) → run < 2 ^ 32 → ways_of mask ≡ starting_ways len others → ways_of run ≡ lowest_run (ways_of mask) → has_way run way ≡ true → may_start_with others way ≡ true

@@ -6,18 +6,18 @@ use Rattle.std.proofs.Math.Seq.{take-length}
 use Rattle.cache_core.specs.declared.entry.What.TheVariants as whats
 use Rattle.machine.specs.declared.parameters.Parameters.{Parameters}
 use Rattle.run_law.specs.Journals.{At}
-use Rattle.run_law.specs.Owed.{what_of}
+use Rattle.run_law.specs.Owed.{Owed, what_of}
 use Rattle.run_law.specs.Looks.{look_number}
 use Rattle.machine.specs.Slices.{slice_number, slice_of_line}
 use Rattle.run_law.specs.TreeHistory.{TreeEntryValue, tree_after}
 use Rattle.script_ops.specs.Values.{ScriptValue}
 use Rattle.script_ops.specs.declared.op.Op.{Op}
-use Rattle.tree_law.specs.Steps.{after, needs}
+use Rattle.tree_law.specs.Steps.{Target, EachSlice, SliceOf, after, goes_to, needs}
 use Rattle.tree_law.specs.declared.follow.Follow.{Follow}
 use Rattle.tree_law.specs.declared.follow.Follow.TheVariants as follows
 use Rattle.run_law.proofs.laws.Positions.{At-append}
 use Rattle.run_law.specs.FoundLooks.{look_pairs, pairs_of}
-use Rattle.run_law.specs.Jobs.{Job, follow_jobs, follows_of, jobs_of, look_jobs, looks_of}
+use Rattle.run_law.specs.Jobs.{Job, at_target, follow_jobs, follows_of, jobs_of, look_jobs, looks_of}
 
 -- ---- epochs of jobs
 
@@ -27,12 +27,14 @@ each_such P f each [] k job at = absurd cc
 each_such P f each (x ∷ xs) zero job at = let same : f x ≡ job = cc in subst P same (each x)
 each_such P f each (x ∷ xs) (suc k) job at = each_such P f each xs k job at
 
+-- what is said of the same in each slice
+target_such : (m : Parameters) (owed : Owed) (P : Job → Type 0) (t : Target) → ((s : ℕ) → P (record { slice = s; owed = owed })) → (k : ℕ) (job : Job) → At (at_target m t owed) k job → P job
+target_such m owed P (EachSlice domain) each k job at = each_such P (λ x. record { slice = slice_number m domain x; owed = owed }) (λ x. each (slice_number m domain x)) (range_with_len 0 m.slices) k job at
+target_such m owed P (SliceOf domain line) each k job at = each_such P (λ x. record { slice = slice_of_line m domain line; owed = owed }) (λ x. each (slice_of_line m domain line)) (0 ∷ []) k job at
+
 -- what is said of each job of a follow-up, whatever its slice
 pub follow_jobs_such : (m : Parameters) (epoch : ℕ) (P : Job → Type 0) (f : Follow) → ((s : ℕ) → P (record { slice = s; owed = record { epoch = epoch; what = what_of f } })) → (k : ℕ) (job : Job) → At (follow_jobs m epoch f) k job → P job
-follow_jobs_such m epoch P (follows.Touch tag line) each k job at = each_such P (λ x. record { slice = slice_of_line m tag.domain line; owed = record { epoch = epoch; what = what_of (follows.Touch tag line) } }) (λ x. each (slice_of_line m tag.domain line)) (0 ∷ []) k job at
-follow_jobs_such m epoch P (follows.Raise domain) each k job at = each_such P (λ x. record { slice = slice_number m domain x; owed = record { epoch = epoch; what = what_of (follows.Raise domain) } }) (λ x. each (slice_number m domain x)) (range_with_len 0 m.slices) k job at
-follow_jobs_such m epoch P (follows.Flush domain) each k job at = each_such P (λ x. record { slice = slice_number m domain x; owed = record { epoch = epoch; what = what_of (follows.Flush domain) } }) (λ x. each (slice_number m domain x)) (range_with_len 0 m.slices) k job at
-follow_jobs_such m epoch P (follows.Lock domain mask first_line) each k job at = each_such P (λ x. record { slice = slice_number m domain x; owed = record { epoch = epoch; what = what_of (follows.Lock domain mask first_line) } }) (λ x. each (slice_number m domain x)) (range_with_len 0 m.slices) k job at
+follow_jobs_such m epoch P f each k job at = target_such m (record { epoch = epoch; what = what_of f }) P (goes_to f) each k job at
 
 -- jobs of one epoch
 pub same_epoch : (f : ℕ → Job) (epoch : ℕ) → ((x : ℕ) → (f x).owed.epoch ≡ epoch) → (xs : List ℕ) (k : ℕ) (job : Job) → At (map f xs) k job → job.owed.epoch ≡ epoch
@@ -88,6 +90,7 @@ no_look rmid (follows.Raise domain) = refl
 no_look rmid (follows.Flush domain) = refl
 no_look rmid (follows.Lock domain mask first_line) = refl
 no_look rmid (follows.Touch tag line) = refl
+no_look rmid (follows.Drop domain line) = refl
 
 -- what follows a command is no look
 pub follow_no_look : (script : ScriptValue) (tree : List TreeEntryValue) (k : ℕ) (op : Op) (made : ℕ) (job : Job) → At (follows_of script tree k op) made job → (rmid : ℕ) → look_number rmid job.owed.what ≡ None

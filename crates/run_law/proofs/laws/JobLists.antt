@@ -8,18 +8,17 @@ use Rattle.std.proofs.lemmas.List.FromFn.{map-range_with_len_more}
 use Rattle.cache_core.specs.declared.entry.What.TheVariants as whats
 use Rattle.machine.specs.declared.parameters.Parameters.{Parameters}
 use Rattle.run_law.specs.Journals.{At}
-use Rattle.run_law.specs.Owed.{Owed, follow_in, look_in, owed_by_command}
+use Rattle.run_law.specs.Owed.{Owed, follow_in, is_target, look_in, owed_by_command, what_of}
 use Rattle.machine.specs.Slices.{domain_in, slice_number}
 use Rattle.run_law.specs.TreeHistory.{TreeEntryValue, tree_after}
 use Rattle.script_ops.specs.Values.{ScriptValue}
 use Rattle.script_ops.specs.declared.op.Op.{Op}
-use Rattle.tree_law.specs.Steps.{after, needs}
+use Rattle.tree_law.specs.Steps.{Target, EachSlice, SliceOf, after, goes_to, needs}
 use Rattle.tree_law.specs.declared.follow.Follow.{Follow}
-use Rattle.tree_law.specs.declared.follow.Follow.TheVariants as follows
 use Rattle.run_law.proofs.laws.SliceDomains.{of_domain}
 use Rattle.std.proofs.lemmas.Nat.{div-add-mod', mod_below}
 use Rattle.std.proofs.lemmas.Option.{get_or_from_slice_get, slice_get_within}
-use Rattle.run_law.specs.Jobs.{Job, follow_jobs, follows_of, in_domain, in_slice, jobs_of, look_jobs, looks_of}
+use Rattle.run_law.specs.Jobs.{Job, at_target, follow_jobs, follows_of, in_domain, in_slice, jobs_of, look_jobs, looks_of}
 
 -- ---- lists of jobs
 
@@ -119,12 +118,14 @@ all_in i jobs owed each (x ∷ xs) =
 pub look_in_slice : (m : Parameters) (i epoch : ℕ) (need : ℕ × ℕ) → 0 < m.slices → in_slice i (look_jobs m epoch need) ≡ look_in m i epoch need
 look_in_slice m i epoch need some = in_domain_in m need.0 (record { epoch = epoch; what = whats.Look need.1 0 }) i some
 
+-- the same in each slice
+target_in_slice : (m : Parameters) (i : ℕ) (owed : Owed) (t : Target) → 0 < m.slices → in_slice i (at_target m t owed) ≡ (if is_target m i t then owed ∷ [] else [])
+target_in_slice m i owed (EachSlice domain) some = in_domain_in m domain owed i some
+target_in_slice m i owed (SliceOf domain line) some = refl
+
 -- what one follow-up makes
 pub follow_in_slice : (m : Parameters) (i epoch : ℕ) (f : Follow) → 0 < m.slices → in_slice i (follow_jobs m epoch f) ≡ follow_in m i epoch f
-follow_in_slice m i epoch (follows.Raise domain) some = in_domain_in m domain (record { epoch = epoch; what = whats.Raise }) i some
-follow_in_slice m i epoch (follows.Flush domain) some = in_domain_in m domain (record { epoch = epoch; what = whats.Flush }) i some
-follow_in_slice m i epoch (follows.Lock domain mask first_line) some = in_domain_in m domain (record { epoch = epoch; what = whats.Lock mask first_line }) i some
-follow_in_slice m i epoch (follows.Touch tag line) some = refl
+follow_in_slice m i epoch f some = target_in_slice m i (record { epoch = epoch; what = what_of f }) (goes_to f) some
 
 -- what is owed to a slice is what its jobs there are
 pub owed_are : (script : ScriptValue) (tree : List TreeEntryValue) (i k : ℕ) (op : Op) → 0 < script.machine.slices → in_slice i (jobs_of script tree k op) ≡ owed_by_command script tree i k op

@@ -28,7 +28,7 @@ unfolding owed_by_access
 owed_access_front script tree more epoch task cpu addr fits = rw (take-append-le epoch tree more fits) refl
 
 -- what a command owes
-owed_command_front : (script : ScriptValue) (tree more : List TreeEntryValue) (i k : ℕ) (op : Op) → k ≤ length tree
+pub owed_command_front : (script : ScriptValue) (tree more : List TreeEntryValue) (i k : ℕ) (op : Op) → k ≤ length tree
     → owed_by_command script tree i k op ≡ owed_by_command script (tree ++ more) i k op
 unfolding owed_by_command
 owed_command_front script tree more i k op fits = rw (take-append-le k tree more fits) refl
@@ -66,7 +66,7 @@ abbrev IsTouch : ScriptValue → List TreeEntryValue → SliceEntry → ℕ → 
 IsTouch script tree e task cpu addr = (e.epoch ≤ length tree) × (paid_by e ≡ owed_by_access script tree e.epoch task cpu addr)
 
 -- an entry that is true
-true_front : (script : ScriptValue) (tree more : List TreeEntryValue) (i : ℕ) (e : SliceEntry) (op : Option Op) → IsTrueTo script tree i e op → IsTrueTo script (tree ++ more) i e op
+pub true_front : (script : ScriptValue) (tree more : List TreeEntryValue) (i : ℕ) (e : SliceEntry) (op : Option Op) → IsTrueTo script tree i e op → IsTrueTo script (tree ++ more) i e op
 true_front script tree more i e None h = h
 true_front script tree more i e (Some op) h =
     by_kind (IsTouch script tree e) (IsTouch script (tree ++ more) e) (IsOwed script tree i e op) (IsOwed script (tree ++ more) i e op) op

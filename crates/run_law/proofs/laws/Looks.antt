@@ -34,6 +34,7 @@ module _ (m : Parameters) (range : InRange m) (i thread op rmid : ℕ) where
   look_number-few before epoch true whats.Raise rest may few = few
   look_number-few before epoch true whats.Flush rest may few = few
   look_number-few before epoch true (whats.Lock mask first_line) rest may few = few
+  look_number-few before epoch true (whats.Drop line at) rest may few = few
   look_number-few before epoch true (whats.Look r lines) rest may few = at (r == rmid)
     where
       at : (same : Bool) → IfSome (first_of (cond same (Some lines) None) rest) (λ n. n ≤ 2097152)

@@ -37,6 +37,7 @@ look_by_owed rmid (whats.Access hit way owner r mask line) none = refl
 look_by_owed rmid whats.Raise none = refl
 look_by_owed rmid whats.Flush none = refl
 look_by_owed rmid (whats.Lock mask first_line) none = refl
+look_by_owed rmid (whats.Drop line at) none = refl
 look_by_owed rmid (whats.Look r lines) none = elim (cases_Bool (r == rmid)) [
   | inl same ↦ absurd (let wrong : Some 0 ≡ None = rw same at none in cc)
   | inr other ↦ rw other refl

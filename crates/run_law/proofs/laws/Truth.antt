@@ -31,6 +31,7 @@ owed_by_access-paid script tree epoch task cpu addr whats.Raise apart is = cc
 owed_by_access-paid script tree epoch task cpu addr whats.Flush apart is = cc
 owed_by_access-paid script tree epoch task cpu addr (whats.Lock mask first_line) apart is = cc
 owed_by_access-paid script tree epoch task cpu addr (whats.Look rmid lines) apart is = cc
+owed_by_access-paid script tree epoch task cpu addr (whats.Drop line at) apart is = cc
 
 module _ (script : ScriptValue) (tree : List TreeEntryValue) (i : ℕ) (e : SliceEntry) where
   -- of an op whose entry is its Access

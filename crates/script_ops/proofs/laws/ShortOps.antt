@@ -20,6 +20,8 @@ module _ (old new : List (List ℕ)) where
   IsShort-kept ops.Tick kept known short = All-nil (IsShortName new)
   IsShort-kept (ops.Access task cpu addr) kept known short = All-nil (IsShortName new)
   IsShort-kept (ops.Touch cpu path task offset) kept known short = AreShort-component_ids_kept old new path kept known short
+  IsShort-kept (ops.DropLine addr) kept known short = All-nil (IsShortName new)
+  IsShort-kept (ops.DropRegion path offset) kept known short = AreShort-component_ids_kept old new path kept known short
 
   -- ops
   pub AreAllShort-kept : (ops : List Op) → Keeps old new → AreNamed (length old) ops → AreAllShort old ops → AreAllShort new ops

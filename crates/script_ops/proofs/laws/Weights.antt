@@ -43,6 +43,8 @@ weight_of-some m (ops.Flush domain) = omega arith
 weight_of-some m ops.Tick = omega arith
 weight_of-some m (ops.Access task cpu addr) = omega arith
 weight_of-some m (ops.Touch cpu path task offset) = omega arith
+weight_of-some m (ops.DropLine addr) = omega arith
+weight_of-some m (ops.DropRegion path offset) = omega arith
 
 -- ops weigh as many as they are, or more
 pub length-weights_of : (m : Parameters) (ops : List Op) → length ops ≤ weights_of m ops

@@ -17,7 +17,7 @@ fn lines_that_may_not_stand(rt: HostRuntime) {
         (b"machine\r", 1, LineFault::BadByte),
         (b"machine\n nothing\n", 2, LineFault::UnknownWord),
         (b"machine\nMachine\n", 2, LineFault::UnknownWord),
-        (b"machine\nclflush 0\n", 2, LineFault::UnknownWord),
+        (b"machine\nclflush 0\n", 2, LineFault::OutOfPlace),
         (b"machine\n\nmachine sets=0\n", 3, LineFault::OutOfPlace),
         (b"machine\nflush 9\n", 2, LineFault::OutOfPlace),
         (b"machine\nthread\n", 2, LineFault::OutOfPlace),

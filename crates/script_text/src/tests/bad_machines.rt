@@ -7,7 +7,7 @@ use std::test::Fail;
 #[test]
 fn machines_that_are_none(rt: HostRuntime) -> Result<(), Fail> {
     let alloc = rt.alloc();
-    let rows: [(&[u8], bool); 46] = [
+    let rows: [(&[u8], bool); 53] = [
         (b"", true),
         (
             b"domains=1 sets=64 ways=8 classes=8 rmids=16 cpus=1 min=1 shareable=0 threshold=0 sparse=0 slices=1",
@@ -48,10 +48,17 @@ fn machines_that_are_none(rt: HostRuntime) -> Result<(), Fail> {
         (b"threshold=32768", true),
         (b"threshold=32769", false),
         (b"threshold=32769 sets=128", true),
-        (b"sparse=1", false),
+        (b"sparse=1", true),
         (b"sparse=2", false),
+        (b"slices=2", true),
+        (b"slices=16", true),
         (b"slices=0", false),
-        (b"slices=2", false),
+        (b"slices=3", false),
+        (b"slices=32", false),
+        (b"slices=2 sets=2", true),
+        (b"slices=2 sets=1", false),
+        (b"domains=8 slices=4", true),
+        (b"domains=8 slices=8", false),
         (b"ways=8 ways=8", false),
         (b"ways=8=8", false),
         (b"ways", false),

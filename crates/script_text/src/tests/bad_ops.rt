@@ -13,7 +13,7 @@ fn in_thread(alloc: Global, line: &[u8], end: &[u8]) -> Result<Vec<u8>, AllocErr
 #[test]
 fn ops_that_are_none(rt: HostRuntime) -> Result<(), Fail> {
     let alloc = rt.alloc();
-    let rows: [(&[u8], LineFault); 57] = [
+    let rows: [(&[u8], LineFault); 67] = [
         (b"mkdir", LineFault::BadArgument),
         (b"mkdir /a /b", LineFault::BadArgument),
         (b"rmdir", LineFault::BadArgument),
@@ -32,6 +32,16 @@ fn ops_that_are_none(rt: HostRuntime) -> Result<(), Fail> {
         (b"write /x/tasks a\\", LineFault::BadEscape),
         (b"write /schemata \\N", LineFault::BadEscape),
         (b"write /schemata \\\\\\", LineFault::BadEscape),
+        (b"clflush", LineFault::BadArgument),
+        (b"clflush 281474976710656", LineFault::BadArgument),
+        (b"clflush k", LineFault::BadArgument),
+        (b"clflush 0 0", LineFault::BadArgument),
+        (b"clflush k 0", LineFault::BadArgument),
+        (b"clflush /k", LineFault::BadArgument),
+        (b"clflush /k 0 0", LineFault::BadArgument),
+        (b"clflush /k x", LineFault::BadArgument),
+        (b"clflush //k x", LineFault::BadArgument),
+        (b"clflush //k 0", LineFault::BadPath),
         (b"access", LineFault::BadArgument),
         (b"access 1 0", LineFault::BadArgument),
         (b"access 1 0 0 0", LineFault::BadArgument),

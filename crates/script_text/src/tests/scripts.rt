@@ -9,10 +9,10 @@ use std::process::Abort;
 use std::test::Fail;
 
 const MANY_LINES: &[u8] =
-    b"# a comment\nmachine domains=2 cpus=4 rmids=4\r\n\ttasks  9 5-7 \ntasks 1\n\nphase\norder 3 0 0 007\n thread\nmkdir /g\nwrite /g/schemata L3:0=f;1=\\n\\\\ x \nwrite  /g/schemata\nread /mon_data/mon_L3_01/llc_occupancy\nthread\nsweep 5 3 0x40 3 0X40\naccess 007 0 00\nphase\nphase\nthread\nflush\nflush\t01\ntick\ntouch /g/mon_groups/m/x 0x10 9 1\nlist /cpus/x\nrmdir /";
+    b"# a comment\nmachine domains=2 cpus=4 rmids=4\r\n\ttasks  9 5-7 \ntasks 1\n\nphase\norder 3 0 0 007\n thread\nmkdir /g\nwrite /g/schemata L3:0=f;1=\\n\\\\ x \nwrite  /g/schemata\nread /mon_data/mon_L3_01/llc_occupancy\nthread\nsweep 5 3 0x40 3 0X40\naccess 007 0 00\nphase\nphase\nthread\nflush\nflush\t01\ntick\nclflush 0x40\nclflush  /g 00\ntouch /g/mon_groups/m/x 0x10 9 1\nlist /cpus/x\nrmdir /";
 
 const THEIR_OPS: &[u8] =
-    b"phase\nthread\nmkdir /g\nwrite /g/schemata L3:0=f;1=\\n\\\\ x \nwrite /g/schemata\nread /mon_data/mon_L3_01/llc_occupancy\nthread\naccess 5 3 64\naccess 5 3 128\naccess 5 3 192\naccess 7 0 0\nphase\nphase\nthread\nflush\nflush 1\ntick\ntouch /g/mon_groups/m/x 16 9 1\nlist /cpus/x\nrmdir /\n";
+    b"phase\nthread\nmkdir /g\nwrite /g/schemata L3:0=f;1=\\n\\\\ x \nwrite /g/schemata\nread /mon_data/mon_L3_01/llc_occupancy\nthread\naccess 5 3 64\naccess 5 3 128\naccess 5 3 192\naccess 7 0 0\nphase\nphase\nthread\nflush\nflush 1\ntick\nclflush 64\nclflush /g 0\ntouch /g/mon_groups/m/x 16 9 1\nlist /cpus/x\nrmdir /\n";
 
 // Adds the canonical texts of a thread's ops.
 fn push_thread(alloc: Global, script: &Script, thread: u32, text: &mut Vec<u8>) -> Result<(), Fail>
@@ -115,7 +115,7 @@ fn ops_are_found_by_number(rt: HostRuntime) -> Result<(), Fail> {
     let alloc = rt.alloc();
     let script = many_lines(&rt, alloc);
     has_op(&rt, alloc, &script, 1, 3, b"access 7 0 0")?;
-    has_op(&rt, alloc, &script, 2, 5, b"rmdir /")?;
+    has_op(&rt, alloc, &script, 2, 7, b"rmdir /")?;
     has_op(&rt, alloc, &script, 1, 4, b"")?;
     has_op(&rt, alloc, &script, 3, 0, b"")
 }

@@ -63,6 +63,7 @@ pub(crate) fn fits(tree: &Tree, op: &Op) -> bool
             path: PathRef::File(DirRef::MonDomain(_, domain), _),
         } => { *domain < tree.machine().domains }
         Op::Touch { task, cpu, .. } => declares(tree, *task) && *cpu < tree.machine().cpus,
+        Op::DropLine { addr } => *addr < 1 << 48,
         Op::Access { .. } => false,
         _ => true,
     }

@@ -77,6 +77,11 @@ impl Tree {
                 task,
                 cpu,
             } => self.touch(*path, *offset, *task, *cpu, follows),
+            Op::DropLine { addr } => {
+                self.drop_line(*addr, follows);
+                Reply::Ok
+            }
+            Op::DropRegion { path, offset } => self.drop_region(*path, *offset, follows),
             Op::Access { .. } => Reply::Ok,
         }
     }

@@ -65,9 +65,9 @@ impl Tree {
         self.machine.domain_of(cpu) == domain
     }
 
-    // The region of the pseudo-locked group whose directory this is.
+    /// The region of the pseudo-locked group whose directory this is, and None where the path has no such group.
     #[tactic(auto, unfolding(tree_law::specs::commands::Touch::touched))]
-    fn touched(&self, path: PathRef) -> Option<Region>
+    pub(super) fn touched(&self, path: PathRef) -> Option<Region>
         ensures region { option_map (λ (r : Region). (r.domain, r)) result ≡ touched self.now.state path }
         ensures low { IfSome result (λ r. r.first_line < 2 ^ 60) }
     {

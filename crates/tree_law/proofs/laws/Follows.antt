@@ -1,9 +1,10 @@
 -- What follows a command: domains of the machine, valid masks, and lines of regions.
-use Rattle.std.proofs.Common.{◌≡◌, ℕ, ◌+◌, ◌*◌, ◌/◌, ◌<◌, Bool, true, false, not, cond, eqb, leb, List, [], ◌∷◌, length, map, filter, find, get_or, Option, None, Some, is_some, Result, Ok, Err, refl, sym, ap, ◌∙◌, arith, zero-add}
+use Rattle.std.proofs.Common.{◌≡◌, ℕ, ◌+◌, ◌*◌, ◌/◌, ◌<◌, Bool, true, false, not, cond, eqb, leb, List, [], ◌∷◌, length, map, filter, find, get_or, Option, None, Some, is_some, Result, Ok, Err, refl, sym, ap, ◌∙◌, arith, inl, inr, zero-add}
 use Rattle.std.specs.List.{All, enumerate_from, range_with_len}
 use Rattle.std.specs.Option.{option_map_or}
 use Rattle.std.proofs.Math.Nat.{mul_assoc, mul_comm}
-use Rattle.std.proofs.lemmas.Bool.{eqb-true, leb-false}
+use Rattle.std.proofs.lemmas.Bool.{cases_lt, eqb-true, leb-false}
+use Rattle.std.proofs.Math.ListN.{get_or-eq_default}
 use Rattle.std.proofs.lemmas.List.{get_or_default}
 use Rattle.std.proofs.lemmas.List.Elements.{All-filter, All-map}
 use Rattle.std.proofs.lemmas.List.FromFn.{get_or-enumerate_from, get_or-range_with_len, length-enumerate_from, length-range_with_len}
@@ -14,7 +15,7 @@ use Rattle.lists.proofs.Choices.{cond-both}
 use Rattle.lists.proofs.Tests.{All-one, find-found}
 use Rattle.lists.proofs.Options.{option_and_then-some}
 use Rattle.machine.proofs.laws.Domains.{domain_of-lt}
-use Rattle.machine.specs.Maps.{bytes_of, domain_of}
+use Rattle.machine.specs.Maps.{bytes_of, domain_of, line_of}
 use Rattle.machine.specs.Ranges.{InRange}
 use Rattle.machine.specs.declared.parameters.Parameters.{Parameters}
 use Rattle.num_text.specs.Blanks.{trim}
@@ -41,6 +42,8 @@ use Rattle.pseudo_lock.specs.declared.region.Region.{Region}
 use Rattle.tree_law.specs.Steps.{after, after_accepted, follow_domain, refusal}
 use Rattle.tree_law.specs.declared.follow.Follow.{Follow}
 use Rattle.tree_law.specs.declared.follow.Follow.TheVariants as follows
+use Rattle.tree_law.specs.Sound.{IsSound}
+use Rattle.tree_law.specs.commands.Drop as drop
 use Rattle.tree_law.specs.commands.Flush as flush
 use Rattle.tree_law.specs.commands.Mode as mode
 use Rattle.tree_law.specs.commands.Schemata as schemata
@@ -78,7 +81,7 @@ region_in-region_of s gid domain r is =
     parts (d, Some q) e = let same = Some-same (d, q) (domain, r) e in (ap (λ (p : ℕ × Region). p.0) same, ap (λ (p : ℕ × Region). Some p.1) same)
 
 -- the region that a path touches stands at its domain
-region_in-touched : (s : State) (path : PathRef) (domain : ℕ) (r : Region) → touch.touched s path ≡ Some (domain, r) → region_in s.regions domain ≡ Some r
+pub region_in-touched : (s : State) (path : PathRef) (domain : ℕ) (r : Region) → touch.touched s path ≡ Some (domain, r) → region_in s.regions domain ≡ Some r
 unfolding touch.touched
 region_in-touched s (Dir (Ctrl name)) domain r is =
     let g = option_and_then-some (touch.region_if_locked s) (group_at s (Ctrl name)) (domain, r) is in at g.0 (has_mode Locked g.0) g.2
@@ -87,6 +90,13 @@ region_in-touched s (Dir (Ctrl name)) domain r is =
     at g true e = region_in-region_of s g.gid domain r e
     at g false e = absurd (let f : ◌≡◌ {A = Option (ℕ × Region)} None (Some (domain, r)) = e in cc)
 region_in-touched s path domain r is = absurd (let f : ◌≡◌ {A = Option (ℕ × Region)} None (Some (domain, r)) = is in cc)
+
+-- a region stands at a domain of the list
+pub lt-regions : (s : State) (domain : ℕ) (r : Region) → region_in s.regions domain ≡ Some r → domain < length s.regions
+lt-regions s domain r there = elim (cases_lt domain (length s.regions)) [
+  | inl less ↦ less
+  | inr past ↦ absurd (let none : ◌≡◌ {A = Option Region} None (Some r) = sym (get_or-eq_default s.regions None past) ∙ there in cc)
+]
 
 -- ---- what each command gives
 
@@ -146,7 +156,7 @@ module _ (m : Parameters) (s : State) (range : InRange m) where
   write-good path text = All-nil IsGoodFollow
 
   -- the line of an offset below the bytes of a region is one of its lines
-  IsLineOf-offset : (r : Region) (offset : ℕ) → leb (bytes_of m (ways_of r.mask)) offset ≡ false → IsLineOf m r (r.first_line + offset / 64)
+  pub IsLineOf-offset : (r : Region) (offset : ℕ) → leb (bytes_of m (ways_of r.mask)) offset ≡ false → IsLineOf m r (r.first_line + offset / 64)
   IsLineOf-offset r offset e =
       let less = leb-false (bytes_of m (ways_of r.mask)) offset e in
       let same : m.sets * 64 * length (ways_of r.mask) ≡ lines_of m r * 64 = mul_assoc m.sets 64 (length (ways_of r.mask)) ∙ ap (λ (n : ℕ). m.sets * n) (mul_comm 64 (length (ways_of r.mask))) ∙ sym (mul_assoc m.sets (length (ways_of r.mask)) 64) in
@@ -168,20 +178,36 @@ module _ (m : Parameters) (s : State) (range : InRange m) where
       at (Some (domain, r)) is e = All-one IsGoodFollow (follows.Touch _ (r.first_line + offset / 64))
           (domain_of-lt m cpu range lt, by_tests domain r (leb (bytes_of m (ways_of r.mask)) offset) (eqb (domain_of m cpu) domain) (region_in-touched s path domain r is) refl refl e)
 
+  -- after a flush of a line
+  after_line-good : (addr : ℕ) → All IsGoodFollow (drop.after_line m addr)
+  unfolding drop.after_line
+  after_line-good addr = All-map IsGoodFollow (λ d. follows.Drop d (line_of addr)) (range_with_len 0 m.domains) (λ k d within. (range_with_len-below m.domains k d within, tt))
+
+  -- after a flush of a line of a region
+  after_region-good : (path : PathRef) (offset : ℕ) → length s.regions ≡ m.domains → All IsGoodFollow (drop.after_region s path offset)
+  unfolding drop.after_region
+  after_region-good path offset each = at (touch.touched s path) refl
+    where
+      at : (o : Option (ℕ × Region)) → touch.touched s path ≡ o → All IsGoodFollow (drop.follow offset o)
+      at None is = All-nil IsGoodFollow
+      at (Some (domain, r)) is = All-one IsGoodFollow (follows.Drop domain (r.first_line + offset / 64)) (let lt : domain < length s.regions = lt-regions s domain r (region_in-touched s path domain r is) in omega arith, tt)
+
   -- after each accepted command
-  after_accepted-good : (k : ℕ) (op : Op) → Fits m (tasks_of s) op → refusal m s op ≡ None → All IsGoodFollow (after_accepted m s k op)
+  after_accepted-good : (k : ℕ) (op : Op) → length s.regions ≡ m.domains → Fits m (tasks_of s) op → refusal m s op ≡ None → All IsGoodFollow (after_accepted m s k op)
   unfolding refusal
-  after_accepted-good k (ops.Rmdir path) fits free = Raise-good_all
-  after_accepted-good k (ops.Write path text) fits free = write-good path text
-  after_accepted-good k (ops.Flush domain) fits free = flush-good domain fits
-  after_accepted-good k (ops.Touch cpu path task offset) fits free = touch-good k path offset task cpu fits.1 free
-  after_accepted-good k op fits free = All-nil IsGoodFollow
+  after_accepted-good k (ops.Rmdir path) each fits free = Raise-good_all
+  after_accepted-good k (ops.Write path text) each fits free = write-good path text
+  after_accepted-good k (ops.Flush domain) each fits free = flush-good domain fits
+  after_accepted-good k (ops.Touch cpu path task offset) each fits free = touch-good k path offset task cpu fits.1 free
+  after_accepted-good k (ops.DropLine addr) each fits free = after_line-good addr
+  after_accepted-good k (ops.DropRegion path offset) each fits free = after_region-good path offset each
+  after_accepted-good k op each fits free = All-nil IsGoodFollow
 
 -- what follows a command that fits is of domains of the machine, and lawful
-pub after-good : (m : Parameters) (s : State) (k : ℕ) (op : Op) → InRange m → Fits m (tasks_of s) op → All (λ (f : Follow). (follow_domain f < m.domains) × IsLawful m s f) (after m s k op)
+pub after-good : (m : Parameters) (s : State) (k : ℕ) (op : Op) → InRange m → IsSound m s → Fits m (tasks_of s) op → All (λ (f : Follow). (follow_domain f < m.domains) × IsLawful m s f) (after m s k op)
 unfolding after
-after-good m s k op range fits = at (refusal m s op) refl
+after-good m s k op range sound fits = at (refusal m s op) refl
   where
     at : (o : Option Refusal) → refusal m s op ≡ o → All (λ (f : Follow). (follow_domain f < m.domains) × IsLawful m s f) (cond (is_some o) [] (after_accepted m s k op))
-    at None is = after_accepted-good m s range k op fits is
+    at None is = after_accepted-good m s range k op sound.regions.each fits is
     at (Some r) is = All-nil (λ (f : Follow). (follow_domain f < m.domains) × IsLawful m s f)

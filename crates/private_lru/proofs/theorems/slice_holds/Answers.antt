@@ -1,5 +1,5 @@
-use Rattle.private_lru.proofs.laws.LoadedWays.{HitsLoaded-between}
+use Rattle.private_lru.proofs.laws.LoadedWays.{HoldsLoaded-between}
 use Rattle.private_lru.proofs.theorems.slice_holds.Goals as goal
 
 pub returns : goal.returns
-returns c = HitsLoaded-between
+returns c = HoldsLoaded-between

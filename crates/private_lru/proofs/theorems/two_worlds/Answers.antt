@@ -1,5 +1,5 @@
-use Rattle.private_lru.proofs.laws.CoveredAccesses.{hits_in-two_worlds}
+use Rattle.private_lru.proofs.laws.CoveredAccesses.{covered_hits-two_worlds}
 use Rattle.private_lru.proofs.theorems.two_worlds.Goals as goal
 
 pub returns : goal.returns
-returns c = hits_in-two_worlds
+returns c = covered_hits-two_worlds

@@ -14,9 +14,10 @@ returns-in-Ok g c =
       run = run;
       promised = record {
         is_run = c.requires.run;
-        is_play = c.requires.play;
+        plays = c.requires.plays;
         isolates = λ i from to opening group mask last window. c.windows_are_isolated.ensures script run i from to opening group mask last lawful c.requires.run window;
-        holds = λ i from to opening r window. c.regions_hold.ensures script run i from to opening r lawful c.requires.run window;
+        holds = λ i from to opening r window. c.regions_hold.ensures.hold script run i from to opening r lawful c.requires.run window;
+        begins_windows = λ i from mask first_line opening exists at is. c.regions_hold.ensures.exist script run i from mask first_line opening lawful c.requires.run exists at is;
       };
       text = c.in-Ok.text.items;
       output = c.in-Ok.ensures;

@@ -1,5 +1,9 @@
-use Rattle.run_windows.proofs.LockWindows.{HitsLoaded-lock_window}
+use Rattle.run_windows.proofs.LockEnds.{IsLockWindow-some}
+use Rattle.run_windows.proofs.LockWindows.{HoldsLoaded-lock_window}
 use Rattle.run_windows.proofs.theorems.regions_hold.Goals as goal
 
-pub returns : goal.returns
-returns c = HitsLoaded-lock_window
+pub returns-clause-hold : goal.returns-clause-hold
+returns-clause-hold c = HoldsLoaded-lock_window
+
+pub returns-clause-exist : goal.returns-clause-exist
+returns-clause-exist c = IsLockWindow-some

@@ -1,13 +1,14 @@
 use Rattle.std.proofs.Common.{◌≡◌, ◌+◌, ◌<◌, length, map, get_or, All, refl, sym, ap, ◌∙◌, subst, arith}
 use Rattle.std.proofs.lemmas.List.{length-map}
+use Rattle.run_law.proofs.laws.SoundHistories.{Fits-tree_after}
 use Rattle.run_law.specs.Entries.{entry_value}
 use Rattle.script_ops.specs.Fits.{Fits}
-use Rattle.step_world.proofs.CommandRooms.{commands-less, commands-light}
+use Rattle.run_law.proofs.laws.LightRooms.{commands-light}
+use Rattle.step_world.proofs.CommandRooms.{commands-less}
 use Rattle.step_world.proofs.DecidedCounts.{list-parts, numbers-all}
 use Rattle.step_world.proofs.DecidedWorlds.{decided}
 use Rattle.step_world.proofs.LookingWorlds.{looking}
 use Rattle.step_world.proofs.RoomLeft.{op-few}
-use Rattle.step_world.proofs.SoundStates.{Fits-tree_after}
 use Rattle.step_world.proofs.commands.decide.Goals as goal
 use Rattle.step_world.specs.LookLists.{AreReady}
 use Rattle.step_world.specs.Machine.{thread_at}

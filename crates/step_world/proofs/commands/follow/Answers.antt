@@ -3,12 +3,13 @@ use Rattle.std.specs.Prelude.{slice_get}
 use Rattle.std.proofs.lemmas.Option.{slice_get-get_or}
 use Rattle.machine.specs.Slices.{slice_count}
 use Rattle.machine.specs.declared.parameters.Parameters.{Parameters}
+use Rattle.run_law.specs.Targets.{slice_for, slices_for}
 use Rattle.step_world.proofs.FollowedWorlds.{followed}
 use Rattle.step_world.proofs.FollowingWorlds.{can, domain-there, floor-below, following, made-few, room-follow, slice-there}
 use Rattle.step_world.proofs.RoomLeft.{has-time, op-few}
 use Rattle.step_world.proofs.commands.follow.Goals as goal
 use Rattle.step_world.specs.Machine.{thread_at}
-use Rattle.step_world.specs.Slices.{CanFollow, SliceValue, slice_for, slices_for}
+use Rattle.step_world.specs.Slices.{CanFollow, SliceValue}
 use Rattle.step_world.specs.Worlds.{machine_of}
 use Rattle.tree_law.specs.declared.follow.Follow.{Follow}
 use Rattle.tree_law.specs.declared.follow.Follow.TheVariants.{Raise}

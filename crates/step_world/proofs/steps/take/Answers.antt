@@ -1,7 +1,7 @@
 use Rattle.std.proofs.Common.{ap, length, map, refl, sym, subst, Some, ◌∙◌}
 use Rattle.run_law.specs.Entries.{entry_value}
 use Rattle.script_ops.specs.Fits.{Fits}
-use Rattle.step_world.proofs.SoundStates.{Fits-tree_after}
+use Rattle.run_law.proofs.laws.SoundHistories.{Fits-tree_after}
 use Rattle.step_world.proofs.TakenWorlds.{took}
 use Rattle.step_world.proofs.steps.take.Goals as goal
 use Rattle.step_world.specs.Machine.{thread_at}

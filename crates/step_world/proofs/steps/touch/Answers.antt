@@ -5,7 +5,8 @@ use Rattle.machine.specs.Maps.{line_of}
 use Rattle.machine.specs.Slices.{slice_count, slice_of_line}
 use Rattle.machine.specs.declared.parameters.Parameters.{Parameters}
 use Rattle.run_law.specs.Slices.{shape_in}
-use Rattle.step_world.proofs.RoomLeft.{IsOwn-shape_in, domain-there, has-time, mask-some, op-few, rmid-there, room-touch}
+use Rattle.run_law.proofs.laws.OwnLines.{IsOwn-shape_in}
+use Rattle.step_world.proofs.RoomLeft.{domain-there, has-time, mask-some, op-few, rmid-there, room-touch}
 use Rattle.step_world.proofs.TouchedWorlds.{stale-touch, touched}
 use Rattle.step_world.proofs.steps.touch.Goals as goal
 use Rattle.step_world.specs.Machine.{thread_at}

@@ -1,4 +1,4 @@
-use Rattle.std.proofs.Common.{◌+◌, ◌≤◌, subst, List, Option}
+use Rattle.std.proofs.Common.{arith, ◌+◌, ◌≤◌, subst, List, Option}
 use Rattle.machine.specs.Maps.{parameters_of}
 use Rattle.cache_core.specs.declared.entry.What.TheVariants.{Flush}
 use Rattle.cache_core.specs.declared.place.Place.{Place}
@@ -16,14 +16,16 @@ pub returns-clause-entry : goal.returns-clause-entry
 returns-clause-entry c =
     let inside = c.self.inside in
     let shape : Shape = shape_of (parameters_of inside.machine) inside.slice in
-    let now : List (List (Option Place)) = spread shape c.clear.new.self in
-    let old : CacheValue = kept inside.machine inside.slice (spread shape inside.sets) inside.floor inside.clock in
+    let now : List (List (Option Place)) = spread shape c.flush.new.self.places in
+    let old : CacheValue = kept inside.machine inside.slice (spread shape inside.sets.places) inside.floor inside.clock in
     let new : CacheValue = kept inside.machine inside.slice now c.args.epoch (inside.clock + 1) in
     let P : CacheValue → Type 0 = λ s. s.floor ≤ c.args.epoch → Adds s new c.args.epoch Flush in
-    subst P c.self.view_is (λ late. Adds-flush old now c.args.epoch late (place_in-spread_empty shape c.clear.new.self c.clear.ensures.empty)) c.requires.epoch
+    subst P c.self.view_is (λ late. Adds-flush old now c.args.epoch late (place_in-spread_empty shape c.flush.new.self.places c.flush.ensures.empty)) c.requires.epoch
 
 pub invariant_of-self : goal.invariant_of-self
 invariant_of-self c =
     let inside = c.self.inside in
-    let shape : Shape = shape_of (parameters_of inside.machine) inside.slice in
-    IsKept-emptied shape inside.machine.rmids inside.clock inside.sets c.clear.new.self inside.counts c.clear-2.new.self inside.shift c.self.invariant c.clear.ensures.widths c.clear.ensures.empty c.clear-2.ensures.size c.clear-2.ensures.none
+    let shape : Shape = shape_of (parameters_of inside.machine) inside.slice in (
+      IsKept-emptied shape inside.machine.rmids inside.clock inside.sets.places c.flush.new.self.places inside.counts c.clear.new.self inside.shift c.self.invariant.0 c.flush.ensures.widths c.flush.ensures.empty c.clear.ensures.size c.clear.ensures.none,
+      omega (arith, c.flush.ensures.generation, c.self.invariant.1),
+    )

@@ -12,6 +12,6 @@ use Rattle.cache_core.proofs.cache.Cache.raise.Goals as goal
 pub returns-clause-entry : goal.returns-clause-entry
 returns-clause-entry c =
     let inside = c.self.inside in
-    let new : CacheValue = kept inside.machine inside.slice (spread (shape_of (parameters_of inside.machine) inside.slice) inside.sets) c.args.epoch (inside.clock + 1) in
+    let new : CacheValue = kept inside.machine inside.slice (spread (shape_of (parameters_of inside.machine) inside.slice) inside.sets.places) c.args.epoch (inside.clock + 1) in
     let P : CacheValue → Type 0 = λ s. s.floor ≤ c.args.epoch → Adds s new c.args.epoch Raise in
-    subst P c.self.view_is (Adds-raise (kept inside.machine inside.slice (spread (shape_of (parameters_of inside.machine) inside.slice) inside.sets) inside.floor inside.clock) c.args.epoch) c.requires.epoch
+    subst P c.self.view_is (Adds-raise (kept inside.machine inside.slice (spread (shape_of (parameters_of inside.machine) inside.slice) inside.sets.places) inside.floor inside.clock) c.args.epoch) c.requires.epoch

@@ -1,75 +1,67 @@
-use Rattle.std.proofs.Common.{◌≡◌, ℕ, ◌+◌, ◌*◌, ◌/◌, ◌^◌, ◌<◌, ◌≤◌, Bool, true, false, cond, bit_and, sym, ◌∙◌, ap, arith, inl, inr, add-one, add-zero}
-use Rattle.std.specs.Int.{bit_at}
-use Rattle.std.proofs.lemmas.Bool.{cases_Bool, eqb-true, eq-eqb}
-use Rattle.std.proofs.lemmas.Nat.Bits.{shr_and_one}
-use Rattle.std.proofs.Math.Nat.{mul-le-mul_left, mul-le-mul_right}
+use Rattle.std.proofs.Common.{◌≡◌, ℕ, ◌+◌, ◌*◌, ◌<◌, ◌≤◌, true, false, cond, List, [], Option, Some, None, length, slice_set, refl, subst, sym, ◌∙◌, ap, arith, add-zero}
+use Rattle.std.specs.Prelude.{nat_lt}
+use Rattle.std.proofs.lemmas.Bool.{le-ltb}
+use Rattle.std.proofs.lemmas.List.{get_or-set_same, length-set, set-get_or, set-set}
 use Rattle.cbm.specs.Masks.{has_way}
-use Rattle.lists.specs.Sums.{one_if}
-use Rattle.machine.specs.Maps.{parameters_of}
-use Rattle.cache_core.specs.History.{Shape, shape_of, ways_below}
-use Rattle.cache_core.proofs.Keeping.{length-kept_set}
-use Rattle.cache_core.proofs.RegionLoads.{AreLoadedBelow-loaded, AreLoadedBelow-passed, ways_below-le}
+use Rattle.cache_core.specs.declared.emptied.Emptied.TheVariants.{Locked}
+use Rattle.cache_core.specs.declared.place.Place.{Place}
+use Rattle.cache_core.specs.Lazy.{left_set, region_place}
+use Rattle.cache_core.specs.Loads.{loaded}
+use Rattle.cache_core.specs.Places.{place_in, set_in}
+use Rattle.cache_core.proofs.RegionLoads.{left_set-loaded, line-next, lt-line, place_in-loaded, place_in-passed}
 use Rattle.cache_core.proofs.loading.RegionLoad.load_ways.Goals as goal
-use Rattle.cache_core.proofs.loading.RegionLoad.load_ways.Goals.{then-self-way-eq1, else-self-way-eq1}
+use Rattle.cache_core.proofs.loading.RegionLoad.load_ways.Goals.{then-holds, else-holds}
 
--- the lines of the ways before are few
-few_lines : (mask way ways sets : ℕ) → way < ways → ways ≤ 32 → sets ≤ 65536 → ways_below mask way * sets ≤ 32 * 65536
-few_lines mask way ways sets less limit few =
-    let rows : ways_below mask way * sets ≤ 32 * sets = mul-le-mul_right sets (omega (arith, ways_below-le mask way)) in
-    let all : 32 * sets ≤ 32 * 65536 = mul-le-mul_left 32 few in
-    omega (arith, rows, all)
+pub loop-way-init : goal.loop-way-init
+loop-way-init c =
+    let r = c.args.self.now in
+    record {
+      line = ap (λ n. r.first_line + n * c.from-2.result) c.from.ensures ∙ (ap (λ n. r.first_line + c.args.set * n) c.from-2.ensures ∙ omega arith);
+      others = sym (set-get_or c.args.sets.now c.args.set []);
+      width = refl;
+      loaded = λ w. c.requires.empty w ∙ sym (ap (λ b. cond b (region_place r c.args.set w) None) (le-ltb w 0 (omega arith)));
+    }
 
--- the test of a way
-has_way-tested : (mask way : ℕ) → bit_and (mask / 2 ^ way) 1 ≡ 1 → has_way mask way ≡ true
-has_way-tested mask way is = eq-eqb (bit_at mask way) 1 (sym (shr_and_one mask way) ∙ is)
-
--- and where it fails
-has_way-missed : (mask way : ℕ) → (bit_and (mask / 2 ^ way) 1 ≡ 1 → ⊥) → has_way mask way ≡ false
-has_way-missed mask way not = elim (cases_Bool (has_way mask way)) [
-  | inl e ↦ absurd (not (shr_and_one mask way ∙ eqb-true (bit_at mask way) 1 e))
-  | inr e ↦ e
-]
-
-pub load_way-requires-clause-line : goal.load_way-requires-clause-line
-load_way-requires-clause-line c =
-    let m = c.args.self.now.machine in
-    omega (arith, c.loop-way.invariant.line, c.requires.first_line, few_lines c.args.self.now.mask c.loop-way.way m.ways m.sets c.loop-way-test.true m.in_range.way_limit m.in_range.set_limit)
-
-pub overflow_add-line : goal.overflow_add-line
-overflow_add-line c =
-    let m = c.args.self.now.machine in
-    omega (arith, c.from-line.ensures, m.in_range.set_limit, c.loop-way.invariant.line, c.requires.first_line, few_lines c.args.self.now.mask c.loop-way.way m.ways m.sets c.loop-way-test.true m.in_range.way_limit m.in_range.set_limit)
-
--- the ways below the next one
-line-next : (first_line mask way sets line next : ℕ) (b : Bool) → has_way mask way ≡ b → line ≡ first_line + ways_below mask way * sets → next ≡ line + cond b sets 0 → next ≡ first_line + ways_below mask (way + 1) * sets
-line-next first_line mask way sets line next true has from is =
-    let one : ways_below mask (way + 1) ≡ ways_below mask way + 1 = rw add-one (ap (λ b. ways_below mask way + one_if b) has) in
-    let split : (ways_below mask way + 1) * sets ≡ ways_below mask way * sets + sets = omega arith in
-    omega (arith, is, from, split, ap (λ n. n * sets) one)
-line-next first_line mask way sets line next false has from is =
-    let none : ways_below mask (way + 1) ≡ ways_below mask way = rw add-one (ap (λ b. ways_below mask way + one_if b) has ∙ add-zero (ways_below mask way)) in
-    omega (arith, is, from, ap (λ n. n * sets) none)
+pub overflow_add-line-then-holds : goal.overflow_add-line-then-holds
+overflow_add-line-then-holds c =
+    let r = c.args.self.now in
+    omega (arith, c.loop-way.invariant.line, c.from-line.ensures, c.from-line.type_inv, lt-line r.first_line c.args.set r.set_step r.mask c.loop-way.way r.way_step r.far (omega arith) (omega arith) (omega (arith, c.loop-way-test.true, c.ways-way-end.ensures.limit)) (omega arith))
 
 pub loop-way-preserved : goal.loop-way-preserved
 loop-way-preserved c =
     let r = c.args.self.now in
-    let m : Shape = shape_of (parameters_of r.machine) r.slice in
-    let kept = c.loop-way.invariant.kept in
-    elim c.if-self-way-eq1.branch [
-      | then-self-way-eq1 w ↦
-          let has : has_way r.mask c.loop-way.way ≡ true = has_way-tested r.mask c.loop-way.way w.if-self-way-eq1.true in
-          rw (w.sets-is, w.counts-is) (record {
-            kept = w.load_way.ensures.kept;
-            line = line-next r.first_line r.mask c.loop-way.way m.sets c.loop-way.line c.if-self-way-eq1.line true has c.loop-way.invariant.line (w.line-is ∙ ap (λ n. c.loop-way.line + n) w.from-line.ensures);
-            loaded = AreLoadedBelow-loaded m r.mask r.first_line r.stamp c.loop-way.way c.loop-way.line c.loop-way.sets w.load_way.new.sets c.loop-way-test.true
-                (λ set own. length-kept_set m r.machine.rmids (r.stamp + 1) c.loop-way.sets c.loop-way.counts r.shift set kept own)
-                has c.loop-way.invariant.line w.load_way.ensures.loaded c.loop-way.invariant.loaded;
+    let l = c.loop-way in
+    let row : List (Option Place) = set_in l.sets c.args.set in
+    elim c.if-holds.branch [
+      | then-holds w ↦
+          let has : has_way r.mask l.way ≡ true = sym w.if-holds.ensures in
+          let new : List (Option Place) = slice_set row l.way (loaded l.line r.stamp) in
+          let put : w.put.new.self ≡ slice_set l.sets c.args.set new = w.put.ensures.put ∙ ap (λ (p : Place). slice_set l.sets c.args.set (slice_set row l.way (Some p))) w.place.ensures in
+          let within : c.args.set < length l.sets = omega (arith, c.requires.set, ap length l.invariant.others, length-set c.args.sets.now c.args.set row) in
+          let here : set_in w.put.new.self c.args.set ≡ new = ap (λ (ps : List (List (Option Place))). set_in ps c.args.set) put ∙ get_or-set_same l.sets c.args.set new [] within in
+          let inside : l.way < length row = omega (arith, l.invariant.width, c.ways-way-end.ensures.widths c.args.set c.requires.set, c.loop-way-test.true) in
+          rw w.sets-is (record {
+            line = line-next (r.first_line + c.args.set * r.set_step) r.mask l.way r.way_step l.line c.if-holds.line true has l.invariant.line (w.line-is ∙ ap (λ n. l.line + n) w.from-line.ensures);
+            others = put ∙ (ap (λ (ps : List (List (Option Place))). slice_set ps c.args.set new) l.invariant.others ∙ (set-set c.args.sets.now c.args.set row new ∙ ap (λ (ps : List (Option Place)). slice_set c.args.sets.now c.args.set ps) (sym here)));
+            width = ap length here ∙ (length-set row l.way (loaded l.line r.stamp) ∙ l.invariant.width);
+            loaded = subst (λ (ps : List (Option Place)). (v : ℕ) → place_in ps v ≡ cond (nat_lt v (l.way + 1)) (region_place r c.args.set v) None) (sym here) (place_in-loaded r c.args.set l.way l.line row inside has l.invariant.line l.invariant.loaded);
           })
-      | else-self-way-eq1 w ↦
-          let lacks : has_way r.mask c.loop-way.way ≡ false = has_way-missed r.mask c.loop-way.way w.if-self-way-eq1.false in
-          rw (w.sets-is, w.counts-is) (record {
-            kept = kept;
-            line = line-next r.first_line r.mask c.loop-way.way m.sets c.loop-way.line c.if-self-way-eq1.line false lacks c.loop-way.invariant.line (w.line-is ∙ sym (add-zero c.loop-way.line));
-            loaded = AreLoadedBelow-passed m r.mask r.first_line r.stamp c.loop-way.way c.loop-way.sets lacks c.loop-way.invariant.loaded;
+      | else-holds w ↦
+          let lacks : has_way r.mask l.way ≡ false = sym w.if-holds.ensures in
+          rw w.sets-is (record {
+            line = line-next (r.first_line + c.args.set * r.set_step) r.mask l.way r.way_step l.line c.if-holds.line false lacks l.invariant.line (w.line-is ∙ sym (add-zero l.line));
+            others = l.invariant.others;
+            width = l.invariant.width;
+            loaded = place_in-passed r c.args.set l.way row lacks l.invariant.loaded;
           })
     ]
+
+pub returns : goal.returns
+returns c =
+    let r = c.args.self.now in
+    let l = c.loop-way in
+    let row : List (Option Place) = set_in l.sets c.args.set in
+    let all : length row ≤ l.way = omega (arith, l.invariant.width, c.ways-way-end.ensures.widths c.args.set c.requires.set, c.loop-way-test.false) in
+    l.invariant.others
+    ∙ (ap (λ (ps : List (Option Place)). slice_set c.args.sets.now c.args.set ps) (left_set-loaded r c.args.set l.way row all l.invariant.loaded)
+    ∙ ap (λ n. slice_set c.args.sets.now c.args.set (left_set (Locked r) c.args.set n)) l.invariant.width)

@@ -1,22 +1,21 @@
-use Rattle.std.proofs.Common.{◌≡◌, ◌*◌, length, subst, sym, ◌∙◌, ap, arith, slice_index, vec_capacity}
-use Rattle.cache_core.specs.Flat.{Flat, IsFlat}
+use Rattle.std.proofs.Common.{◌≡◌, ◌*◌, length, sym, ◌∙◌, ap, arith, slice_index}
+use Rattle.cache_core.specs.Flat.{Flat}
 use Rattle.cache_core.proofs.FlatPlaces.{length-flat_sets}
 use Rattle.cache_core.proofs.FlatReads.{IsRow-flat_sets}
 use Rattle.cache_core.proofs.FlatChanges.{place_in-empty}
-use Rattle.cache_core.proofs.FlatLists.{IsFlat-empty, get_or-zeros}
+use Rattle.occupancy.proofs.laws.Zeros.{get_or-zeros}
 use Rattle.cache_core.proofs.sets.Sets.create.Goals as goal
 
 pub invariant_of-result : goal.invariant_of-result
 invariant_of-result c =
     let f : Flat = record { ways = c.args.ways; valid = c.in_ok-valid.valid.items; lines = c.in_ok-lines.lines; used = c.in_ok-used.used.items; rmids = c.in_ok-rmids.rmids.items } in
     let count : length f.valid ≡ c.args.count = omega (arith, c.in_ok-valid.ensures.len) in
-    subst (λ l. IsFlat f l (vec_capacity c.in_ok-filled.filled)) (sym c.in_ok-filled.ensures.items)
-    (IsFlat-empty f (vec_capacity c.in_ok-filled.filled) c.requires
-    ((let size : length f.lines ≡ c.args.count * c.args.ways = omega (arith, c.in_ok-lines.ensures) in size) ∙ ap (λ k. k * c.args.ways) (sym count))
-    ((let size : length f.used ≡ c.args.count * c.args.ways = omega (arith, c.in_ok-used.ensures.len) in size) ∙ ap (λ k. k * c.args.ways) (sym count))
-    ((let size : length f.rmids ≡ c.args.count * c.args.ways = omega (arith, c.in_ok-rmids.ensures.len) in size) ∙ ap (λ k. k * c.args.ways) (sym count))
-    (λ s. ap (λ vs. slice_index vs s) (c.in_ok-valid.ensures.items_if_clones_equal (λ y h. h)) ∙ get_or-zeros _ s)
-    (omega (arith, c.in_ok-valid.ensures.len, c.in_ok-filled.ensures.capacity)))
+    record {
+      limit = c.requires;
+      lines = (let size : length f.lines ≡ c.args.count * c.args.ways = omega (arith, c.in_ok-lines.ensures) in size) ∙ ap (λ k. k * c.args.ways) (sym count);
+      used = (let size : length f.used ≡ c.args.count * c.args.ways = omega (arith, c.in_ok-used.ensures.len) in size) ∙ ap (λ k. k * c.args.ways) (sym count);
+      rmids = (let size : length f.rmids ≡ c.args.count * c.args.ways = omega (arith, c.in_ok-rmids.ensures.len) in size) ∙ ap (λ k. k * c.args.ways) (sym count);
+    }
 
 pub returns-clause-count : goal.returns-clause-count
 returns-clause-count c =

@@ -4,8 +4,8 @@ use Rattle.cache_core.specs.declared.place.Place.{Place}
 use Rattle.cache_core.specs.Fills.{Holds}
 use Rattle.cache_core.specs.Flat.{Flat, flat_sets}
 use Rattle.cache_core.specs.Places.{resident_in, set_in}
-use Rattle.cache_core.proofs.FlatPlaces.{le-places}
-use Rattle.cache_core.proofs.FlatReads.{IsRow, IsRow-flat_sets, MatchOption-find, here_in, line-from_Holds}
+use Rattle.cache_core.proofs.FlatPlaces.{le-places, here_in}
+use Rattle.cache_core.proofs.FlatReads.{IsRow, IsRow-flat_sets, MatchOption-find, line-from_Holds}
 use Rattle.cache_core.proofs.FlatViews.{lt-sets}
 use Rattle.cache_core.proofs.sets.Sets.find.Goals as goal
 

@@ -1,12 +1,11 @@
-use Rattle.std.proofs.Common.{◌≡◌, ◌≢◌, ℕ, ◌<◌, ◌+◌, ◌*◌, ◌==◌, ◌++◌, ◌∷◌, [], List, Option, Some, cond, length, subst, sym, ◌∙◌, ap, arith, slice_set, slice_index, option_map, vec_capacity}
+use Rattle.std.proofs.Common.{◌≡◌, ◌≢◌, ℕ, ◌<◌, ◌+◌, ◌*◌, List, Option, Some, length, subst, sym, ◌∙◌, ap, arith, slice_set, slice_index, option_map}
 use Rattle.std.proofs.lemmas.List.{get_or_default}
 use Rattle.cbm.specs.Masks.{has_way}
 use Rattle.cache_core.specs.declared.place.Place.{Place}
 use Rattle.cache_core.specs.Flat.{Flat, IsFlat, flat_sets}
 use Rattle.cache_core.specs.Places.{set_in, place_in}
 use Rattle.cache_core.proofs.FlatPlaces.{lt-place}
-use Rattle.cache_core.proofs.FlatChanges.{flat_sets-put, put_in}
-use Rattle.cache_core.proofs.FlatLists.{IsFlat-put, lt-filled}
+use Rattle.cache_core.proofs.FlatChanges.{IsFlat-put, flat_sets-put, put_in}
 use Rattle.cache_core.proofs.FlatReads.{option_map-rmid}
 use Rattle.cache_core.proofs.FlatViews.{lt-sets, lt-ways}
 use Rattle.cache_core.proofs.sets.Sets.put.Goals as goal
@@ -16,14 +15,6 @@ index-valid-requires c =
     let i = c.self.inside in
     let f : Flat = record { ways = i.ways; valid = i.valid.items; lines = i.lines; used = i.used.items; rmids = i.rmids.items } in
     omega (arith, lt-sets f c.args.self.now c.args.set c.self.view_is c.requires.set)
-
-pub list_set-requires : goal.list_set-requires
-list_set-requires c none =
-    let i = c.self.inside in
-    let f : Flat = record { ways = i.ways; valid = i.valid.items; lines = i.lines; used = i.used.items; rmids = i.rmids.items } in
-    let within : c.args.set < length f.valid = lt-sets f c.args.self.now c.args.set c.self.view_is c.requires.set in
-    let value : c.index-valid.result.now ≡ slice_index f.valid c.args.set = c.index-valid.ensures ∙ get_or_default f.valid c.args.set c.index-valid.result.now 0 within in
-    omega (arith, lt-filled f i.filled.items (vec_capacity i.filled) c.args.set c.self.invariant within (sym value ∙ none))
 
 pub index-requires : goal.index-requires
 index-requires c =
@@ -79,12 +70,7 @@ pub invariant_of-self : goal.invariant_of-self
 invariant_of-self c =
     let i = c.self.inside in
     let f : Flat = record { ways = i.ways; valid = i.valid.items; lines = i.lines; used = i.used.items; rmids = i.rmids.items } in
-    let within : c.args.set < length f.valid = lt-sets f c.args.self.now c.args.set c.self.view_is c.requires.set in
-    let value : c.index-valid.result.now ≡ slice_index f.valid c.args.set = c.index-valid.ensures ∙ get_or_default f.valid c.args.set c.index-valid.result.now 0 within in
-    subst (λ (ls : List ℕ). IsFlat (record (put_in f c.args.set c.args.way c.args.place c.with_way.result) { lines = ls }) c.list_set.new.filled.items (vec_capacity c.list_set.new.filled)) (sym c.put.ensures)
-    (subst (λ n. IsFlat (put_in f c.args.set c.args.way c.args.place c.with_way.result) c.list_set.new.filled.items n) (sym c.list_set.ensures.room)
-    (IsFlat-put f i.filled.items c.list_set.new.filled.items (vec_capacity i.filled) c.args.set c.args.way c.with_way.result c.args.place c.self.invariant within c.with_way.ensures.way
-    (c.list_set.ensures.listed ∙ ap (λ n. cond (n == 0) (i.filled.items ++ c.args.set ∷ []) i.filled.items) value)))
+    subst (λ (ls : List ℕ). IsFlat (record (put_in f c.args.set c.args.way c.args.place c.with_way.result) { lines = ls })) (sym c.put.ensures) (IsFlat-put f c.args.set c.args.way c.with_way.result c.args.place c.self.invariant)
 
 pub returns-clause-left : goal.returns-clause-left
 returns-clause-left c =
@@ -110,4 +96,4 @@ returns-clause-put c =
     subst (λ (ls : List ℕ). flat_sets (record (put_in f c.args.set c.args.way c.args.place c.with_way.result) { lines = ls }) ≡ slice_set c.args.self.now c.args.set (slice_set (set_in c.args.self.now c.args.set) c.args.way (Some c.args.place))) (sym c.put.ensures)
     (subst (λ (now : List (List (Option Place))). flat_sets (put_in f c.args.set c.args.way c.args.place c.with_way.result) ≡ slice_set now c.args.set (slice_set (set_in now c.args.set) c.args.way (Some c.args.place)))
     c.self.view_is
-    (flat_sets-put f i.filled.items (vec_capacity i.filled) c.args.set c.args.way c.with_way.result c.args.place c.self.invariant within inside c.with_way.ensures.way others))
+    (flat_sets-put f c.args.set c.args.way c.with_way.result c.args.place c.self.invariant within inside c.with_way.ensures.way others))

@@ -4,8 +4,8 @@ use Rattle.cache_core.specs.declared.place.Place.{Place}
 use Rattle.cache_core.specs.Fills.{IsVictim}
 use Rattle.cache_core.specs.Flat.{Flat, flat_sets}
 use Rattle.cache_core.specs.Places.{resident_in, set_in, stamp_in}
-use Rattle.cache_core.proofs.FlatPlaces.{le-places}
-use Rattle.cache_core.proofs.FlatReads.{IsRow, IsRow-flat_sets, IsVictim-chosen, here_in}
+use Rattle.cache_core.proofs.FlatPlaces.{le-places, here_in}
+use Rattle.cache_core.proofs.FlatReads.{IsRow, IsRow-flat_sets, IsVictim-chosen}
 use Rattle.cache_core.proofs.FlatViews.{lt-sets, length-set_in_flat}
 use Rattle.cache_core.proofs.sets.Sets.victim.Goals as goal
 

@@ -1,5 +1,6 @@
 use Rattle.std.proofs.Common.{◌≡◌, ◌∙◌, ap, sym, arith, length, slice_index}
-use Rattle.occupancy.proofs.Numbers.{sum_below-none, get_or-none, get_or-zeros}
+use Rattle.occupancy.proofs.Numbers.{sum_below-none, get_or-none}
+use Rattle.occupancy.proofs.laws.Zeros.{get_or-zeros}
 use Rattle.occupancy.proofs.counts.Counts.clear.Goals as goal
 
 pub invariant_of-self : goal.invariant_of-self

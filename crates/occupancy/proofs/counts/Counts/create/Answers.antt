@@ -1,5 +1,6 @@
 use Rattle.std.proofs.Common.{◌∙◌, ap, length, slice_index}
-use Rattle.occupancy.proofs.Numbers.{sum_below-none, get_or-zeros}
+use Rattle.occupancy.proofs.Numbers.{sum_below-none}
+use Rattle.occupancy.proofs.laws.Zeros.{get_or-zeros}
 use Rattle.occupancy.proofs.counts.Counts.create.Goals as goal
 
 pub invariant_of-result : goal.invariant_of-result

@@ -1,7 +1,7 @@
 use Rattle.std.proofs.Common.{◌≡◌, ◌+◌, ◌-◌, ◌<◌, ℕ, List, length, set, slice_index, subst, arith, sym, ◌∙◌, ap}
 use Rattle.std.proofs.lemmas.List.{get_or_default, length-set}
 use Rattle.lists.specs.Sums.{sum_below}
-use Rattle.occupancy.proofs.Numbers.{get_or-set_less, sum_below-one_more, le-sum_below}
+use Rattle.occupancy.proofs.Numbers.{get_or-set_less, sum_below-more, le-sum_below}
 use Rattle.occupancy.proofs.counts.Counts.sub.Goals as goal
 
 pub overflow_sub-self : goal.overflow_sub-self
@@ -19,7 +19,7 @@ invariant_of-self c =
     let some : 0 < slice_index xs c.args.rmid = subst (λ ys. 0 < slice_index ys c.args.rmid) (sym c.self.view_is) c.requires.some in
     let value : c.index_mut.result.now ≡ slice_index xs c.args.rmid = c.index_mut.ensures.value ∙ get_or_default xs c.args.rmid c.index_mut.result.now 0 within in
     let sums : sum_below (length xs) (slice_index xs) ≡ sum_below (length xs) (slice_index new) + 1 =
-    sum_below-one_more (length xs) c.args.rmid (slice_index new) (slice_index xs) within (λ r. get_or-set_less xs c.args.rmid r (c.index_mut.result.now - 1) within (omega (arith, value, some))) in
+    sum_below-more (length xs) c.args.rmid 1 (slice_index new) (slice_index xs) within (λ r. get_or-set_less xs c.args.rmid r (c.index_mut.result.now - 1) within (omega (arith, value, some))) in
     let same : sum_below (length xs) (slice_index new) ≡ sum_below (length new) (slice_index new) = ap (λ n. sum_below n (slice_index new)) (sym (length-set xs c.args.rmid (c.index_mut.result.now - 1))) in
     omega (arith, c.self.invariant, sums) ∙ same
 

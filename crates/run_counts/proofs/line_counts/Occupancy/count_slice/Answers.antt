@@ -4,7 +4,7 @@ use Rattle.std.proofs.lemmas.Nat.{mul-le}
 use Rattle.cache_core.specs.History.{held}
 use Rattle.machine.proofs.laws.WholeSets.{mod-sets_slices}
 use Rattle.machine.specs.Maps.{parameters_of}
-use Rattle.run_counts.proofs.CountedEntries.{HasCounted-begun, HasCounted-counts, HasCounted-ended, HasCounted-more, HasCounted-valid, IsAtMost-begun, IsAtMost-slice, has_emptying-drop, has_emptying-drop_length}
+use Rattle.run_counts.proofs.CountedEntries.{HasCounted-counts, HasCounted-ended, HasCounted-from, HasCounted-valid, HasDecided-begun, HasDecided-more, IsAtMost-begun, IsAtMost-slice}
 use Rattle.run_counts.proofs.FullSlices.{HasCounted-full}
 use Rattle.run_counts.proofs.Occupancies.{IsAtMost-le}
 use Rattle.run_counts.specs.Occupancies.{HasCounted}
@@ -14,8 +14,7 @@ use Rattle.run_counts.proofs.line_counts.Occupancy.count_slice.Goals as goal
 pub loop-left-init : goal.loop-left-init
 loop-left-init c = record {
   within = omega arith;
-  fills = has_emptying-drop_length c.args.entries.now;
-  counted = HasCounted-begun (shape_in (parameters_of c.args.machine.now) c.args.i) c.begin_slice.new.self c.args.entries.now (c.begin_slice.ensures.sets ∙ c.requires.sets) c.begin_slice.ensures.seen;
+  decided = HasDecided-begun (shape_in (parameters_of c.args.machine.now) c.args.i) c.begin_slice.new.self c.args.entries.now (c.begin_slice.ensures.sets ∙ c.requires.sets) c.begin_slice.ensures.seen;
 }
 
 pub take-requires-clause-few : goal.take-requires-clause-few
@@ -23,7 +22,7 @@ take-requires-clause-few c =
     let range = c.args.machine.now.in_range in
     let few = mul-le c.args.machine.now.sets c.args.machine.now.ways 65536 32 range.set_limit range.way_limit in
     IsAtMost-le (1152921504606846976 + 2097152) 2305843009213693952 c.loop-left.self (omega arith)
-    (IsAtMost-slice (shape_in (parameters_of c.args.machine.now) c.args.i) c.begin_slice.new.self c.loop-left.self _ 1152921504606846976 few c.loop-left.invariant.counted
+    (IsAtMost-slice (shape_in (parameters_of c.args.machine.now) c.args.i) c.begin_slice.new.self c.loop-left.self _ 1152921504606846976 few c.loop-left.invariant.decided.counted
     (IsAtMost-begun 1152921504606846976 c.args.self.now c.begin_slice.new.self c.begin_slice.ensures.counts c.begin_slice.ensures.valid c.requires.few))
 
 -- what the answer of `take` says
@@ -43,19 +42,18 @@ loop-left-preserved c =
     let within : k < length c.args.entries.now = let some = c.loop-left-test.true in let le = c.loop-left.invariant.within in omega arith in
     record {
       within = let le = c.loop-left.invariant.within in omega arith;
-      fills = has_emptying-drop c.args.entries.now k c.loop-left.left _ next within (get_or_default c.args.entries.now k _ _ within) (kept _ c.take.result c.take.ensures.more c.if-not-take.false) c.loop-left.invariant.fills;
-      counted = HasCounted-more m c.begin_slice.new.self c.take.new.self c.args.entries.now k c.loop-left.left _ next within (get_or_default c.args.entries.now k _ _ within)
-          (c.take.ensures.counted c.begin_slice.new.self (drop c.loop-left.left c.args.entries.now) c.loop-left.invariant.fills c.loop-left.invariant.counted);
+      decided = HasDecided-more m c.begin_slice.new.self c.take.new.self c.args.entries.now k c.loop-left.left _ next within (get_or_default c.args.entries.now k _ _ within)
+          (c.take.ensures.decided c.begin_slice.new.self (drop c.loop-left.left c.args.entries.now) (kept _ c.take.result c.take.ensures.more c.if-not-take.false) c.loop-left.invariant.decided);
     }
 
 pub returns-then-not-take-clause-sets : goal.returns-then-not-take-clause-sets
 returns-then-not-take-clause-sets c =
-    let counted = c.take.ensures.counted c.begin_slice.new.self (drop c.loop-left.left c.args.entries.now) c.loop-left.invariant.fills c.loop-left.invariant.counted in
+    let counted = c.take.ensures.counted c.begin_slice.new.self (drop c.loop-left.left c.args.entries.now) c.loop-left.invariant.decided in
     counted.sets ∙ sym c.requires.sets
 
 pub returns-then-not-take-clause-rmids : goal.returns-then-not-take-clause-rmids
 returns-then-not-take-clause-rmids c =
-    let counted = c.take.ensures.counted c.begin_slice.new.self (drop c.loop-left.left c.args.entries.now) c.loop-left.invariant.fills c.loop-left.invariant.counted in
+    let counted = c.take.ensures.counted c.begin_slice.new.self (drop c.loop-left.left c.args.entries.now) c.loop-left.invariant.decided in
     counted.rmids ∙ ap length c.begin_slice.ensures.counts
 
 pub returns-then-not-take-clause-counts : goal.returns-then-not-take-clause-counts
@@ -64,7 +62,7 @@ returns-then-not-take-clause-counts c =
     let k = c.loop-left.left - 1 in
     let next : k + 1 ≡ c.loop-left.left = let some = c.loop-left-test.true in omega arith in
     let within : k < length c.args.entries.now = let some = c.loop-left-test.true in let le = c.loop-left.invariant.within in omega arith in
-    let counted = c.take.ensures.counted c.begin_slice.new.self (drop c.loop-left.left c.args.entries.now) c.loop-left.invariant.fills c.loop-left.invariant.counted in
+    let counted = c.take.ensures.counted c.begin_slice.new.self (drop c.loop-left.left c.args.entries.now) c.loop-left.invariant.decided in
     HasCounted-counts m c.args.self.now c.begin_slice.new.self c.take.new.self c.args.entries.now c.begin_slice.ensures.counts
     (HasCounted-ended m c.begin_slice.new.self c.take.new.self c.args.entries.now k c.loop-left.left _ next within (get_or_default c.args.entries.now k _ _ within) (emptied _ c.take.result c.take.ensures.more c.if-not-take.true) counted)
 
@@ -74,7 +72,7 @@ returns-then-not-take-clause-valid c =
     let k = c.loop-left.left - 1 in
     let next : k + 1 ≡ c.loop-left.left = let some = c.loop-left-test.true in omega arith in
     let within : k < length c.args.entries.now = let some = c.loop-left-test.true in let le = c.loop-left.invariant.within in omega arith in
-    let counted = c.take.ensures.counted c.begin_slice.new.self (drop c.loop-left.left c.args.entries.now) c.loop-left.invariant.fills c.loop-left.invariant.counted in
+    let counted = c.take.ensures.counted c.begin_slice.new.self (drop c.loop-left.left c.args.entries.now) c.loop-left.invariant.decided in
     HasCounted-valid m c.args.self.now c.begin_slice.new.self c.take.new.self c.args.entries.now c.begin_slice.ensures.valid
     (HasCounted-ended m c.begin_slice.new.self c.take.new.self c.args.entries.now k c.loop-left.left _ next within (get_or_default c.args.entries.now k _ _ within) (emptied _ c.take.result c.take.ensures.more c.if-not-take.true) counted)
 
@@ -83,14 +81,14 @@ returns-after-loop-left-clause-counts c =
     let m = shape_in (parameters_of c.args.machine.now) c.args.i in
     let end : c.loop-left.left ≡ 0 = let none = c.loop-left-test.false in omega arith in
     HasCounted-counts m c.args.self.now c.begin_slice.new.self c.loop-left.self c.args.entries.now c.begin_slice.ensures.counts
-    (subst (λ n. HasCounted m c.begin_slice.new.self (λ s w. held m (drop n c.args.entries.now) s w) c.loop-left.self) end c.loop-left.invariant.counted)
+    (subst (λ n. HasCounted m c.begin_slice.new.self (λ s w. held m (drop n c.args.entries.now) s w) c.loop-left.self) end (HasCounted-from m c.begin_slice.new.self c.loop-left.self (drop c.loop-left.left c.args.entries.now) c.loop-left.invariant.decided))
 
 pub returns-after-loop-left-clause-valid : goal.returns-after-loop-left-clause-valid
 returns-after-loop-left-clause-valid c =
     let m = shape_in (parameters_of c.args.machine.now) c.args.i in
     let end : c.loop-left.left ≡ 0 = let none = c.loop-left-test.false in omega arith in
     HasCounted-valid m c.args.self.now c.begin_slice.new.self c.loop-left.self c.args.entries.now c.begin_slice.ensures.valid
-    (subst (λ n. HasCounted m c.begin_slice.new.self (λ s w. held m (drop n c.args.entries.now) s w) c.loop-left.self) end c.loop-left.invariant.counted)
+    (subst (λ n. HasCounted m c.begin_slice.new.self (λ s w. held m (drop n c.args.entries.now) s w) c.loop-left.self) end (HasCounted-from m c.begin_slice.new.self c.loop-left.self (drop c.loop-left.left c.args.entries.now) c.loop-left.invariant.decided))
 
 -- all is counted where each place holds a line
 all_counted : (c : goal.Else-valid-full)
@@ -100,7 +98,8 @@ all_counted c =
     let slice : c.args.i % m.slices < m.slices = let one_slice = m.in_range.some_slice in omega arith in
     let full : c.begin_slice.new.self.valid + m.sets / m.slices * m.ways ≤ c.loop-left.self.valid =
     let before = c.valid.ensures in let places = c.places_of.ensures in let now = c.valid-in-loop-left.ensures in let enough = c.if-valid-full.false in omega (arith, before, places, now, enough) in
-    HasCounted-full (shape_in (parameters_of m) c.args.i) c.begin_slice.new.self c.loop-left.self c.args.entries.now c.loop-left.left slice (mod-sets_slices (parameters_of m) m.in_range) full c.loop-left.invariant.counted
+    HasCounted-full (shape_in (parameters_of m) c.args.i) c.begin_slice.new.self c.loop-left.self c.args.entries.now c.loop-left.left slice (mod-sets_slices (parameters_of m) m.in_range) full
+    (HasCounted-from (shape_in (parameters_of m) c.args.i) c.begin_slice.new.self c.loop-left.self (drop c.loop-left.left c.args.entries.now) c.loop-left.invariant.decided)
 
 pub returns-else-valid-full-clause-counts : goal.returns-else-valid-full-clause-counts
 returns-else-valid-full-clause-counts c =

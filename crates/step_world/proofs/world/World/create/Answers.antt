@@ -1,5 +1,5 @@
 use Rattle.std.proofs.Common.{ap, arith, refl, ◌∙◌, None}
-use Rattle.step_world.proofs.OpeningWorlds.{IsOpening-made, IsWorldOf-made}
+use Rattle.step_world.proofs.OpeningWorlds.{HasRooms-made, IsOpening-made, IsWorldOf-made}
 use Rattle.step_world.proofs.world.World.create.Goals as goal
 use Rattle.tree_law.specs.State.{opening}
 
@@ -10,7 +10,7 @@ returns-clause-world c = IsWorldOf-made c.args.script.now _ (record {
   state = c.in_ok-tree.ensures.state ∙ (ap (λ p. opening p c.tasks.result.now) c.machine.ensures ∙ ap (opening c.args.script.now.machine) c.tasks.ensures.tasks);
   epoch = c.in_ok-tree.ensures.epoch;
   commands = c.in_ok-commands.ensures.items;
-  room = omega (arith, c.in_ok-commands.ensures.capacity, c.command_room.ensures);
+  room = omega (arith, c.in_ok-commands.ensures.exact, c.command_room.ensures);
   slices = c.in_ok-slices.ensures;
   threads = c.in_ok-threads.ensures.first;
   lists = c.in_ok-lists.ensures;
@@ -27,7 +27,24 @@ returns-clause-opening c = IsOpening-made c.args.script.now (record { tree = c.i
   state = c.in_ok-tree.ensures.state ∙ (ap (λ p. opening p c.tasks.result.now) c.machine.ensures ∙ ap (opening c.args.script.now.machine) c.tasks.ensures.tasks);
   epoch = c.in_ok-tree.ensures.epoch;
   commands = c.in_ok-commands.ensures.items;
-  room = omega (arith, c.in_ok-commands.ensures.capacity, c.command_room.ensures);
+  room = omega (arith, c.in_ok-commands.ensures.exact, c.command_room.ensures);
+  slices = c.in_ok-slices.ensures;
+  threads = c.in_ok-threads.ensures.first;
+  lists = c.in_ok-lists.ensures;
+  phase = refl;
+  holder = refl;
+  closing = c.in_ok-closing.ensures.items;
+  closing_room = omega (arith, c.in_ok-closing.ensures.capacity, c.len.ensures);
+})
+
+pub returns-clause-rooms : goal.returns-clause-rooms
+returns-clause-rooms c = HasRooms-made c.args.script.now (record { tree = c.in_ok-tree.tree; commands = c.in_ok-commands.commands; slices = c.in_ok-slices.slices; threads = c.in_ok-threads.threads; lists = c.in_ok-lists.lists; phase = 0; holder = None; work = c.none.result; closing = c.in_ok-closing.closing }) (record {
+  lawful = c.first_threads.ensures.lawful;
+  machine = c.in_ok-tree.ensures.machine ∙ c.machine.ensures;
+  state = c.in_ok-tree.ensures.state ∙ (ap (λ p. opening p c.tasks.result.now) c.machine.ensures ∙ ap (opening c.args.script.now.machine) c.tasks.ensures.tasks);
+  epoch = c.in_ok-tree.ensures.epoch;
+  commands = c.in_ok-commands.ensures.items;
+  room = omega (arith, c.in_ok-commands.ensures.exact, c.command_room.ensures);
   slices = c.in_ok-slices.ensures;
   threads = c.in_ok-threads.ensures.first;
   lists = c.in_ok-lists.ensures;

@@ -3,13 +3,14 @@ use Rattle.rc_base.specs.declared.replies.Why.TheVariants.{NoSuchPath}
 use Rattle.machine.specs.declared.parameters.Parameters.{Parameters}
 use Rattle.script_ops.specs.declared.op.Op.{Op}
 use Rattle.script_ops.specs.declared.op.Op.TheVariants as ops
-use Rattle.tree_core.proofs.Outcomes.{after-accepted, after-moved, after-nothing, refusal-flush, refusal-list, refusal-read, reply-next, state-quiet}
+use Rattle.tree_core.proofs.Outcomes.{after-accepted, after-moved, after-nothing, refusal-drop_line, refusal-flush, refusal-list, refusal-read, reply-next, state-quiet}
 use Rattle.tree_core.proofs.ReadCounts.{refusal-access, refusal-tick}
 use Rattle.tree_law.specs.Existing.{is_directory, is_file}
 use Rattle.tree_law.specs.Refusals.{plain, reply_of}
 use Rattle.script_ops.specs.Fits.{Fits}
 use Rattle.tree_law.specs.State.{State, tasks_of}
 use Rattle.tree_law.specs.Steps.{after, next, refusal}
+use Rattle.tree_law.specs.commands.Drop as clflush
 use Rattle.tree_law.specs.commands.Flush as flush
 use Rattle.tree_core.proofs.tree.Tree.take.Goals as goal
 
@@ -135,3 +136,35 @@ pub returns-in-Access-clause-after : goal.returns-in-Access-clause-after
 returns-in-Access-clause-after c =
     let m = c.args.self.now.machine in let s = c.args.self.now.state in let k = c.args.self.now.epoch in let op = ops.Access c.in-Access.task c.in-Access.cpu c.in-Access.addr in
     c.requires.nothing ∙ sym (ap (after m s k) c.in-Access.is ∙ after-nothing m s k op refl)
+
+pub returns-in-DropLine-clause-reply : goal.returns-in-DropLine-clause-reply
+returns-in-DropLine-clause-reply c =
+    let m = c.args.self.now.machine in let s = c.args.self.now.state in
+    sym (ap (λ (op : Op). (next m s op c.args.looks.now).reply) c.in-DropLine.is ∙ reply-next m s (ops.DropLine c.in-DropLine.addr) c.args.looks.now ∙ ap reply_of (refusal-drop_line m s c.in-DropLine.addr))
+
+pub returns-in-DropLine-clause-state : goal.returns-in-DropLine-clause-state
+returns-in-DropLine-clause-state c =
+    let m = c.args.self.now.machine in let s = c.args.self.now.state in
+    c.count.ensures.state ∙ sym (ap (λ (op : Op). (next m s op c.args.looks.now).state) c.in-DropLine.is ∙ state-quiet m s (ops.DropLine c.in-DropLine.addr) c.args.looks.now refl refl (λ x. refl))
+
+pub returns-in-DropLine-clause-after : goal.returns-in-DropLine-clause-after
+returns-in-DropLine-clause-after c =
+    let m = c.args.self.now.machine in let s = c.args.self.now.state in let k = c.args.self.now.epoch in let op = ops.DropLine c.in-DropLine.addr in
+    c.drop_line.ensures.after ∙ ap (λ (n : Parameters). clflush.after_line n c.in-DropLine.addr) c.count.ensures.machine
+    ∙ sym (ap (after m s k) c.in-DropLine.is ∙ after-accepted m s k op (refusal-drop_line m s c.in-DropLine.addr))
+
+pub returns-in-DropRegion-clause-reply : goal.returns-in-DropRegion-clause-reply
+returns-in-DropRegion-clause-reply c =
+    let m = c.args.self.now.machine in let s = c.args.self.now.state in let op = ops.DropRegion c.in-DropRegion.path c.in-DropRegion.offset in
+    c.drop_region.ensures.reply ∙ ap₂ (λ (n : Parameters) (x : State). reply_of (refusal n x op)) c.count.ensures.machine c.count.ensures.state
+    ∙ sym (ap (λ (o : Op). (next m s o c.args.looks.now).reply) c.in-DropRegion.is ∙ reply-next m s op c.args.looks.now)
+
+pub returns-in-DropRegion-clause-state : goal.returns-in-DropRegion-clause-state
+returns-in-DropRegion-clause-state c =
+    let m = c.args.self.now.machine in let s = c.args.self.now.state in let op = ops.DropRegion c.in-DropRegion.path c.in-DropRegion.offset in
+    c.count.ensures.state ∙ sym (ap (λ (o : Op). (next m s o c.args.looks.now).state) c.in-DropRegion.is ∙ state-quiet m s op c.args.looks.now refl refl (λ x. refl))
+
+pub returns-in-DropRegion-clause-after : goal.returns-in-DropRegion-clause-after
+returns-in-DropRegion-clause-after c =
+    let m = c.args.self.now.machine in let s = c.args.self.now.state in let k = c.args.self.now.epoch in let op = ops.DropRegion c.in-DropRegion.path c.in-DropRegion.offset in
+    c.drop_region.ensures.after k ∙ ap₂ (λ (n : Parameters) (x : State). after n x k op) c.count.ensures.machine c.count.ensures.state ∙ ap (after m s k) (sym c.in-DropRegion.is)

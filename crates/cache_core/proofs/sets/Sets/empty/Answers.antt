@@ -1,0 +1,74 @@
+use Rattle.std.proofs.Common.{◌≡◌, ◌≢◌, ℕ, ◌<◌, ◌+◌, ◌*◌, List, Option, None, length, subst, ◌∙◌, ap, arith, slice_set, slice_index, option_map}
+use Rattle.std.proofs.lemmas.List.{get_or_default}
+use Rattle.cbm.specs.Masks.{has_way}
+use Rattle.cache_core.specs.declared.place.Place.{Place}
+use Rattle.cache_core.specs.Flat.{Flat, flat_sets}
+use Rattle.cache_core.specs.Places.{set_in, place_in}
+use Rattle.cache_core.proofs.FlatPlaces.{lt-place}
+use Rattle.cache_core.proofs.FlatChanges.{IsFlat-emptied, flat_sets-emptied}
+use Rattle.cache_core.proofs.FlatReads.{option_map-rmid}
+use Rattle.cache_core.proofs.FlatViews.{lt-sets, lt-ways}
+use Rattle.cache_core.proofs.sets.Sets.empty.Goals as goal
+
+pub index-valid-requires : goal.index-valid-requires
+index-valid-requires c =
+    let i = c.self.inside in
+    let f : Flat = record { ways = i.ways; valid = i.valid.items; lines = i.lines; used = i.used.items; rmids = i.rmids.items } in
+    omega (arith, lt-sets f c.args.self.now c.args.set c.self.view_is c.requires.set)
+
+pub without_way-requires : goal.without_way-requires
+without_way-requires c =
+    let i = c.self.inside in
+    let f : Flat = record { ways = i.ways; valid = i.valid.items; lines = i.lines; used = i.used.items; rmids = i.rmids.items } in
+    omega (arith, lt-ways f c.args.self.now c.args.set c.args.way c.self.view_is c.requires.set c.requires.way, c.self.invariant.limit)
+
+pub index_mut-requires : goal.index_mut-requires
+index_mut-requires c =
+    let i = c.self.inside in
+    let f : Flat = record { ways = i.ways; valid = i.valid.items; lines = i.lines; used = i.used.items; rmids = i.rmids.items } in
+    omega (arith, lt-sets f c.args.self.now c.args.set c.self.view_is c.requires.set)
+
+pub index-requires : goal.index-requires
+index-requires c =
+    let i = c.self.inside in
+    let f : Flat = record { ways = i.ways; valid = i.valid.items; lines = i.lines; used = i.used.items; rmids = i.rmids.items } in
+    let within : c.args.set < length f.valid = lt-sets f c.args.self.now c.args.set c.self.view_is c.requires.set in
+    let inside : c.args.way < f.ways = lt-ways f c.args.self.now c.args.set c.args.way c.self.view_is c.requires.set c.requires.way in
+    omega (arith, lt-place (length f.valid) f.ways c.args.set c.args.way within inside, c.self.invariant.rmids)
+
+pub rmid_at-requires : goal.rmid_at-requires
+rmid_at-requires c =
+    let i = c.self.inside in
+    let f : Flat = record { ways = i.ways; valid = i.valid.items; lines = i.lines; used = i.used.items; rmids = i.rmids.items } in
+    omega (arith, lt-ways f c.args.self.now c.args.set c.args.way c.self.view_is c.requires.set c.requires.way, c.self.invariant.limit)
+
+pub invariant_of-self : goal.invariant_of-self
+invariant_of-self c =
+    let i = c.self.inside in
+    let f : Flat = record { ways = i.ways; valid = i.valid.items; lines = i.lines; used = i.used.items; rmids = i.rmids.items } in
+    IsFlat-emptied f c.args.set c.without_way.result c.self.invariant
+
+pub returns-clause-left : goal.returns-clause-left
+returns-clause-left c =
+    let i = c.self.inside in
+    let f : Flat = record { ways = i.ways; valid = i.valid.items; lines = i.lines; used = i.used.items; rmids = i.rmids.items } in
+    let within : c.args.set < length f.valid = lt-sets f c.args.self.now c.args.set c.self.view_is c.requires.set in
+    let inside : c.args.way < f.ways = lt-ways f c.args.self.now c.args.set c.args.way c.self.view_is c.requires.set c.requires.way in
+    let value : c.index-valid.result.now ≡ slice_index f.valid c.args.set = c.index-valid.ensures ∙ get_or_default f.valid c.args.set c.index-valid.result.now 0 within in
+    let place : c.args.set * f.ways + c.args.way < length f.rmids = omega (arith, lt-place (length f.valid) f.ways c.args.set c.args.way within inside, c.self.invariant.rmids) in
+    let rmid : c.index.result.now ≡ slice_index f.rmids (c.args.set * f.ways + c.args.way) = c.index.ensures ∙ get_or_default f.rmids (c.args.set * f.ways + c.args.way) c.index.result.now 0 place in
+    c.rmid_at.ensures
+    ∙ (option_map-rmid f c.args.set c.args.way c.index-valid.result.now c.index.result.now within inside value rmid
+    ∙ ap (λ (now : List (List (Option Place))). option_map (λ (p : Place). p.rmid) (place_in (set_in now c.args.set) c.args.way)) c.self.view_is)
+
+pub returns-clause-emptied : goal.returns-clause-emptied
+returns-clause-emptied c =
+    let i = c.self.inside in
+    let f : Flat = record { ways = i.ways; valid = i.valid.items; lines = i.lines; used = i.used.items; rmids = i.rmids.items } in
+    let within : c.args.set < length f.valid = lt-sets f c.args.self.now c.args.set c.self.view_is c.requires.set in
+    let inside : c.args.way < f.ways = lt-ways f c.args.self.now c.args.set c.args.way c.self.view_is c.requires.set c.requires.way in
+    let value : c.index-valid.result.now ≡ slice_index f.valid c.args.set = c.index-valid.ensures ∙ get_or_default f.valid c.args.set c.index-valid.result.now 0 within in
+    let others : (w : ℕ) → w < 32 → w ≢ c.args.way → has_way c.without_way.result w ≡ has_way (slice_index f.valid c.args.set) w = λ w below apart. c.without_way.ensures.others w below apart ∙ ap (λ n. has_way n w) value in
+    subst (λ (now : List (List (Option Place))). flat_sets (record { ways = f.ways; valid = slice_set f.valid c.args.set c.without_way.result; lines = f.lines; used = f.used; rmids = f.rmids }) ≡ slice_set now c.args.set (slice_set (set_in now c.args.set) c.args.way None))
+    c.self.view_is
+    (flat_sets-emptied f c.args.set c.args.way c.without_way.result c.self.invariant.limit within inside c.without_way.ensures.way others)

@@ -1,0 +1,36 @@
+use Rattle.std.proofs.Common.{◌≡◌, ◌==◌, cond, set, ◌+◌, ◌<◌, ◌^◌, ℕ, List, length, slice_index, subst, arith, sym, ◌∙◌, ap}
+use Rattle.std.proofs.lemmas.List.{get_or_default, length-set}
+use Rattle.lists.specs.Sums.{sum_below}
+use Rattle.occupancy.proofs.Numbers.{get_or-set_more, sum_below-more, le-sum_below}
+use Rattle.occupancy.proofs.counts.Counts.add_lines.Goals as goal
+
+pub overflow_add-index_mut : goal.overflow_add-index_mut
+overflow_add-index_mut c =
+    let xs : List ℕ = c.self.inside.each.items in
+    let within : c.args.rmid < length xs = subst (λ ys. c.args.rmid < length ys) (sym c.self.view_is) c.requires.rmid in
+    let value : c.index_mut.result.now ≡ slice_index xs c.args.rmid = c.index_mut.ensures.value ∙ get_or_default xs c.args.rmid c.index_mut.result.now 0 within in
+    let room : sum_below (length xs) (slice_index xs) + c.args.lines < 2 ^ 64 = subst (λ ys. sum_below (length ys) (slice_index ys) + c.args.lines < 2 ^ 64) (sym c.self.view_is) c.requires.room in
+    omega (arith, value, room, le-sum_below (length xs) c.args.rmid (slice_index xs) within)
+
+pub overflow_add-self : goal.overflow_add-self
+overflow_add-self c =
+    let xs : List ℕ = c.self.inside.each.items in
+    let room : sum_below (length xs) (slice_index xs) + c.args.lines < 2 ^ 64 = subst (λ ys. sum_below (length ys) (slice_index ys) + c.args.lines < 2 ^ 64) (sym c.self.view_is) c.requires.room in
+    omega (arith, c.self.invariant, room)
+
+pub invariant_of-self : goal.invariant_of-self
+invariant_of-self c =
+    let xs : List ℕ = c.self.inside.each.items in
+    let new : List ℕ = set xs c.args.rmid (c.index_mut.result.now + c.args.lines) in
+    let within : c.args.rmid < length xs = subst (λ ys. c.args.rmid < length ys) (sym c.self.view_is) c.requires.rmid in
+    let value : c.index_mut.result.now ≡ slice_index xs c.args.rmid = c.index_mut.ensures.value ∙ get_or_default xs c.args.rmid c.index_mut.result.now 0 within in
+    ap (λ n. n + c.args.lines) c.self.invariant
+    ∙ (sym (sum_below-more (length xs) c.args.rmid c.args.lines (slice_index xs) (slice_index new) within (λ r. get_or-set_more xs c.args.rmid r (c.index_mut.result.now + c.args.lines) c.args.lines within (ap (λ n. n + c.args.lines) value)))
+    ∙ ap (λ n. sum_below n (slice_index new)) (sym (length-set xs c.args.rmid (c.index_mut.result.now + c.args.lines))))
+
+pub returns-clause-more : goal.returns-clause-more
+returns-clause-more c r =
+    let xs : List ℕ = c.self.inside.each.items in
+    let within : c.args.rmid < length xs = subst (λ ys. c.args.rmid < length ys) (sym c.self.view_is) c.requires.rmid in
+    let value : c.index_mut.result.now ≡ slice_index xs c.args.rmid = c.index_mut.ensures.value ∙ get_or_default xs c.args.rmid c.index_mut.result.now 0 within in
+    get_or-set_more xs c.args.rmid r (c.index_mut.result.now + c.args.lines) c.args.lines within (ap (λ n. n + c.args.lines) value) ∙ ap (λ ys. slice_index ys r + cond (c.args.rmid == r) c.args.lines 0) c.self.view_is

@@ -1,0 +1,29 @@
+use Rattle.std.proofs.Common.{◌≡◌, ◌+◌, ◌*◌, ◌^◌, ap, arith, length, slice_index, subst, sym}
+use Rattle.machine.specs.Ranges.{InRange}
+use Rattle.machine.specs.Slices.{slice_count}
+use Rattle.run_law.proofs.GrownRooms.{HaveGrown-all, HaveGrown-next, HaveGrown-set}
+use Rattle.run_law.proofs.laws.AccessesAlone.{quotas_of-accesses}
+use Rattle.run_law.proofs.rooms.add_ops.Goals as goal
+use Rattle.run_law.specs.Quotas.{quota, quotas_of}
+
+pub returns-then-slice_count-eq1 : goal.returns-then-slice_count-eq1
+returns-then-slice_count-eq1 c =
+    let script = c.args.script.now in
+    let m = script.machine in
+    let ops = c.args.ops.now in
+    let rooms = c.args.rooms.now in
+    let one : slice_count m ≡ 1 = omega (arith, c.if-slice_count-eq1.true, c.slice_count.ensures.count, ap slice_count c.machine.ensures) in
+    let all : quotas_of m 0 ops ≡ length ops =
+    quotas_of-accesses m script.tasks 0 ops (subst InRange c.machine.ensures c.machine.result.now.in_range) one (omega (arith, one)) c.requires.fit (omega (arith, c.requires.commands, c.if-commands-eq0.true)) in
+    HaveGrown-set (λ i. quotas_of m i ops) (2 ^ 30) 0 (slice_index rooms 0 + length ops) rooms (omega (arith, c.requires.count, one)) (ap (λ n. slice_index rooms 0 + n) (sym all))
+    (omega (arith, all, c.requires.few)) (λ i within other. absurd (other (omega (arith, within, c.requires.count, one))))
+
+pub loop-op-preserved : goal.loop-op-preserved
+loop-op-preserved c =
+    HaveGrown-next (quota c.args.script.now.machine) c.args.ops.now c.loop-op.op-index 257 (257 * c.loop-op.op-index) (257 * (c.loop-op.op-index + 1)) c.op-item.result c.op-item.result c.args.rooms.now c.loop-op.rooms c.add_op.new.rooms
+    c.loop-op-test.true c.op-item.is (omega arith) c.loop-op.invariant c.add_op.ensures
+
+pub returns : goal.returns
+returns c =
+    HaveGrown-all (quota c.args.script.now.machine) c.args.ops.now c.loop-op.op-index (257 * c.loop-op.op-index) (2 ^ 30) c.args.rooms.now c.loop-op.rooms
+    (omega (arith, c.loop-op-test.false, c.loop-op.auto.op-index-end)) (omega (arith, c.requires.few, c.loop-op.auto.op-index-end)) c.loop-op.invariant

@@ -1,0 +1,128 @@
+//! The rooms of the journals: what all ops can make in each slice, and how many commands there are.
+ghost use Rattle.std.specs.Prelude.{◌≡◌, ◌<◌, ◌≤◌, ◌*◌, ◌^◌, All, IfOk, length};
+ghost use Rattle.machine.specs.Maps.{parameters_of};
+ghost use Rattle.machine.specs.Slices.{slice_count};
+ghost use Rattle.run_law.specs.Ops.{is_command};
+ghost use Rattle.run_law.specs.Quotas.{AreCounted, AreRooms, AreWithin, HaveGrown, command_count, commands_of, line_quota, quota, quotas_of};
+ghost use Rattle.script_ops.specs.Fits.{Fits};
+ghost use Rattle.script_ops.specs.declared.limits.TheConstants.{MOST_WEIGHT};
+ghost use Rattle.script_ops.specs.Values.{threads_of};
+
+use crate::quotas::common_quota;
+use machine::Machine;
+use rc_base::NoMemory;
+use script_ops::{Op, Script};
+use std::alloc::Global;
+
+// Adds so many to each room.
+fn add_to_each(rooms: &mut [u64], quota: u64)
+    requires small { AreWithin (2 ^ 63) rooms.old }
+    requires few { quota ≤ 257 }
+    ensures { HaveGrown (λ i. quota) 257 rooms.old rooms.new }
+{
+    if quota > 0 {
+        for i in 0..rooms.len() {
+            rooms[i] += quota;
+        }
+    }
+}
+
+// Adds one to the room of the slice of a line in the domain of a CPU, by the address of a byte of it.
+fn add_line(m: &Machine, cpu: u8, byte: u64, rooms: &mut [u64])
+    requires cpu { cpu < m.now.cpus }
+    requires count { length rooms.old ≡ slice_count (parameters_of m.now) }
+    requires small { AreWithin (2 ^ 63) rooms.old }
+    ensures { HaveGrown (λ i. line_quota (parameters_of m.now) i cpu byte) 257 rooms.old rooms.new }
+{
+    rooms[m.line_slice(m.domain_of(cpu), byte / 64)] += 1;
+}
+
+// Adds to each room the greatest number of entries that an op can make in its slice.
+fn add_op(script: &Script, op: &Op, rooms: &mut [u64])
+    requires fits { Fits script.now.machine script.now.tasks op.now }
+    requires count { length rooms.old ≡ slice_count script.now.machine }
+    requires small { AreWithin (2 ^ 63) rooms.old }
+    ensures { HaveGrown (λ i. quota script.now.machine i op.now) 257 rooms.old rooms.new }
+{
+    let m = script.machine();
+    match op {
+        Op::Access { cpu, addr, .. } => add_line(m, *cpu, *addr, rooms),
+        Op::Touch { cpu, offset, .. } => add_line(m, *cpu, *offset, rooms),
+        _ => add_to_each(rooms, u64::from(common_quota(m, op))),
+    }
+}
+
+// Adds to each room the greatest number of entries that these ops can make in its slice. So many of them are commands: where all
+// are accesses and there is one slice, each makes one.
+fn add_ops(script: &Script, ops: &[Op], commands: u64, rooms: &mut [u64])
+    requires fit { All (Fits script.now.machine script.now.tasks) ops.now }
+    requires few { length ops.now ≤ MOST_WEIGHT }
+    requires commands { commands ≡ commands_of ops.now }
+    requires count { length rooms.old ≡ slice_count script.now.machine }
+    requires small { AreWithin (2 ^ 62) rooms.old }
+    ensures { HaveGrown (λ i. quotas_of script.now.machine i ops.now) (2 ^ 30) rooms.old rooms.new }
+{
+    if commands == 0 && script.machine().slice_count() == 1 {
+        rooms[0] += ops.len() as u64;
+        return;
+    }
+    for op in ops {
+        add_op(script, op, rooms);
+    }
+}
+
+/// The rooms of all slices, in order: of each the greatest number of entries that all ops can make in it. `counts` says how many
+/// commands each thread has. NoMemory where there is no room for a number for each slice.
+pub fn slice_rooms(alloc: Global, script: &Script, counts: &[u64]) -> Result<Vec<u64>, NoMemory>
+    requires { AreCounted script.now (length (threads_of script.now)) counts.now }
+    ensures { IfOk result (λ rooms. AreRooms script.now rooms.items) }
+{
+    let mut rooms = vec![in alloc; 0; usize::from(script.machine().slice_count())]?;
+    for t in 0..script.threads() {
+        add_ops(script, script.ops(t), counts[t as usize], &mut rooms);
+    }
+    Ok(rooms)
+}
+
+// Whether an op is a command.
+fn takes_tree(op: &Op) -> bool
+    ensures { result ≡ is_command op.now }
+{
+    !matches!(op, Op::Access { .. })
+}
+
+/// How many of these ops are commands.
+pub fn count_commands(ops: &[Op]) -> u64
+    requires few { length ops.now ≤ MOST_WEIGHT }
+    ensures count { result ≡ commands_of ops.now }
+    ensures few { result ≤ MOST_WEIGHT }
+{
+    let mut count: u64 = 0;
+    for op in ops {
+        count += u64::from(takes_tree(op));
+    }
+    count
+}
+
+/// How many commands each thread has. NoMemory where there is no room for a number for each.
+pub fn command_counts(alloc: Global, script: &Script) -> Result<Vec<u64>, NoMemory>
+    ensures { IfOk result (λ counts. AreCounted script.now (length (threads_of script.now)) counts.items) }
+{
+    let mut counts = Vec::new(alloc);
+    for t in 0..script.threads() {
+        counts.push(count_commands(script.ops(t)))?;
+    }
+    Ok(counts)
+}
+
+/// The room of the tree's journal: how many commands a script has. `counts` says how many each thread has.
+pub fn command_room(script: &Script, counts: &[u64]) -> u64
+    requires { AreCounted script.now (length (threads_of script.now)) counts.now }
+    ensures { result ≡ command_count script.now }
+{
+    let mut room: u64 = 0;
+    for t in 0..script.threads() {
+        room += counts[t as usize];
+    }
+    room
+}

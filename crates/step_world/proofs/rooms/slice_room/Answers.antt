@@ -1,9 +1,0 @@
-use Rattle.std.proofs.Common.{arith}
-use Rattle.script_ops.specs.Values.{threads_of}
-use Rattle.step_world.proofs.RoomSums.{sum-all}
-use Rattle.step_world.proofs.rooms.slice_room.Goals as goal
-use Rattle.step_world.specs.Quotas.{quotas_of, room_of}
-
-pub returns : goal.returns
-unfolding room_of
-returns c = sum-all (quotas_of c.args.script.now.machine c.args.i) (threads_of c.args.script.now) c.loop-t.t c.loop-t.room (omega (arith, c.loop-t-test.false, c.loop-t.auto.t-end, c.threads-t-end.ensures.threads)) c.loop-t.invariant.sum
