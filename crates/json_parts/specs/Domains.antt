@@ -7,7 +7,7 @@ use Rattle.run_law.specs.Journals.{JournalsValue}
 use Rattle.script_ops.specs.Values.{ScriptValue}
 use Rattle.serde_json.specs.Data.{Data}
 
--- an RMID, where it has lines
+-- an RMID with its number of lines, where it has any
 abbrev pub rmid_value : ℕ → ℕ → List Data
 rmid_value rmid lines = if nat_lt 0 lines then object_of ((codes "lines", whole lines) ∷ (codes "rmid", whole rmid) ∷ []) ∷ [] else []
 
@@ -25,7 +25,7 @@ domain_of_counts domain places rmids valid =
     ∷ (codes "valid", whole valid)
     ∷ [])
 
--- the same at the end of a run
+-- a domain at the end of a run
 abbrev pub domain_value : ScriptValue → JournalsValue → ℕ → Data
 domain_value script j domain =
     domain_of_counts domain (script.machine.sets * script.machine.ways) (rmid_values script.machine.rmids (rmid_lines script j domain)) (valid_lines script j domain)

@@ -1,10 +1,11 @@
 -- Pieces of a report's text: some items of a list, and some members of an object.
+-- (For functions and proofs: no promise of the program stands on it.)
 use Rattle.std.specs.Prelude.{ℕ, Bool, true, List, [], ◌∷◌, ◌++◌}
 use Rattle.json.specs.Print.{quoted}
 use Rattle.serde_json.specs.Data.{Data}
 use Rattle.serde_json.specs.Written.{comma_if, compact_text}
 
--- items, with a comma before each but the first, and before that too where others stand before
+-- items, with a comma before each but the first; where others stand before them, the first has one too
 abbrev pub items_told : Bool → List Data → List ℕ
 items_told later [] = []
 items_told later (d ∷ ds) = comma_if later ++ compact_text d ++ items_told true ds

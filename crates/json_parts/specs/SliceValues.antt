@@ -23,6 +23,7 @@ slice_members m i entries =
     ∷ (codes "slice", whole (i % m.slices))
     ∷ []
 
+-- a slice by its number over all domains, as an object
 unfoldable pub slice_value : ScriptValue → JournalsValue → ℕ → Data
 slice_value script j i = object_of (slice_members script.machine i (slice_at j i))
 

@@ -11,7 +11,7 @@ use Rattle.run_law.specs.TreeHistory.{TreeEntryValue}
 use Rattle.script_ops.specs.Values.{ScriptValue}
 use Rattle.serde_json.specs.Data.{Data}
 
--- all accesses, and all commands
+-- the object of these numbers of commands and refused commands, and of these counts of accesses
 unfoldable pub total_of_counts : ℕ → ℕ → Counts → Data
 total_of_counts commands refused counts =
     object_of
@@ -22,7 +22,7 @@ total_of_counts commands refused counts =
     ∷ (codes "refused", whole refused)
     ∷ [])
 
--- the same of a run
+-- the total of a run
 abbrev pub total_value : ScriptValue → JournalsValue → Data
 total_value script j =
     total_of_counts (length j.tree) (count_by (λ (h : TreeEntryValue). is_refusal h.reply) j.tree) (counted_in is_access j (slice_count script.machine))

@@ -4,7 +4,7 @@ use Rattle.json_parts.specs.Values.{array_of, object_of, whole}
 use Rattle.run_law.specs.declared.window.Window.{Window}
 use Rattle.serde_json.specs.Data.{Data}
 
--- the members of a window after the first: what is counted in it, and where it is
+-- the members of a window after `accesses`, up to `from`
 abbrev pub more_members : Window → List (List ℕ × Data)
 more_members w =
     (codes "covered", whole w.covered)
@@ -13,11 +13,11 @@ more_members w =
     ∷ (codes "from", whole w.from)
     ∷ []
 
--- the first and these
+-- the members of a window up to `from`
 abbrev pub first_members : Window → List (List ℕ × Data)
 first_members w = (codes "accesses", whole w.accesses) ∷ more_members w
 
--- those after them
+-- the members of a window after `from`
 abbrev pub last_members : Window → List (List ℕ × Data)
 last_members w =
     (codes "gid", whole w.gid.0)
@@ -27,7 +27,7 @@ last_members w =
     ∷ (codes "ways", whole w.ways)
     ∷ []
 
--- a window: where it is, and what is counted in it
+-- a window as an object: where it is, and what is counted in it
 unfoldable pub window_value : Window → Data
 window_value w = object_of (first_members w ++ last_members w)
 

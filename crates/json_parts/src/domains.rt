@@ -105,7 +105,6 @@ fn push_items(
 }
 
 /// Adds the domains with the lines that are in their slices at the end of the run, after a comma where something stands before.
-/// NoMemory where the system is out of memory.
 pub fn push_domains(
     alloc: Global,
     report: &mut ReportText,

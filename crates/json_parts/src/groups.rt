@@ -29,7 +29,7 @@ fn push_path(
     push_text(report, "path", &text.into_bytes())
 }
 
-/// Adds the value of a control group with this gid, this path and these counts. NoMemory where the system is out of memory.
+/// Adds the value of a control group with this gid, this path and these counts.
 #[tactic(auto, unfolding(crate::specs::GroupValues::group_of_counts))]
 pub fn push_group(
     alloc: Global,

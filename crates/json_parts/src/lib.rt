@@ -1,5 +1,6 @@
-//! The parts of a JSON report that need no tree: keys, strings and numbers, the texts of a command, and the values of groups, domains, slices,
-//! windows and the total.
+//! The parts of a JSON report that need no tree: keys, strings and numbers, the texts of a command, and the values of groups,
+//! domains, slices, windows and the total. A call that runs out of memory answers NoMemory, and then the report is not to be
+//! used.
 #![tactic(auto)]
 
 mod domains;

@@ -12,7 +12,7 @@ use report_pieces::ReportText;
 use serde_json::Value;
 use std::alloc::Global;
 
-/// Adds a comma, where something stands before. NoMemory where the system is out of memory.
+/// Adds a comma, where something stands before.
 pub fn push_comma(report: &mut ReportText, later: bool) -> Result<(), NoMemory>
     ensures { OnOk result (report.new ≡ report.old ++ comma_if later) }
 {
@@ -23,7 +23,7 @@ pub fn push_comma(report: &mut ReportText, later: bool) -> Result<(), NoMemory>
     }
 }
 
-/// Adds a key with its colon, after a comma where something stands before. NoMemory where the system is out of memory.
+/// Adds a key with its colon, after a comma where something stands before.
 pub fn push_key(report: &mut ReportText, later: bool, key: &str) -> Result<(), NoMemory>
     ensures { OnOk result (report.new ≡ report.old ++ key_told later key.now) }
 {
@@ -32,7 +32,7 @@ pub fn push_key(report: &mut ReportText, later: bool, key: &str) -> Result<(), N
     report.push(b":".as_slice())
 }
 
-/// Adds a member that is a number, after a comma where something stands before. NoMemory where the system is out of memory.
+/// Adds a member that is a number, after a comma where something stands before.
 pub fn push_number(report: &mut ReportText, later: bool, key: &str, n: u64) -> Result<(), NoMemory>
     ensures { OnOk result (report.new ≡ report.old ++ members_told later ((key.now, whole n) ∷ [])) }
 {

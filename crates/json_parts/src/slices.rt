@@ -133,7 +133,7 @@ fn push_list(report: &mut ReportText, script: &Script, journals: &Journals) -> R
     report.push(b"]".as_slice())
 }
 
-/// Adds the entries of the slices, each as its line of the text report, where they are asked for. NoMemory where the system is out of memory.
+/// Adds the entries of the slices, each as its line of the text report, where they are asked for.
 pub fn push_journal_part(
     report: &mut ReportText,
     asked: bool,

@@ -31,7 +31,7 @@ fn push_lines(report: &mut ReportText, text: &[u8]) -> Result<(), NoMemory>
     Ok(())
 }
 
-/// Adds the member that is the lines of a text, after others. NoMemory where the system is out of memory.
+/// Adds the member that is the lines of a text, after others.
 pub fn push_text_lines(report: &mut ReportText, text: &[u8]) -> Result<(), NoMemory>
     ensures { OnOk result (report.new ≡ report.old ++ members_told true ((codes "text", array_of (map string (lines text.now))) ∷ [])) }
 {
@@ -41,8 +41,7 @@ pub fn push_text_lines(report: &mut ReportText, text: &[u8]) -> Result<(), NoMem
     report.push(b"]".as_slice())
 }
 
-/// Adds the member that is the result of a command, after others: ok, its error, or what its touch of the cache was.
-/// NoMemory where the system is out of memory.
+/// Adds the member that is the result of a command, after others: `ok` or its error, and for an accepted touch whether it hit.
 pub fn push_result_text(
     alloc: Global,
     report: &mut ReportText,
@@ -59,7 +58,7 @@ pub fn push_result_text(
     push_text(report, "result", &text.into_bytes())
 }
 
-/// Adds the member that is the words of a command, after others. NoMemory where the system is out of memory.
+/// Adds the member that is the words of a command, after others.
 pub fn push_words_text(
     alloc: Global,
     report: &mut ReportText,

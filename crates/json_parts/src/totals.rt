@@ -46,7 +46,7 @@ fn push_counts(
     push_value(alloc, report, &value)
 }
 
-/// Adds the total: all accesses as they were tallied, and all commands. NoMemory where the system is out of memory.
+/// Adds the total: all accesses as they were tallied, and all commands.
 pub fn push_total(
     alloc: Global,
     report: &mut ReportText,

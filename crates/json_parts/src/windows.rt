@@ -11,7 +11,7 @@ use rc_base::NoMemory;
 use report_pieces::ReportText;
 use run_law::Window;
 
-// Adds what is counted in a window that a private cache of its ways answers for, and where the window is.
+// Adds the members of a window up to `from`.
 fn push_first_members(report: &mut ReportText, window: &Window) -> Result<(), NoMemory>
     ensures { OnOk result (report.new ≡ report.old ++ members_told false (first_members window.now)) }
 {
@@ -22,7 +22,7 @@ fn push_first_members(report: &mut ReportText, window: &Window) -> Result<(), No
     push_number(report, true, "from", u64::from(window.from))
 }
 
-// Adds the members of a window after those.
+// Adds the members of a window after `from`.
 fn push_last_members(report: &mut ReportText, window: &Window) -> Result<(), NoMemory>
     ensures { OnOk result (report.new ≡ report.old ++ members_told true (last_members window.now)) }
 {
@@ -63,7 +63,7 @@ fn push_list(report: &mut ReportText, windows: &[Window]) -> Result<(), NoMemory
     report.push(b"]".as_slice())
 }
 
-/// Adds the windows of isolation, where they are asked for. NoMemory where the system is out of memory.
+/// Adds the windows of isolation, where they are asked for.
 pub fn push_windows_part(
     report: &mut ReportText,
     asked: bool,

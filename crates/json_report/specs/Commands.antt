@@ -26,6 +26,7 @@ command_members script j s position h =
     ∷ (codes "words", string (words_of script h))
     ∷ [])
 
+-- the command at a position, in the state before it, as an object
 unfoldable pub command_value : ScriptValue → JournalsValue → State → ℕ → TreeEntryValue → Data
 command_value script j s position h = object_of (command_members script j s position h)
 

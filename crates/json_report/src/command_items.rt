@@ -17,7 +17,7 @@ use run_replay::{Replay, push_given};
 use script_ops::Script;
 use std::alloc::Global;
 
-// Adds the lines of what a command gave, where it was an accepted read or list. What was in the file before is gone.
+// Adds the lines of what a command gave, where it was an accepted read or list. What `file` held before is gone.
 fn push_given_lines(
     report: &mut ReportText,
     replay: &Replay,
@@ -39,7 +39,7 @@ fn push_given_lines(
     push_text_lines(report, file.bytes())
 }
 
-/// Adds the value of the command at a position. What was in the file before is gone.
+/// Adds the value of the command at a position. What `file` held before is gone.
 pub(crate) fn push_command(
     alloc: Global,
     report: &mut ReportText,

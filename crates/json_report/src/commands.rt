@@ -18,7 +18,7 @@ use run_replay::{Made, begin, end, made_groups, take_next};
 use script_ops::Script;
 use std::alloc::Global;
 
-// Adds the commands. The control groups that they made.
+// Adds the commands, and returns the control groups that they made.
 fn push_items(
     alloc: Global,
     report: &mut ReportText,
@@ -45,7 +45,7 @@ fn push_items(
     Ok(end(replay, script, journals))
 }
 
-// Adds the member that is the list of commands, before all others. The control groups that they made.
+// Adds the member that is the list of commands, before all others, and returns the control groups that they made.
 fn push_list(
     alloc: Global,
     report: &mut ReportText,
@@ -64,7 +64,7 @@ fn push_list(
     Ok(made)
 }
 
-/// Adds the commands, but not to a quiet report. The control groups that they made.
+/// Adds the commands, but not to a quiet report, and returns the control groups that they made.
 pub(crate) fn push_commands_part(
     alloc: Global,
     report: &mut ReportText,

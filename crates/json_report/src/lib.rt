@@ -1,4 +1,4 @@
-//! The JSON report of a run.
+//! The JSON report of a run. A call that runs out of memory answers NoMemory.
 #![tactic(auto)]
 
 mod command_items;

@@ -40,7 +40,7 @@ fn push_report(
 /// those of every object in it, are in byte order. It says what the text report says: the commands, unless it is to be quiet;
 /// the entries of each slice, where the flags ask for the journal; these windows, where they ask for windows; the groups, the
 /// domains and the total. Every number is counted from the journals, and every string has the bytes of the text report, those
-/// below 32, quotes and backslashes escaped. The flag `json` changes nothing here. NoMemory where the system is out of memory.
+/// below 32, quotes and backslashes escaped. The flag `json` changes nothing here.
 pub fn text(
     alloc: Global,
     script: &Script,

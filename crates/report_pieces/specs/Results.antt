@@ -16,21 +16,21 @@ abbrev pub hit_text : Option Bool → List ℕ
 hit_text None = []
 hit_text (Some hit) = if hit then codes " hit" else codes " miss"
 
--- the result of an op: the reply, and after that of an accepted touch what its access was
+-- the result of an op: its reply, and for an accepted touch whether its access hit
 abbrev pub result_text : JournalsValue → ℕ → ℕ → Op → Reply → List ℕ
 result_text j thread number (ops.Touch cpu path task offset) replies.Ok = codes "ok" ++ hit_text (first_hit (accesses_by j thread number))
 result_text j thread number op reply = reply_text reply
 
--- the same of an entry, by its op
+-- the result of an entry, by its op, where the op is there
 abbrev pub result_by : JournalsValue → TreeEntryValue → Option Op → List ℕ
 result_by j h None = reply_text h.reply
 result_by j h (Some op) = result_text j h.thread h.op op h.reply
 
--- the reply, and after that of an accepted touch what its access was
+-- the result of an entry: its reply, and for an accepted touch whether its access hit
 abbrev pub result_of : ScriptValue → JournalsValue → TreeEntryValue → List ℕ
 result_of script j h = result_by j h (op_at script h.thread h.op)
 
--- the canonical text of an op that is there
+-- the canonical text of an op, where it is there
 abbrev pub words_by : List (List ℕ) → Option Op → List ℕ
 words_by names None = []
 words_by names (Some op) = op_text names op

@@ -17,7 +17,7 @@ use std::marker::Model;
 // The most hexadecimal digits of a number below 2^64.
 const MOST_DIGITS: usize = 16;
 
-/// The text of a report under construction. Contracts see its bytes. After an error the text is not to be used.
+/// The text of a report under construction. Contracts see its bytes.
 #[derive(Drop)]
 pub struct ReportText {
     text: GrowingText,
@@ -35,7 +35,7 @@ impl Model for ReportText {
 }
 
 impl ReportText {
-    /// An empty text. NoMemory where the system is out of memory.
+    /// An empty text.
     pub fn create(alloc: Global) -> Result<ReportText, NoMemory>
         ensures { IfOk result (λ r. r ≡ []) }
     {
@@ -44,21 +44,21 @@ impl ReportText {
         Ok(ReportText { text, digits })
     }
 
-    /// Adds these bytes. NoMemory where the system is out of memory.
+    /// Adds these bytes.
     pub fn push(&mut self, piece: &[u8]) -> Result<(), NoMemory>
         ensures { OnOk result (self.new ≡ self.old ++ piece.now) }
     {
         self.text.push(piece)
     }
 
-    /// Adds a number in decimal. NoMemory where the system is out of memory.
+    /// Adds a number in decimal.
     pub fn push_decimal(&mut self, n: u64) -> Result<(), NoMemory>
         ensures { OnOk result (self.new ≡ self.old ++ decimal n) }
     {
         self.text.push_decimal(n)
     }
 
-    /// Adds a number in decimal after a word. NoMemory where the system is out of memory.
+    /// Adds a number in decimal after a word.
     pub fn push_number(&mut self, word: &[u8], n: u64) -> Result<(), NoMemory>
         ensures { OnOk result (self.new ≡ self.old ++ (word.now ++ decimal n)) }
     {
@@ -66,7 +66,7 @@ impl ReportText {
         self.push_decimal(n)
     }
 
-    /// Adds a number in hexadecimal, of so many digits at least. NoMemory where the system is out of memory.
+    /// Adds a number in hexadecimal, of so many digits at least.
     pub fn push_hexadecimal(&mut self, n: u64, width: u8) -> Result<(), NoMemory>
         requires { width ≤ 16 }
         ensures { OnOk result (self.new ≡ self.old ++ hexadecimal width n) }
@@ -98,7 +98,7 @@ impl ReportText {
         self.push(wording.after.as_bytes())
     }
 
-    /// Adds a reply. NoMemory where the system is out of memory.
+    /// Adds a reply.
     pub fn push_reply(&mut self, reply: Reply) -> Result<(), NoMemory>
         ensures { OnOk result (self.new ≡ self.old ++ reply_text reply) }
     {
@@ -112,7 +112,7 @@ impl ReportText {
         }
     }
 
-    /// Adds the canonical text of a path. NoMemory where the system is out of memory.
+    /// Adds the canonical text of a path.
     pub fn push_path(&mut self, names: &Names, path: PathRef) -> Result<(), NoMemory>
         requires { AreKnown (length names.now) (path_ids path) }
         ensures { OnOk result (self.new ≡ self.old ++ path_text names.now path) }
@@ -120,7 +120,7 @@ impl ReportText {
         self.text.push_path(names, path)
     }
 
-    /// Adds the canonical text of an op. NoMemory where the system is out of memory.
+    /// Adds the canonical text of an op.
     pub fn push_op(&mut self, op: &Op, names: &Names) -> Result<(), NoMemory>
         requires { AreKnown (length names.now) (op_ids op.now) }
         ensures { OnOk result (self.new ≡ self.old ++ op_text names.now op.now) }
@@ -128,7 +128,7 @@ impl ReportText {
         self.text.push_op(names, op)
     }
 
-    /// Adds each line of a text after a bar. NoMemory where the system is out of memory.
+    /// Adds each line of a text after a bar.
     pub fn push_barred(&mut self, file: &[u8]) -> Result<(), NoMemory>
         ensures { OnOk result (self.new ≡ self.old ++ barred file.now) }
     {

@@ -147,7 +147,7 @@ pub fn push_entry_text(
     push_what(report, machine, &entry.what)
 }
 
-/// Adds the line of an entry at a position. NoMemory where the system is out of memory.
+/// Adds the line of an entry at a position.
 #[tactic(auto, unfolding(crate::specs::EntryTexts::entry_line))]
 pub fn push_entry_line(
     report: &mut ReportText,
@@ -162,8 +162,7 @@ pub fn push_entry_line(
     report.push(b"\n".as_slice())
 }
 
-/// Adds the line of an entry at a position to bytes that are no report (this project's profile). Nothing is added where it is
-/// out of memory.
+/// Adds the line of an entry at a position to bytes that are no report (this project's profile). NoMemory adds nothing here.
 pub fn push_entry(
     alloc: Global,
     position: u32,

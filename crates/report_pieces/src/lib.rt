@@ -1,4 +1,5 @@
-//! The text of a report under construction, and the pieces that each form of report has.
+//! The text of a report under construction, and the pieces that each form of report has. A call that runs out of memory answers
+//! NoMemory, and then the text that it was adding to is not to be used.
 #![tactic(auto)]
 
 mod buffer;

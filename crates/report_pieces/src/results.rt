@@ -10,7 +10,7 @@ use run_counts::is_accepted_touch;
 use run_law::{Journals, TreeEntry};
 use script_ops::{Op, Script};
 
-// Adds what an access was.
+// Adds whether an access hit.
 fn push_hit(report: &mut ReportText, hit: Option<bool>) -> Result<(), NoMemory>
     ensures { OnOk result (report.new ≡ report.old ++ hit_text hit) }
 {
@@ -40,7 +40,7 @@ fn push_result_text(
     }
 }
 
-/// Adds the canonical text of the op of an entry. NoMemory where the system is out of memory.
+/// Adds the canonical text of the op of an entry.
 pub fn push_words(
     report: &mut ReportText,
     script: &Script,
@@ -54,8 +54,8 @@ pub fn push_words(
     }
 }
 
-/// Adds the result of the op of an entry: `ok`, or the error's name and the reason's text; after an accepted touch `ok hit` or
-/// `ok miss`, by what its access was. NoMemory where the system is out of memory.
+/// Adds the result of the op of an entry: `ok`, or the error's name and the reason's text; for an accepted touch `ok hit` or
+/// `ok miss`, by its access.
 pub fn push_result(
     report: &mut ReportText,
     script: &Script,

@@ -29,7 +29,7 @@ fn push_place(report: &mut ReportText, k: u64, entry: &TreeEntry) -> Result<(), 
     report.push(b" ".as_slice())
 }
 
-// Adds the lines of what a command gave, where it was an accepted read or list. What was in the file before is gone.
+// Adds the lines of what a command gave, where it was an accepted read or list. What `file` held before is gone.
 fn push_given_lines(
     report: &mut ReportText,
     replay: &Replay,
@@ -51,7 +51,7 @@ fn push_given_lines(
     report.push_barred(file.bytes())
 }
 
-// Adds the line of the command at a position, with what it gave. What was in the file before is gone.
+// Adds the line of the command at a position, with what it gave. What `file` held before is gone.
 fn push_command(
     report: &mut ReportText,
     replay: &Replay,
@@ -78,7 +78,7 @@ fn push_command(
     push_given_lines(report, replay, script, entry, file)
 }
 
-/// Adds the lines of the commands, with what they gave. The control groups that they made.
+/// Adds the lines of the commands, with what they gave, and returns the control groups that they made.
 pub(crate) fn push_commands(
     alloc: Global,
     report: &mut ReportText,

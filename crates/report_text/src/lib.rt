@@ -1,4 +1,4 @@
-//! The text report of a run.
+//! The text report of a run. A call that runs out of memory answers NoMemory.
 #![tactic(auto)]
 
 mod commands;

@@ -17,7 +17,7 @@ use script_ops::Script;
 use std::alloc::Global;
 use text_parts::{push_domains, push_journal, push_total, push_windows};
 
-// Adds the lines of the commands, but not of a quiet report. The control groups that they made.
+// Adds the lines of the commands, but not to a quiet report, and returns the control groups that they made.
 fn push_commands_part(
     alloc: Global,
     report: &mut ReportText,
@@ -60,7 +60,7 @@ fn push_report(
 /// The report of a run (this project's profile): a line for each command, with what an accepted read gave, unless it is to be
 /// quiet; a line for each entry of each slice, where the flags ask for the journal; a line for each of these windows, where they
 /// ask for windows; a line for each control group and for each domain, and a last line. Every number is counted from the
-/// journals. The flag `json` changes nothing here. NoMemory where the system is out of memory.
+/// journals. The flag `json` changes nothing here.
 pub fn text(
     alloc: Global,
     script: &Script,

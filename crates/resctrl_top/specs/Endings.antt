@@ -16,12 +16,13 @@ use Rattle.run_law.specs.Journals.{JournalsValue}
 use Rattle.script_ops.specs.Values.{ScriptValue}
 use Rattle.step_world.specs.Play.{IsPlay}
 
--- a call as it is seen from outside: the form that its words are, what became of its source, and what of its sink
+-- a call as it is seen from outside: the form of its words, and its source and its sink before and after
 pub record Call : Type 0 where
   pub form : Option Form
   pub source : Reading
   pub sink : Writing
 
+-- the call with this form, this source and this sink
 abbrev pub call_of : Option Form → Reading → Writing → Call
 call_of form source sink = record { form = form; source = source; sink = sink }
 
@@ -47,8 +48,8 @@ pub record IsPromised (command : Command) (script : ScriptValue) (run : Journals
   pub holds : HoldsRegions script run
   pub begins_windows : BeginsLockWindows script run
 
--- The bytes that the form plays are a script, the journals are those of its play, and the sink took this of their report. Of the
--- source nothing is left where it was read, and else all that there was.
+-- The bytes that the form plays are a script, the journals are those of its play, and the sink took their report, all of it or a
+-- beginning. A source that was read has nothing left, and one that was not has all that it had.
 pub record IsPlayed (c : Call) (journals : Option JournalsValue) (Takes : Writing → List ℕ → Type 0) : Type 0 where
   pub form : Form
   pub bytes : List ℕ
@@ -64,8 +65,8 @@ pub record IsPlayed (c : Call) (journals : Option JournalsValue) (Takes : Writin
   pub output : IsOutput script run form.flags text
   pub report : Takes c.sink text
 
--- The bytes that the source had are no script, there are no journals, and the sink took this of the line of the refusal. Of the
--- source nothing is left, and what follows the first bytes where there were too many.
+-- The bytes that the source had are no script, there are no journals, and the sink took the line of the refusal, all of it or a
+-- beginning. The source has nothing left, or, where its bytes were too many, the rest.
 pub record IsRefused (c : Call) (journals : Option JournalsValue) (Takes : Writing → List ℕ → Type 0) : Type 0 where
   pub form : Form
   pub bytes : List ℕ
@@ -78,21 +79,22 @@ pub record IsRefused (c : Call) (journals : Option JournalsValue) (Takes : Writi
   pub no_run : journals ≡ None
   pub line : Takes c.sink (refusal_line refusal)
 
--- The words are no form, the source has left what it had, there are no journals, and the sink took this of the usage line.
+-- The command line is not valid, the source has all that it had, there are no journals, and the sink took the usage line, all of
+-- it or a beginning.
 pub record IsUsage (c : Call) (journals : Option JournalsValue) (Takes : Writing → List ℕ → Type 0) : Type 0 where
   pub no_form : c.form ≡ None
   pub leaves : c.source.left_now ≡ c.source.left
   pub no_run : journals ≡ None
   pub line : Takes c.sink usage_line
 
--- The words have the source read, it failed, there are no journals, and the sink took nothing.
+-- The command line has the source read, the source failed, there are no journals, and the sink took nothing.
 pub record IsReadFault (c : Call) (journals : Option JournalsValue) : Type 0 where
   pub reads : reads_source c.form ≡ true
   pub fault : c.source.faults < c.source.faults_now
   pub no_run : journals ≡ None
   pub nothing : TakesNone c.sink
 
--- The words are a form, memory was not found, there are no journals, and the sink took nothing.
+-- The command line is valid, memory ran out, there are no journals, and the sink took nothing.
 pub record IsNoMemory (c : Call) (journals : Option JournalsValue) : Type 0 where
   pub form : Form
   pub has_form : c.form ≡ Some form
@@ -108,13 +110,13 @@ Ends c ReadFault journals = IsReadFault c journals
 Ends c WriteFault journals = ReadsWell c × (IsPlayed c journals TakesSome ⊎ (IsRefused c journals TakesSome ⊎ IsUsage c journals TakesSome))
 Ends c NoMemory journals = ReadsWell c × IsNoMemory c journals
 
--- the status that is due to a script, or to other bytes, unless memory is not found
+-- the status that bytes call for: Done for a script, Refused for others, or NoMemory
 abbrev pub IsDue : Result ScriptValue Refusal → Status → Type 0
 IsDue (Ok script) status = (status ≡ Done) ⊎ (status ≡ NoMemory)
 IsDue (Err refusal) status = (status ≡ Refused) ⊎ (status ≡ NoMemory)
 
--- Which status comes where nothing fails: of words that are a form, the one that is due to the bytes that it plays; of a form that
--- reads no source, `Done` unless memory is not found; of other words `Usage`, whatever becomes of the source.
+-- The status when nothing fails: a form gets the status that its bytes call for; `gen` gets Done or NoMemory; any other command
+-- line gets Usage, whatever becomes of the source.
 pub record IsComplete (c : Call) (status : Status) : Type 0 where
   pub by_bytes : (form : Form) (bytes : List ℕ) → c.form ≡ Some form → input_of form c.source.left ≡ Some bytes → ReadsWell c → WritesWell c → IsDue (meaning bytes) status
   pub by_number : (form : Form) → c.form ≡ Some form → is_of_source form.command ≡ false → WritesWell c → (status ≡ Done) ⊎ (status ≡ NoMemory)
@@ -126,7 +128,7 @@ pub record IsComplete (c : Call) (status : Status) : Type 0 where
 abbrev pub Says : Status → Option JournalsValue → List ℕ → Writing → Status → Option JournalsValue → Type 0
 Says said told text sink status journals = (journals ≡ told) × (((status ≡ said) × TakesAll sink text) ⊎ ((status ≡ WriteFault) × TakesSome sink text))
 
--- memory was not found, and the sink was not called
+-- memory ran out, and the sink took nothing
 abbrev pub SaysNothing : Writing → Status → Option JournalsValue → Type 0
 SaysNothing sink status journals = (journals ≡ None) × (status ≡ NoMemory) × TakesNone sink
 

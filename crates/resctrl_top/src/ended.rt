@@ -11,13 +11,13 @@ pub enum Status {
     Done,
     /// The bytes are no script; the sink took the line that says so, and holds none of it back.
     Refused,
-    /// The words are no form; the sink took the usage line, and holds none of it back.
+    /// The command line is not valid; the sink took the usage line, and holds none of it back.
     Usage,
     /// The source failed; nothing was written.
     ReadFault,
     /// The sink failed, and took a beginning of what was due.
     WriteFault,
-    /// Memory was not found; nothing was written.
+    /// Memory ran out; nothing was written.
     NoMemory,
 }
 
@@ -35,7 +35,7 @@ impl Status {
 pub struct Ended {
     /// How it ended.
     pub status: Status,
-    /// The journals of the run, and None where nothing was played or memory was not found.
+    /// The journals of the run, and None where nothing was played or memory ran out.
     pub journals: Option<Journals>,
 }
 

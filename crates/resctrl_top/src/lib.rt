@@ -1,4 +1,5 @@
-//! The top call: reads or makes a script, plays it and writes its report.
+//! The top call: reads or makes a script, plays it and writes its report. A call that runs out of memory answers NoMemory, and
+//! writes nothing.
 #![tactic(auto)]
 
 pub mod ended;

@@ -46,7 +46,7 @@ fn text_of(
     }
 }
 
-/// The report of a run, with the windows that are due. NoMemory where the system is out of memory.
+/// The report of a run, with the windows that are due.
 pub(crate) fn report(
     alloc: Global,
     script: &Script,

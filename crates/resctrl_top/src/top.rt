@@ -112,12 +112,12 @@ fn obey<S: Source, K: Sink>(alloc: Global, form: Form, source: &mut S, sink: &mu
 
 /// Plays a script, writes its report to the sink and flushes it. The words are those after the program's name: `step` plays the
 /// script that the source holds, `gen N` the one that the generator makes of the number, and the flags say what the report holds.
-/// Where the words are no form, the sink gets the usage line. Only `step` calls the source, and takes it to its end, or to the
-/// byte that passes the greatest script.
+/// Where the command line is not valid, the sink gets the usage line. Only `step` calls the source, and reads it to its end, or
+/// until it has one byte more than a script may have.
 ///
-/// What the answer says of the call is told by its status, which comes as `Ends` and `IsComplete` say: `Done` with the
-/// journals of the run, `Refused` with the first bad line, `ReadFault` and `WriteFault` only where the source or the sink
-/// failed, and `NoMemory` where memory was not found.
+/// The status says how the call ended, as `Ends` and `IsComplete` have it: `Done` with the journals of the run, `Refused` with
+/// the first bad line, `ReadFault` and `WriteFault` only where the source or the sink failed, and `NoMemory` where memory ran
+/// out.
 pub fn top_step<S: Source, K: Sink>(
     alloc: Global,
     words: &[String],

@@ -7,7 +7,7 @@ use Rattle.run_law.specs.Journals.{JournalsValue, slice_at}
 use Rattle.run_law.specs.Slices.{shape_in}
 use Rattle.script_ops.specs.Values.{ScriptValue}
 
--- a number of lines over the slices of a domain
+-- the sum of this number over the slices of a domain
 abbrev pub over_slices : ScriptValue → ℕ → (ℕ → ℕ) → ℕ
 over_slices script domain f = sum_below script.machine.slices (λ slice. f (slice_number script.machine domain slice))
 

@@ -1,4 +1,5 @@
 -- The lines of each RMID in slices, while their entries are counted from the last one back.
+-- (For functions and proofs: no promise of the program stands on it.)
 use Rattle.std.specs.Prelude.{◌≡◌, ℕ, ◌+◌, ◌<◌, ◌≤◌, Bool, not, ◌==◌, ◌&&◌, ◌||◌, if◌then◌else◌, List, length, Option, Some, None, is_some, option_and_then, slice_index}
 use Rattle.std.specs.Option.{option_or}
 use Rattle.cbm.specs.Masks.{has_way}
@@ -40,28 +41,28 @@ pub record SkipsPlace (old new : OccupancyValue) (set way : ℕ) : Type 0 where
   pub counts : new.counts ≡ old.counts
   pub valid : new.valid ≡ old.valid
 
--- each count is at most this
+-- each count is at most `most`
 pub record IsAtMost (most : ℕ) (o : OccupancyValue) : Type 0 where
   pub counts : (r : ℕ) → lines_told o r ≤ most
   pub valid : o.valid ≤ most
 
--- Since then the lines of a slice were counted: those that its places hold.
+-- The lines of one slice, those that its places hold, were counted since `base`.
 pub record HasCounted (m : Shape) (base : OccupancyValue) (holds : ℕ → ℕ → Option Resident) (now : OccupancyValue) : Type 0 where
   pub sets : length now.seen ≡ m.sets
   pub rmids : length now.counts ≡ length base.counts
   pub counts : (r : ℕ) → r < length base.counts → lines_told now r ≡ lines_told base r + places_with m (is_of r) holds
   pub valid : now.valid ≡ base.valid + places_with m (λ o. is_some o) holds
 
--- what each place holds where it was decided what the place holds, a line or none; an undecided place holds none
+-- what each place holds, as far as that was decided; an undecided place holds no line
 abbrev pub held_in : (ℕ → ℕ → Option (Option Resident)) → ℕ → ℕ → Option Resident
 held_in places set way = option_and_then (λ (o : Option Resident). o) (places set way)
 
--- Since then the lines of a slice were counted, and the places that were decided are those that are done with.
+-- The lines of one slice were counted since `base`, and the places that are done with are those that were decided.
 pub record HasDecided (m : Shape) (base : OccupancyValue) (places : ℕ → ℕ → Option (Option Resident)) (now : OccupancyValue) : Type 0 where
   pub counted : HasCounted m base (held_in places) now
   pub seen : (set way : ℕ) → IsOwn m set → way < m.ways → is_seen now set way ≡ is_some (places set way)
 
--- the places that pass a test are decided besides, where they were not, and hold this
+-- the places that pass a test are decided too, where they were not, and hold this
 abbrev pub with_left : (ℕ → ℕ → Bool) → (ℕ → ℕ → Option Resident) → (ℕ → ℕ → Option (Option Resident)) → ℕ → ℕ → Option (Option Resident)
 with_left test left places set way = option_or (places set way) (if test set way then Some (left set way) else None)
 
@@ -69,13 +70,13 @@ with_left test left places set way = option_or (places set way) (if test set way
 abbrev pub AreOf : ℕ → (ℕ → ℕ → Resident) → Type 0
 AreOf rmid lines = (set way : ℕ) → (lines set way).rmid ≡ rmid
 
--- Whatever was counted before, the places of a slice that pass a test were counted besides, for this RMID.
+-- Whatever was counted before, the places of a slice that pass a test were counted too, for this RMID.
 abbrev pub AddsPlaces : Shape → OccupancyValue → OccupancyValue → ℕ → (ℕ → ℕ → Bool) → Type 0
 AddsPlaces m old new rmid test =
     (base : OccupancyValue) (places : ℕ → ℕ → Option (Option Resident)) (lines : ℕ → ℕ → Resident)
     → AreOf rmid lines → HasDecided m base places old → HasDecided m base (with_left test (λ s w. Some (lines s w)) places) new
 
--- Whatever was counted before, the places of a slice that pass a test are done with besides, and hold no line.
+-- Whatever was counted before, the places of a slice that pass a test are done with too, and hold no line.
 abbrev pub SkipsPlaces : Shape → OccupancyValue → OccupancyValue → (ℕ → ℕ → Bool) → Type 0
 SkipsPlaces m old new test =
     (base : OccupancyValue) (places : ℕ → ℕ → Option (Option Resident)) → HasDecided m base places old → HasDecided m base (with_left test (λ s w. None) places) new

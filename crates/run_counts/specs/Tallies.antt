@@ -27,7 +27,7 @@ nothing = record { accesses = 0; hits = 0; misses = 0 }
 abbrev pub at : TallyValue → ℕ → Counts
 at t gid = unwrap_or (lookup (nat_eq gid) t.groups) nothing
 
--- counts together
+-- the sums of counts
 abbrev pub added : Counts → Counts → Counts
 added c d = record { accesses = c.accesses + d.accesses; hits = c.hits + d.hits; misses = c.misses + d.misses }
 
@@ -35,7 +35,7 @@ added c d = record { accesses = c.accesses + d.accesses; hits = c.hits + d.hits;
 abbrev pub at_with : TallyValue → StreakValue → ℕ → Counts
 at_with t s gid = if s.gid == gid then added (at t gid) s.counts else at t gid
 
--- those of all groups
+-- the counts of all groups, with the accesses of such a streak
 abbrev pub all_with : TallyValue → StreakValue → Counts
 all_with t s = added t.all s.counts
 
@@ -64,13 +64,13 @@ counted_in p j slices = record {
   misses = sum_below slices (λ i. count_by (λ (e : SliceEntry). p e.what && not (is_hit e.what)) (slice_at j i));
 }
 
--- counts that are each at most this
+-- each of these counts is at most `most`
 pub record AreAtMost (most : ℕ) (c : Counts) : Type 0 where
   pub accesses : c.accesses ≤ most
   pub hits : c.hits ≤ most
   pub misses : c.misses ≤ most
 
--- all counts of a tally and a streak are
+-- all counts of a tally with a streak are at most `most`
 pub record IsFewWith (most : ℕ) (t : TallyValue) (s : StreakValue) : Type 0 where
   pub groups : (gid : ℕ) → AreAtMost most (at_with t s gid)
   pub all : AreAtMost most (all_with t s)

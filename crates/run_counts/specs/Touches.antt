@@ -26,7 +26,7 @@ first_hit (e ∷ es) = Some (is_hit e.what)
 abbrev pub is_access_by : TreeEntryValue → SliceEntry → Bool
 is_access_by h e = is_made_by h.thread h.op e && is_access e.what
 
--- the same, of the command at this position of the tree's history: the entry has the epoch after it
+-- whether an entry is the touch of the command at this position of the tree's history, and so has the epoch after it
 abbrev pub is_touch_of : ℕ → TreeEntryValue → SliceEntry → Bool
 is_touch_of k h e = is_access_by h e && (e.epoch == k + 1)
 
@@ -35,7 +35,7 @@ abbrev pub touch_hit : ℕ → TreeEntryValue → List SliceEntry → Option Boo
 touch_hit k h [] = None
 touch_hit k h (e ∷ es) = if is_touch_of k h e then Some (is_hit e.what) else touch_hit k h es
 
--- whether this is the position
+-- whether this is the position k
 abbrev pub is_at : ℕ → Option ℕ → Bool
 is_at k None = false
 is_at k (Some at) = at == k
@@ -44,11 +44,11 @@ is_at k (Some at) = at == k
 abbrev pub Notes : List TreeEntryValue → List (Option Bool) → List (Option Bool) → List SliceEntry → Type 0
 Notes tree old new entries = (k : ℕ) (h : TreeEntryValue) → At tree k h → slice_index_or new k None ≡ option_or (slice_index_or old k None) (touch_hit k h entries)
 
--- this is whether the first access that a command made hit, as the journals say
+-- `hit` says whether the first access that a command made hit, as the journals tell it; None, where it made none
 abbrev pub TellsTouch : JournalsValue → TreeEntryValue → Option Bool → Type 0
 TellsTouch j h hit = first_hit (accesses_by j h.thread h.op) ≡ hit
 
--- for each command at its position
+-- the same for each command, at its position
 abbrev pub TellTouches : JournalsValue → List (Option Bool) → Type 0
 TellTouches j hits = (k : ℕ) (h : TreeEntryValue) → At j.tree k h → TellsTouch j h (slice_index_or hits k None)
 

@@ -41,7 +41,7 @@ impl Occupancy {
         }
     }
 
-    // Is done with the place of a line that was dropped, where the place is of slice i.
+    // Marks the place of a dropped line as done with, where the place is of slice i.
     fn empty(&mut self, machine: &Machine, i: u32, line: u64, way: u8)
         requires sets { length self.old.seen ≡ machine.now.sets }
         ensures { SkipsPlaces (shape_in (parameters_of machine.now) i) self.old self.new (λ s w. (line % machine.now.sets == s) && (way == w)) }

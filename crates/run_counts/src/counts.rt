@@ -9,7 +9,7 @@ pub struct Counts {
     pub accesses: u64,
     /// Accesses that found their line.
     pub hits: u64,
-    /// Accesses that filled it.
+    /// Accesses that did not, and filled it.
     pub misses: u64,
 }
 

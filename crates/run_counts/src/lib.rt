@@ -1,4 +1,4 @@
-//! What is counted from the journals of a run.
+//! What is counted from the journals of a run. A call that runs out of memory answers NoMemory.
 #![tactic(auto)]
 
 mod counting;

@@ -39,7 +39,7 @@ pub(crate) fn has_way(word: u32, way: u8) -> bool
     (word >> way) & 1 == 1
 }
 
-// A word with this way besides.
+// A word with this way too.
 fn with_way(word: u32, way: u8) -> u32
     requires { way < 32 }
     ensures { (other : ℕ) → other < 32 → has_way result other ≡ (has_way word other || (way == other)) }
@@ -48,7 +48,7 @@ fn with_way(word: u32, way: u8) -> u32
 }
 
 impl Occupancy {
-    /// No line, with room for the sets and the RMIDs of a machine. NoMemory where the system is out of memory.
+    /// No line, with room for the sets and the RMIDs of a machine.
     pub fn create(alloc: Global, machine: &Machine) -> Result<Occupancy, NoMemory>
         ensures sets { IfOk result (λ o. length o.seen ≡ machine.now.sets) }
         ensures rmids { IfOk result (λ o. length o.counts ≡ machine.now.rmids) }
@@ -99,7 +99,7 @@ impl Occupancy {
         self.valid += 1;
     }
 
-    /// Is done with a place that was left empty, unless a later entry decided it.
+    /// Marks a place that was left empty as done with, unless a later entry decided it.
     pub(crate) fn skip(&mut self, set: u32, way: u8)
         requires set { set < length self.old.seen }
         requires way { way < 32 }

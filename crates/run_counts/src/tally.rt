@@ -109,7 +109,7 @@ impl Tally {
         Ok(last)
     }
 
-    /// The counts in the slices of a run, of which there are so many. NoMemory where the system is out of memory.
+    /// The counts in the slices of a run, of which there are so many.
     pub fn of_slices(alloc: Global, journals: &Journals, slices: u32) -> Result<Tally, NoMemory>
         requires slices { slices ≡ length journals.now.slices }
         requires few { slices ≤ 32 }

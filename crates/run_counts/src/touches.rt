@@ -33,7 +33,7 @@ impl Model for Touches {
 }
 
 impl Touches {
-    /// The touches of a run, in one pass over the entries of its slices where a touch was accepted. NoMemory where the system is out of memory.
+    /// The touches of a run, in one pass over the entries of its slices where a touch was accepted.
     pub fn of(alloc: Global, script: &Script, journals: &Journals) -> Result<Touches, NoMemory>
         requires run { IsRun script.now journals.now }
         ensures count { IfOk result (λ t. length t ≡ length journals.now.tree) }
@@ -79,7 +79,7 @@ fn is_touch(script: &Script, entry: &TreeEntry) -> bool
     }
 }
 
-// Whether one of these commands is.
+// Whether one of these commands is a touch that was accepted.
 fn has_touch(script: &Script, tree: &[TreeEntry]) -> bool
     ensures { result ≡ list_any (λ (e : Entry). is_touch_in script.now (entry_value e)) tree.now }
 {
@@ -107,7 +107,7 @@ fn is_access_by(command: &TreeEntry, entry: &SliceEntry) -> bool
     entry.thread == command.thread && entry.op == command.op && is_access(&entry.what)
 }
 
-// The position of the command that this is the epoch after, of so many commands.
+// The position of the command after which the epoch is this one, where there are so many commands.
 fn position_before(epoch: u64, commands: usize) -> Option<usize>
     ensures { MatchOption result ((k : ℕ) → k < commands → (epoch == k + 1) ≡ false) (λ at. (at < commands) × (epoch ≡ at + 1)) }
 {

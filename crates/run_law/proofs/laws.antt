@@ -30,6 +30,7 @@ pub mod OwnLines
 pub mod Pairs
 pub mod Positions
 pub mod ReadTags
+pub mod ReadyLists
 pub mod RoomSums
 pub mod SliceDomains
 pub mod SoundHistories

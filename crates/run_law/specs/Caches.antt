@@ -1,4 +1,5 @@
 -- The caches of slices.
+-- (For functions and proofs: no promise of the program stands on it.)
 use Rattle.std.specs.Prelude.{◌≡◌, ℕ, List}
 use Rattle.cache_core.specs.Places.{CacheValue}
 use Rattle.cache_core.specs.Stands.{StandsFor}

@@ -1,4 +1,5 @@
 -- What makes journals a run, clause by clause: each is said of any journals, and all ten together are a run.
+-- (For functions and proofs: no promise of the program stands on it.)
 use Rattle.std.specs.Prelude.{◌≡◌, ℕ, ◌<◌, ◌↔◌, true, false, IsSome, IsTrue, Some, filter, length}
 use Rattle.cache_core.specs.History.{IsLegal}
 use Rattle.cache_core.specs.declared.entry.SliceEntry.{SliceEntry}
@@ -27,7 +28,7 @@ TreeIsLegal script j = IsLegalTree script j.tree
 abbrev pub SlicesAreLegal : ScriptValue → JournalsValue → Type 0
 SlicesAreLegal script j = (i : ℕ) → i < slice_count script.machine → IsLegal (shape_in script.machine i) (slice_at j i)
 
--- the Access of an access is true to it
+-- the entry of an access is true to it
 abbrev pub AccessesAreTrue : ScriptValue → JournalsValue → Type 0
 AccessesAreTrue script j = (i p : ℕ) (e : SliceEntry) (op : Op) → At (slice_at j i) p e → op_at script e.thread e.op ≡ Some op → is_of_access op e.what ≡ true → IsTrueAccess script j.tree e op
 

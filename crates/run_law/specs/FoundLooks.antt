@@ -1,4 +1,5 @@
 -- What the looks of a command have found.
+-- (For functions and proofs: no promise of the program stands on it.)
 use Rattle.std.specs.List.{flat_map, range_with_len}
 use Rattle.std.specs.Prelude.{List, map, slice_get, ℕ, ◌≡◌}
 use Rattle.machine.specs.Slices.{slice_number}
@@ -14,7 +15,7 @@ use Rattle.tree_law.specs.Steps.{needs}
 abbrev pub pairs_of : Parameters → ℕ × ℕ → List (ℕ × ℕ)
 pairs_of m need = map (λ x. (slice_number m need.0 x, need.1)) (range_with_len 0 m.slices)
 
--- those of all looks, in the order of the steps
+-- the slices and RMIDs of all looks, in the order of the steps
 abbrev pub look_pairs : Parameters → List (ℕ × ℕ) → List (ℕ × ℕ)
 look_pairs m needs = flat_map (pairs_of m) needs
 

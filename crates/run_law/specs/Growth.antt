@@ -34,12 +34,12 @@ tag_of m s epoch task cpu =
     let owned = resolve m s task cpu in
     record { epoch = epoch; owner = owned.owner; class = owned.class; rmid = owned.rmid; mask = owned.mask; domain = domain_of m cpu }
 
--- an epoch at which nobody holds the tree, as far as is known: the tree has come so far, and without the command that holds it
+-- an epoch at which no thread holds the tree: at most the length of its history, and below that while a command holds it
 pub record IsFree (at : ℕ → Progress) (tree : List TreeEntryValue) (epoch : ℕ) : Type 0 where
   pub within : epoch ≤ length tree
   pub before : (t : ℕ) → IsSome (at t).made → epoch < length tree
 
--- Entries are of ops that have begun. An entry of another op than the one that holds the tree has an epoch before it.
+-- Every entry is of an op that has begun. One of an op that does not hold the tree has an epoch before the command that does.
 pub record AreOfBegun (j : JournalsValue) (at : ℕ → Progress) : Type 0 where
   pub commands : (k : ℕ) (h : TreeEntryValue) → At j.tree k h → HasBegun (at h.thread) h.op
   pub entries : (i p : ℕ) (e : SliceEntry) → At (slice_at j i) p e → HasBegun (at e.thread) e.op
@@ -88,13 +88,14 @@ BehindCommands j =
     → IsTrue (is_made_by command.thread command.op earlier) → k < e.epoch → (IsTrue (is_made_by command.thread command.op e) → ⊥)
     → q < p
 
--- what a tag is: what the tree of its epoch gives, when nobody held the tree, after all ops that come before
+-- what a tag is: what the tree gives at its epoch, at which no thread holds the tree, after all ops that come before
 pub record IsTagOf (script : ScriptValue) (j : JournalsValue) (at : ℕ → Progress) (t task cpu : ℕ) (tag : Tag) : Type 0 where
   pub is : tag ≡ tag_of script.machine (tree_after script (take tag.epoch j.tree)) tag.epoch task cpu
   pub free : IsFree at j.tree tag.epoch
   pub behind : IsBehindAll script j t (at t).next tag.epoch
 
--- what the command that holds the tree has made: it is to make so much of what it owes
+-- the command that holds the tree: its entries so far are the first `made` of those it owes, and those of them that go to slice i
+-- stand there
 abbrev pub HasMade : ScriptValue → JournalsValue → ℕ → ℕ → ℕ → ℕ → Op → ℕ → Type 0
 HasMade script j i thread op k c made = map paid_by (filter (is_made_by thread op) (slice_at j i)) ≡ in_slice i (take made (jobs_of script j.tree k c))
 
@@ -113,7 +114,7 @@ pub record AreInOrderSoFar (script : ScriptValue) (j : JournalsValue) (at : ℕ 
   pub marks : MarksInOrder script j
   pub entries_in_order : EntriesInOrder script j
 
--- What is kept of journals whose tree has the command that holds it at its end.
+-- What is kept of the journals at every moment, where the command that holds the tree stands last in the tree's history.
 pub record IsKept (script : ScriptValue) (j : JournalsValue) (at : ℕ → Progress) (phase : ℕ) : Type 0 where
   pub in_phase : AreInPhase script at phase
   pub alone : IsAlone j at

@@ -16,7 +16,7 @@ pub record Job : Type 0 where
   pub slice : ℕ
   pub owed : Owed
 
--- the same in each slice of a domain, rising
+-- this entry in each slice of a domain, rising
 abbrev pub in_domain : Parameters → ℕ → Owed → List Job
 in_domain m domain owed = map (λ x. record { slice = slice_number m domain x; owed = owed }) (range_with_len 0 m.slices)
 
@@ -24,7 +24,7 @@ in_domain m domain owed = map (λ x. record { slice = slice_number m domain x; o
 abbrev pub look_jobs : Parameters → ℕ → ℕ × ℕ → List Job
 look_jobs m epoch need = in_domain m need.0 (record { epoch = epoch; what = whats.Look need.1 0 })
 
--- the same in each slice to which a follow-up goes
+-- this entry in each slice that a target has
 abbrev pub at_target : Parameters → Target → Owed → List Job
 at_target m (EachSlice domain) owed = in_domain m domain owed
 at_target m (SliceOf domain line) owed = record { slice = slice_of_line m domain line; owed = owed } ∷ []
@@ -37,15 +37,15 @@ follow_jobs m epoch f = at_target m (goes_to f) (record { epoch = epoch; what = 
 unfoldable pub looks_of : ScriptValue → List TreeEntryValue → ℕ → Op → List Job
 looks_of script tree k op = flat_map (look_jobs script.machine k) (needs script.machine (tree_after script (take k tree)) op)
 
--- what follows it
+-- the follow-ups of that command
 unfoldable pub follows_of : ScriptValue → List TreeEntryValue → ℕ → Op → List Job
 follows_of script tree k op = flat_map (follow_jobs script.machine (k + 1)) (after script.machine (tree_after script (take k tree)) k op)
 
--- all that it makes
+-- all that the command makes
 abbrev pub jobs_of : ScriptValue → List TreeEntryValue → ℕ → Op → List Job
 jobs_of script tree k op = looks_of script tree k op ++ follows_of script tree k op
 
--- of these, what is owed to slice i
+-- of these jobs, what is owed to slice i
 abbrev pub in_slice : ℕ → List Job → List Owed
 in_slice i [] = []
 in_slice i (job ∷ jobs) = if job.slice == i then job.owed ∷ in_slice i jobs else in_slice i jobs

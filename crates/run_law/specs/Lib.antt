@@ -5,6 +5,7 @@ pub mod FoundLooks
 pub mod Growth
 pub mod Jobs
 pub mod Journals
+pub mod LookLists
 pub mod Looks
 pub mod Ops
 pub mod Order

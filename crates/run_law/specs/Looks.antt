@@ -14,7 +14,7 @@ use Rattle.script_ops.specs.declared.op.Op.{Op}
 use Rattle.tree_law.specs.State.{State}
 use Rattle.tree_law.specs.Steps.{needs}
 
--- the number of a look of this RMID
+-- the lines that a look at this RMID counted; no other entry counts any
 abbrev pub look_number : ℕ → What → Option ℕ
 look_number rmid (whats.Access hit way owner r mask line) = None
 look_number rmid whats.Raise = None
@@ -23,12 +23,12 @@ look_number rmid (whats.Lock mask first_line) = None
 look_number rmid (whats.Look r lines) = if r == rmid then Some lines else None
 look_number rmid (whats.Drop line at) = None
 
--- the first of two, where it is there
+-- the first of two numbers, or the second where there is no first
 abbrev pub first_of : Option ℕ → Option ℕ → Option ℕ
 first_of (Some n) rest = Some n
 first_of None rest = rest
 
--- the number of the first look of a command for this RMID in a slice
+-- the lines that the first look of a command at this RMID counted in a slice
 abbrev pub first_look : ℕ → ℕ → ℕ → List SliceEntry → Option ℕ
 first_look thread op rmid [] = None
 first_look thread op rmid (e ∷ es) = first_of (if is_made_by thread op e then look_number rmid e.what else None) (first_look thread op rmid es)

@@ -9,7 +9,7 @@ abbrev pub is_command : Op → Bool
 is_command (Access task cpu addr) = false
 is_command op = true
 
--- this is said of an access of task, CPU and address, or that of a command
+-- one thing is said of an access, by its task, CPU and address, and another of a command
 abbrev pub ByKind : (ℕ → ℕ → ℕ → Type 0) → Type 0 → Op → Type 0
 ByKind OfAccess OfCommand (Access task cpu addr) = OfAccess task cpu addr
 ByKind OfAccess OfCommand op = OfCommand

@@ -12,7 +12,7 @@ use Rattle.run_law.specs.Truth.{is_made_by, is_taken_from}
 use Rattle.script_ops.specs.Values.{ScriptValue, op_at}
 use Rattle.script_ops.specs.declared.op.Op.{Op}
 
--- at its position in the tree's history, a command owes just what these entries pay
+-- what a command owes to slice i, at its position in the tree's history, is just what these entries pay
 abbrev pub Pays : ScriptValue → JournalsValue → ℕ → ℕ → ℕ → Op → List SliceEntry → Type 0
 Pays script j i thread op command made =
     (k : ℕ) (h : TreeEntryValue) → At j.tree k h → IsTrue (is_taken_from thread op h) → map paid_by made ≡ owed_by_command script j.tree i k command

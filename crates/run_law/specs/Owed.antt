@@ -39,7 +39,7 @@ look_in m i epoch need = if need.0 == domain_in m i then record { epoch = epoch;
 
 -- ---- follow-ups
 
--- what a follow-up enters in a slice; a touch is an access of its tag's owner, RMID and mask
+-- what a follow-up enters in a slice; a touch enters an access with the owner, the RMID and the mask of its tag
 abbrev pub what_of : Follow → What
 what_of (follows.Raise domain) = whats.Raise
 what_of (follows.Flush domain) = whats.Flush
@@ -47,7 +47,7 @@ what_of (follows.Lock domain mask first_line) = whats.Lock mask first_line
 what_of (follows.Touch tag line) = whats.Access false 0 tag.owner tag.rmid tag.mask line
 what_of (follows.Drop domain line) = whats.Drop line None
 
--- whether what goes there goes to slice i
+-- whether slice i is one of a target's
 abbrev pub is_target : Parameters → ℕ → Target → Bool
 is_target m i (EachSlice domain) = domain == domain_in m i
 is_target m i (SliceOf domain line) = slice_of_line m domain line == i

@@ -1,9 +1,10 @@
 -- How far a thread has come, as its journals show it.
+-- (For functions and proofs: no promise of the program stands on it.)
 use Rattle.std.specs.Prelude.{IsSome, Option, if◌then◌else◌, ℕ, ◌<◌, ◌==◌, ◌≡◌, ◌⊎◌}
 use Rattle.rc_base.specs.declared.names.Tag.{Tag}
 
--- How many ops a thread has done; of a command of it that holds the tree, how many entries it has made; and the tag of an
--- access that has one.
+-- How many ops a thread has done; where its next one is a command that holds the tree, how many entries that has made; and where
+-- it is an access that has its tag, the tag.
 pub record Progress : Type 0 where
   pub next : ℕ
   pub made : Option ℕ
@@ -17,6 +18,6 @@ IsUnderWay p op = (op ≡ p.next) × IsSome p.made
 abbrev pub HasBegun : Progress → ℕ → Type 0
 HasBegun p op = (op < p.next) ⊎ IsUnderWay p op
 
--- one thread is here now, and the others are where they were
+-- one thread has this progress now, and the others are where they were
 abbrev pub moved : (ℕ → Progress) → ℕ → Progress → ℕ → Progress
 moved at t p u = if u == t then p else at u

@@ -1,4 +1,5 @@
 -- How much ops can make: the entries of each in a slice, the counts that it can need, and the rooms of the journals.
+-- (For functions and proofs: no promise of the program stands on it.)
 use Rattle.std.specs.Prelude.{◌≡◌, ℕ, ◌+◌, ◌*◌, ◌<◌, ◌≤◌, ◌==◌, List, length, slice_index, slice_index_or, sum_by}
 use Rattle.lists.specs.Sums.{one_if}
 use Rattle.machine.specs.Maps.{domain_of, line_of}
@@ -26,7 +27,7 @@ abbrev pub read_quota : Parameters → PathRef → ℕ
 read_quota m (File dir Occupancy) = m.rmids
 read_quota m path = 0
 
--- the greatest number of entries that an op makes in each slice alike; an access and a touch go to one slice, and make none so
+-- the most entries that an op makes in each slice alike; an access and a touch go to one slice, and count 0 here
 abbrev pub common_quota : Parameters → Op → ℕ
 common_quota m (ops.Rmdir path) = m.rmids + 1
 common_quota m (ops.Write path text) = write_quota path
@@ -37,7 +38,7 @@ common_quota m (ops.DropLine addr) = 1
 common_quota m (ops.DropRegion path offset) = 1
 common_quota m op = 0
 
--- one entry in the slice of a line in the domain of a CPU, by the address of a byte of it, and none in another slice
+-- one entry in the slice that has the line of this byte in the domain of a CPU, and none in another slice
 abbrev pub line_quota : Parameters → ℕ → ℕ → ℕ → ℕ
 line_quota m i cpu byte = one_if (i == slice_of_line m (domain_of m cpu) (line_of byte))
 
@@ -48,7 +49,7 @@ quota m i (ops.Access task cpu addr) = line_quota m i cpu addr
 quota m i (ops.Touch cpu path task offset) = line_quota m i cpu offset
 quota m i op = common_quota m op
 
--- that of ops together
+-- the most entries that these ops together can make in slice i
 abbrev pub quotas_of : Parameters → ℕ → List Op → ℕ
 quotas_of m i ops = sum_by (quota m i) ops
 
@@ -65,7 +66,7 @@ pub record AreRooms (script : ScriptValue) (rooms : List ℕ) : Type 0 where
 abbrev pub AreWithin : ℕ → List ℕ → Type 0
 AreWithin most rooms = (i : ℕ) → i < length rooms → slice_index rooms i ≤ most
 
--- each room has grown by the number of its slice, which is at most this
+-- each room has grown by the number that `more` gives its slice, which is at most this
 pub record HaveGrown (more : ℕ → ℕ) (most : ℕ) (before after : List ℕ) : Type 0 where
   pub count : length after ≡ length before
   pub each : (i : ℕ) → i < length before → slice_index after i ≡ slice_index before i + more i
@@ -78,7 +79,7 @@ abbrev pub most_written : Parameters → PathRef → ℕ
 most_written m (File dir Mode) = m.domains
 most_written m path = 0
 
--- a read of `llc_occupancy` needs RMIDs in one domain
+-- a read of `llc_occupancy` needs RMIDs in one domain; its bound is that of all domains
 abbrev pub most_read : Parameters → PathRef → ℕ
 most_read m (File dir Occupancy) = m.domains * m.rmids
 most_read m path = 0
@@ -93,15 +94,15 @@ most_counts m op = 0
 
 -- ---- commands
 
--- how many commands there are
+-- how many of these ops are commands
 abbrev pub commands_of : List Op → ℕ
 commands_of ops = sum_by (λ op. one_if (is_command op)) ops
 
--- of all threads
+-- how many commands all threads have
 unfoldable pub command_count : ScriptValue → ℕ
 command_count script = sum_by commands_of (threads_of script)
 
--- so many commands has each of the first n threads
+-- the numbers of commands of the first n threads
 pub record AreCounted (script : ScriptValue) (n : ℕ) (counts : List ℕ) : Type 0 where
   pub count : length counts ≡ n
   pub each : (t d : ℕ) → t < n → slice_index_or counts t d ≡ commands_of (ops_of script t)

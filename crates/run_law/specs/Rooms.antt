@@ -1,4 +1,5 @@
 -- The rooms of the journals together.
+-- (For functions and proofs: no promise of the program stands on it.)
 use Rattle.std.specs.Prelude.{ℕ, ◌+◌, ◌≤◌}
 use Rattle.lists.specs.Sums.{sum_below}
 use Rattle.machine.specs.Slices.{slice_count}
@@ -10,10 +11,10 @@ use Rattle.script_ops.specs.declared.limits.TheConstants.{MOST_WEIGHT}
 abbrev pub all_rooms : ScriptValue → ℕ
 all_rooms script = command_count script + sum_below (slice_count script.machine) (room_of script)
 
--- they are at most what the script weighs
+-- the rooms together are at most what the script weighs
 abbrev pub RoomsAreWithinWeight : Type 0
 RoomsAreWithinWeight = (script : ScriptValue) → all_rooms script ≤ total_weight script
 
--- which for a script that keeps to the rules is at most the greatest weight
+-- and so, for a script that meets the rules, at most the greatest weight
 abbrev pub RoomsAreBounded : Type 0
 RoomsAreBounded = (script : ScriptValue) → IsLawful script → all_rooms script ≤ MOST_WEIGHT

@@ -28,12 +28,12 @@ pub record IsOwed (script : ScriptValue) (tree : List TreeEntryValue) (i : ℕ) 
   pub same_op : command.op ≡ e.op
   pub owed : Contains (owed_by_command script tree i position op) (paid_by e)
 
--- whether an entry with this content, of this op, is the Access of an access
+-- whether the op is an access, and the entry tells an Access
 abbrev pub is_of_access : Op → What → Bool
 is_of_access (Access task cpu addr) (whats.Access hit way owner rmid mask line) = true
 is_of_access op what = false
 
--- The Access of an access has an epoch that the tree had, and the line of its address with the owner, the RMID and the mask
+-- The entry of an access has an epoch that the tree had, and the line of its address with the owner, the RMID and the mask
 -- that the tree of that epoch gives to its task and CPU.
 abbrev pub IsTrueAccess : ScriptValue → List TreeEntryValue → SliceEntry → Op → Type 0
 IsTrueAccess script tree e op = ByKind (λ task cpu addr. (e.epoch ≤ length tree) × (paid_by e ≡ owed_by_access script tree e.epoch task cpu addr)) ⊥ op
@@ -43,7 +43,7 @@ abbrev pub IsTrueCommand : ScriptValue → List TreeEntryValue → ℕ → Slice
 IsTrueCommand script tree i e op = ByKind (λ task cpu addr. ⊥) (IsOwed script tree i e op) op
 
 -- The entries are true to their ops, and an entry of an epoch stands after all entries of other commands before that epoch.
--- Of an entry that is of no op of the script the first two say nothing.
+-- The first two say nothing of an entry of no op of the script.
 pub record AreTrue (script : ScriptValue) (j : JournalsValue) : Type 0 where
   pub accesses :
       (i p : ℕ) (e : SliceEntry) (op : Op) → At (slice_at j i) p e → op_at script e.thread e.op ≡ Some op → is_of_access op e.what ≡ true

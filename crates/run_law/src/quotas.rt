@@ -7,7 +7,7 @@ use machine::Machine;
 use path_names::{FileKind, PathRef};
 use script_ops::Op;
 
-/// The greatest number of entries that an op makes in each slice alike. An access and a touch go to one slice, and make none so.
+/// The most entries that an op makes in each slice alike. An access and a touch go to one slice, and count 0 here.
 pub(crate) fn common_quota(m: &Machine, op: &Op) -> u32
     ensures quota { result ≡ common_quota (parameters_of m.now) op.now }
     ensures few { result ≤ 257 }

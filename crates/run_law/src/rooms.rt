@@ -27,7 +27,7 @@ fn add_to_each(rooms: &mut [u64], quota: u64)
     }
 }
 
-// Adds one to the room of the slice of a line in the domain of a CPU, by the address of a byte of it.
+// Adds one to the room of the slice that has the line of this byte in the domain of a CPU.
 fn add_line(m: &Machine, cpu: u8, byte: u64, rooms: &mut [u64])
     requires cpu { cpu < m.now.cpus }
     requires count { length rooms.old ≡ slice_count (parameters_of m.now) }
@@ -37,7 +37,7 @@ fn add_line(m: &Machine, cpu: u8, byte: u64, rooms: &mut [u64])
     rooms[m.line_slice(m.domain_of(cpu), byte / 64)] += 1;
 }
 
-// Adds to each room the greatest number of entries that an op can make in its slice.
+// Adds to each room the most entries that an op can make in its slice.
 fn add_op(script: &Script, op: &Op, rooms: &mut [u64])
     requires fits { Fits script.now.machine script.now.tasks op.now }
     requires count { length rooms.old ≡ slice_count script.now.machine }
@@ -52,9 +52,9 @@ fn add_op(script: &Script, op: &Op, rooms: &mut [u64])
     }
 }
 
-// Adds to each room the greatest number of entries that these ops can make in its slice. So many of them are commands: where all
-// are accesses and there is one slice, each makes one.
-fn add_ops(script: &Script, ops: &[Op], commands: u64, rooms: &mut [u64])
+/// Adds to each room, of which there is one for each slice, the most entries that these ops can make in its slice; `commands` says
+/// how many of them are commands.
+pub fn add_ops(script: &Script, ops: &[Op], commands: u64, rooms: &mut [u64])
     requires fit { All (Fits script.now.machine script.now.tasks) ops.now }
     requires few { length ops.now ≤ MOST_WEIGHT }
     requires commands { commands ≡ commands_of ops.now }
@@ -62,6 +62,7 @@ fn add_ops(script: &Script, ops: &[Op], commands: u64, rooms: &mut [u64])
     requires small { AreWithin (2 ^ 62) rooms.old }
     ensures { HaveGrown (λ i. quotas_of script.now.machine i ops.now) (2 ^ 30) rooms.old rooms.new }
 {
+    // Where all are accesses and there is one slice, each makes one.
     if commands == 0 && script.machine().slice_count() == 1 {
         rooms[0] += ops.len() as u64;
         return;
@@ -71,8 +72,8 @@ fn add_ops(script: &Script, ops: &[Op], commands: u64, rooms: &mut [u64])
     }
 }
 
-/// The rooms of all slices, in order: of each the greatest number of entries that all ops can make in it. `counts` says how many
-/// commands each thread has. NoMemory where there is no room for a number for each slice.
+/// The rooms of all slices, in order: for each the most entries that all ops can make in it. `counts` says how many commands each
+/// thread has.
 pub fn slice_rooms(alloc: Global, script: &Script, counts: &[u64]) -> Result<Vec<u64>, NoMemory>
     requires { AreCounted script.now (length (threads_of script.now)) counts.now }
     ensures { IfOk result (λ rooms. AreRooms script.now rooms.items) }
@@ -104,7 +105,7 @@ pub fn count_commands(ops: &[Op]) -> u64
     count
 }
 
-/// How many commands each thread has. NoMemory where there is no room for a number for each.
+/// How many commands each thread has.
 pub fn command_counts(alloc: Global, script: &Script) -> Result<Vec<u64>, NoMemory>
     ensures { IfOk result (λ counts. AreCounted script.now (length (threads_of script.now)) counts.items) }
 {

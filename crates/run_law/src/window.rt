@@ -20,10 +20,11 @@ pub struct Window {
     pub accesses: u64,
     /// Those that hit.
     pub hits: u64,
-    /// The covered ones: nobody else had used a line, in the window and before them, that the group uses anywhere in it.
+    /// Those that are covered: before them nobody else, in the window or by the lock that opens it, had used any line that the
+    /// group uses in the window.
     pub covered: u64,
     /// Those of the covered that hit.
     pub covered_hits: u64,
-    /// The covered accesses that hit in a private cache of so many ways.
+    /// The covered accesses that hit in a private cache of as many ways.
     pub private: u64,
 }

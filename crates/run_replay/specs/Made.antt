@@ -17,7 +17,7 @@ abbrev pub made_by : State → Option Op → Reply → List Made
 made_by s (Some (Mkdir (Dir (Ctrl name)))) replies.Ok = record { gid = s.next_gid; name = name } ∷ []
 made_by s op reply = []
 
--- those that these commands made, from a state on
+-- the control groups that these commands made, from a state on
 abbrev pub made_from : ScriptValue → State → List TreeEntryValue → List Made
 made_from script s [] = []
 made_from script s (h ∷ hs) =
@@ -28,6 +28,7 @@ pub record Control : Type 0 where
   pub gid : ℕ
   pub path : List ℕ
 
+-- a group that was made, with the path of its directory for its name
 abbrev pub control_of : List (List ℕ) → Made → Control
 control_of names made = record { gid = made.gid; path = path_text names (Dir (Ctrl made.name)) }
 

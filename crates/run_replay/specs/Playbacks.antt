@@ -11,8 +11,8 @@ use Rattle.script_ops.specs.declared.limits.TheConstants.{MOST_WEIGHT}
 use Rattle.script_ops.specs.declared.op.Op.{Op}
 use Rattle.tree_law.specs.State.{State, opening}
 
--- The first commands of a legal history of few commands were taken: the tree is the one before the next, and the groups are
--- those that they made.
+-- So many commands of a legal history were taken: the tree is as it is before the next one, and the groups are those that they
+-- made. The history has no more commands than a script may have.
 pub record HasTaken (script : ScriptValue) (tree : List TreeEntryValue) (commands : ℕ) (r : ReplayValue) : Type 0 where
   pub legal : IsLegalTree script tree
   pub few : length tree ≤ MOST_WEIGHT
@@ -27,6 +27,6 @@ abbrev pub given_by : ScriptValue → State → List ℕ → Reply → Option Op
 given_by script s looks replies.Ok (Some op) = if is_reading op then Some (text_of script.machine s script.names op looks) else None
 given_by script s looks reply op = None
 
--- the same of an entry
+-- the text that the command of an entry gives in this state
 abbrev pub given : ScriptValue → State → TreeEntryValue → Option (List ℕ)
 given script s h = given_by script s h.looks h.reply (op_at script h.thread h.op)

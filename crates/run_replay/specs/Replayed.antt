@@ -1,4 +1,5 @@
 -- What is seen of a tree that is taken through its history once more.
+-- (For functions and proofs: no promise of the program stands on it.)
 use Rattle.std.specs.Prelude.{ℕ, ◌<◌, ◌≤◌, ◌^◌, ◌≡◌, List, All, Some, length}
 use Rattle.tree_core.specs.Named.{AreNamed}
 use Rattle.machine.specs.declared.parameters.Parameters.{Parameters}
@@ -33,11 +34,11 @@ pub record IsAnsweredAs (m : Parameters) (s : State) (e : TreeEntryValue) (op : 
   pub looks : length e.looks ≡ length (needs m s op)
   pub reply : e.reply ≡ (next m s op e.looks).reply
 
--- an entry has numbers of lines of one cache, each at most 2 ^ 32
+-- each count that an entry was given is at most 2 ^ 32
 abbrev pub HasFewLooks : TreeEntryValue → Type 0
 HasFewLooks e = All (λ n. n ≤ 2 ^ 32) e.looks
 
--- an entry's op is there, and was given as many counts as it needs in this state
+-- the op of an entry is a command of the script, and was given as many counts as it needs in this state
 abbrev pub IsCounted : ScriptValue → State → TreeEntryValue → Type 0
 IsCounted script s e = IsCommandThat (λ op. length e.looks ≡ length (needs script.machine s op)) (op_at script e.thread e.op)
 
@@ -45,7 +46,7 @@ IsCounted script s e = IsCommandThat (λ op. length e.looks ≡ length (needs sc
 abbrev pub IsAnswered : ScriptValue → State → TreeEntryValue → Type 0
 IsAnswered script s e = IsCommandThat (IsAnsweredAs script.machine s e) (op_at script e.thread e.op)
 
--- this op of a thread is there, and it keeps to the script
+-- this is the op of that number in a thread: its names are known and short, and it fits the machine and the tasks
 pub record IsOpOf (script : ScriptValue) (thread number : ℕ) (op : Op) : Type 0 where
   pub there : op_at script thread number ≡ Some op
   pub named : IsNamed (length script.names) op

@@ -1,4 +1,5 @@
-//! The tree, taken through the commands of a run once more.
+//! The tree, taken through the commands of a run once more. A call that runs out of memory answers NoMemory, and promises nothing
+//! of its `Replay` then.
 #![tactic(auto)]
 
 pub mod made;

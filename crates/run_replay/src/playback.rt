@@ -20,7 +20,7 @@ use run_law::{Journals, TreeEntry};
 use script_ops::{Op, Script};
 use std::alloc::Global;
 
-/// The opening tree of a run. NoMemory where the system is out of memory.
+/// The opening tree of a run.
 pub fn begin(alloc: Global, script: &Script, journals: &Journals) -> Result<Replay, NoMemory>
     requires { IsRun script.now journals.now }
     ensures { IfOk result (λ r. HasTaken script.now journals.now.tree 0 r) }
@@ -31,7 +31,7 @@ pub fn begin(alloc: Global, script: &Script, journals: &Journals) -> Result<Repl
     Ok(replay)
 }
 
-/// Takes the next command, at this position from 0. NoMemory where the system is out of memory.
+/// Takes the next command, at this position from 0.
 pub fn take_next(
     replay: &mut Replay,
     script: &Script,
@@ -57,7 +57,7 @@ pub fn end(replay: Replay, script: &Script, journals: &Journals) -> Vec<Made>
     replay.into_made()
 }
 
-/// The control groups that the commands of a run made. NoMemory where the system is out of memory.
+/// The control groups that the commands of a run made.
 pub fn made_groups(
     alloc: Global,
     script: &Script,

@@ -47,7 +47,7 @@ fn made_by(tree: &Tree, op: &Op, reply: Reply) -> Option<Made>
 }
 
 impl Replay {
-    /// The opening tree of a script. NoMemory where the system is out of memory.
+    /// The opening tree of a script.
     pub(crate) fn create(alloc: Global, script: &Script) -> Result<Replay, NoMemory>
         ensures machine { IfOk result (λ r. r.tree.machine ≡ script.now.machine) }
         ensures state { IfOk result (λ r. r.tree.state ≡ opening script.now.machine script.now.tasks) }
@@ -68,7 +68,7 @@ impl Replay {
         &self.tree
     }
 
-    /// Takes a command once more, with its counts and its reply. NoMemory where the system is out of memory.
+    /// Takes a command once more, with its counts and its reply.
     pub(crate) fn take(&mut self, op: &Op, looks: &[u64], reply: Reply) -> Result<(), NoMemory>
         requires fits { Fits self.old.tree.machine (tasks_of self.old.tree.state) op.now }
         requires looks { length looks.now ≡ length (needs self.old.tree.machine self.old.tree.state op.now) }

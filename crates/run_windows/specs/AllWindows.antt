@@ -17,7 +17,7 @@ use Rattle.script_ops.specs.Values.{ScriptValue}
 abbrev pub gid_of : ℕ → Gid
 gid_of n = record { 0 = n }
 
--- a window with its counts, in which its group has an access
+-- the window has these counts, and its group has an access in it
 pub record IsUsedWindow (script : ScriptValue) (j : JournalsValue) (w : Window) : Type 0 where
   pub opening : SliceEntry
   pub mask : ℕ
@@ -48,7 +48,7 @@ pub record AreWindowsOf (script : ScriptValue) (j : JournalsValue) (windows : Li
   pub all : (s : Site) → IsUsed script j s → Contains (map site_of windows) s
   pub ordered : AllPairs Precedes (map site_of windows)
 
--- Those of them that begin before a place.
+-- The same for those of the windows that begin before a place.
 pub record AreWindowsBefore (script : ScriptValue) (j : JournalsValue) (bound : Site) (windows : List Window) : Type 0 where
   pub each : All (IsUsedWindow script j) windows
   pub before : All (λ (s : Site). Precedes s bound) (map site_of windows)

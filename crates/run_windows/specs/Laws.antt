@@ -1,4 +1,5 @@
 -- Laws of the windows of a run.
+-- (For functions and proofs: no promise of the program stands on it.)
 use Rattle.std.specs.Prelude.{◌≡◌, ℕ, ◌<◌, true, List, length}
 use Rattle.cache_core.specs.Filled.{empties}
 use Rattle.cache_core.specs.declared.entry.SliceEntry.{SliceEntry}
@@ -56,7 +57,7 @@ WindowsExist =
     → IsExclusive (domain_in script.machine i) group mask (state_at script j opening.epoch)
     → (to last : ℕ) × IsWindow script j i from to opening group mask last
 
--- the same end, last epoch and mask
+-- two windows have the same end, last epoch and mask
 pub record IsSameWindow (to last mask other_to other_last other_mask : ℕ) : Type 0 where
   pub same_end : to ≡ other_to
   pub same_last : last ≡ other_last

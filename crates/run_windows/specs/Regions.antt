@@ -14,8 +14,8 @@ use Rattle.tree_law.specs.State.{State}
 abbrev pub HasRegion : ℕ → Region → State → Type 0
 HasRegion domain r s = slice_get s.regions domain ≡ Some (Some r)
 
--- From the lock of a region at `from` up to and without the entry at `to`, the first that is a flush or a lock or is of an epoch
--- in whose state the region is no more, or to the end where none is.
+-- From the lock of a region at `from` up to, but not including, the entry at `to`: the first that is a flush or a lock, or has an
+-- epoch in whose state the region is gone. Where no entry does, `to` is the end.
 pub record IsLockWindow (script : ScriptValue) (j : JournalsValue) (i from to : ℕ) (opening : SliceEntry) (r : Region) : Type 0 where
   pub slice_exists : i < slice_count script.machine
   pub opens : At (slice_at j i) from opening

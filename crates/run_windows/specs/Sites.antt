@@ -13,7 +13,7 @@ pub record Site : Type 0 where
 abbrev pub site_of : Window → Site
 site_of w = record { domain = w.domain; slice = w.slice; from = w.from; gid = w.gid.0 }
 
--- by domain, then by slice, then by position, and then by group
+-- one place comes before another: by domain, then by slice, then by position, and then by group
 abbrev pub Precedes : Site → Site → Type 0
 Precedes a b =
     (a.domain < b.domain)

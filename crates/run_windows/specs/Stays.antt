@@ -1,4 +1,5 @@
 -- The groups that are exclusive in a domain at an epoch, and how long each of them stays so.
+-- (For functions and proofs: no promise of the program stands on it.)
 use Rattle.std.specs.Prelude.{◌≡◌, ℕ, ◌+◌, ◌<◌, ◌≤◌, Bool, ◌==◌, ◌&&◌, All, AllPairs, Contains, List, find, filter, length, map, Vec}
 use Rattle.std.specs.Option.{option_map_or}
 use Rattle.std.specs.declared.alloc.Global.{Global}
@@ -23,15 +24,16 @@ stay_of domain last g = record { gid = g.gid; mask = mask_in domain g; last = la
 abbrev pub stays_in : ℕ → ℕ → List Group → List Stay
 stays_in domain last groups = map (stay_of domain last) (filter (has_mode Exclusive) groups)
 
--- the same group with the same mask
+-- whether two stays are of the same group with the same mask
 abbrev pub is_same : Stay → Stay → Bool
 is_same s later = (later.gid.0 == s.gid.0) && (later.mask == s.mask)
 
--- a group of an epoch lasts as long as it does in the next epoch, where it is the same there
+-- a group that is exclusive on the same mask in the next epoch stays so as long as it does from there
 abbrev pub extended : List Stay → Stay → Stay
 extended next s = option_map_or (λ (later : Stay). record s { last = later.last }) (find (is_same s) next) s
 
--- The exclusive groups of an epoch, rising, each with its mask in the domain and the last epoch up to which it stays exclusive on it.
+-- The exclusive groups of an epoch, rising, each with its mask in the domain and the last epoch at which it is still exclusive on
+-- it.
 pub record AreStays (script : ScriptValue) (j : JournalsValue) (domain epoch : ℕ) (stays : List Stay) : Type 0 where
   pub each : All (λ (s : Stay). StaysExclusive script j domain s.gid s.mask epoch s.last) stays
   pub all : (group : Gid) (mask : ℕ) → IsExclusive domain group mask (state_at script j epoch) → Contains (map (λ (s : Stay). s.gid.0) stays) group.0

@@ -27,20 +27,20 @@ pub record StaysExclusive (script : ScriptValue) (j : JournalsValue) (domain : �
 
 -- ---- windows
 
--- an entry that a window goes on over, where the group stays exclusive up to the last epoch
+-- an entry over which a window goes on, where the group stays exclusive up to the epoch `last`
 abbrev pub GoesOver : ℕ → SliceEntry → Type 0
 GoesOver last e = (empties e.what ≡ false) × (e.epoch ≤ last)
 
--- an entry that ends it
+-- an entry that ends such a window
 abbrev pub Ends : ℕ → SliceEntry → Type 0
 Ends last e = (empties e.what ≡ true) ⊎ (last < e.epoch)
 
--- whether an entry ends it
+-- whether an entry ends such a window
 abbrev pub ends_window : ℕ → SliceEntry → Bool
 ends_window last e = empties e.what || nat_lt last e.epoch
 
--- A window of a group in slice i: it begins after the entry at `from`, a flush or a lock, and holds the entries up to and
--- without that at `to`, the first that ends it, or all where none does.
+-- A window of a group in slice i: it begins after the entry at `from`, a flush or a lock, and holds the entries up to, but not
+-- including, the one at `to`, the first that ends it; all of them where none does.
 pub record IsWindow (script : ScriptValue) (j : JournalsValue) (i from to : ℕ) (opening : SliceEntry) (group : Gid) (mask last : ℕ) : Type 0 where
   pub slice_exists : i < slice_count script.machine
   pub opens : At (slice_at j i) from opening

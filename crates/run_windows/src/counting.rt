@@ -65,7 +65,8 @@ pub(crate) fn window_len(entries: &[SliceEntry], last: u64) -> usize
 }
 
 /// Counts the window of a group that begins at this place: at a flush or a lock, where the group is exclusive on its mask from
-/// the epoch of that entry up to the last one, and no longer. What would hit in a private cache is not counted anew: it is what hit.
+/// the epoch of that entry up to the last one, and no longer. The hits of a private cache are not counted anew: they are as many
+/// as the covered hits.
 pub fn count_window_at(
     alloc: Global,
     script: &Script,

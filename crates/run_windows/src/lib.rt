@@ -1,4 +1,4 @@
-//! The windows of a run in which a group has its ways for itself.
+//! The windows of a run in which a group has its ways for itself. A call that runs out of memory answers NoMemory.
 #![tactic(auto)]
 
 pub mod counting;

@@ -171,10 +171,10 @@ fn push_domain(
 
 /// The windows of a run in which a control group stays exclusive on one mask after a flush or a lock, each with at least one
 /// access of the group: by domain, by slice, by the position of the flush or lock, and by group in order of creation (this
-/// project's profile). NoMemory where the system is out of memory.
+/// project's profile).
 ///
-/// The tree is played once more for each domain, and for each epoch its exclusive groups are kept, 16 bytes for each. Then a
-/// window's entries are walked some times for each group that is exclusive when it begins. These have masks with no way in
+/// The tree is played once more for each domain, and for each epoch its exclusive groups are kept, 16 bytes for each. Then the
+/// entries of a window are walked a few times for each group that is exclusive when it begins. These have masks with no way in
 /// common, so there are at most as many as ways. Walking costs a look-up among the group's lines in the window for each access.
 pub fn windows(alloc: Global, script: &Script, journals: &Journals) -> Result<Vec<Window>, NoMemory>
     requires lawful { IsLawful script.now }

@@ -83,7 +83,7 @@ fn find_same(next: &[Stay], stay: Stay) -> Option<&Stay>
     next.iter().find(|later| is_same(stay, later))
 }
 
-// A group that lasts as long as it does in the next epoch, where it is the same there.
+// A group that is exclusive on the same mask in the next epoch stays so as long as it does from there.
 fn extended_stay(stay: Stay, next: &[Stay]) -> Stay
     ensures { result ≡ extended next.now stay }
 {
@@ -96,7 +96,7 @@ fn extended_stay(stay: Stay, next: &[Stay]) -> Stay
     }
 }
 
-/// The groups of an epoch, each up to the epoch that the groups of the next epoch tell.
+/// The exclusive groups of an epoch, each with the last epoch that the groups of the next epoch tell for it.
 pub(crate) fn extended(alloc: Global, now: &[Stay], next: &[Stay]) -> Result<Vec<Stay>, NoMemory>
     ensures { IfOk result (λ stays. stays.items ≡ map (extended next.now) now.now) }
 {

@@ -55,7 +55,7 @@ fn snapshots(
     Ok(all)
 }
 
-// The same, each up to the last epoch up to which it stays exclusive on its mask; the last epoch first.
+// The same, each with the last epoch at which it is still exclusive on its mask; the last epoch first.
 fn last_first(
     alloc: Global,
     script: &Script,
@@ -80,7 +80,7 @@ fn last_first(
     Ok(all)
 }
 
-/// The exclusive groups of every epoch with their masks in a domain, each up to the last epoch up to which it stays exclusive on
+/// The exclusive groups of every epoch with their masks in a domain, each with the last epoch at which it is still exclusive on
 /// its mask; the last epoch first.
 pub(crate) fn timeline(
     alloc: Global,

@@ -12,8 +12,8 @@ use Rattle.seen_journal.specs.Prefixes.{IsPrefix}
 use Rattle.seen_journal.specs.Entries.{entries_of}
 use Rattle.seen_journal.specs.Views.{Asks, HasPlace, FitsList, holds}
 use Rattle.seen_journal.specs.Kinds.{added}
-use Rattle.seen_journal.proofs.Prefixes.{IsPrefix-self, IsPrefix-append, IsPrefix-through, IsPrefix-not_empty, length-prefix_within, ArePrefixes-append}
-use Rattle.seen_journal.proofs.Entries.{entries_of-push_own, entries_of-push_other}
+use Rattle.seen_journal.proofs.laws.Prefixes.{IsPrefix-self, IsPrefix-append, IsPrefix-through, IsPrefix-not_empty, length-prefix_within, ArePrefixes-append}
+use Rattle.seen_journal.proofs.laws.Entries.{entries_of-push_own, entries_of-push_other}
 use Rattle.seen_journal.proofs.Words.{set-count, eqb-less}
 use Rattle.seen_journal.proofs.Views.{Asks-set, get_elem-set}
 

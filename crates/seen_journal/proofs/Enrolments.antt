@@ -8,7 +8,7 @@ use Rattle.seen_journal.specs.declared.role.Role.TheVariants.{Own, Pass}
 use Rattle.seen_journal.specs.declared.view.View.{View}
 use Rattle.seen_journal.specs.Views.{Asks, HasPlace, FitsList, holds}
 use Rattle.seen_journal.specs.Kinds.{enrols, enrolled}
-use Rattle.seen_journal.proofs.Prefixes.{IsPrefix-self}
+use Rattle.seen_journal.proofs.laws.Prefixes.{IsPrefix-self}
 use Rattle.seen_journal.proofs.Words.{get_elem-push}
 use Rattle.seen_journal.proofs.Views.{Asks-set, get_elem-set, Asks-push}
 

@@ -7,8 +7,8 @@ use Rattle.seen_journal.specs.Prefixes.{IsPrefix, longer_of}
 use Rattle.seen_journal.specs.Entries.{entries_of}
 use Rattle.seen_journal.specs.Kinds.{rested, note_of, told_as, told}
 use Rattle.seen_journal.specs.Exchanged.{IsJournal, IsPass, Gains}
-use Rattle.seen_journal.proofs.Prefixes.{longer_of-prefix, length-push_within}
-use Rattle.seen_journal.proofs.Entries.{entries_of-push_own}
+use Rattle.seen_journal.proofs.laws.Prefixes.{longer_of-prefix, length-push_within}
+use Rattle.seen_journal.proofs.laws.Entries.{entries_of-push_own}
 
 module _ {E : Type 0} where
   -- the pass that asks for an entry more

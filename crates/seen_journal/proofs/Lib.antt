@@ -1,14 +1,13 @@
 pub mod Adds
 pub mod Elements
 pub mod Enrolments
-pub mod Entries
 pub mod Grants
+pub mod laws
 pub mod Loads
 pub mod Meetings
 pub mod Notes
 pub mod Openings
 pub mod Owners
-pub mod Prefixes
 pub mod Quotas
 pub mod Views
 pub mod Words

@@ -10,8 +10,8 @@ use Rattle.seen_journal.specs.Prefixes.{IsPrefix}
 use Rattle.seen_journal.specs.Entries.{entries_of}
 use Rattle.seen_journal.specs.Views.{FitsList, IsKept, holds}
 use Rattle.seen_journal.specs.Kinds.{asked_more, looked}
-use Rattle.seen_journal.proofs.Prefixes.{IsPrefix-self, IsPrefix-append, IsPrefix-through, IsPrefix-shorter, ArePrefixes-at, length-push_within}
-use Rattle.seen_journal.proofs.Entries.{IsPrefix-entries_of}
+use Rattle.seen_journal.proofs.laws.Prefixes.{IsPrefix-self, IsPrefix-append, IsPrefix-through, IsPrefix-shorter, ArePrefixes-at, length-push_within}
+use Rattle.seen_journal.proofs.laws.Entries.{IsPrefix-entries_of}
 use Rattle.seen_journal.proofs.Words.{set-either}
 use Rattle.seen_journal.proofs.Views.{Asks-set, IsKept-set}
 

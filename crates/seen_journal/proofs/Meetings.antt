@@ -6,8 +6,8 @@ use Rattle.seen_journal.specs.Prefixes.{IsPrefix, longer_of}
 use Rattle.seen_journal.specs.Entries.{entries_of}
 use Rattle.seen_journal.specs.Kinds.{Learns, rested, note_of, told_as, told}
 use Rattle.seen_journal.specs.Exchanged.{IsJournal, IsPass, Rests, Sees}
-use Rattle.seen_journal.proofs.Prefixes.{longer_of-prefix, length-longer_of_first, length-longer_of_second}
-use Rattle.seen_journal.proofs.Entries.{entries_of-seen}
+use Rattle.seen_journal.proofs.laws.Prefixes.{longer_of-prefix, length-longer_of_first, length-longer_of_second}
+use Rattle.seen_journal.proofs.laws.Entries.{entries_of-seen}
 use Rattle.seen_journal.proofs.Quotas.{length-below_quotas}
 
 module _ {E : Type 0} where

@@ -10,7 +10,7 @@ use Rattle.seen_journal.specs.declared.view.View.{View}
 use Rattle.seen_journal.specs.Prefixes.{IsPrefix}
 use Rattle.seen_journal.specs.Views.{HasPlace, FitsList, IsKept, holds}
 use Rattle.seen_journal.specs.Kinds.{note_of, told_as, told, spent}
-use Rattle.seen_journal.proofs.Prefixes.{IsPrefix-self, IsPrefix-longer_of}
+use Rattle.seen_journal.proofs.laws.Prefixes.{IsPrefix-self, IsPrefix-longer_of}
 use Rattle.seen_journal.proofs.Views.{Asks-set, FitsList-set, IsKept-set, Asks-push, IsKept-push, is_pass-cases}
 
 module _ {E : Type 0} where

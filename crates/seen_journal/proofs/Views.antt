@@ -9,7 +9,7 @@ use Rattle.seen_journal.specs.declared.role.Role.TheVariants.{Own, Pass, Note}
 use Rattle.seen_journal.specs.declared.view.View.{View}
 use Rattle.seen_journal.specs.Prefixes.{IsPrefix}
 use Rattle.seen_journal.specs.Views.{Asks, FitsList, IsKept}
-use Rattle.seen_journal.proofs.Prefixes.{IsPrefix-through}
+use Rattle.seen_journal.proofs.laws.Prefixes.{IsPrefix-through}
 use Rattle.seen_journal.proofs.Words.{within-get_elem}
 
 module _ {E : Type 0} where

@@ -13,7 +13,7 @@ use Rattle.script_ops.specs.declared.op.Op.{Op}
 use Rattle.step_world.proofs.AccessSteps.{some_can_be}
 use Rattle.step_world.proofs.LookingWorlds.{held, made-is}
 use Rattle.step_world.specs.Answers.{HasNext}
-use Rattle.step_world.specs.LookLists.{AreReady}
+use Rattle.run_law.specs.LookLists.{AreReady}
 use Rattle.step_world.specs.Machine.{thread_at}
 use Rattle.step_world.specs.Moments.{progress_by, progress_in}
 use Rattle.step_world.specs.Worlds.{IsLookingAt, IsWorldOf, machine_of, rooms_from}

@@ -24,7 +24,7 @@ use Rattle.step_world.proofs.MachineStates.{holder_off, holder_on, place_off, pl
 use Rattle.step_world.proofs.StepRows.{step_decides}
 use Rattle.step_world.proofs.TakenWorlds.{within-next}
 use Rattle.step_world.specs.Answers.{HasDecided, HasNext}
-use Rattle.step_world.specs.LookLists.{AreReady}
+use Rattle.run_law.specs.LookLists.{AreReady}
 use Rattle.step_world.specs.Machine.{Decides, Moves, Steps, holder_behind, place_behind, thread_at}
 use Rattle.step_world.specs.Slices.{SliceValue}
 use Rattle.step_world.specs.Works.{Settles}

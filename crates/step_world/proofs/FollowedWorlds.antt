@@ -20,7 +20,7 @@ use Rattle.step_world.proofs.MachineStates.{holder_off, holder_on, place_off, pl
 use Rattle.step_world.proofs.StepRows.{step_follows}
 use Rattle.step_world.proofs.TakenWorlds.{within-next}
 use Rattle.step_world.specs.Answers.{HasDone, HasNext}
-use Rattle.step_world.specs.LookLists.{AreReady}
+use Rattle.run_law.specs.LookLists.{AreReady}
 use Rattle.step_world.specs.Machine.{Follows, Moves, Notes, Steps, holder_behind, place_behind, thread_at}
 use Rattle.step_world.specs.Slices.{FollowsUp, SliceValue}
 use Rattle.step_world.specs.Works.{FollowsOn, Settles}

@@ -8,11 +8,11 @@ use Rattle.std.proofs.lemmas.Nat.{mul-le}
 use Rattle.std.proofs.lemmas.Option.{get_or_from_slice_get, slice_get-get_or}
 use Rattle.cache_core.specs.History.{IsOwn, Shape, floor_of}
 use Rattle.cache_core.specs.Places.{CacheValue}
-use Rattle.machine.specs.Ranges.{InRange}
+use Rattle.cache_steps.proofs.laws.FollowNeeds.{CanFollow-ready}
+use Rattle.cache_steps.specs.Needs.{CanFollow}
 use Rattle.machine.specs.Slices.{slice_of_line}
 use Rattle.machine.specs.declared.parameters.Parameters.{Parameters}
 use Rattle.run_law.proofs.laws.FollowCounts.{follow-at, follow_job, follows-are, job_behind, length-follows}
-use Rattle.run_law.proofs.laws.OwnLines.{IsOwn-shape_in, mod-some_way}
 use Rattle.run_law.specs.Jobs.{Job, follow_jobs, follows_of, jobs_of, looks_of}
 use Rattle.run_law.specs.Journals.{At, slice_at}
 use Rattle.run_law.specs.Progress.{Progress}
@@ -30,7 +30,7 @@ use Rattle.step_world.proofs.SliceFloors.{floor_following}
 use Rattle.step_world.specs.Answers.{HasNext}
 use Rattle.step_world.specs.Machine.{thread_at}
 use Rattle.step_world.specs.Moments.{progress_by, progress_in}
-use Rattle.step_world.specs.Slices.{CanFollow, SliceValue}
+use Rattle.step_world.specs.Slices.{SliceValue}
 use Rattle.step_world.specs.Worlds.{IsAtWork, IsFollowing, IsWorldOf, machine_of}
 use Rattle.step_world.specs.declared.place.Place.TheVariants.{Following}
 use Rattle.step_world.specs.declared.world.World.{World}
@@ -49,21 +49,6 @@ slices_at-few m (SliceOf domain line) some = some
 -- it is entered in no more slices than a domain has
 slices-few : (m : Parameters) (f : Follow) → 0 < m.slices → slices_for m f ≤ m.slices
 slices-few m f some = slices_at-few m (goes_to f) some
-
--- a slice that it goes to can take it
-can-follow : (m : Parameters) (f : Follow) (i x : ℕ) (cache : CacheValue) → InRange m → i ≡ slice_for m f x → cache.shape ≡ shape_in m i → cache.rmids ≡ m.rmids → IsReady m f → CanFollow f cache
-can-follow m (Raise domain) i x cache range number shape rmids ready = tt
-can-follow m (Flush domain) i x cache range number shape rmids ready = tt
-can-follow m (Lock domain mask first_line) i x cache range number shape rmids ready = ready.2
-can-follow m (Touch tag line) i x cache range number shape rmids ready =
-    let its : cache.shape ≡ shape_in m (slice_of_line m tag.domain line) = shape ∙ ap (shape_in m) number in (
-      subst (λ (s : Shape). IsOwn s (line % s.sets)) (sym its) (IsOwn-shape_in m tag.domain line range.some_set range.some_slice),
-      subst (λ (s : Shape). 0 < tag.mask % 2 ^ s.ways) (sym shape) (mod-some_way tag.mask m.ways ready.1 ready.2),
-      omega (arith, rmids, ready.0),
-    )
-can-follow m (Drop domain line) i x cache range number shape rmids ready =
-    let its : cache.shape ≡ shape_in m (slice_of_line m domain line) = shape ∙ ap (shape_in m) number in
-    subst (λ (s : Shape). IsOwn s (line % s.sets)) (sym its) (IsOwn-shape_in m domain line range.some_set range.some_slice)
 
 module _ (script : ScriptValue) (t made : ℕ) (op : Op) (w : World) (world : IsWorldOf script w) (nexts : HasNext script (machine_of w) t op) (place : (thread_at (machine_of w) t).place ≡ Following made) where
   abbrev tree : List TreeEntryValue
@@ -129,8 +114,11 @@ module _ (script : ScriptValue) (t made : ℕ) (op : Op) (w : World) (world : Is
     slice-there = omega (arith, following.slice f is, slices-few script.machine f world.lawful.in_range.some_slice)
 
     -- the slice can take it
-    pub can : (i : ℕ) (d : SliceValue) → i < length w.slices.items → i ≡ slice_for script.machine f w.work.slice → CanFollow f (get_or w.slices.items i d).cache
-    can i d there number = let cache = world.slices.caches i d there in can-follow script.machine f i w.work.slice (get_or w.slices.items i d).cache world.lawful.in_range number cache.shape cache.rmids ready
+    pub can : (i : ℕ) (d : SliceValue) → i < length w.slices.items → i ≡ slice_for script.machine f w.work.slice → CanFollow (get_or w.slices.items i d).cache.shape (get_or w.slices.items i d).cache.rmids f
+    can i d there number =
+        let cache = world.slices.caches i d there in
+        let can : CanFollow (shape_in script.machine i) script.machine.rmids f = CanFollow-ready script.machine f i w.work.slice world.lawful.in_range number ready in
+        subst (λ r. CanFollow (get_or w.slices.items i d).cache.shape r f) (sym cache.rmids) (subst (λ m. CanFollow m script.machine.rmids f) (sym cache.shape) can)
 
     -- the entry's job
     abbrev pub job : Job

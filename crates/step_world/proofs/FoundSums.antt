@@ -12,7 +12,7 @@ use Rattle.run_law.specs.FoundLooks.{AreDistinct}
 use Rattle.run_law.specs.Journals.{At}
 use Rattle.script_ops.specs.Values.{ScriptValue}
 use Rattle.script_ops.specs.declared.op.Op.{Op}
-use Rattle.step_world.specs.LookLists.{AreReady, HasNoted, spare_in}
+use Rattle.run_law.specs.LookLists.{AreReady, HasNoted, spare_in}
 use Rattle.step_world.specs.Worlds.{HasList, found_at, rooms_from}
 
 -- ---- lists
@@ -32,12 +32,6 @@ AreDistinct-pairs xs pairs q r x first second = elim (cases_lt q r) [
     | inr same ↦ omega (arith, more, same)
   ]
 ]
-
--- how many numbers more fit into the last of these lists
-pub spare_in-last : (front : List LooksValue) (last : LooksValue) → spare_in (front ++ last ∷ []) ≡ last.spare
-spare_in-last [] last = refl
-spare_in-last (l ∷ []) last = refl
-spare_in-last (l ∷ k ∷ front) last = spare_in-last (k ∷ front) last
 
 -- ---- sums
 

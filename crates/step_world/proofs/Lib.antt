@@ -1,5 +1,4 @@
 pub mod AccessSteps
-pub mod AccessesAlone
 pub mod CommandRooms
 pub mod CommandSteps
 pub mod DecidedCounts

@@ -25,7 +25,8 @@ use Rattle.script_ops.specs.Values.{ScriptValue, op_at}
 use Rattle.script_ops.specs.declared.op.Op.{Op}
 use Rattle.step_world.proofs.AccessSteps.{some_can_be}
 use Rattle.step_world.proofs.NextRooms.{room-job}
-use Rattle.step_world.proofs.FoundSums.{At-map, spare_in-last}
+use Rattle.run_law.proofs.laws.ReadyLists.{spare_in-last}
+use Rattle.step_world.proofs.FoundSums.{At-map}
 use Rattle.step_world.proofs.LookedWorlds.{counted}
 use Rattle.step_world.proofs.MachineStates.{can_be_at, some_same}
 use Rattle.step_world.proofs.RoomLeft.{has-room}
@@ -33,7 +34,7 @@ use Rattle.step_world.proofs.SoundStates.{IsSound-now}
 use Rattle.step_world.proofs.StepParts.{looking_is}
 use Rattle.step_world.proofs.TakenWorlds.{within-next}
 use Rattle.step_world.specs.Answers.{HasCounted, HasNext}
-use Rattle.step_world.specs.LookLists.{spare_in}
+use Rattle.run_law.specs.LookLists.{spare_in}
 use Rattle.step_world.specs.Machine.{thread_at}
 use Rattle.step_world.specs.Moments.{progress_by, progress_in}
 use Rattle.step_world.specs.Slices.{CountsLines, SliceValue}

@@ -12,8 +12,7 @@ use Rattle.run_law.specs.Quotas.{most_counts, room_of}
 use Rattle.script_ops.specs.Values.{ScriptValue, ops_of}
 use Rattle.script_ops.specs.declared.op.Op.{Op}
 use Rattle.script_ops.specs.declared.op.Op.TheVariants.{Access}
-use Rattle.step_world.proofs.TakenWorlds.{drop-at}
-use Rattle.step_world.specs.LookLists.{AreReady, rooms_of}
+use Rattle.run_law.specs.LookLists.{AreReady, rooms_of}
 use Rattle.step_world.specs.Machine.{opening_thread}
 use Rattle.step_world.specs.Openings.{AreFirst, AreFresh, AreListed}
 use Rattle.step_world.specs.Slices.{IsFresh, SliceValue}
@@ -77,40 +76,3 @@ AreListed-push script n lists l all one = record {
 -- none yet
 pub AreListed-nil : (script : ScriptValue) (lists : List (List Looks)) → lists ≡ [] → AreListed script 0 lists
 AreListed-nil script lists empty = record { count = ap length empty; each = λ t d within. absurd (omega (arith, within)) }
-
--- one op back: a command has a list more
-pub AreReady-command : (m : Parameters) (ops : List Op) (k : ℕ) (op : Op) (lists : List Looks) (l : Looks) → At ops k op → is_command op ≡ true → l.numbers ≡ [] → most_counts m op ≤ l.spare
-    → AreReady (rooms_of m (drop (k + 1) ops)) lists → AreReady (rooms_of m (drop k ops)) (lists ++ l ∷ [])
-AreReady-command m ops k op lists l at command empty room ready =
-    let rooms : rooms_of m (drop k ops) ≡ most_counts m op ∷ rooms_of m (drop (k + 1) ops) = ap (rooms_of m) (drop-at ops k op at) ∙ (rw command refl) in
-    subst (λ rs. AreReady rs (lists ++ l ∷ [])) (sym rooms) (lists, l, refl, empty, room, ready)
-
--- and an access none
-pub AreReady-access : (m : Parameters) (ops : List Op) (k : ℕ) (op : Op) (lists : List Looks) → At ops k op → is_command op ≡ false → AreReady (rooms_of m (drop (k + 1) ops)) lists → AreReady (rooms_of m (drop k ops)) lists
-AreReady-access m ops k op lists at access ready =
-    let rooms : rooms_of m (drop k ops) ≡ rooms_of m (drop (k + 1) ops) = ap (rooms_of m) (drop-at ops k op at) ∙ (rw access refl) in
-    subst (λ rs. AreReady rs lists) (sym rooms) ready
-
--- the lists so far, one op further back that is an access
-pub AreReady-access_back : (m : Parameters) (ops : List Op) (k : ℕ) (op : Op) (lists : List Looks) → k < length ops → op ≡ get_or ops (length ops - 1 - k) op → is_command op ≡ false
-    → AreReady (rooms_of m (drop (length ops - k) ops)) lists → AreReady (rooms_of m (drop (length ops - (k + 1)) ops)) lists
-AreReady-access_back m ops k op lists below is access ready =
-    let there : At ops (length ops - 1 - k) op = slice_get-get_or ops (length ops - 1 - k) op (omega (arith, below)) ∙ ap (λ x. Some x) (sym is) in
-    let place : length ops - 1 - k ≡ length ops - (k + 1) = omega arith in
-    let next : length ops - k ≡ length ops - 1 - k + 1 = omega (arith, below) in
-    subst (λ n. AreReady (rooms_of m (drop n ops)) lists) place (AreReady-access m ops (length ops - 1 - k) op lists there access (subst (λ n. AreReady (rooms_of m (drop n ops)) lists) next ready))
-
--- or a command
-pub AreReady-command_back : (m : Parameters) (ops : List Op) (k : ℕ) (op : Op) (lists : List Looks) (l : Looks) → k < length ops → op ≡ get_or ops (length ops - 1 - k) op → is_command op ≡ true → l.numbers ≡ [] → most_counts m op ≤ l.spare
-    → AreReady (rooms_of m (drop (length ops - k) ops)) lists → AreReady (rooms_of m (drop (length ops - (k + 1)) ops)) (lists ++ l ∷ [])
-AreReady-command_back m ops k op lists l below is command empty room ready =
-    let there : At ops (length ops - 1 - k) op = slice_get-get_or ops (length ops - 1 - k) op (omega (arith, below)) ∙ ap (λ x. Some x) (sym is) in
-    let place : length ops - 1 - k ≡ length ops - (k + 1) = omega arith in
-    let next : length ops - k ≡ length ops - 1 - k + 1 = omega (arith, below) in
-    subst (λ n. AreReady (rooms_of m (drop n ops)) (lists ++ l ∷ [])) place
-    (AreReady-command m ops (length ops - 1 - k) op lists l there command empty room (subst (λ n. AreReady (rooms_of m (drop n ops)) lists) next ready))
-
--- an op that is no access is a command
-pub is_command-not_access : (op : Op) → ((task cpu addr : ℕ) → op ≡ Access task cpu addr → ⊥) → is_command op ≡ true
-is_command-not_access (Access task cpu addr) not = absurd (not task cpu addr refl)
-is_command-not_access op not = refl

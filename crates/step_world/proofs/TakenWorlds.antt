@@ -15,7 +15,8 @@ use Rattle.step_world.proofs.KeptWorlds.{IsWorldOf-step, Leaves, moves-leaves}
 use Rattle.step_world.proofs.LookedCounts.{take_looked}
 use Rattle.step_world.proofs.StepRows.{step_takes}
 use Rattle.step_world.specs.Answers.{HasNext, HasTaken}
-use Rattle.step_world.specs.LookLists.{AreReady, rooms_of}
+use Rattle.run_law.proofs.laws.ReadyLists.{drop-at}
+use Rattle.run_law.specs.LookLists.{AreReady, rooms_of}
 use Rattle.step_world.specs.Looked.{HasLooked}
 use Rattle.step_world.specs.Machine.{Moves, Steps, Takes, thread_at}
 use Rattle.step_world.specs.Worlds.{AreInPlay, HasList, HasLists, IsLookingAt, IsTreeOf, IsWorldOf, found_at, journals_of, machine_of, rooms_from}
@@ -26,12 +27,6 @@ use Rattle.step_world.specs.declared.world.World.{World}
 use Rattle.tree_law.specs.Steps.{needs}
 
 -- ---- lists
-
--- a list from the place of an element on
-pub drop-at : {X : Type 0} (xs : List X) (n : ℕ) (x : X) → At xs n x → drop n xs ≡ x ∷ drop (n + 1) xs
-drop-at [] n x at = absurd cc
-drop-at (y ∷ xs) zero x at = (let same : y ≡ x = cc in ap (λ z. z ∷ xs) same)
-drop-at (y ∷ xs) (suc n) x at = let next : suc (n + 1) ≡ suc n + 1 = omega arith in subst (λ k. drop (suc n) (y ∷ xs) ≡ x ∷ drop k (y ∷ xs)) next (drop-at xs n x at)
 
 -- the rooms from a command on
 pub rooms-command : (script : ScriptValue) (t n : ℕ) (op : Op) → op_at script t n ≡ Some op → is_command op ≡ true → rooms_from script t n ≡ most_counts script.machine op ∷ rooms_from script t (n + 1)

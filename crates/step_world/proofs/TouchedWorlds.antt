@@ -24,7 +24,7 @@ use Rattle.step_world.proofs.MachineStates.{can_be_is}
 use Rattle.step_world.proofs.StepRows.{step_stale, step_touches}
 use Rattle.step_world.proofs.TakenWorlds.{IsQuiet, journals-quiet, leaves-quiet, lists-quiet, rooms-access, tree-quiet, within-next}
 use Rattle.step_world.specs.Answers.{HasNext, HasTouched, HasUsed, IsStale}
-use Rattle.step_world.specs.LookLists.{AreReady}
+use Rattle.run_law.specs.LookLists.{AreReady}
 use Rattle.step_world.specs.Machine.{Moves, Notes, Steps, TagsAgain, Touches, floor_for, thread_at}
 use Rattle.step_world.specs.Moments.{progress_by, progress_in}
 use Rattle.step_world.specs.Slices.{Grows, SliceValue, TouchesLine}

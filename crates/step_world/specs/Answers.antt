@@ -1,4 +1,5 @@
--- What the answer of a step says: which row of the machine the thread did, or why it did none.
+-- What the answer of a step says: which step of the machine the thread took, or why it took none.
+-- (For functions and proofs: no promise of the program stands on it.)
 use Rattle.std.specs.Prelude.{◌≡◌, ℕ, ◌<◌, ◌≤◌, Bool, true, false, length, Some, None}
 use Rattle.cache_core.specs.declared.entry.What.{What}
 use Rattle.cache_core.specs.declared.entry.What.TheVariants as whats
@@ -25,11 +26,11 @@ pub record HasNext (script : ScriptValue) (s : MachineValue) (t : ℕ) (op : Op)
   pub present : phase_in script.phases t ≡ s.phase
   pub is : op_at script t (thread_at s t).next ≡ Some op
 
--- it is of another phase, or its ops are done
+-- the thread is of another phase, or its ops are done
 abbrev pub IsAtEnd : ScriptValue → MachineValue → ℕ → Type 0
 IsAtEnd script s t = phase_in script.phases t ≡ s.phase → op_at script t (thread_at s t).next ≡ None
 
--- its next step is to take the tree or to read a tag, and another thread holds the tree
+-- the next step of the thread is to take the tree or to read a tag, and another thread holds the tree
 pub record IsBlocked (script : ScriptValue) (s : MachineValue) (t : ℕ) : Type 0 where
   pub op : Op
   pub next : HasNext script s t op
@@ -37,7 +38,7 @@ pub record IsBlocked (script : ScriptValue) (s : MachineValue) (t : ℕ) : Type 
   pub holder : ℕ
   pub held : s.holder ≡ Some holder
 
--- ---- the rows
+-- ---- the steps
 
 -- an entry is a look that counted these lines
 abbrev pub Counts : ℕ → What → Type 0
@@ -54,14 +55,14 @@ pub record HasTaken (t : ℕ) (op : Op) (old new : MachineValue) : Type 0 where
   pub free : old.holder ≡ None
   pub row : Takes t old new
 
--- it looked at a slice, and found these lines
+-- the thread looked at a slice, and found these lines
 pub record HasCounted (script : ScriptValue) (t lines : ℕ) (op : Op) (old new : MachineValue) : Type 0 where
   pub made : ℕ
   pub place : (thread_at old t).place ≡ Looking made
   pub row : Looks script t made op old new
   pub counts : Counts lines row.makes.entry.what
 
--- all its looks were made, and its command was decided, with this reply
+-- all looks of its command were made, and the command was decided, with this reply
 pub record HasDecided (script : ScriptValue) (t : ℕ) (reply : Reply) (op : Op) (old new : MachineValue) : Type 0 where
   pub made : ℕ
   pub place : (thread_at old t).place ≡ Looking made
@@ -69,13 +70,13 @@ pub record HasDecided (script : ScriptValue) (t : ℕ) (reply : Reply) (op : Op)
   pub row : Decides script t made op old new
   pub told : row.entry.reply ≡ reply
 
--- a follow-up was done in one slice
+-- a follow-up of its command was done in one slice
 pub record HasDone (script : ScriptValue) (t : ℕ) (op : Op) (old new : MachineValue) : Type 0 where
   pub made : ℕ
   pub place : (thread_at old t).place ≡ Following made
   pub row : Follows script t made op old new
 
--- its access read a tag of this epoch
+-- an access of the thread read a tag of this epoch
 pub record HasTagged (script : ScriptValue) (t epoch : ℕ) (op : Op) (old new : MachineValue) : Type 0 where
   pub task : ℕ
   pub cpu : ℕ
@@ -86,7 +87,7 @@ pub record HasTagged (script : ScriptValue) (t epoch : ℕ) (op : Op) (old new :
   pub row : Tags script t task cpu old new
   pub told : epoch ≡ length old.journals.tree
 
--- its tag is no older than the floor of the slice, and its access hit or filled a way
+-- the tag of its access is no older than the floor of the slice, and the access hit or filled a way
 pub record HasUsed (script : ScriptValue) (t : ℕ) (hit : Bool) (way : ℕ) (op : Op) (old new : MachineValue) : Type 0 where
   pub tag : Tag
   pub task : ℕ
@@ -98,7 +99,7 @@ pub record HasUsed (script : ScriptValue) (t : ℕ) (hit : Bool) (way : ℕ) (op
   pub row : Touches script t tag task cpu addr old new
   pub uses : Uses hit way row.entry.what
 
--- its tag is older than the floor of the slice
+-- the tag of its access is older than the floor of the slice
 pub record IsStale (script : ScriptValue) (t floor : ℕ) (op : Op) (old new : MachineValue) : Type 0 where
   pub tag : Tag
   pub task : ℕ
@@ -116,7 +117,7 @@ HasTouched script t (Hit way) op old new = HasUsed script t true way op old new
 HasTouched script t (Filled way) op old new = HasUsed script t false way op old new
 HasTouched script t (Stale floor) op old new = IsStale script t floor op old new
 
--- the row that a thread did
+-- the step that a thread took
 abbrev pub Does : ScriptValue → ℕ → Action → Op → MachineValue → MachineValue → Type 0
 Does script t actions.Took op old new = HasTaken t op old new
 Does script t (actions.Looked lines) op old new = HasCounted script t lines op old new

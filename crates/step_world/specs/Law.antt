@@ -1,4 +1,5 @@
 -- The law of schedules: whatever steps the threads take, and in whatever order, the journals are those of a run.
+-- (For functions and proofs: no promise of the program stands on it.)
 use Rattle.std.specs.Prelude.{◌≡◌, ℕ, ◌<◌, ◌≤◌, List, length}
 use Rattle.machine.specs.Slices.{slice_count}
 use Rattle.run_law.specs.Journals.{JournalsValue, slice_at}

@@ -1,7 +1,6 @@
 pub mod Answers
 pub mod Law
 pub mod Listed
-pub mod LookLists
 pub mod Looked
 pub mod Machine
 pub mod Moments

@@ -1,4 +1,5 @@
 -- What is found out once for all steps of an order list.
+-- (For functions and proofs: no promise of the program stands on it.)
 use Rattle.std.specs.Prelude.{◌≡◌, ℕ, ◌+◌, ◌≤◌, IfSome, Option, length}
 use Rattle.script_ops.specs.Values.{ScriptValue, first_thread, phase_at, threads_of}
 use Rattle.step_world.specs.Passing.{IsResolved}
@@ -12,6 +13,6 @@ pub record AreOf (script : ScriptValue) (phase : ℕ) (threads : PhaseThreads) :
   pub count : threads.count ≡ length (phase_at script phase).threads
   pub within : threads.first + threads.count ≤ length (threads_of script)
 
--- what is known of the tree of a world is what it answers
+-- the tag that is known, if one is, is the one that the tree of the world answers
 abbrev pub Knows : Option Known → World → Type 0
 Knows known w = IfSome known (λ k. IsResolved w k.task k.cpu k.tag)

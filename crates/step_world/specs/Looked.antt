@@ -1,4 +1,5 @@
 -- What the looks of a thread's command have found.
+-- (For functions and proofs: no promise of the program stands on it.)
 use Rattle.std.specs.Prelude.{List, length, ℕ, ◌≡◌}
 use Rattle.run_law.specs.FoundLooks.{HasFound, pairs_for}
 use Rattle.script_ops.specs.Values.{ScriptValue}

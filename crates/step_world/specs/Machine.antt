@@ -53,7 +53,7 @@ pub record Notes (m : Parameters) (i : ℕ) (e : SliceEntry) (old new : MachineV
   pub may : EntryMayFollow (shape_in m i) (slice_at old.journals i) e
   pub slices : (k : ℕ) → slice_at new.journals k ≡ slice_at old.journals k ++ (if k == i then e ∷ [] else [])
 
--- the entry that a job of a thread's op becomes
+-- a job of a thread's op becomes an entry
 pub record MakesEntry (m : Parameters) (t n : ℕ) (job : Job) (old new : MachineValue) : Type 0 where
   pub entry : SliceEntry
   pub pays : PaysJob t n job entry
@@ -67,7 +67,7 @@ pub record Takes (t : ℕ) (old new : MachineValue) : Type 0 where
   pub holder : new.holder ≡ Some t
   pub moves : Moves t (record { next = (thread_at old t).next; place = Looking 0 }) old new
 
--- it looks at a slice
+-- a command that holds the tree looks at a slice
 pub record Looks (script : ScriptValue) (t made : ℕ) (op : Op) (old new : MachineValue) : Type 0 where
   pub job : Job
   pub there : At (looks_of script old.journals.tree (length old.journals.tree) op) made job
@@ -75,7 +75,7 @@ pub record Looks (script : ScriptValue) (t made : ℕ) (op : Op) (old new : Mach
   pub holder : new.holder ≡ old.holder
   pub moves : Moves t (record { next = (thread_at old t).next; place = Looking (made + 1) }) old new
 
--- the place of a command that was decided and has made so many of all its entries, and who holds the tree there
+-- where a thread is whose command was decided and has made so many of all its entries
 abbrev pub place_behind : ℕ → ℕ → ℕ → Thread
 place_behind next made all = if nat_lt made all then record { next = next; place = Following made } else record { next = next + 1; place = Ready }
 
@@ -96,7 +96,7 @@ pub record Decides (script : ScriptValue) (t made : ℕ) (op : Op) (old new : Ma
   pub holder : new.holder ≡ holder_behind t made (length (jobs_of script old.journals.tree (length old.journals.tree) op))
   pub moves : Moves t (place_behind (thread_at old t).next made (length (jobs_of script old.journals.tree (length old.journals.tree) op))) old new
 
--- One entry follows it; it was decided at position k. After the last the tree is let go.
+-- One entry of a command that was decided, as the last of the tree's history, is made. After the last entry the tree is let go.
 pub record Follows (script : ScriptValue) (t made : ℕ) (op : Op) (old new : MachineValue) : Type 0 where
   pub position : ℕ
   pub last : length old.journals.tree ≡ position + 1
@@ -120,7 +120,7 @@ pub record Touches (script : ScriptValue) (t : ℕ) (tag : Tag) (task cpu addr :
   pub holder : new.holder ≡ old.holder
   pub moves : Moves t (record { next = (thread_at old t).next + 1; place = Ready }) old new
 
--- it finds its tag stale, and is to tag again
+-- the access finds its tag stale, and is to tag again
 pub record TagsAgain (t : ℕ) (old new : MachineValue) : Type 0 where
   pub journals : new.journals ≡ old.journals
   pub holder : new.holder ≡ old.holder
@@ -130,17 +130,17 @@ pub record TagsAgain (t : ℕ) (old new : MachineValue) : Type 0 where
 abbrev pub floor_for : ScriptValue → MachineValue → Tag → ℕ → ℕ
 floor_for script s tag addr = floor_of (slice_at s.journals (slice_of_line script.machine tag.domain (line_of addr)))
 
--- Touch, or stale
+-- the access touches its line, or, where its tag is below the floor, it is to tag again
 abbrev pub Reaches : ScriptValue → ℕ → Tag → ℕ → ℕ → ℕ → MachineValue → MachineValue → Type 0
 Reaches script t tag task cpu addr old new =
     MatchBool (nat_lt tag.epoch (floor_for script old tag addr)) (TagsAgain t old new) (Touches script t tag task cpu addr old new)
 
--- Take, or Tag; where somebody holds the tree, nothing
+-- Take, or Tag; while somebody holds the tree, nothing
 abbrev pub Begins : ScriptValue → ℕ → Op → Option ℕ → MachineValue → MachineValue → Type 0
 Begins script t op (Some holder) old new = new ≡ old
 Begins script t op None old new = ByKind (λ task cpu addr. Tags script t task cpu old new) (Takes t old new) op
 
--- The step of a thread at this place of this op. A place that is not one of the op's kind changes nothing.
+-- The step of a thread at this place in this op. At Tagged a command changes nothing.
 abbrev pub StepFrom : ScriptValue → ℕ → Op → Place → MachineValue → MachineValue → Type 0
 StepFrom script t op Ready old new = Begins script t op old.holder old new
 StepFrom script t op (Looking made) old new =
@@ -153,7 +153,7 @@ abbrev pub StepOf : ScriptValue → ℕ → Option Op → MachineValue → Machi
 StepOf script t None old new = new ≡ old
 StepOf script t (Some op) old new = StepFrom script t op (thread_at old t).place old new
 
--- One step of a thread. One of another phase changes nothing.
+-- One step of a thread. A thread of another phase changes nothing.
 abbrev pub Steps : ScriptValue → ℕ → MachineValue → MachineValue → Type 0
 Steps script t old new =
     MatchBool (phase_in script.phases t == old.phase) (StepOf script t (op_at script t (thread_at old t).next) old new) (new ≡ old)
@@ -197,7 +197,7 @@ abbrev pub Happens : ScriptValue → Event → MachineValue → MachineValue →
 Happens script (Step t) old new = Steps script t old new
 Happens script Next old new = GoesOn script old new
 
--- one after the other
+-- these events happen, one after the other
 abbrev pub Plays : ScriptValue → List Event → MachineValue → MachineValue → Type 0
 Plays script [] old new = new ≡ old
 Plays script (e ∷ es) old new = (between : MachineValue) × Happens script e old between × Plays script es between new

@@ -1,4 +1,5 @@
 -- What holds of the machine at every moment: its journals are those of a run so far.
+-- (For functions and proofs: no promise of the program stands on it.)
 use Rattle.std.specs.Prelude.{IsSome, List, None, Option, Some, [], length, ℕ, ◌++◌, ◌+◌, ◌↔◌, ◌∷◌, ◌≡◌, ◌≤◌}
 use Rattle.run_law.specs.Growth.{IsKept, AreLegal}
 use Rattle.run_law.specs.Jobs.{looks_of}
@@ -31,12 +32,12 @@ WithClaim tree t next (Looking made) all = (h : TreeEntryValue) × (h.thread ≡
 WithClaim tree t next (Following made) all = all ≡ tree
 WithClaim tree t next (Tagged tag) all = all ≡ tree
 
--- what the tree's history can be when the present command is decided
+-- what the tree's history can be once the present command is decided
 abbrev pub CanBe : MachineValue → Option ℕ → List TreeEntryValue → Type 0
 CanBe s None all = all ≡ s.journals.tree
 CanBe s (Some t) all = WithClaim s.journals.tree t (thread_at s t).next (thread_at s t).place all
 
--- the one that holds the tree is the one whose place says so
+-- the thread that holds the tree is the one whose place says so
 abbrev pub IsHeldBy : MachineValue → Option ℕ → Type 0
 IsHeldBy s holder = (t : ℕ) → IsSome (progress_in s t).made ↔ (holder ≡ Some t)
 
@@ -52,8 +53,8 @@ FollowsBehind script s =
     (t made k : ℕ) (op : Op) → (thread_at s t).place ≡ Following made → op_at script t (thread_at s t).next ≡ Some op → k + 1 ≡ length s.journals.tree
     → length (looks_of script s.journals.tree k op) ≤ made
 
--- The journals are those of a run so far: they are legal, and whatever the present command will be answered, its entries are
--- true and in order as far as each thread has come.
+-- The journals are those of a run so far: they are legal and, whatever reply the current command gets, true to their ops and in
+-- order as far as each thread has come.
 pub record IsRunSoFar (script : ScriptValue) (s : MachineValue) : Type 0 where
   pub legal : AreLegal script s.journals
   pub held : IsHeldBy s s.holder

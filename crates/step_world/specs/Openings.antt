@@ -1,10 +1,11 @@
 -- The slices, the threads and their lists before the first step.
+-- (For functions and proofs: no promise of the program stands on it.)
 use Rattle.std.specs.Prelude.{◌≡◌, ℕ, ◌<◌, List, length, slice_index_or, vec_capacity}
 use Rattle.machine.specs.Slices.{slice_count}
 use Rattle.rc_base.specs.Buffers.{Looks}
 use Rattle.run_law.specs.Quotas.{command_count, room_of}
 use Rattle.script_ops.specs.Values.{ScriptValue, ops_of}
-use Rattle.step_world.specs.LookLists.{AreReady, rooms_of}
+use Rattle.run_law.specs.LookLists.{AreReady, rooms_of}
 use Rattle.step_world.specs.Machine.{opening_thread}
 use Rattle.step_world.specs.Slices.{IsFresh, SliceValue}
 use Rattle.step_world.specs.declared.place.Thread.{Thread}
@@ -16,7 +17,7 @@ pub record AreFresh (script : ScriptValue) (n : ℕ) (slices : List SliceValue) 
   pub each : (i : ℕ) (d : SliceValue) → i < n → IsFresh script.machine i (slice_index_or slices i d)
   pub rooms : (i : ℕ) (d : SliceValue) → i < n → (slice_index_or slices i d).room ≡ room_of script i
 
--- so many threads, each before its first op
+-- these are n threads, each before its first op
 pub record AreFirst (n : ℕ) (threads : List Thread) : Type 0 where
   pub count : length threads ≡ n
   pub each : (t : ℕ) → slice_index_or threads t opening_thread ≡ opening_thread

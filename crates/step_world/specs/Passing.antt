@@ -1,4 +1,5 @@
 -- Accesses that read their tag and go to their slice in one go, while nobody holds the tree.
+-- (For functions and proofs: no promise of the program stands on it.)
 use Rattle.std.specs.Prelude.{◌≡◌, ℕ, ◌+◌, None, replicate}
 use Rattle.machine.specs.Maps.{domain_of}
 use Rattle.rc_base.specs.declared.names.Tag.{Tag}
@@ -31,7 +32,7 @@ pub record CanPass (script : ScriptValue) (w : World) (t n addr : ℕ) (tag : Ta
   pub free : w.holder ≡ None
   pub reads : IsResolved w task cpu tag
 
--- its access n is done, and the tree is as it was
+-- access n of the thread is done, in two steps, and the tree is as it was
 pub record HasPassed (script : ScriptValue) (t n : ℕ) (old new : World) : Type 0 where
   pub steps : StepsOf script (replicate 2 t) (machine_of old) (machine_of new)
   pub there : thread_at (machine_of new) t ≡ (record { next = n + 1; place = Ready })

@@ -31,7 +31,7 @@ EndInTurn script (t ∷ ts) old new =
 abbrev pub threads_of_phase : ScriptValue → ℕ → List ℕ
 threads_of_phase script phase = range_with_len (first_thread script phase) (length (phase_at script phase).threads)
 
--- one phase by an order list: that, the one that holds the tree, and each thread to its end
+-- one phase by an order list: the steps of the list, then those of the thread that holds the tree, then each thread to its end
 pub record PlaysPhaseBy (script : ScriptValue) (steps : List ℕ) (old new : MachineValue) : Type 0 where
   pub ordered : MachineValue
   pub free : MachineValue
@@ -41,11 +41,11 @@ pub record PlaysPhaseBy (script : ScriptValue) (steps : List ℕ) (old new : Mac
   pub rest : EndInTurn script (threads_of_phase script old.phase) free ended
   pub next : GoesOn script ended new
 
--- by its own order list
+-- one phase by its own order list
 abbrev pub PlaysPhase : ScriptValue → MachineValue → MachineValue → Type 0
 PlaysPhase script old new = PlaysPhaseBy script (phase_at script old.phase).order old new
 
--- so many phases, one after the other
+-- so many phases are played, one after the other
 abbrev pub PlaysPhases : ScriptValue → ℕ → MachineValue → MachineValue → Type 0
 PlaysPhases script zero old new = new ≡ old
 PlaysPhases script (suc n) old new = (between : MachineValue) × PlaysPhase script old between × PlaysPhases script n between new

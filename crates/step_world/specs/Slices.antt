@@ -1,4 +1,5 @@
 -- One slice while a script is played.
+-- (For functions and proofs: no promise of the program stands on it.)
 use Rattle.std.specs.Prelude.{◌≡◌, ℕ, ◌%◌, ◌^◌, ◌<◌, true, false, List, [], ◌∷◌, ◌++◌}
 use Rattle.cache_core.specs.History.{IsOwn, lines_of}
 use Rattle.cache_core.specs.Places.{CacheValue}
@@ -52,12 +53,3 @@ pub record FollowsUp (thread op epoch : ℕ) (f : Follow) (old new : SliceValue)
   pub op_is : entry.op ≡ op
   pub owed : paid_by entry ≡ record { epoch = epoch; what = what_of f }
   pub grows : Grows entry old new
-
--- what a slice needs for a follow-up: a touch is of a line of the slice's own, of an RMID that it counts and of some way of it,
--- a lock has its lines below 2^60, and a drop is of a line of the slice's own
-abbrev pub CanFollow : Follow → CacheValue → Type 0
-CanFollow (Raise domain) cache = Unit {0}
-CanFollow (Flush domain) cache = Unit {0}
-CanFollow (Lock domain mask first_line) cache = first_line < 2 ^ 60
-CanFollow (Touch tag line) cache = IsOwn cache.shape (line % cache.shape.sets) × (0 < tag.mask % 2 ^ cache.shape.ways) × (tag.rmid < cache.rmids)
-CanFollow (Drop domain line) cache = IsOwn cache.shape (line % cache.shape.sets)

@@ -1,7 +1,8 @@
 -- How the work of the command that holds the tree goes on.
+-- (For functions and proofs: no promise of the program stands on it.)
 use Rattle.std.specs.Prelude.{◌≡◌, ℕ, ◌+◌, ◌<◌, ◌≤◌, List, length, None, slice_set}
 use Rattle.rc_base.specs.Buffers.{Looks}
-use Rattle.step_world.specs.LookLists.{HasNoted}
+use Rattle.run_law.specs.LookLists.{HasNoted}
 use Rattle.step_world.specs.declared.place.Place.TheVariants.{Ready, Following}
 use Rattle.step_world.specs.declared.work.Work.{Work}
 use Rattle.step_world.specs.declared.world.World.{World}

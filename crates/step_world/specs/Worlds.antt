@@ -1,4 +1,5 @@
 -- What contracts see of a world, and when it is one of a script.
+-- (For functions and proofs: no promise of the program stands on it.)
 use Rattle.std.specs.Prelude.{◌≡◌, ℕ, ◌+◌, ◌*◌, ◌^◌, ◌<◌, ◌≤◌, List, [], ◌∷◌, ◌++◌, drop, take, length, map, IsSome, Option, Some, slice_get, slice_index_or, sum_by, vec_capacity, false}
 use Rattle.std.specs.List.{All}
 use Rattle.lists.specs.Sums.{sum_below}
@@ -15,7 +16,7 @@ use Rattle.script_ops.specs.Values.{IsLawful, ScriptValue, op_at, ops_of, thread
 use Rattle.script_ops.specs.declared.op.Op.{Op}
 use Rattle.script_ops.specs.declared.op.Op.TheVariants.{Access}
 use Rattle.run_law.specs.Caches.{IsCacheOf}
-use Rattle.step_world.specs.LookLists.{AreReady, rooms_of}
+use Rattle.run_law.specs.LookLists.{AreReady, rooms_of}
 use Rattle.step_world.specs.Looked.{HasLooked}
 use Rattle.step_world.specs.Machine.{MachineValue, thread_at}
 use Rattle.step_world.specs.Moments.{IsRunSoFar}
@@ -46,7 +47,7 @@ pub record AreInPlay (script : ScriptValue) (slices : List SliceValue) : Type 0 
   pub caches : (i : ℕ) (d : SliceValue) → i < length slices → IsCacheOf script.machine i (slice_index_or slices i d).entries (slice_index_or slices i d).cache
   pub rooms : (i : ℕ) (d : SliceValue) → i < length slices → room_of script i ≤ (slice_index_or slices i d).room
 
--- a place is one in such an op: only an access has a tag
+-- a place fits the op, if there is one: only an access is Tagged, and without an op the thread is Ready
 abbrev pub IsIn : Place → Option Op → Type 0
 IsIn Ready o = Unit {0}
 IsIn (Looking made) o = IsSome o
@@ -58,7 +59,7 @@ IsIn (Tagged tag) o = ⊥
 abbrev pub IsWithin : ScriptValue → ℕ → Thread → Type 0
 IsWithin script t v = (v.next ≤ length (ops_of script t)) × IsIn v.place (op_at script t v.next)
 
--- so is each
+-- each thread is at one of its ops or at its end
 abbrev pub AreWithin : ScriptValue → MachineValue → Type 0
 AreWithin script s = (t : ℕ) → IsWithin script t (thread_at s t)
 
@@ -68,11 +69,11 @@ pub record IsTreeOf (script : ScriptValue) (commands : List TreeEntryValue) (tre
   pub state : tree.state ≡ tree_after script commands
   pub epoch : tree.epoch ≡ length commands
 
--- the rooms of the commands of a thread from one on
+-- the rooms of the commands of a thread, from op n on
 abbrev pub rooms_from : ScriptValue → ℕ → ℕ → List ℕ
 rooms_from script t n = rooms_of script.machine (drop n (ops_of script t))
 
--- while a command looks, its list is the last, and has room for the counts that it needs and has not yet
+-- while a command looks, its list is the last, and has room for the counts that it still needs
 pub record HasList (script : ScriptValue) (t n : ℕ) (numbers : List ℕ) (lists : List Looks) : Type 0 where
   pub front : List Looks
   pub last : Looks
@@ -99,7 +100,7 @@ HasLists script t n (Tagged tag) lists = KeepsLists script t n lists
 abbrev pub found_at : ℕ → List ℕ → ℕ → ℕ → ℕ
 found_at slices found q number = sum_below number (λ x. slice_index_or found (q * slices + x) 0)
 
--- it looks: so many counts are complete, and of the next so many slices
+-- the command looks: `work.at` counts are complete, and `work.slice` slices of the next one are counted
 pub record IsLookingAt (script : ScriptValue) (s : MachineValue) (t : ℕ) (op : Op) (lists : List Looks) (work : Work) : Type 0 where
   pub found : List ℕ
   pub looked : HasLooked script s t op found
@@ -117,7 +118,7 @@ pub record IsLookingAt (script : ScriptValue) (s : MachineValue) (t : ℕ) (op :
   pub lines : work.lines ≡ found_at script.machine.slices found work.at work.slice
   pub bound : work.lines ≤ work.slice * 2097152
 
--- it follows: so many follow-ups are done, and of the next so many slices
+-- the command follows: `work.at` follow-ups are done, and `work.slice` slices of the next one
 pub record IsFollowing (script : ScriptValue) (tree : List TreeEntryValue) (made : ℕ) (op : Op) (work : Work) : Type 0 where
   pub position : ℕ
   pub decided : length tree ≡ position + 1
@@ -129,7 +130,7 @@ pub record IsFollowing (script : ScriptValue) (tree : List TreeEntryValue) (made
   pub number : made ≡ length (looks_of script tree position op) + (sum_by (slices_for script.machine) (take work.at work.after.items) + work.slice)
   pub bound : length (looks_of script tree position op) < 2 ^ 40
 
--- by the place of the thread that holds the tree
+-- the work is as far as the place of the thread that holds the tree says
 abbrev pub IsAtWork : ScriptValue → MachineValue → ℕ → Op → List Looks → Work → Place → Type 0
 IsAtWork script s t op lists work Ready = Unit {0}
 IsAtWork script s t op lists work (Looking made) = IsLookingAt script s t op lists work

@@ -26,7 +26,7 @@ fn take_entries(slices: Vec<Slice>, into: Vec<Vec<SliceEntry>>) -> Vec<Vec<Slice
 }
 
 impl World {
-    /// The journals of what was played. It takes no memory. Where the world is one of a script of which all phases were run, they
+    /// The journals of what was played. It takes no memory. Where the world is one of a script and all its phases were run, they
     /// are a run of the script.
     pub fn close(self) -> Journals
         requires { CanClose self }

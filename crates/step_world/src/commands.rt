@@ -1,19 +1,18 @@
 //! The steps of a command that holds the tree.
 ghost use Rattle.std.specs.Prelude.{◌≡◌, ◌+◌, ◌≤◌, ◌<◌, ◌^◌, Some, length, slice_get};
 ghost use Rattle.step_world.specs.Answers.{HasCounted, HasDecided, HasDone, HasNext};
-ghost use Rattle.step_world.specs.LookLists.{spare_in};
+ghost use Rattle.run_law.specs.LookLists.{spare_in};
 ghost use Rattle.step_world.specs.Machine.{thread_at};
 ghost use Rattle.step_world.specs.Works.{CountsOn, Settles};
 ghost use Rattle.step_world.specs.Worlds.{IsWorldOf, machine_of};
 ghost use Rattle.step_world.specs.declared.place.Place.TheVariants.{Following, Looking};
 
-use crate::look_lists::LookLists;
 use crate::place::Place;
 use crate::steps::move_to;
 use crate::work::Work;
 use crate::world::World;
 use rc_base::Reply;
-use run_law::{TreeEntry, slice_for, slices_for};
+use run_law::{LookLists, TreeEntry, slice_for, slices_for};
 use script_ops::{Op, Script};
 
 // A slice was counted: the next slice of its domain comes, and after the last the sum is noted, and the next count comes.

@@ -1,4 +1,5 @@
-//! Plays a script step by step: its tree, its slices and its threads.
+//! Plays a script step by step: its tree, its slices and its threads. A call that runs out of memory answers NoMemory; no step
+//! takes any.
 #![tactic(auto)]
 
 pub mod action;
@@ -6,7 +7,6 @@ mod closing;
 mod commands;
 mod fresh;
 mod listed;
-pub mod look_lists;
 mod opening;
 mod passing;
 pub mod place;

@@ -52,7 +52,7 @@ pub(crate) struct Known {
     tag: Tag,
 }
 
-// The tag of a task on a CPU. It is asked of the tree where it is not the one that is known, and is known then.
+// The tag of a task on a CPU: the one that is known, or else the one that the tree answers, which is known from then on.
 fn know(world: &World, known: &mut Option<Known>, task: u32, cpu: u8) -> Tag
     requires fits { Fits world.now.tree.machine (tasks_of world.now.tree.state) (ops.Access task cpu 0) }
     requires known { Knows known.old world.now }

@@ -14,9 +14,8 @@ use std::alloc::Global;
 use tree_core::Tree;
 
 impl World {
-    /// The world of a script before the first step: the opening tree, empty caches, and each thread before its first op. It has the
-    /// room for all that the script can make, so that no step takes memory (this project's profile). NoMemory where there is no
-    /// room for that.
+    /// The world of a script before the first step: the opening tree, empty caches, and each thread before its first op. It has
+    /// room for all that the script can make, so that no step takes memory (this project's profile).
     pub fn create(alloc: Global, script: &Script) -> Result<World, NoMemory>
         ensures world { IfOk result (λ w. IsWorldOf script.now w) }
         ensures opening { IfOk result (λ w. IsOpening script.now (machine_of w)) }

@@ -23,8 +23,8 @@ fn play_phases(world: &mut World, script: &Script)
     }
 }
 
-/// Plays a script: each phase by its order list, then whoever holds the tree until it lets go, then each thread to its end (this
-/// project's profile). The journals are a run of the script, and those of its play. NoMemory where the system is out of memory.
+/// Plays a script: each phase by its order list, then the thread that holds the tree until it lets go, then each thread to its
+/// end (this project's profile). The journals are a run of the script, and those of its play.
 pub fn play(alloc: Global, script: &Script) -> Result<Journals, NoMemory>
     ensures run { IfOk result (λ journals. IsRun script.now journals) }
     ensures play { IfOk result (λ journals. IsPlay script.now journals) }

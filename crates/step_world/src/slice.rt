@@ -5,9 +5,11 @@ ghost use Rattle.cache_core.specs.Stands.{entry as entry_of};
 ghost use Rattle.cache_core.specs.declared.entry.What.TheVariants as whats;
 ghost use Rattle.machine.specs.Maps.{parameters_of};
 ghost use Rattle.machine.specs.Slices.{slice_number};
-ghost use Rattle.step_world.specs.Slices.{CanFollow, FollowsUp, CountsLines, TouchesLine, IsFresh};
+ghost use Rattle.cache_steps.specs.Needs.{CanFollow};
+ghost use Rattle.step_world.specs.Slices.{FollowsUp, CountsLines, TouchesLine, IsFresh};
 
 use cache_core::{Cache, SliceEntry, Touched, What};
+use cache_steps::{Reached, access_of, enact, entry};
 use machine::Machine;
 use rc_base::{NoMemory, Tag};
 use std::alloc::Global;
@@ -28,37 +30,6 @@ impl Model for Slice {
     ghost Value = { SliceValue };
 
     ghost view = { λ s. record { cache = s.cache; entries = s.entries.items; room = vec_capacity s.entries } };
-}
-
-// The entry of an access.
-fn access_entry(thread: u32, op: u32, tag: &Tag, line: u64, hit: bool, way: u8) -> SliceEntry
-    ensures { result ≡ entry_of thread op tag.now.epoch (whats.Access hit way tag.now.owner tag.now.rmid tag.now.mask line) }
-{
-    SliceEntry {
-        thread,
-        op,
-        epoch: tag.epoch,
-        what: What::Access {
-            owner: tag.owner,
-            rmid: tag.rmid,
-            mask: tag.mask,
-            line,
-            hit,
-            way,
-        },
-    }
-}
-
-// The entry of a command.
-fn command_entry(thread: u32, op: u32, epoch: u64, what: What) -> SliceEntry
-    ensures { result ≡ entry_of thread op epoch what }
-{
-    SliceEntry {
-        thread,
-        op,
-        epoch,
-        what,
-    }
 }
 
 impl Slice {
@@ -92,14 +63,20 @@ impl Slice {
     {
         let touched = self.cache.access(tag, line);
         match touched {
-            Touched::Hit { way } => {
-                self.entries
-                    .push_reserved(access_entry(thread, op, tag, line, true, way));
-            }
-            Touched::Filled { way } => {
-                self.entries
-                    .push_reserved(access_entry(thread, op, tag, line, false, way));
-            }
+            Touched::Hit { way } => self.note_access(
+                thread,
+                op,
+                tag,
+                line,
+                Reached { hit: true, way },
+            ),
+            Touched::Filled { way } => self.note_access(
+                thread,
+                op,
+                tag,
+                line,
+                Reached { hit: false, way },
+            ),
             Touched::Stale { .. } => {}
         }
         touched
@@ -112,55 +89,43 @@ impl Slice {
         ensures { CountsLines thread op epoch rmid result self.old self.new }
     {
         let lines = self.cache.look(rmid);
-        self.entries.push_reserved(command_entry(thread, op, epoch, What::Look { rmid, lines }));
+        self.note(thread, op, epoch, What::Look { rmid, lines });
         lines
     }
 
     /// Does what follows a command, and notes it. A touch is an access of the command's op with the epoch of the command, so that
     /// it is never stale.
     pub(crate) fn follow(&mut self, thread: u32, op: u32, epoch: u64, follow: Follow)
-        requires can { CanFollow follow self.old.cache }
+        requires can { CanFollow self.old.cache.shape self.old.cache.rmids follow }
         requires floor { self.old.cache.floor ≤ epoch }
         requires clock { self.old.cache.clock < 2 ^ 32 }
         requires room { length self.old.entries < self.old.room }
         ensures { FollowsUp thread op epoch follow self.old self.new }
     {
-        match follow {
-            Follow::Raise { .. } => {
-                self.cache.raise(epoch);
-                self.note(thread, op, epoch, What::Raise);
-            }
-            Follow::Flush { .. } => {
-                self.cache.flush(epoch);
-                self.note(thread, op, epoch, What::Flush);
-            }
-            Follow::Lock {
-                mask,
-                first_line,
-                ..
-            } => {
-                self.cache.lock(epoch, mask, first_line);
-                self.note(thread, op, epoch, What::Lock { mask, first_line });
-            }
-            Follow::Touch { tag, line } => {
-                self.access(thread, op, &Tag { epoch, ..tag }, line);
-            }
-            Follow::Drop { line, .. } => {
-                let way = self.cache.drop_line(epoch, line);
-                self.note(thread, op, epoch, What::Drop { line, way });
-            }
-        }
+        let what = enact(&mut self.cache, epoch, follow);
+        self.note(thread, op, epoch, what);
     }
 
-    // Notes the entry of a command.
+    // Notes the entry of an access that came to this.
+    #[inline(always)]
+    fn note_access(&mut self, thread: u32, op: u32, tag: &Tag, line: u64, reached: Reached)
+        requires room { length self.old.entries < self.old.room }
+        ensures cache { self.new.cache ≡ self.old.cache }
+        ensures room { self.new.room ≡ self.old.room }
+        ensures entries { self.new.entries ≡ self.old.entries ++ entry_of thread op tag.now.epoch (whats.Access reached.hit reached.way tag.now.owner tag.now.rmid tag.now.mask line) ∷ [] }
+    {
+        self.note(thread, op, tag.epoch, access_of(tag, line, reached));
+    }
+
+    // Notes the entry of a step.
+    #[inline(always)]
     fn note(&mut self, thread: u32, op: u32, epoch: u64, what: What)
         requires room { length self.old.entries < self.old.room }
         ensures cache { self.new.cache ≡ self.old.cache }
         ensures room { self.new.room ≡ self.old.room }
         ensures entries { self.new.entries ≡ self.old.entries ++ entry_of thread op epoch what ∷ [] }
     {
-        self.entries
-            .push_reserved(command_entry(thread, op, epoch, what));
+        self.entries.push_reserved(entry(thread, op, epoch, what));
     }
 
     /// Its entries.

@@ -137,10 +137,10 @@ impl World {
         }
     }
 
-    /// Does the next atomic step of a thread, counted from 0 through the whole script (this project's profile). `Did` tells the row
-    /// of the machine of steps that it did. `Blocked` exactly where the next step is to take the tree or to read a tag, and another
-    /// thread holds the tree; `Ended` exactly where the thread is not of the present phase or its ops are done. Both change nothing.
-    /// It takes no memory.
+    /// Does the next atomic step of a thread, counted from 0 through the whole script (this project's profile). `Did` tells which
+    /// step of the machine it was. `Blocked` exactly where the next step is to take the tree or to read a tag, and another thread
+    /// holds the tree; `Ended` exactly where the thread is not of the present phase or its ops are done. Both change nothing. It
+    /// takes no memory.
     pub fn step(&mut self, script: &Script, thread: u32) -> Stepped
         requires world { IsWorldOf script.now self.old }
         ensures world { IsWorldOf script.now self.new }

@@ -91,7 +91,7 @@ fn steps_answer_what_threads_did(rt: HostRuntime) -> Result<(), Fail> {
         .as_slice()
     );
 
-    // One does.
+    // One command passes between them.
     let once = told(rt.alloc(), FLUSH_AND_ACCESS, &[1, 0, 0, 0, 1, 1, 1, 1, 2])?;
     let stale = touched(Touched::Stale { floor: 1 });
     assert_eq!(rt;

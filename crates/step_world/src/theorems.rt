@@ -14,7 +14,7 @@ pub fn each_journal_has_room()
     ensures { EachMomentHasRoom }
 {}
 
-/// The play of a script is one: its journals are decided.
+/// A script has one play: two plays of it have the same journals.
 pub fn plays_are_one()
     ensures { PlaysAreOne }
 {}

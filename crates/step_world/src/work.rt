@@ -4,7 +4,7 @@ ghost use Rattle.step_world.specs.Works.{FollowsOn};
 
 use tree_core::{After, Counts};
 
-/// What the command that holds the tree has to do, and how far it is.
+/// What the command that holds the tree has to do, and how far it has come.
 #[derive(Drop)]
 pub struct Work {
     /// The counts that it needs, while it looks.
@@ -82,7 +82,7 @@ impl Work {
         self.slice = 0;
     }
 
-    /// Goes on to the next slice of the present follow-up, which is entered in so many, and after the last to the next follow-up.
+    /// Goes on to the next of the `slices` slices of the present follow-up, and after the last to the next follow-up.
     pub(crate) fn follow_on(&mut self, slices: u8)
         requires at { self.old.at < 2 ^ 31 }
         requires slice { self.old.slice < slices }

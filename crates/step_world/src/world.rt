@@ -1,11 +1,10 @@
 //! The tree, the slices and the threads of a script.
 
-use crate::look_lists::LookLists;
 use crate::place::Thread;
 use crate::slice::Slice;
 use crate::work::Work;
 use cache_core::SliceEntry;
-use run_law::TreeEntry;
+use run_law::{LookLists, TreeEntry};
 use tree_core::Tree;
 
 /// A script that is played step by step: its tree, its slices, and where each of its threads is. Every journal has its room from

@@ -1,4 +1,5 @@
 -- The line of a control group in a report.
+-- (For functions and proofs: no promise of the program stands on it.)
 use Rattle.std.specs.Prelude.{ℕ, List, ◌++◌, codes, decimal}
 use Rattle.run_counts.specs.declared.counts.Counts.{Counts}
 use Rattle.text_parts.specs.Counts.{counts_told}

@@ -17,7 +17,7 @@ entry_lines m p (e ∷ es) = entry_line m p e ++ entry_lines m (p + 1) es
 abbrev pub slice_heading : ℕ → ℕ → List ℕ
 slice_heading domain slice = codes "slice " ++ decimal domain ++ codes "." ++ decimal slice ++ codes "\n"
 
--- the same, and the lines of its entries
+-- the heading of a slice, and the lines of its entries
 abbrev pub slice_text : ScriptValue → JournalsValue → ℕ → ℕ → List ℕ
 slice_text script j domain slice = slice_heading domain slice ++ entry_lines script.machine 0 (slice_at j (slice_number script.machine domain slice))
 

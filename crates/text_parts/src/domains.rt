@@ -62,7 +62,7 @@ fn push_domain(
     report.push(b"\n".as_slice())
 }
 
-/// Adds the lines of the domains: the lines that are in their slices at the end of the run. NoMemory where the system is out of memory.
+/// Adds the lines of the domains: what their slices hold at the end of the run.
 pub fn push_domains(
     alloc: Global,
     report: &mut ReportText,

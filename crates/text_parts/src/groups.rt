@@ -19,7 +19,7 @@ fn push_gid(report: &mut ReportText, gid: u32) -> Result<(), NoMemory>
     report.push(b" ".as_slice())
 }
 
-/// Adds the line of a control group with this gid, this path and these counts. NoMemory where the system is out of memory.
+/// Adds the line of a control group with this gid, this path and these counts.
 pub fn push_group(
     report: &mut ReportText,
     names: &Names,

@@ -1,4 +1,5 @@
-//! The lines of a text report that need no tree: those of a group by its counts, of domains, slices and windows, and the last line.
+//! The lines of a text report that need no tree: those of a group by its counts, of domains, slices and windows, and the last
+//! line. A call that runs out of memory answers NoMemory, and then the report is not to be used.
 #![tactic(auto)]
 
 mod counts;

@@ -86,7 +86,7 @@ fn push_slices(
     Ok(())
 }
 
-/// Adds the lines of all slices, one for each entry, where they are asked for. NoMemory where the system is out of memory.
+/// Adds the lines of all slices, one for each entry, where they are asked for.
 pub fn push_journal(
     report: &mut ReportText,
     asked: bool,

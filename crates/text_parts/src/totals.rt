@@ -38,8 +38,8 @@ fn push_all_counts(
     push_counts(report, tally.all())
 }
 
-/// Adds the last line: how many commands there were and how many were refused, and all accesses as they were tallied, hits and misses.
-/// NoMemory where the system is out of memory.
+/// Adds the last line: how many commands there were and how many were refused, and all accesses as they were tallied, with their
+/// hits and misses.
 pub fn push_total(
     report: &mut ReportText,
     script: &Script,

@@ -51,7 +51,7 @@ fn push_all(report: &mut ReportText, windows: &[Window]) -> Result<(), NoMemory>
     Ok(())
 }
 
-/// Adds the lines of windows of isolation, where they are asked for. NoMemory where the system is out of memory.
+/// Adds the lines of windows of isolation, where they are asked for.
 pub fn push_windows(
     report: &mut ReportText,
     asked: bool,

@@ -49,7 +49,7 @@ flags_in words = record {
 abbrev pub in_range : ℕ → Option ℕ
 in_range n = if nat_le 1 n && nat_le n MOST_THREAD_ACCESSES then Some n else None
 
--- the number that a word of decimal digits is, where `gen` takes it
+-- the number that a word of decimal digits spells, where `gen` takes it
 abbrev pub number_in : String Global → Option ℕ
 number_in word = option_and_then in_range (dec_of (string_bytes word))
 
@@ -57,7 +57,7 @@ number_in word = option_and_then in_range (dec_of (string_bytes word))
 abbrev pub others_in : List (String Global) → List (String Global)
 others_in words = filter (λ w. not (is_flag w)) words
 
--- the command that the first word names with those others that are no flags: `step` has none of these, and `gen` just its number
+-- the command that the first word names, with those of the other words that are no flags: `step` takes none, `gen` its number
 abbrev pub command_of : String Global → List (String Global) → Option Command
 command_of first [] = if is_word (codes "step") first then Some Step else None
 command_of first (number ∷ []) = if is_word (codes "gen") first then option_map Gen (number_in number) else None
@@ -69,12 +69,12 @@ command_of first (number ∷ next ∷ more) = None
 abbrev pub with_flags : List (String Global) → Command → Form
 with_flags words command = record { command = command; flags = flags_in words }
 
--- the form that words are, and None where they are none
+-- the form of a command line, and None where it is not valid
 abbrev pub form_of : List (String Global) → Option Form
 form_of [] = None
 form_of (first ∷ more) = if has_flags_once more then option_map (with_flags more) (command_of first (others_in more)) else None
 
--- what is said of words that are no form
+-- the line for a command line that is not valid
 abbrev pub usage_line : List ℕ
 usage_line = codes "usage: resctrl_sim step|run|gen N [--journal] [--json] [--windows] [--quiet]" ++ 10 ∷ []
 
@@ -90,16 +90,16 @@ abbrev pub IsInRange : Command → Type 0
 IsInRange Step = Unit {0}
 IsInRange (Gen n) = (1 ≤ n) × (n ≤ MOST_THREAD_ACCESSES)
 
--- whether words have the source read
+-- whether a command line has the source read; one that is not valid does not
 abbrev pub reads_source : Option Form → Bool
 reads_source None = false
 reads_source (Some form) = is_of_source form.command
 
--- the bytes that a command plays, where they are told: of `step`, what the source has left, and of `gen`, the generator's text
+-- the bytes that a command plays, where they are known: for `step` what the source has left, for `gen` the generator's text
 abbrev pub bytes_of : Command → Option (List ℕ) → Option (List ℕ)
 bytes_of Step left = left
 bytes_of (Gen n) left = Some (trace_text n)
 
--- the bytes that a form plays, where they are told
+-- the bytes that a form plays, where they are known
 abbrev pub input_of : Form → Option (List ℕ) → Option (List ℕ)
 input_of form left = bytes_of form.command left

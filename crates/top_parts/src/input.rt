@@ -22,7 +22,7 @@ use trace_gen::{MOST_THREAD_ACCESSES, make};
 pub enum InputError {
     /// The source failed.
     Failed,
-    /// Memory was not found.
+    /// Out of memory.
     NoMemory,
     /// The bytes are no script.
     Bad(Refusal),
@@ -33,7 +33,7 @@ pub enum InputError {
 pub enum ReadError {
     /// The source failed.
     Failed,
-    /// Memory was not found.
+    /// Out of memory.
     NoMemory,
 }
 
@@ -71,7 +71,7 @@ fn room_for_a_piece(alloc: Global) -> Result<Vec<u8>, NoMemory>
     Ok(buffer)
 }
 
-/// The bytes of a source up to its end, or the first of them that pass the greatest script.
+/// The bytes of a source up to its end, cut off after one more than a script may have.
 pub(crate) fn read_all<S: Source>(alloc: Global, source: &mut S) -> Result<Vec<u8>, ReadError>
     requires { S.faults source.old < 2 ^ 64 - 1 }
     ensures bytes { IfOk result (λ bytes. IsInput (S.left source.old) bytes.items) }
@@ -110,8 +110,8 @@ fn script_in(alloc: Global, bytes: &[u8]) -> Result<Script, InputError>
     }
 }
 
-/// Reads a source to its end, or to the byte that passes the greatest script, and the script there. Failed where the source
-/// failed, NoMemory where the system is out of memory, and Bad with the reason where the bytes are no script.
+/// Reads a source to its end, or until it has one byte more than a script may have, and reads the script in it. Failed where the
+/// source failed, and Bad with the reason where the bytes are no script.
 pub fn read_input<S: Source>(alloc: Global, source: &mut S) -> Result<Script, InputError>
     requires { S.faults source.old < 2 ^ 64 - 1 }
     ensures read { HasRead (S.left source.old) (S.faults source.old) (S.faults source.new) result }
@@ -138,8 +138,8 @@ fn generate(alloc: Global, n: u32) -> Result<Script, InputError>
     }
 }
 
-/// The script that a form plays: of `step` the one that the source holds, of `gen` the one that the generator makes, and then the source is
-/// not called. The errors are those of `read_input`.
+/// The script that a form plays: for `step` the one that the source holds; for `gen` the one that the generator makes, and then
+/// the source is not called. The errors are those of `read_input`.
 pub fn input_of<S: Source>(alloc: Global, form: Form, source: &mut S) -> Result<Script, InputError>
     requires faults { S.faults source.old < 2 ^ 64 - 1 }
     requires range { IsInRange form.command }

@@ -1,4 +1,5 @@
-//! The parts of the top call that play nothing: the words of a call, its input, the line of a refusal, and output.
+//! The parts of the top call that play nothing: the words of a call, its input, the line of a refusal, and output. A call that
+//! runs out of memory answers NoMemory.
 #![tactic(auto)]
 
 pub mod command;

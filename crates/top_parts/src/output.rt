@@ -7,7 +7,8 @@ use rc_stream::{Failed, Sink};
 // How many bytes are written at once at most.
 const PIECE: usize = 65_536;
 
-/// Writes all bytes, at most 65,536 at once, and has the sink flushed. Failed where the sink failed, which took a beginning of them then.
+/// Writes all bytes, at most 65,536 at once, and flushes the sink. Failed where the sink failed, which then took a beginning of
+/// them.
 pub fn write_all<K: Sink>(sink: &mut K, bytes: &[u8]) -> Result<(), Failed>
     requires { K.faults sink.old < 2 ^ 64 - 1 }
     ensures ok { OnOk result (TakesAll (writing_of K.taken K.held K.faults sink.old sink.new) bytes.now) }

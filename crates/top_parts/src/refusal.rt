@@ -12,7 +12,7 @@ use std::alloc::Global;
 pub enum Refusal {
     /// The first bad line, and its first fault.
     BadLine(ScriptFault),
-    /// They are more than `MOST_SCRIPT_BYTES`.
+    /// There are more than `MOST_SCRIPT_BYTES`.
     TooLarge,
 }
 
@@ -59,7 +59,7 @@ fn text_of(fault: LineFault) -> &'static str
     }
 }
 
-/// The line that a refusal is told by. NoMemory where the system is out of memory.
+/// The line that tells a refusal.
 pub fn line_of(alloc: Global, refusal: Refusal) -> Result<TextBuf, NoMemory>
     ensures { IfOk result (λ line. line.bytes ≡ refusal_line refusal) }
 {

@@ -9,7 +9,7 @@ use rc_base::is_text;
 use run_law::Flags;
 use trace_gen::MOST_THREAD_ACCESSES;
 
-/// What is said of words that are no form.
+/// The line for a command line that is not valid.
 pub const USAGE: &str =
     "usage: resctrl_sim step|run|gen N [--journal] [--json] [--windows] [--quiet]\n";
 
@@ -128,8 +128,8 @@ fn command_of(first: &String, words: &[String]) -> Option<Command>
     }
 }
 
-/// The form that words are, and None where they are none: `step` or `gen` and its number, with any of the flags, each at most
-/// once, in any order after the first word. (This project's profile.)
+/// The form of a command line, and None where it is not valid: `step`, or `gen` and its number, with any of the flags, each at
+/// most once, in any order after the first word. (This project's profile.)
 pub fn form_of(words: &[String]) -> Option<Form>
     ensures form { result ≡ form_in words.now }
     ensures range { IfSome result (λ form. IsInRange form.command) }

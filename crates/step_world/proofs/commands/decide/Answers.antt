@@ -10,7 +10,7 @@ use Rattle.step_world.proofs.DecidedWorlds.{decided}
 use Rattle.step_world.proofs.LookingWorlds.{looking}
 use Rattle.step_world.proofs.RoomLeft.{op-few}
 use Rattle.step_world.proofs.commands.decide.Goals as goal
-use Rattle.step_world.specs.LookLists.{AreReady}
+use Rattle.run_law.specs.LookLists.{AreReady}
 use Rattle.step_world.specs.Machine.{thread_at}
 use Rattle.step_world.specs.Worlds.{machine_of, rooms_from}
 use Rattle.tree_core.specs.Follows.{IsReady}

@@ -9,7 +9,8 @@ use Rattle.step_world.proofs.FollowingWorlds.{can, domain-there, floor-below, fo
 use Rattle.step_world.proofs.RoomLeft.{has-time, op-few}
 use Rattle.step_world.proofs.commands.follow.Goals as goal
 use Rattle.step_world.specs.Machine.{thread_at}
-use Rattle.step_world.specs.Slices.{CanFollow, SliceValue}
+use Rattle.cache_steps.specs.Needs.{CanFollow}
+use Rattle.step_world.specs.Slices.{SliceValue}
 use Rattle.step_world.specs.Worlds.{machine_of}
 use Rattle.tree_law.specs.declared.follow.Follow.{Follow}
 use Rattle.tree_law.specs.declared.follow.Follow.TheVariants.{Raise}
@@ -54,7 +55,7 @@ follow-requires-clause-can c =
     let s = c.index_mut.result.now in
     let there : i < length w.slices.items = omega (arith, c.slice_for-slice.ensures.within, ap slice_count c.machine-m.ensures, r.world.slices.count) in
     let number : i ≡ slice_for script.machine f w.work.slice = c.slice_for-slice.ensures.number ∙ ap (λ p. slice_for p f w.work.slice) c.machine-m.ensures in
-    subst (λ (x : SliceValue). CanFollow f x.cache) (sym c.index_mut.ensures.value) (can script c.args.t c.args.made op w r.world r.next r.place f is i s there number)
+    subst (λ (x : SliceValue). CanFollow x.cache.shape x.cache.rmids f) (sym c.index_mut.ensures.value) (can script c.args.t c.args.made op w r.world r.next r.place f is i s there number)
 
 pub follow-requires-clause-floor : goal.follow-requires-clause-floor
 follow-requires-clause-floor c =

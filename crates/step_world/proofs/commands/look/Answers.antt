@@ -4,7 +4,7 @@ use Rattle.machine.specs.Slices.{slice_count, slice_number}
 use Rattle.machine.specs.declared.parameters.Parameters.{Parameters}
 use Rattle.step_world.proofs.LookingWorlds.{can-look, here-few, list-room, looked, looking, looks-few, now_needs, room-look}
 use Rattle.step_world.proofs.commands.look.Goals as goal
-use Rattle.step_world.specs.LookLists.{spare_in}
+use Rattle.run_law.specs.LookLists.{spare_in}
 use Rattle.step_world.specs.Slices.{CountsLines, SliceValue}
 
 pub need-domain-requires-clause-looks : goal.need-domain-requires-clause-looks

@@ -1,7 +1,7 @@
 use Rattle.std.proofs.Common.{◌<◌, ◌≤◌, ◌^◌, ◌++◌, ◌∷◌, [], length, sum, ap, sym, ◌∙◌, subst, arith, vec_capacity}
 use Rattle.std.proofs.lemmas.List.{length_push}
 use Rattle.seen_journal.specs.Entries.{list_of}
-use Rattle.seen_journal.proofs.Entries.{length-list_of, list_of-push}
+use Rattle.seen_journal.proofs.laws.Entries.{length-list_of, list_of-push}
 use Rattle.seen_journal.proofs.journal.Journal.push.Goals as goal
 
 pub push_reserved-requires : goal.push_reserved-requires

@@ -1,27 +1,30 @@
-use Rattle.std.proofs.Common.{◌≡◌, [], ◌∷◌, ◌++◌, List, refl, sym, ap, subst, ◌∙◌}
-use Rattle.std.specs.Prelude.{vec_capacity}
+use Rattle.std.proofs.Common.{◌≡◌, ◌++◌, ◌∷◌, [], List, sym, ap, subst}
+use Rattle.cache_core.specs.History.{lines_of}
+use Rattle.cache_core.specs.Places.{CacheValue}
 use Rattle.cache_core.specs.Stands.{StandsFor, entry}
 use Rattle.cache_core.specs.declared.entry.SliceEntry.{SliceEntry}
 use Rattle.cache_core.specs.declared.entry.What.TheVariants.{Look}
-use Rattle.step_world.specs.Slices.{CountsLines, SliceValue}
+use Rattle.step_world.specs.Slices.{SliceValue}
 use Rattle.step_world.proofs.slice.Slice.look.Goals as goal
 
 pub returns : goal.returns
 returns c =
-    let cache = c.self.inside.cache in
-    let before : List SliceEntry = c.self.inside.entries.items in
-    let now : List SliceEntry = c.push_reserved.new.self.items in
+    let old : SliceValue = c.args.self.now in
+    let new : SliceValue = c.note.new.self in
     let e : SliceEntry = entry c.args.thread c.args.op c.args.epoch (Look c.args.rmid c.look-lines.result) in
-    let more : now ≡ before ++ e ∷ [] = c.push_reserved.ensures.items ∙ ap (λ x. before ++ x ∷ []) c.command_entry.ensures in
-    let new : SliceValue = record { cache = cache; entries = now; room = vec_capacity c.push_reserved.new.self } in
-    let P : SliceValue → Type 0 = λ s. CountsLines c.args.thread c.args.op c.args.epoch c.args.rmid c.look-lines.result s new in
-    subst P c.self.view_is (record {
+    record {
       grows = record {
-        shape = refl;
-        rmids = refl;
-        room = c.push_reserved.ensures.capacity;
-        entries = more;
-        stands = λ stands. subst (λ es. StandsFor cache es) (sym more) (c.look-lines.ensures.entry c.args.epoch c.args.thread c.args.op before stands);
+        shape = ap (λ (x : CacheValue). x.shape) c.note.ensures.cache;
+        rmids = ap (λ (x : CacheValue). x.rmids) c.note.ensures.cache;
+        room = c.note.ensures.room;
+        entries = c.note.ensures.entries;
+        stands = λ stands.
+            subst (λ x. StandsFor x new.entries) (sym c.note.ensures.cache)
+            (subst (λ es. StandsFor old.cache es) (sym c.note.ensures.entries)
+            (subst (λ (s : SliceValue). StandsFor s.cache s.entries → StandsFor s.cache (s.entries ++ e ∷ [])) c.self.view_is
+            (c.look-lines.ensures.entry c.args.epoch c.args.thread c.args.op c.self.inside.entries.items) stands));
       };
-      counts = c.look-lines.ensures.count;
-    })
+      counts =
+          subst (λ (s : SliceValue). (history : List SliceEntry) → StandsFor s.cache history → c.look-lines.result ≡ lines_of s.cache.shape history c.args.rmid) c.self.view_is
+          c.look-lines.ensures.count;
+    }

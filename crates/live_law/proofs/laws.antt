@@ -1,0 +1,24 @@
+-- Lemmas that crates above cite.
+pub mod AccessEntries
+pub mod AccessStages
+pub mod AddedEntries
+pub mod CommandEntries
+pub mod CommandStages
+pub mod DecidedCommands
+pub mod EndedThreads
+pub mod Ends
+pub mod Filters
+pub mod FollowStages
+pub mod JobQuotas
+pub mod KeptLooks
+pub mod LaterViews
+pub mod MadeEntries
+pub mod OwnCounts
+pub mod OwnMarks
+pub mod OwnRoom
+pub mod Passes
+pub mod Prefixes
+pub mod SeenJournals
+pub mod SliceCells
+pub mod TreeCells
+pub mod TrueEntries

@@ -1,0 +1,11 @@
+pub mod CellLaws
+pub mod Cells
+pub mod DoneOps
+pub mod Ends
+pub mod Passes
+pub mod PassesLaws
+pub mod Room
+pub mod RoomLaws
+pub mod SeenJournals
+pub mod Stages
+pub mod StepLaws
