@@ -1,16 +1,9 @@
 -- How long the text of a domain is.
-use Rattle.std.proofs.Common.{◌≡◌, ℕ, zero, suc, ◌+◌, ◌<◌, ◌≤◌, length, decimal, refl, ap, arith, lit<}
-use Rattle.std.proofs.lemmas.Fmt.{decimal_nonempty, length-decimal-le}
+use Rattle.std.proofs.Common.{◌≡◌, ℕ, zero, suc, ◌+◌, ◌<◌, length, refl, ap, arith}
 use Rattle.mode_rules.specs.declared.domain_use.DomainUse.{DomainUse}
 use Rattle.std.proofs.lemmas.List.{length-append}
 use Rattle.bit_usage.specs.Usage.{domain_text, letters_of}
-
--- a number below ten has one digit
-pub length-decimal_digit : (id : ℕ) → id < 10 → length (decimal id) ≡ 1
-length-decimal_digit id small =
-    let some : 0 < length (decimal id) = decimal_nonempty id (omega arith) in
-    let few : length (decimal id) ≤ 1 = length-decimal-le 1 id (lit< tt) (omega arith) (omega arith) in
-    omega arith
+use Rattle.num_text.proofs.laws.Prints.{length-decimal_digit}
 
 -- how long the number of a domain is
 pub ruleset decimal_digit = (length-decimal_digit)

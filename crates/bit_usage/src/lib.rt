@@ -3,6 +3,7 @@
 
 pub mod letters;
 pub mod printing;
+pub mod theorems;
 
 pub use letters::letter;
 pub use printing::{USAGE_MAX, print};

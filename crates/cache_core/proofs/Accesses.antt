@@ -1,5 +1,5 @@
 -- An access adds its entry to what the cache stands for.
-use Rattle.std.proofs.Common.{◌≡◌, ℕ, ◌+◌, ◌%◌, ◌<◌, ◌≤◌, true, false, cond, ◌==◌, List, length, Option, Some, None, option_map, arith, refl, sym, ◌∙◌, ap, subst, inl, inr, set, slice_set}
+use Rattle.std.proofs.Common.{◌≡◌, ℕ, ◌+◌, ◌%◌, ◌<◌, ◌≤◌, true, false, cond, ◌==◌, List, length, Option, Some, None, option_map, arith, refl, sym, ◌∙◌, ap, subst, inl, inr, slice_set}
 use Rattle.std.specs.Option.{option_map_or}
 use Rattle.std.proofs.lemmas.Bool.{cases_Bool, cond-true, cond-false, eqb-true}
 use Rattle.std.proofs.lemmas.Option.{none-some}
@@ -89,15 +89,3 @@ pub Accesses-touches : (old : CacheValue) (tag : Tag) (line : ℕ) (changed : Li
 Accesses-touches old tag line changed (Hit way) formed own late touched = Adds-hit old tag line way changed formed own late touched
 Accesses-touches old tag line changed (Filled way) formed own late touched = Adds-fill old tag line way changed formed own late touched
 Accesses-touches old tag line changed (Stale floor) formed own late touched = absurd touched
-
--- the same, as the code reads the set
-pub Accesses-chosen_set : (old : CacheValue) (set : ℕ) (tag : Tag) (line : ℕ) (chosen changed : List (Option Place)) (answer : Touched)
-    → set ≡ line % old.shape.sets → chosen ≡ set_in old.places set
-    → IsFormed old.shape old.rmids old.clock old.places → IsOwn old.shape (line % old.shape.sets) → old.floor ≤ tag.epoch
-    → Touches chosen changed tag.mask (touching tag line old.clock) answer
-    → Accesses old (record { shape = old.shape; rmids = old.rmids; places = slice_set old.places set changed; floor = old.floor; clock = old.clock + 1 }) tag line answer
-Accesses-chosen_set old set tag line chosen changed answer at is formed own late touched =
-    let P : ℕ → Type 0 = λ k. Accesses old (record { shape = old.shape; rmids = old.rmids; places = slice_set old.places k changed; floor = old.floor; clock = old.clock + 1 }) tag line answer in
-    subst P (sym at)
-    (Accesses-touches old tag line changed answer formed own late
-    (subst (λ k. Touches (set_in old.places k) changed tag.mask (touching tag line old.clock) answer) at (subst (λ ps. Touches ps changed tag.mask (touching tag line old.clock) answer) is touched)))

@@ -6,7 +6,7 @@ use Rattle.std.proofs.Math.ListN.{get_or-eq_default}
 use Rattle.std.proofs.Math.Nat.{mul-le-mul_right, mul-le-mul_left}
 use Rattle.cache_core.specs.declared.entry.SliceEntry.{SliceEntry}
 use Rattle.cache_core.specs.declared.place.Place.{Place}
-use Rattle.cache_core.specs.Counted.{IsCounted}
+use Rattle.cache_core.specs.RmidCounts.{IsCounted}
 use Rattle.cache_core.specs.Filled.{places_with}
 use Rattle.cache_core.specs.Fills.{Resident}
 use Rattle.cache_core.specs.History.{Shape, IsOwn, is_own, is_of, lines_of, valid_of, held}

@@ -6,7 +6,7 @@ use Rattle.std.proofs.Math.ListN.{get_or-eq_default}
 use Rattle.cache_core.specs.declared.place.Place.{Place}
 use Rattle.cache_core.specs.declared.touched.Touched.{Touched}
 use Rattle.cache_core.specs.declared.touched.Touched.TheVariants.{Hit, Filled, Stale}
-use Rattle.cache_core.specs.Counted.{Recounts, Uncounts, is_rmid}
+use Rattle.cache_core.specs.RmidCounts.{Recounts, Uncounts, is_rmid}
 use Rattle.cache_core.specs.Filled.{places_with}
 use Rattle.cache_core.specs.Fills.{Holds}
 use Rattle.cache_core.specs.History.{Shape, IsOwn, is_own, is_of}

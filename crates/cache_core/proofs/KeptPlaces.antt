@@ -1,7 +1,7 @@
 -- What is read of the places that a cache keeps.
 use Rattle.std.proofs.Common.{◌≡◌, ℕ, ◌%◌, ◌<◌, Bool, true, false, cond, ◌==◌, List, length, Option, option_map, refl, sym, ◌∙◌, subst, inl, inr, set, get_or}
 use Rattle.std.specs.Option.{option_map_or}
-use Rattle.std.proofs.lemmas.Bool.{cases_Bool, cond-true, cond-false, eqb-true, eqb-false, eq-eqb}
+use Rattle.std.proofs.lemmas.Bool.{cases_Bool, cond-true, eqb-true, eqb-false, eq-eqb}
 use Rattle.std.proofs.lemmas.List.{get_or-set_same, get_or-set_other}
 use Rattle.machine.specs.declared.machine.Machine.{Machine}
 use Rattle.machine.specs.Maps.{parameters_of}
@@ -26,10 +26,6 @@ cond-under f false x y = refl
 -- an own set has every way
 pub length-set_in_own : (cache : CacheValue) (set : ℕ) → IsFormed cache.shape cache.rmids cache.clock cache.places → IsOwn cache.shape set → length (set_in cache.places set) ≡ cache.shape.ways
 length-set_in_own cache set formed own = formed.widths set own.0 ∙ cond-true (is_own cache.shape set) cache.shape.ways 0 (eq-eqb (set % cache.shape.slices) cache.shape.slice own.1)
-
--- a set of another slice has no way
-pub length-set_in_other : (cache : CacheValue) (set : ℕ) → IsFormed cache.shape cache.rmids cache.clock cache.places → set < cache.shape.sets → is_own cache.shape set ≡ false → length (set_in cache.places set) ≡ 0
-length-set_in_other cache set formed inside other = formed.widths set inside ∙ cond-false (is_own cache.shape set) cache.shape.ways 0 other
 
 -- the line and RMID of a place
 abbrev pub res : Option Place → Option Resident

@@ -47,11 +47,6 @@ IsVictim-same_order n mask f g age born way same order v =
           ];
     }
 
--- either of two that are the same
-cond-same : {X : Type 0} (b : Bool) (x : X) → cond b x x ≡ x
-cond-same true x = refl
-cond-same false x = refl
-
 -- what a place holds, where one set was changed
 cond-changed_set : (here hit there : Bool) (new new' old : Option Resident) (r : Resident) → (here ≡ true → new ≡ cond (not hit && there) (Some r) old) → (here ≡ false → new' ≡ old)
     → cond here new new' ≡ cond (not hit && here && there) (Some r) old

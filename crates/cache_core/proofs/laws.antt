@@ -4,3 +4,4 @@ pub mod Lines
 pub mod OwnSets
 pub mod Places
 pub mod Suffixes
+pub mod WaysBelow

@@ -6,7 +6,7 @@ use Rattle.cache_core.specs.Fills.{Resident}
 use Rattle.cache_core.specs.History.{Shape, IsOwn, is_own}
 use Rattle.lists.specs.Sums.{one_if, sum_below}
 
--- over the places of the slice's sets, how many pass the test with what they hold
+-- how many places of the slice's sets pass the test with what they hold
 abbrev pub places_with : Shape → (Option Resident → Bool) → (ℕ → ℕ → Option Resident) → ℕ
 places_with m p holds = sum_below m.sets (λ set. if is_own m set then sum_below m.ways (λ way. one_if (p (holds set way))) else 0)
 

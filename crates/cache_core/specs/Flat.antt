@@ -1,4 +1,5 @@
 -- The sets of a slice as flat vectors keep them: the ways of set s stand from s * ways on.
+-- (For functions and proofs: no promise of the program stands on it.)
 use Rattle.std.specs.Prelude.{◌≡◌, ℕ, ◌+◌, ◌*◌, ◌≤◌, List, length, map, Option, Some, None, if◌then◌else◌, slice_index}
 use Rattle.std.specs.List.{range_with_len}
 use Rattle.cbm.specs.Masks.{has_way}

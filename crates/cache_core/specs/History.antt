@@ -100,12 +100,12 @@ abbrev pub floor_of : List SliceEntry → ℕ
 floor_of [] = 0
 floor_of (e ∷ es) = max (if sets_floor e.what then e.epoch else 0) (floor_of es)
 
--- whether this is a line with the RMID
+-- whether a place holds a line with this RMID
 abbrev pub is_of : ℕ → Option Resident → Bool
 is_of rmid None = false
 is_of rmid (Some r) = r.rmid == rmid
 
--- over the places of the slice's sets, how many pass the test with what they hold
+-- how many places of the slice's sets pass the test with what they hold
 abbrev pub places_where : Shape → (Option Resident → Bool) → List SliceEntry → ℕ
 places_where m p entries = sum_below m.sets (λ set. if is_own m set then sum_below m.ways (λ way. one_if (p (held m entries set way))) else 0)
 

@@ -1,4 +1,5 @@
 -- What a slice keeps: its own sets, and for each RMID how many of their places hold a line of it.
+-- (For functions and proofs: no promise of the program stands on it.)
 use Rattle.std.specs.Prelude.{◌≡◌, ℕ, ◌^◌, ◌/◌, ◌<◌, List, [], length, map, Option, if◌then◌else◌, slice_index}
 use Rattle.std.specs.List.{range_with_len}
 use Rattle.cache_core.specs.declared.place.Place.{Place}
@@ -15,7 +16,7 @@ spread m own = map (λ set. if is_own m set then set_in own (set / m.slices) els
 abbrev pub residents : List (List (Option Place)) → ℕ → ℕ → Option Resident
 residents places set way = resident_in (set_in places set) way
 
--- The places are in order, the slice is one of as many as a power of two says, and each count is the number of lines of its RMID.
+-- The places are well formed, the slice is one of 2^shift slices, and each count is its RMID's lines.
 pub record IsKept (shape : Shape) (rmids clock : ℕ) (own : List (List (Option Place))) (counts : List ℕ) (shift : ℕ) : Type 0 where
   pub formed : IsFormed shape rmids clock (spread shape own)
   pub narrow : shift < 32

@@ -1,4 +1,5 @@
 -- The sets of a slice that are emptied all at once, and each renewed when it is next touched.
+-- (For functions and proofs: no promise of the program stands on it.)
 use Rattle.std.specs.Prelude.{◌≡◌, ℕ, ◌+◌, ◌*◌, ◌<◌, ◌≤◌, ◌==◌, List, length, map, Option, None, if◌then◌else◌, slice_index}
 use Rattle.std.specs.List.{range_with_len}
 use Rattle.cbm.specs.Masks.{has_way}
@@ -19,7 +20,7 @@ pub record LazyValue : Type 0 where
 abbrev pub region_place : RegionLoad → ℕ → ℕ → Option Place
 region_place r set way = if has_way r.mask way then loaded (r.first_line + set * r.set_step + ways_below r.mask way * r.way_step) r.stamp else None
 
--- each way that a set had holds what a region's load puts there
+-- each way of each set holds what the load of a region puts there
 abbrev pub HoldsRegion : RegionLoad → List (List (Option Place)) → List (List (Option Place)) → Type 0
 HoldsRegion region old new = (set way : ℕ) → way < length (set_in old set) → place_in (set_in new set) way ≡ region_place region set way
 
@@ -27,7 +28,7 @@ HoldsRegion region old new = (set way : ℕ) → way < length (set_in old set) �
 abbrev pub KeepsWidths : List (List (Option Place)) → List (List (Option Place)) → Type 0
 KeepsWidths old new = (set : ℕ) → length (set_in new set) ≡ length (set_in old set)
 
--- what an emptying leaves in a way of a set
+-- what the last emptying, a flush or a lock, leaves in a way of a set
 abbrev pub left_place : Emptied → ℕ → ℕ → Option Place
 left_place Flushed set way = None
 left_place (Locked region) set way = region_place region set way

@@ -1,4 +1,3 @@
-pub mod Counted
 pub mod Filled
 pub mod Fills
 pub mod Flat
@@ -7,4 +6,5 @@ pub mod Kept
 pub mod Lazy
 pub mod Loads
 pub mod Places
+pub mod RmidCounts
 pub mod Stands

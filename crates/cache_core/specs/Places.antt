@@ -1,11 +1,10 @@
 -- What a cache keeps: for each set a list of places.
-use Rattle.std.specs.Prelude.{◌≡◌, ℕ, ◌<◌, ◌≤◌, List, [], length, Option, None, option_map, if◌then◌else◌, IfSome, IsSome, IsTrue, slice_index_or, is_some}
+-- (For functions and proofs: no promise of the program stands on it.)
+use Rattle.std.specs.Prelude.{◌≡◌, ℕ, ◌<◌, List, [], length, Option, None, option_map, if◌then◌else◌, IfSome, slice_index_or}
 use Rattle.std.specs.Option.{option_map_or}
-use Rattle.cbm.specs.Masks.{has_way}
 use Rattle.cache_core.specs.declared.place.Place.{Place}
 use Rattle.cache_core.specs.Fills.{Resident}
-use Rattle.cache_core.specs.History.{Shape, is_own, is_of}
-use Rattle.lists.specs.Sums.{sum_below, one_if}
+use Rattle.cache_core.specs.History.{Shape, is_own}
 
 -- the place of a way
 abbrev pub place_in : List (Option Place) → ℕ → Option Place
@@ -38,23 +37,3 @@ pub record IsFormed (shape : Shape) (rmids clock : ℕ) (places : List (List (Op
   pub widths : (set : ℕ) → set < shape.sets → length (set_in places set) ≡ (if is_own shape set then shape.ways else 0)
   pub stamped : (set way : ℕ) → IfSome (place_in (set_in places set) way) (λ p. p.used < clock)
   pub named : (set way : ℕ) → IfSome (place_in (set_in places set) way) (λ p. p.rmid < rmids)
-
--- of the full ways of the mask below a limit, the one that was used longest ago, the lowest of these
-pub record IsOldest (places : List (Option Place)) (mask limit way : ℕ) : Type 0 where
-  pub within : way < limit
-  pub allowed : IsTrue (has_way mask way)
-  pub full : IsSome (resident_in places way)
-  pub oldest : (w : ℕ) → w < limit → IsTrue (has_way mask w) → IsSome (resident_in places w) → stamp_in places way ≤ stamp_in places w
-  pub lowest : (w : ℕ) → w < way → IsTrue (has_way mask w) → IsSome (resident_in places w) → stamp_in places way < stamp_in places w
-
--- no full way of the mask is below the limit
-abbrev pub NoneFull : List (Option Place) → ℕ → ℕ → Type 0
-NoneFull places mask limit = (w : ℕ) → w < limit → IsTrue (has_way mask w) → IsSome (resident_in places w) → ⊥
-
--- how many of the first ways hold a line with this RMID
-abbrev pub lines_in : List (Option Place) → ℕ → ℕ → ℕ
-lines_in places ways rmid = sum_below ways (λ way. one_if (is_of rmid (resident_in places way)))
-
--- how many of the first ways hold a line
-abbrev pub filled_in : List (Option Place) → ℕ → ℕ
-filled_in places ways = sum_below ways (λ way. one_if (is_some (resident_in places way)))

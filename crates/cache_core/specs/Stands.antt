@@ -1,4 +1,5 @@
 -- Which histories a cache stands for, and what each call adds to them.
+-- (For functions and proofs: no promise of the program stands on it.)
 use Rattle.std.specs.Prelude.{◌≡◌, ℕ, ◌<◌, ◌≤◌, ◌+◌, ◌↔◌, true, false, List, [], ◌∷◌, ◌++◌, length, IsSome, Option, Some, None, option_map, slice_set}
 use Rattle.cache_core.specs.declared.entry.What.{What}
 use Rattle.cache_core.specs.declared.entry.What.TheVariants.{Access}
@@ -23,6 +24,7 @@ pub record StandsFor (cache : CacheValue) (history : List SliceEntry) : Type 0 w
   pub floor : cache.floor ≡ floor_of history
   pub clock : cache.clock ≤ length history
 
+-- the entry of an op: its thread and its number there, its epoch, and what happened
 abbrev pub entry : ℕ → ℕ → ℕ → What → SliceEntry
 entry thread op epoch what = record { thread = thread; op = op; epoch = epoch; what = what }
 
@@ -58,7 +60,7 @@ Touches old new mask place (Filled way) =
     × (new ≡ slice_set old way (Some place))
 Touches old new mask place (Stale floor) = ⊥
 
--- What a drop does to the sets: the way that holds the line is emptied, where one does.
+-- What a drop does to the sets: the way that holds the line is emptied, where there is one.
 abbrev pub Drops : List (List (Option Place)) → List (List (Option Place)) → ℕ → ℕ → Option ℕ → Type 0
 Drops old new set line (Some way) =
     (way < length (set_in old set)) × Holds (resident_in (set_in old set)) line way

@@ -49,8 +49,7 @@ impl Model for Cache {
 
 impl Cache {
     /// One slice of the cache of one domain, empty, both counted from 0 (this project's profile: set s is of slice
-    /// s mod `slices`). The caches of a machine are all alike, so that the domain changes nothing. NoMemory where the
-    /// allocator gives no room for the slice's places.
+    /// s mod `slices`). The caches of a machine are all alike, so that the domain changes nothing.
     pub fn create(alloc: Global, m: &Machine, domain: u8, slice: u8) -> Result<Cache, NoMemory>
         requires domain { domain < m.now.domains }
         requires slice { slice < m.now.slices }

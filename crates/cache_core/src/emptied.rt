@@ -17,7 +17,7 @@ impl Emptied {
     ghost use Rattle.cache_core.specs.Lazy.{left_set};
     ghost use Rattle.cache_core.specs.Places.{set_in};
 
-    /// Leaves the same in one set. A call of its own, so that accesses to sets that are not behind stay short.
+    /// Leaves the same in one set. A call of its own, so that accesses to sets of this generation stay short.
     #[inline(never)]
     pub fn renew(&self, sets: &mut Sets, set: u32)
         requires { set < length sets.old }

@@ -1,7 +1,7 @@
 //! The sets of a slice, which are emptied all at once, and renewed one by one.
 ghost use Rattle.std.specs.Prelude.{◌≡◌, ℕ, ◌-◌, ◌+◌, ◌%◌, ◌^◌, ◌<◌, ◌≤◌, length, IfOk, IfSome, None, slice_set, slice_index};
 ghost use Rattle.lists.specs.Sums.{sum_below};
-ghost use Rattle.cache_core.specs.Counted.{IsCounted, Recounts, Uncounts};
+ghost use Rattle.cache_core.specs.RmidCounts.{IsCounted, Recounts, Uncounts};
 ghost use Rattle.cache_core.specs.Lazy.{HoldsRegion, IsLazy, KeepsWidths, lazy_sets};
 ghost use Rattle.cache_core.specs.Places.{set_in, place_in};
 ghost use Rattle.cache_core.specs.Stands.{Drops, Touches};
@@ -18,8 +18,8 @@ use std::alloc::Global;
 use std::marker::Model;
 
 /// The sets of a slice. A flush or a lock touches none of them: it begins a generation, and `emptied` says what it leaves in
-/// each set. `renewed` has for each set the generation in which it was last renewed. A set that is behind holds what the last
-/// emptying left, whatever `sets` has of it, and is renewed when it is next touched.
+/// each set. `renewed` has for each set the generation in which it was last renewed. A set of an earlier generation holds what
+/// the last emptying left, whatever `sets` has of it, and is renewed when it is next touched.
 #[derive(Drop)]
 pub struct LazySets {
     sets: Sets,
@@ -39,7 +39,7 @@ impl Model for LazySets {
 }
 
 impl LazySets {
-    /// So many sets of empty ways. NoMemory where the allocator gives no room for them.
+    /// So many sets of empty ways.
     pub fn create(alloc: Global, count: u32, ways: u8) -> Result<LazySets, NoMemory>
         requires { ways ≤ 32 }
         ensures count { IfOk result (λ s. length s.places ≡ count) }
@@ -123,7 +123,7 @@ impl LazySets {
     }
 }
 
-// Stores in a set that is behind what the last emptying left there.
+// Renews a set of an earlier generation: stores there what the last emptying left.
 #[inline(always)]
 fn renew(sets: &mut Sets, renewed: &mut Vec<u64>, generation: u64, emptied: &Emptied, set: u32)
     requires lazy { IsLazy sets.old renewed.old.items generation }

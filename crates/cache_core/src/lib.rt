@@ -1,4 +1,4 @@
-//! One slice of a partitioned L3 cache, and the histories that it stands for.
+//! One slice of a partitioned L3 cache, and the histories that it stands for. A call that runs out of memory answers NoMemory.
 #![tactic(auto)]
 
 pub mod cache;

@@ -5,8 +5,8 @@ use rc_base::NoMemory;
 use std::alloc::Global;
 use std::marker::Model;
 
-/// The line of each way of a slice, the ways of each set one after the other. Contracts see the list of them. A line that is
-/// past the greatest that ever came is in no way, so that a stream of new lines is not searched for.
+/// The line of each way of a slice, the ways of each set one after the other. Contracts see the list of them. A line above the
+/// greatest that ever came is in no way, so that a stream of new lines is not searched for.
 #[derive(Drop)]
 pub struct LineTable {
     lines: Vec<u64>,
@@ -24,7 +24,7 @@ impl Model for LineTable {
 }
 
 impl LineTable {
-    /// So many ways, each with line 0. NoMemory where the allocator gives no room for them.
+    /// So many ways, each with line 0.
     pub fn create(alloc: Global, ways: usize) -> Result<LineTable, NoMemory>
         ensures { IfOk result (λ t. length t ≡ ways) }
     {

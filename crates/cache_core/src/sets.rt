@@ -37,7 +37,7 @@ impl Model for Sets {
 }
 
 impl Sets {
-    /// So many sets of empty ways. NoMemory where the allocator gives no room for them.
+    /// So many sets of empty ways.
     pub fn create(alloc: Global, count: u32, ways: u8) -> Result<Sets, NoMemory>
         requires { ways ≤ 32 }
         ensures count { IfOk result (λ s. length s ≡ count) }

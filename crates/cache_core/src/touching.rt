@@ -1,7 +1,7 @@
 //! What an access and a drop do to their set, and to the counts.
 ghost use Rattle.std.specs.Prelude.{◌≡◌, ℕ, ◌-◌, ◌+◌, ◌==◌, ◌%◌, ◌^◌, ◌<◌, length, IfSome, None, Some, slice_set, slice_index};
 ghost use Rattle.lists.specs.Sums.{one_if, sum_below};
-ghost use Rattle.cache_core.specs.Counted.{IsCounted, Recounts, Uncounts, is_rmid};
+ghost use Rattle.cache_core.specs.RmidCounts.{IsCounted, Recounts, Uncounts, is_rmid};
 ghost use Rattle.cache_core.specs.Places.{set_in, place_in};
 ghost use Rattle.cache_core.specs.Stands.{Drops, Touches};
 ghost use Rattle.cache_core.specs.declared.touched.Touched.TheVariants.{Filled};

@@ -2,9 +2,9 @@
 use Rattle.std.proofs.Common.{◌≡◌, ℕ, zero, suc, ◌+◌, ◌^◌, ◌<◌, ◌≤◌, ◌⊎◌, Bool, true, false, cond, eqb, List, [], ◌∷◌, length, filter, inl, inr, refl, sym, ap, subst, ◌∙◌, arith}
 use Rattle.std.specs.Int.{bit_at}
 use Rattle.std.specs.List.{range_with_len}
-use Rattle.std.proofs.lemmas.Bool.{cases_lt, eq-eqb, eqb-true, lt-ltb, ltb-true}
+use Rattle.std.proofs.lemmas.Bool.{cases_lt, eq-eqb, eqb-true, lt-ltb, ltb-true, true≢false, false≢true}
 use Rattle.std.proofs.lemmas.Nat.Bits.{bit_at_above}
-use Rattle.cbm.specs.Laws.{Missing}
+use Rattle.cbm.specs.Gaps.{Missing}
 use Rattle.cbm.specs.Masks.{has_way, lowest_run, ways_of}
 use Rattle.cbm.specs.Validity.{has_gaps}
 use Rattle.cbm.proofs.Faults.{lowest_run-whole}
@@ -88,9 +88,6 @@ passing-between p a (suc n) whole low mid high least above under within low_pass
     at (p a) refl whole (passing-none_or_first p (a + 1) n)
     (λ rest from least_from above_from passes. passing-between p (a + 1) n rest from mid high least_from above_from under (omega arith) passes high_passes)
   where
-    true_false : true ≡ false → ⊥
-    true_false e = cc
-
     next : FromTheRest p a n mid → lowest_run (passing p (a + 1) n) ≡ passing p (a + 1) n → p (a + 1) ≡ true → low ≤ a → p mid ≡ true
     next more rest passes le = elim (cases_lt (a + 1) mid) [
       | inl lt ↦ more rest (a + 1) (omega arith) lt passes
@@ -117,7 +114,7 @@ passing-between p a (suc n) whole low mid high least above under within low_pass
     at : (b : Bool) → b ≡ p a → lowest_run (cond b (a ∷ passing p (a + 1) n) (passing p (a + 1) n)) ≡ cond b (a ∷ passing p (a + 1) n) (passing p (a + 1) n) → (passing p (a + 1) n ≡ []) ⊎ ((first : ℕ) × (rest : List ℕ) × IsFirst p (a + 1) n first rest) → FromTheRest p a n mid → p mid ≡ true
     at false e whole_here tail more = elim (cases_lt a low) [
       | inl lt ↦ more whole_here low (omega arith) above low_passes
-      | inr le ↦ (let here : low ≡ a = omega arith in absurd (true_false (sym low_passes ∙ ap p here ∙ sym e)))
+      | inr le ↦ (let here : low ≡ a = omega arith in absurd (true≢false (sym low_passes ∙ ap p here ∙ sym e)))
     ]
     at true e whole_here (inl none) more = absurd (omega (arith, length-filter_some p (a + 1) n high (omega arith) (omega arith) high_passes, ap length none))
     at true e whole_here (inr f) more = first_is more f.0 f.1 f.2 (subst (λ (xs : List ℕ). lowest_run (a ∷ xs) ≡ a ∷ xs) f.2.list whole_here)
@@ -136,12 +133,9 @@ pub has_gaps-missing : (mask : ℕ) → mask < 2 ^ 64 → Missing mask → has_g
 unfolding ways_of
 has_gaps-missing mask small m = elim (cases_lt (length (lowest_run (ways_of mask))) (length (ways_of mask))) [
   | inl lt ↦ lt-ltb (length (lowest_run (ways_of mask))) (length (ways_of mask)) lt
-  | inr le ↦ absurd (false_true (sym m.lacks_way ∙ passing-between (has_way mask) 0 64 (lowest_run-whole (ways_of mask) le) m.low m.way m.high (omega arith) m.above_low m.below_high (within m.high m.has_high) m.has_low m.has_high))
+  | inr le ↦ absurd (false≢true (sym m.lacks_way ∙ passing-between (has_way mask) 0 64 (lowest_run-whole (ways_of mask) le) m.low m.way m.high (omega arith) m.above_low m.below_high (within m.high m.has_high) m.has_low m.has_high))
 ]
   where
-    false_true : false ≡ true → ⊥
-    false_true e = cc
-
     within : (k : ℕ) → has_way mask k ≡ true → k < 64
     within k e = elim (cases_lt k 64) [
       | inl lt ↦ lt

@@ -1,3 +1,3 @@
-pub mod Laws
+pub mod Gaps
 pub mod Masks
 pub mod Validity

@@ -1,10 +1,8 @@
 -- A walk over the CPUs that changes the groups of each.
-use Rattle.std.proofs.Common.{◌≡◌, ◌≢◌, ℕ, ◌+◌, ◌<◌, ◌≤◌, List, length, take, set, get_or, refl, sym, ap, ◌∙◌, inl, inr, arith, get_or-set_same, get_or-set_other, length-set, zero, suc, ◌∷◌, replicate}
-use Rattle.std.proofs.lemmas.Grind.{common_steps}
+use Rattle.std.proofs.Common.{◌≡◌, ◌≢◌, ℕ, ◌+◌, ◌<◌, ◌≤◌, List, length, take, set, get_or, refl, ap, ◌∙◌, inl, inr, arith, get_or-set_same, get_or-set_other, length-set, zero, suc, ◌∷◌, replicate}
 use Rattle.std.proofs.lemmas.Bool.{cases_lt}
 use Rattle.std.proofs.lemmas.List.{get_or_default}
 use Rattle.cpu_binding.specs.declared.groups.CpuGroups.{CpuGroups}
-use Rattle.cpu_binding.specs.Groups.{Changes}
 
 -- the CPUs below n are changed, and the others are as they were
 pub record ChangedTo (how : ℕ → CpuGroups → CpuGroups) (before after : List CpuGroups) (n : ℕ) : Type 0 where
@@ -27,17 +25,6 @@ ChangedTo-set how before after n e v within is c = record {
   ];
   rest = λ k d h. let other : k ≢ n = omega arith in get_or-set_other after n k v d other ∙ c.rest k d (omega arith);
 }
-
--- at the end the whole front has changed
-pub Changes-take : (how : ℕ → CpuGroups → CpuGroups) (before after : List CpuGroups) (n : ℕ) → n ≤ length before → ChangedTo how before after n → Changes how (take n before) (take n after)
-Changes-take how before after n fits c = record {
-  count = let e = c.long in grind (arith, common_steps);
-  each = λ cpu d h. let below : cpu < n = grind (arith, common_steps) in
-      front after n cpu d below ∙ c.done cpu d below ∙ ap (how cpu) (sym (front before n cpu d below));
-}
-  where
-    front : (xs : List CpuGroups) (m i : ℕ) (d : CpuGroups) → i < m → get_or (take m xs) i d ≡ get_or xs i d
-    front xs m i d h = grind (arith, common_steps)
 
 -- the first CPUs of a table that has the same groups everywhere
 pub take-replicate : (n k : ℕ) (g : CpuGroups) → n ≤ k → take n (replicate k g) ≡ replicate n g

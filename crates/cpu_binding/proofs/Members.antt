@@ -4,7 +4,6 @@ use Rattle.std.proofs.lemmas.Bool.{cases_lt}
 use Rattle.std.proofs.lemmas.List.{get_or_default}
 use Rattle.std.proofs.lemmas.Nat.Bits.{bit_at-zero}
 use Rattle.cpu_binding.specs.declared.groups.CpuGroups.{CpuGroups}
-use Rattle.cpu_binding.specs.Groups.{IsSetOf}
 use Rattle.cpu_binding.specs.Sets.{has_cpu}
 
 -- the set has the CPUs below n that pass
@@ -36,7 +35,3 @@ Collected-no test groups set n e within is c = record {
   ];
   rest = λ k h. c.rest k (omega arith);
 }
-
--- after the last CPU the set is that of all that pass
-pub IsSetOf-collected : (test : CpuGroups → Bool) (groups : List CpuGroups) (set n : ℕ) → length groups ≡ n → Collected test groups set n → IsSetOf test groups set
-IsSetOf-collected test groups set n all c = record { each = λ cpu d h. c.done cpu d (omega arith); no_more = λ cpu h. c.rest cpu (omega arith) }

@@ -17,6 +17,7 @@ opening_cpu = joined default_gid
 abbrev pub has_control : Gid → CpuGroups → Bool
 has_control group g = g.control.0 == group.0
 
+-- whether a group is named, and it is this one
 abbrev pub is_group : Gid → Option Gid → Bool
 is_group group None = false
 is_group group (Some monitor) = monitor.0 == group.0
@@ -25,7 +26,8 @@ is_group group (Some monitor) = monitor.0 == group.0
 abbrev pub has_monitor : Gid → CpuGroups → Bool
 has_monitor group g = is_group group g.monitor
 
--- A control group takes these CPUs: they leave their former groups and its own monitor groups; the CPUs that it drops go to the default group.
+-- A control group takes these CPUs: they leave their former groups and its own monitor groups; the CPUs that it drops go to the
+-- default group.
 abbrev pub after_control : Gid → ℕ → ℕ → CpuGroups → CpuGroups
 after_control group set cpu g = if has_cpu set cpu then joined group else if has_control group g then opening_cpu else g
 

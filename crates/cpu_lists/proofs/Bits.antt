@@ -1,8 +1,7 @@
 -- The numbers of a set, against shifts, sums of bits and parts of the set.
-use Rattle.std.proofs.Common.{◌≡◌, ℕ, ◌+◌, ◌-◌, ◌*◌, ◌/◌, ◌%◌, ◌^◌, ◌<◌, ◌≤◌, Bool, true, false, not, ◌||◌, eqb, max, bit_or, inl, inr, refl, sym, ap, ◌∙◌, arith, w64}
+use Rattle.std.proofs.Common.{◌≡◌, ℕ, ◌+◌, ◌-◌, ◌*◌, ◌/◌, ◌%◌, ◌^◌, ◌<◌, ◌≤◌, true, false, ◌||◌, eqb, max, bit_or, inl, inr, refl, sym, ap, ◌∙◌, arith, w64}
 use Rattle.std.proofs.Math.Bool.{or-false, or-true}
 use Rattle.std.specs.Int.{bit_at}
-use Rattle.std.proofs.Math.Bool.{beq}
 use Rattle.std.proofs.lemmas.Bool.{eq-eqb, eqb-true, eqb-false, cases_lt, cases_Bool}
 use Rattle.std.proofs.lemmas.Nat.Bits.{bit_at_above, bit_at-zero, bit_at-lt, bit_at_or, bit_at_cat_low, bit_at_cat_high, bit_at_set_same, bit_at_set_other, same_from_bits}
 use Rattle.lists.proofs.Bits.{bit_at-div_pow, bit_at-mod_pow, div_pow-zero}
@@ -19,13 +18,6 @@ has-zero set k e = rw e refl
 -- a CPU that is not there is a bit 0
 pub bit_at-has_false : (set k : ℕ) → has set k ≡ false → bit_at set k ≡ 0
 bit_at-has_false set k e = let ne = eqb-false (bit_at set k) 1 e in let lt = bit_at-lt set k in omega arith
-
--- a number that is not the wanted answer is the other
-pub beq-false : (a b : Bool) → beq a b ≡ false → a ≡ not b
-beq-false true true e = absurd cc
-beq-false true false e = refl
-beq-false false true e = refl
-beq-false false false e = absurd cc
 
 -- equal bits
 pub has-same : (a b i k : ℕ) → bit_at a i ≡ bit_at b k → has a i ≡ has b k

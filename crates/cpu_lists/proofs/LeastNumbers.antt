@@ -2,6 +2,7 @@
 use Rattle.std.proofs.Common.{◌≡◌, ℕ, ◌-◌, ◌^◌, ◌≤◌, min, Bool, true, false, cond, ◌&&◌, inl, inr, List, [], ◌∷◌, filter, Option, Some, None, Ok, Err, refl, sym, ap, subst, ◌∙◌, arith}
 use Rattle.std.specs.Prelude.{nat_le, nat_eq}
 use Rattle.std.proofs.lemmas.Bool.{and_parts, eq-eqb, eqb-true, cases_lt, cases_Bool, or_cases, or_left, or_right, le-leb, leb-true}
+use Rattle.std.proofs.Math.Bool.{and-false}
 use Rattle.cpu_lists.specs.declared.fault.CpuFault.TheVariants.{NotACpu}
 use Rattle.cpu_lists.specs.Sets.{is_among, least, lesser, answer_of, judged}
 use Rattle.cpu_lists.specs.Collected.{IsLeastFrom}
@@ -43,11 +44,7 @@ Tells-least (n ∷ ns) = IsLeast-lesser n ns (least ns) (Tells-least ns)
 
 -- a number among those that pass a test
 pub is_among-filter : (p : ℕ → Bool) (numbers : List ℕ) (k : ℕ) → is_among (filter p numbers) k ≡ (p k && is_among numbers k)
-is_among-filter p [] k = sym (and_false (p k))
-  where
-    and_false : (b : Bool) → (b && false) ≡ false
-    and_false true = refl
-    and_false false = refl
+is_among-filter p [] k = sym (and-false (p k))
 is_among-filter p (n ∷ ns) k = elim (cases_Bool (nat_eq k n)) [
   | inl same ↦ rw same (at_it (p n) (p k) (ap p (eqb-true k n same)) same (is_among-filter p ns k))
   | inr away ↦ rw away (not_it (p n) (p k) away (is_among-filter p ns k))

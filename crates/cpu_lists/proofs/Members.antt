@@ -1,6 +1,6 @@
 -- Which numbers the lists of the definitions hold.
-use Rattle.std.proofs.Common.{◌≡◌, ℕ, zero, suc, ◌+◌, ◌-◌, ◌*◌, ◌^◌, ◌<◌, ◌≤◌, Bool, true, false, cond, ◌&&◌, ◌||◌, inl, inr, List, [], ◌∷◌, ◌++◌, length, Option, Some, None, refl, sym, ap, subst, ◌∙◌, arith, lt_of_lt_of_le}
-use Rattle.std.proofs.Math.Bool.{or-false}
+use Rattle.std.proofs.Common.{◌≡◌, ℕ, zero, suc, ◌+◌, ◌-◌, ◌*◌, ◌^◌, ◌<◌, ◌≤◌, Bool, true, false, cond, ◌||◌, inl, inr, List, [], ◌∷◌, ◌++◌, length, Option, Some, None, refl, sym, ap, subst, ◌∙◌, arith, lt_of_lt_of_le}
+use Rattle.std.proofs.Math.Bool.{or-false, or-true, and-true}
 use Rattle.std.specs.Prelude.{nat_eq, MatchOption}
 use Rattle.std.specs.Bool.{⊤}
 use Rattle.std.specs.Char.{is_digit, digit_value}
@@ -31,13 +31,9 @@ use Rattle.cpu_lists.proofs.Additions.{Collects-same}
 is_among-range_inside : (a n k : ℕ) → a ≤ k → k < a + n → is_among (range_with_len a n) k ≡ true
 is_among-range_inside a zero k low high = absurd (omega arith)
 is_among-range_inside a (suc n) k low high = elim (cases_lt a k) [
-  | inl lt ↦ rw (is_among-range_inside (a + 1) n k (omega arith) (omega arith)) (or_true (nat_eq k a))
+  | inl lt ↦ rw (is_among-range_inside (a + 1) n k (omega arith) (omega arith)) (or-true (nat_eq k a))
   | inr le ↦ rw (eq-eqb k a (omega arith)) refl
 ]
-  where
-    or_true : (b : Bool) → (b || true) ≡ true
-    or_true true = refl
-    or_true false = refl
 
 -- a number below it
 is_among-range_below : (a n k : ℕ) → k < a → is_among (range_with_len a n) k ≡ false
@@ -63,13 +59,9 @@ is_among-numbers_in run k order = elim (cases_lt k run.first) [
 pub is_among-numbers_of : (len set k : ℕ) → set < 2 ^ len → is_among (numbers_of len set) k ≡ has set k
 unfolding numbers_of
 is_among-numbers_of len set k small = is_among-filter (has set) (range_with_len 0 len) k ∙ elim (cases_lt k len) [
-  | inl lt ↦ rw (is_among-range_inside 0 len k (omega arith) (omega arith)) (and_true (has set k))
+  | inl lt ↦ rw (is_among-range_inside 0 len k (omega arith) (omega arith)) (and-true (has set k))
   | inr le ↦ rw (has-above set len k small le) refl
 ]
-  where
-    and_true : (b : Bool) → (b && true) ≡ b
-    and_true true = refl
-    and_true false = refl
 
 -- ---- groups
 

@@ -1,4 +1,5 @@
 -- What a reader keeps of the numbers so far.
+-- (For functions and proofs: no promise of the program stands on it.)
 use Rattle.std.specs.Prelude.{◌≡◌, ℕ, ◌-◌, ◌^◌, ◌<◌, ◌≤◌, min, Bool, true, false, List, Option, Some, None, IsSomeAnd}
 use Rattle.cpu_lists.specs.declared.numbers.Numbers.{Numbers}
 use Rattle.cpu_lists.specs.Sets.{has, is_among}

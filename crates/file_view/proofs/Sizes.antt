@@ -1,7 +1,6 @@
 -- The text of `size`, an entry at a time.
-use Rattle.std.proofs.Common.{◌≡◌, ℕ, ◌-◌, ◌^◌, ◌<◌, ◌≤◌, List, [], ◌∷◌, ◌++◌, length, map, get_or, take, drop, codes, decimal, refl, ap, ◌∙◌, arith}
+use Rattle.std.proofs.Common.{◌≡◌, ℕ, ◌-◌, ◌≤◌, List, [], ◌∷◌, ◌++◌, length, map, get_or, take, drop, codes, refl, ap, ◌∙◌, arith}
 use Rattle.std.specs.List.{flat_map}
-use Rattle.std.proofs.lemmas.Fmt.{length-decimal-le}
 use Rattle.std.proofs.lemmas.List.Folds.{flat_map-map}
 use Rattle.std.proofs.lemmas.List.{take_all}
 use Rattle.machine.specs.declared.parameters.Parameters.{Parameters}
@@ -31,7 +30,3 @@ size_line-parts m k d (a ∷ all) some done =
     let rest : take (length (a ∷ all) - 1) all ≡ all = take_all (length (a ∷ all) - 1) all (omega arith) in
     let whole : take k (take (length (a ∷ all) - 1) all) ≡ all = take_all k (take (length (a ∷ all) - 1) all) done ∙ rest in
     rw whole (size_line-some m a all)
-
--- a number of 64 bits has at most 20 digits
-pub length-decimal : (n : ℕ) → n < 2 ^ 64 → length (decimal n) ≤ 20
-length-decimal n small = length-decimal-le 20 n (omega arith) (omega arith) (omega arith)

@@ -28,7 +28,7 @@ use Rattle.tree_law.specs.commands.Schemata.{is_locked}
 abbrev pub has_region : State → Gid → ℕ → Bool
 has_region s gid domain = option_map_or (λ (r : Region). r.gid.0 == gid.0) (region_in s.regions domain) false
 
--- whether the files of a group show a domain: those of a pseudo-locked group its region's alone, and those of the others each
+-- whether the files of a group show a domain: those of a pseudo-locked group show its region's alone, and those of others each
 abbrev pub is_shown : State → Group → ℕ → Bool
 is_shown s g domain = if is_locked g.mode then has_region s g.gid domain else true
 
@@ -42,7 +42,7 @@ is_cpu_of g cpu = if is_control g.kind then cpu_groups.has_control g.gid cpu els
 abbrev pub cpus_of : State → Group → List ℕ
 cpus_of s g = map (λ (e : ℕ × CpuGroups). e.0) (filter (λ (e : ℕ × CpuGroups). is_cpu_of g e.1) (enumerate_from 0 s.cpus))
 
--- the CPUs that the region of a group is next to
+-- the CPUs of the domain that has the region of a group, rising
 abbrev pub cpus_of_region : Parameters → State → Group → List ℕ
 cpus_of_region m s g = filter (λ cpu. has_region s g.gid (domain_of m cpu)) (range_with_len 0 m.cpus)
 
@@ -50,9 +50,11 @@ cpus_of_region m s g = filter (λ cpu. has_region s g.gid (domain_of m cpu)) (ra
 abbrev pub cpu_set : Parameters → State → Group → ℕ
 cpu_set m s g = mask_of (if is_locked g.mode then cpus_of_region m s g else cpus_of s g)
 
+-- the text of `cpus`: the CPUs that the files of a group show, as a mask
 abbrev pub cpus_text : Parameters → State → Group → List ℕ
 cpus_text m s g = on_line (cpu_texts.mask_text m.cpus (cpu_set m s g))
 
+-- the text of `cpus_list`: the same CPUs as a list
 abbrev pub cpus_list_text : Parameters → State → Group → List ℕ
 cpus_list_text m s g = on_line (cpu_texts.list_text (cpu_set m s g))
 
@@ -70,7 +72,7 @@ is_task_of g b = if is_control g.kind then has_control g.gid b else has_monitor 
 abbrev pub task_line : Group → Binding → List ℕ
 task_line g b = if is_task_of g b then on_line (decimal b.task) else []
 
--- each on its line
+-- the text of `tasks`: the tasks of a group, each on its line
 abbrev pub tasks_text : State → Group → List ℕ
 tasks_text s g = on_lines (map decimal (tasks_in s g))
 
@@ -80,14 +82,15 @@ tasks_text s g = on_lines (map decimal (tasks_in s g))
 abbrev pub shown_mask : State → Group → ℕ → List Assignment
 shown_mask s g domain = if is_shown s g domain then record { domain = domain; mask = mask_in domain g } ∷ [] else []
 
--- its masks in the domains that its files show, rising
+-- a group's masks in the domains that its files show, rising
 abbrev pub schemata_of : Parameters → State → Group → List Assignment
 schemata_of m s g = flat_map (shown_mask s g) (range_with_len 0 m.domains)
 
--- `L3:` and `id=mask` of each, separated by `;`
+-- the text of `schemata`: `L3:` and `id=mask` of each of these, separated by `;`
 unfoldable pub schemata_text : Parameters → State → Group → List ℕ
 schemata_text m s g = on_line (printed m.ways (schemata_of m s g))
 
+-- the text of `mode`: the name of the mode
 abbrev pub mode_text : Group → List ℕ
 mode_text g = on_line (mode_name g.mode)
 
@@ -95,9 +98,10 @@ mode_text g = on_line (mode_name g.mode)
 abbrev pub size_entry : Parameters → Assignment → List ℕ
 size_entry m a = decimal a.domain ++ 61 ∷ decimal (bytes_of m (ways_of a.mask))
 
--- the same as in `schemata`, with the bytes of each mask
+-- the line of `size`: the same as in `schemata`, with the bytes of each mask in its place
 unfoldable pub size_line : Parameters → List Assignment → List ℕ
 size_line m all = codes "L3:" ++ join_with_byte 59 (map (size_entry m) all)
 
+-- the text of `size`: for each domain that the files of a group show, the bytes that its mask allows
 unfoldable pub size_text : Parameters → State → Group → List ℕ
 size_text m s g = on_line (size_line m (schemata_of m s g))

@@ -6,6 +6,6 @@ use Rattle.std.specs.List.{flat_map}
 abbrev pub on_line : List ℕ → List ℕ
 on_line text = text ++ 10 ∷ []
 
--- each on its line
+-- texts, each on its line
 abbrev pub on_lines : List (List ℕ) → List ℕ
 on_lines texts = flat_map on_line texts

@@ -35,7 +35,7 @@ group_line names parent g = if is_listed parent g then on_line (group_name names
 abbrev pub names_in : List (List ℕ) → Option Gid → List Group → List (List ℕ)
 names_in names parent groups = map (group_name names) (filter (is_listed parent) groups)
 
--- the names of the monitor groups of a control group, where it is there
+-- the names of the monitor groups of a control group, where it exists
 abbrev pub monitors_in : State → List (List ℕ) → Option Gid → List (List ℕ)
 monitors_in s names None = []
 monitors_in s names (Some gid) = names_in names (Some gid) s.groups
@@ -47,6 +47,6 @@ groups_in s names Root = names_in names None s.groups
 groups_in s names (MonGroups owner) = monitors_in s names (owner_gid s owner)
 groups_in s names dir = []
 
--- the fixed entries, and then the groups, each on its line
+-- the text of a listing: the fixed entries, and then the groups, each on its line
 unfoldable pub list_text : Parameters → State → List (List ℕ) → DirRef → List ℕ
 list_text m s names dir = on_lines (fixed_names m dir) ++ on_lines (groups_in s names dir)

@@ -24,7 +24,7 @@ mask_line mask = on_line (hexadecimal 0 mask)
 abbrev pub flag_line : Bool → List ℕ
 flag_line flag = on_line (if flag then codes "1" else codes "0")
 
--- the bytes of so many lines of 64 bytes each, counted under several RMIDs
+-- the text of `llc_occupancy`: the bytes of the lines that were counted under these RMIDs, 64 for each
 abbrev pub occupancy_text : List ℕ → List ℕ
 occupancy_text looks = number_line (64 * sum looks)
 
@@ -33,17 +33,18 @@ abbrev pub status_of : Reply → List ℕ
 status_of Ok = codes "ok"
 status_of (Refused errno why arg) = reason_text why arg
 
+-- the text of `last_cmd_status`: how the last mkdir or write was answered
 abbrev pub status_text : State → List ℕ
 status_text s = on_line (status_of s.status)
 
--- the mask of every way
+-- the text of `cbm_mask`: the mask of every way
 abbrev pub cbm_mask_text : Parameters → List ℕ
 cbm_mask_text m = mask_line (2 ^ m.ways - 1)
 
--- who uses each way of each cache, by the groups and the regions
+-- the text of `bit_usage`: who uses each way of each cache, by the groups and the regions
 abbrev pub bit_usage_text : Parameters → State → List ℕ
 bit_usage_text m s = on_line (usage_text m.ways (map (used_in m s None) (range_with_len 0 m.domains)))
 
--- the only kind of event that is monitored
+-- the text of `mon_features`: the only kind of event that is monitored
 abbrev pub mon_features_text : List ℕ
 mon_features_text = on_line (codes "llc_occupancy")

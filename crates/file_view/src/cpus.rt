@@ -21,7 +21,7 @@ fn own_set(tree: &Tree, group: &Group) -> u64
     }
 }
 
-// The CPUs that the region of a group is next to, bit c for CPU c.
+// The CPUs of the domain that has the region of a group, bit c for CPU c.
 fn region_set(tree: &Tree, group: &Group) -> u64
     ensures { result ≡ mask_of (cpus_of_region tree.now.machine tree.now.state group.now) }
 {

@@ -5,15 +5,9 @@ mod cpus;
 mod files;
 mod find;
 mod fixed;
-#[cfg(test)]
-mod fixtures;
 mod lines;
 mod listing;
-#[cfg(test)]
-mod machines;
 mod mode;
-#[cfg(test)]
-mod mode_tests;
 mod numbers;
 mod occupancy;
 pub mod reasons;
@@ -22,8 +16,7 @@ mod shown;
 mod size;
 mod status;
 mod tasks;
-#[cfg(test)]
-mod tests;
+pub mod theorems;
 mod usage;
 pub mod view;
 

@@ -44,7 +44,7 @@ fn push_entries(m: &Machine, masks: &[Assignment], out: &mut TextBuf)
     }
 }
 
-// Adds the same as in `schemata`, with the bytes of each mask.
+// Adds the same as in `schemata`, with the bytes of each mask in its place.
 #[tactic(auto, unfolding(crate::specs::GroupFiles::size_text))]
 fn push_sizes(tree: &Tree, group: &Group, out: &mut TextBuf)
     requires room { 512 ≤ out.old.spare }

@@ -3,10 +3,12 @@ use Rattle.std.proofs.Common.{◌≡◌, ◌≢◌, ℕ, zero, suc, ◌<◌, ◌
 use Rattle.std.specs.List.{refill, remove}
 use Rattle.std.proofs.lemmas.Bool.{eqb-true, ne_eqb}
 use Rattle.std.proofs.lemmas.List.Kept.{AllPairs-filter}
+use Rattle.std.proofs.lemmas.Option.{same_Some}
 use Rattle.rc_base.specs.declared.names.Gid.{Gid}
 use Rattle.group_tree.specs.declared.group.Group.{Group}
-use Rattle.group_tree.specs.Lists.{BeginsWithDefault, GidsDiffer, IsTree, exchanged, replaced, without}
+use Rattle.group_tree.specs.Lists.{BeginsWithDefault, GidsDiffer, IsTree, replaced, without}
 use Rattle.group_tree.specs.Records.{has_gid}
+use Rattle.group_tree.proofs.laws.Records.{exchanged-gid}
 
 -- no group has this gid
 abbrev pub HasNone : Gid → List Group → Type 0
@@ -64,14 +66,6 @@ remove-without gid (g ∷ gs) (suc i) d within is differ =
 
 -- ---- what stays of a tree
 
--- a record that takes a place has the gid of the one that stood there
-exchanged-gid : (new g : Group) → (exchanged new g).gid.0 ≡ g.gid.0
-exchanged-gid new g = at (has_gid new.gid g) (λ is. eqb-true new.gid.0 g.gid.0 is) refl
-  where
-    at : (b : Bool) → (b ≡ true → new.gid.0 ≡ g.gid.0) → b ≡ has_gid new.gid g → (cond b new g).gid.0 ≡ g.gid.0
-    at true same e = same refl
-    at false same e = refl
-
 -- each place keeps its gid
 get_or-replaced_gid : (new : Group) (gs : List Group) (k : ℕ) (d : Group) → (get_or (replaced new gs) k d).gid.0 ≡ (get_or gs k d).gid.0
 get_or-replaced_gid new [] k d = refl
@@ -100,11 +94,8 @@ IsTree-replaced new gs tree = record {
 BeginsWithDefault-without : (gid : Gid) (gs : List Group) → gid.0 ≢ 0 → BeginsWithDefault gs → BeginsWithDefault (without gid gs)
 BeginsWithDefault-without gid [] other begins = begins
 BeginsWithDefault-without gid (g ∷ gs) other begins =
-    let zeroth : g.gid.0 ≡ 0 = some_same g.gid.0 0 begins in
+    let zeroth : g.gid.0 ≡ 0 = same_Some g.gid.0 0 begins in
     rw (ne_eqb gid.0 g.gid.0 (λ e. other (e ∙ zeroth))) begins
-  where
-    some_same : (a b : ℕ) → Some a ≡ Some b → a ≡ b
-    some_same a b e = cc
 
 -- a filter keeps at most as many
 length-filter : (p : Group → Bool) (gs : List Group) → length (filter p gs) ≤ length gs

@@ -1,3 +1,4 @@
 pub mod Edits
 pub mod Lookups
 pub mod Unions
+pub mod laws

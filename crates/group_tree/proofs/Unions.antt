@@ -3,6 +3,7 @@ use Rattle.std.proofs.Common.{◌≡◌, ℕ, ◌+◌, ◌<◌, Bool, true, fals
 use Rattle.std.proofs.lemmas.List.{map-append, take_more}
 use Rattle.std.proofs.lemmas.List.Elements.{filter-append}
 use Rattle.std.proofs.lemmas.List.Folds.{list_any-append}
+use Rattle.std.proofs.Math.Bool.{or-false}
 use Rattle.cbm.specs.Masks.{IsUnion, has_way}
 use Rattle.cbm.proofs.laws.Ways.{has_way-bit_or}
 use Rattle.rc_base.specs.declared.names.Gid.{Gid}
@@ -17,12 +18,8 @@ use Rattle.group_tree.specs.Records.{is_control, is_mode, is_other, is_other_in,
 IsUnion-push : (union mask : ℕ) (masks : List ℕ) → IsUnion union masks → IsUnion (bit_or union mask) (masks ++ mask ∷ [])
 IsUnion-push union mask masks is_union = λ way.
     has_way-bit_or union mask way
-    ∙ ap₂ (λ (a b : Bool). a || b) (is_union way) (sym (or_false (has_way mask way)))
+    ∙ ap₂ (λ (a b : Bool). a || b) (is_union way) (sym (or-false (has_way mask way)))
     ∙ sym (list_any-append (λ m. has_way m way) masks (mask ∷ []))
-  where
-    or_false : (b : Bool) → (b || false) ≡ b
-    or_false true = refl
-    or_false false = refl
 
 -- the masks of one group more
 masks_of_others-take : (gid : Option Gid) (mode : Mode) (domain : ℕ) (gs : List Group) (i : ℕ) (d : Group) → i < length gs → masks_of_others gid mode domain (take (i + 1) gs) ≡ masks_of_others gid mode domain (take i gs) ++ map (mask_in domain) (cond (is_other_in gid mode (get_or gs i d)) (get_or gs i d ∷ []) [])

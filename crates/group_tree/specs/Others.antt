@@ -9,7 +9,7 @@ use Rattle.group_tree.specs.declared.group.Group.{Group}
 use Rattle.group_tree.specs.Lists.{GroupList}
 use Rattle.group_tree.specs.Records.{is_other_control, is_other_in, mask_in}
 
--- the groups in a mode, but for one
+-- the control groups in a mode, but for one; all of them where none is named
 abbrev pub others_in : Option Gid → Mode → List Group → List Group
 others_in gid mode groups = filter (is_other_in gid mode) groups
 
@@ -17,11 +17,11 @@ others_in gid mode groups = filter (is_other_in gid mode) groups
 abbrev pub masks_of_others : Option Gid → Mode → ℕ → List Group → List ℕ
 masks_of_others gid mode domain groups = map (mask_in domain) (others_in gid mode groups)
 
--- a mask has just the ways that the others in a mode have in the domain
+-- a mask has just the ways that the other control groups in a mode have in the domain
 abbrev pub IsUnionOfOthers : Option Gid → Mode → ℕ → List Group → ℕ → Type 0
 IsUnionOfOthers gid mode domain groups mask = IsUnion mask (masks_of_others gid mode domain groups)
 
--- what all groups but one use of a cache
+-- what all control groups but one use of a cache
 pub record IsUseByOthers (t : GroupList) (gid : Option Gid) (domain : ℕ) (used : DomainUse) : Type 0 where
   pub hardware : used.hardware ≡ t.shareable
   pub shared : IsUnionOfOthers gid Shareable domain t.groups used.shared

@@ -17,7 +17,7 @@ pub enum GroupKind {
 }
 
 impl GroupKind {
-    /// Whether it is that of a control group.
+    /// Whether the kind is Control.
     pub(crate) fn is_control(self) -> bool
         ensures { result ≡ is_control self }
     {
@@ -27,7 +27,7 @@ impl GroupKind {
         }
     }
 
-    /// Whether it is that of a monitor group of this control group.
+    /// Whether the kind is Monitor, with this control group as the parent.
     pub(crate) fn is_monitor_of(self, control: Gid) -> bool
         ensures { result ≡ is_monitor_of control self }
     {

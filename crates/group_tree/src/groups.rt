@@ -131,8 +131,8 @@ impl Groups {
         find_monitor(self.records.as_slice(), parent, name).map(|g| g.gid)
     }
 
-    /// What all control groups but this one use of the cache of a domain, from 0 to 7, and what all of them use where
-    /// none is named: the machine's shareable bits, and the unions of the masks of those that are shareable, exclusive
+    /// What all control groups but this one use of the cache of a domain, from 0 to 7; where none is named, what all of
+    /// them use. It is the machine's shareable bits, and the unions of the masks of those that are shareable, exclusive
     /// and pseudo-locked.
     pub fn others(&self, gid: Option<Gid>, domain: u8) -> DomainUse
         requires { domain < 8 }

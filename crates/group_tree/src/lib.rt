@@ -1,16 +1,13 @@
-//! The groups of the tree in order of creation, and what the others of a group use of a cache.
+//! The groups of the tree in order of creation, and what all groups but one use of a cache.
 #![tactic(auto)]
 
 mod edit;
-#[cfg(test)]
-mod fixtures;
 pub mod group;
 pub mod group_kind;
 pub mod groups;
 mod lookup;
 mod opening;
-#[cfg(test)]
-mod tests;
+pub mod theorems;
 mod union;
 
 pub use group::Group;

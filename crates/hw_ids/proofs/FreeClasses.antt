@@ -2,7 +2,7 @@
 use Rattle.std.proofs.Common.{◌≡◌, ℕ, ◌<◌, ◌≤◌, Bool, true, false, not, List, length, take, get_or, position, Some, None, refl, sym, ◌∙◌, arith}
 use Rattle.std.proofs.lemmas.Grind.{common_steps}
 use Rattle.std.proofs.lemmas.List.Quantifiers.{position-Some}
-use Rattle.lists.proofs.Choices.{not-true}
+use Rattle.std.proofs.lemmas.Bool.{not-true}
 use Rattle.hw_ids.specs.Ids.{places}
 use Rattle.hw_ids.specs.Classes.{Classes, IsFree, NoneFree, IsLowestFree}
 use Rattle.hw_ids.proofs.Places.{contains-places, position-none}

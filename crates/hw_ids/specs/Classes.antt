@@ -1,4 +1,5 @@
 -- Classes of service: how many there are, and which are taken.
+-- (For functions and proofs: no promise of the program stands on it.)
 use Rattle.std.specs.Prelude.{◌≡◌, ℕ, ◌<◌, false, List}
 use Rattle.hw_ids.specs.Ids.{contains}
 

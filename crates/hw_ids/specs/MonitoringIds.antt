@@ -1,4 +1,5 @@
 -- Resource monitoring ids: how many there are, which are taken, and which wait in limbo.
+-- (For functions and proofs: no promise of the program stands on it.)
 use Rattle.std.specs.Prelude.{◌≡◌, ℕ, ◌<◌, false, IsTrue, nat_lt, List, filter, map, zip, if◌then◌else◌}
 use Rattle.hw_ids.specs.Ids.{contains, with_id, without}
 

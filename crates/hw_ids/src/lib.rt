@@ -10,4 +10,4 @@ mod uses;
 
 pub use class_ids::{ClassIds, MAX_CLASSES};
 pub use rmids::{MAX_RMIDS, NoRmid, Rmids};
-pub use theorems::members;
+pub use theorems::{limits_are_stated, members};

@@ -1,5 +1,5 @@
 -- What holds of a choice between two.
-use Rattle.std.proofs.Common.{◌≡◌, Bool, true, false, not, cond, refl, sym}
+use Rattle.std.proofs.Common.{◌≡◌, Bool, true, false, not, ◌&&◌, cond, refl}
 
 -- what holds of both branches holds of the choice
 pub cond-both : {X : Type 0} (P : X → Type 0) (b : Bool) (x y : X) → P x → P y → P (cond b x y)
@@ -16,7 +16,8 @@ pub cond-and : (a b : Bool) → cond a b false ≡ true → (a ≡ true) × (b �
 cond-and true b e = (refl, e)
 cond-and false b e = absurd (let f : false ≡ true = e in cc)
 
--- a test whose opposite passes does not
-pub not-true : (b : Bool) → not b ≡ true → b ≡ false
-not-true true e = sym e
-not-true false e = refl
+-- where neither of two tests passes, both are false
+pub and-not_true : (a b : Bool) → (not a && not b) ≡ true → (a ≡ false) × (b ≡ false)
+and-not_true false false e = (refl, refl)
+and-not_true false true e = absurd (let f : false ≡ true = e in cc)
+and-not_true true b e = absurd (let f : false ≡ true = e in cc)

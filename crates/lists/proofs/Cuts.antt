@@ -1,9 +1,11 @@
 -- Lists that are cut at the first element, or at each, that passes a test.
-use Rattle.std.proofs.Common.{◌≡◌, ℕ, suc, ◌+◌, ◌<◌, ◌≤◌, Bool, true, false, cond, not, ◌||◌, List, [], ◌∷◌, length, Some, None, refl, arith, length-drop, inl, inr}
+use Rattle.std.proofs.Common.{◌≡◌, ℕ, suc, ◌+◌, ◌-◌, ◌<◌, ◌≤◌, Bool, true, false, cond, eqb, not, ◌||◌, List, [], ◌∷◌, length, get_or, Some, None, refl, arith, length-drop, inl, inr}
 use Rattle.std.specs.List.{list_any, position, position_or_len, before_first, after_first, slice_split, onto_first}
 use Rattle.std.proofs.lemmas.Bool.{lt-ltb, le-ltb, cases_lt}
 use Rattle.std.proofs.lemmas.List.{take_all}
 use Rattle.std.proofs.lemmas.List.Splits.{slice_split_first}
+use Rattle.std.specs.Str.Lines.{lines_of_parts, strip_carriage_return}
+use Rattle.std.proofs.lemmas.List.Folds.{list_any_at}
 
 -- some element passes where the position of the first that does is below the length
 pub list_any-position_lt : {X : Type 0} (p : X → Bool) (xs : List X) → position_or_len p xs < length xs → list_any p xs ≡ true
@@ -75,3 +77,18 @@ before_first-none p xs h =
 
 -- what `position` tells
 pub ruleset positions = (position-some, position-none)
+
+-- ---- the lines of a text
+
+-- one part in front
+pub lines_of_parts-cons : (x : List ℕ) (parts : List (List ℕ)) → 0 < length parts → lines_of_parts (x ∷ parts) ≡ strip_carriage_return x ∷ lines_of_parts parts
+lines_of_parts-cons x [] h = absurd (omega arith)
+lines_of_parts-cons x (y ∷ more) h = refl
+
+-- a line without a carriage return
+pub strip_carriage_return-none : (x : List ℕ) → 0 < length x → list_any (λ b. eqb b 13) x ≡ false → strip_carriage_return x ≡ x
+strip_carriage_return-none x some none = at (eqb (get_or x (length x - 1) 0) 13) refl
+  where
+    at : (b : Bool) → eqb (get_or x (length x - 1) 0) 13 ≡ b → strip_carriage_return x ≡ x
+    at true e = let any = list_any_at (λ b. eqb b 13) x (length x - 1) 0 (omega arith) e in absurd cc
+    at false e = rw e refl

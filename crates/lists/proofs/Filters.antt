@@ -1,7 +1,8 @@
 -- The numbers of a range that pass a test.
-use Rattle.std.proofs.Common.{◌≡◌, ℕ, zero, suc, ◌+◌, ◌-◌, ◌<◌, ◌≤◌, Bool, true, false, cond, ◌||◌, inl, inr, List, [], ◌∷◌, ◌++◌, length, filter, refl, sym, ap, ◌∙◌, arith}
+use Rattle.std.proofs.Common.{◌≡◌, ℕ, zero, suc, ◌+◌, ◌-◌, ◌<◌, ◌≤◌, Bool, true, false, cond, inl, inr, List, [], ◌∷◌, ◌++◌, length, filter, refl, sym, ap, ◌∙◌, arith}
 use Rattle.std.specs.List.{list_any, range_with_len}
 use Rattle.std.proofs.lemmas.Bool.{cases_lt}
+use Rattle.std.proofs.Math.Bool.{or-true}
 
 -- those at the beginning that fail are passed over
 pub filter-fails : (p : ℕ → Bool) (a z n : ℕ) → z ≤ n → ((k : ℕ) → a ≤ k → k < a + z → p k ≡ false) → filter p (range_with_len a n) ≡ filter p (range_with_len (a + z) (n - z))
@@ -44,12 +45,8 @@ list_any-filter p q a (suc n) k low high pk qk =
           rw (pa, qa) refl)
     ]
   where
-    or_true : (b : Bool) → (b || true) ≡ true
-    or_true true = refl
-    or_true false = refl
-
     more : (b : Bool) → list_any q (filter p (range_with_len (a + 1) n)) ≡ true → list_any q (cond b (a ∷ filter p (range_with_len (a + 1) n)) (filter p (range_with_len (a + 1) n))) ≡ true
-    more true h = rw h (or_true (q a))
+    more true h = rw h (or-true (q a))
     more false h = h
 
 -- where each that passes one test fails another, none of them passes that

@@ -7,6 +7,7 @@ pub mod Options
 pub mod Pairs
 pub mod Powers
 pub mod Ranges
+pub mod Recursions
 pub mod Sums
 pub mod Tests
 pub mod Updates

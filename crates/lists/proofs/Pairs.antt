@@ -1,10 +1,13 @@
 -- Pairs of elements of a list, each with a later one.
-use Rattle.std.proofs.Common.{◌≡◌, ◌≢◌, ℕ, suc, ◌-◌, ◌<◌, Bool, true, false, eqb, List, [], ◌∷◌, ◌++◌, length, map, get_or, set, inl, inr, refl, subst, ap, ◌∙◌, arith, length-set}
-use Rattle.std.specs.List.{All, AllPairs, flat_map}
-use Rattle.std.proofs.lemmas.Bool.{cases_lt, eqb-true, eqb-false}
+use Rattle.std.proofs.Common.{◌≡◌, ◌≢◌, ℕ, suc, ◌-◌, ◌<◌, ◌≤◌, Bool, true, false, eqb, List, [], ◌∷◌, ◌++◌, length, map, get_or, set, inl, inr, refl, subst, ap, ◌∙◌, arith, length-set}
+use Rattle.std.specs.List.{All, AllPairs, flat_map, list_any}
+use Rattle.std.proofs.lemmas.Bool.{cases_lt, eqb-true, eqb-false, ne_eqb}
 use Rattle.std.proofs.lemmas.List.{get_or-append_right, get_or_append_left, get_or_default, get_or-set_same, get_or-set_other, length-append}
 use Rattle.std.proofs.lemmas.List.Elements.{All-append, All-head, All-map, All-tail}
 use Rattle.std.proofs.lemmas.List.Kept.{AllPairs-cons}
+use Rattle.std.proofs.lemmas.List.Folds.{Any-from_list_any}
+use Rattle.std.proofs.lemmas.Map.Keys.{IsDistinct-from_apart}
+use Rattle.std.proofs.lemmas.Map.Steps.{length-le_from_distinct_below}
 
 -- the pairs of the tail
 pub AllPairs-tail : {X : Type 0} (R : X → X → Type 0) (x : X) (xs : List X) → AllPairs R (x ∷ xs) → AllPairs R xs
@@ -67,3 +70,13 @@ AllPairs-flat_map R f (x ∷ xs) each across =
     AllPairs-append R (f x) (flat_map f xs) (All-head (λ x. AllPairs R (f x)) x xs each)
     (AllPairs-flat_map R f xs (All-tail (λ x. AllPairs R (f x)) x xs each) (AllPairs-tail (λ a b. AllAcross R (f a) (f b)) x xs across))
     (λ i j d below within. All-flat_map (R (get_or (f x) i d)) f xs (λ k c less l e small. subst (R (get_or (f x) i d)) (get_or_default (f (get_or xs k c)) l d e small) (first k c less i l d below small)) j d within)
+
+-- numbers that differ and are below one are no more than that
+pub length-distinct : (n : ℕ) (ids : List ℕ) → AllPairs (λ (a b : ℕ). a ≢ b) ids → All (λ id. id < n) ids → length ids ≤ n
+length-distinct n ids differ below = length-le_from_distinct_below ids n (IsDistinct-from_apart eqb ids (λ i j d lt within. ne_eqb (get_or ids i d) (get_or ids j d) (differ i j d lt within))) each
+  where
+    each : (q : ℕ) → list_any (eqb q) ids ≡ true → q < n
+    each q there = (let some = Any-from_list_any (eqb q) ids there in
+        let is : q ≡ some.1 = eqb-true q some.1 some.4 in
+        let least = below some.0 q some.2 in
+        omega (arith, is, least, some.3))

@@ -1,9 +1,10 @@
 -- Elements of a list that pass a test, and those that do not.
-use Rattle.std.proofs.Common.{◌≡◌, ℕ, suc, ◌+◌, ◌<◌, Bool, true, false, ◌||◌, cond, eqb, List, [], ◌∷◌, ◌++◌, length, map, filter, find, get_or, None, Some, refl, sym, subst, ap, ◌∙◌, arith}
+use Rattle.std.proofs.Common.{◌≡◌, ℕ, suc, ◌+◌, ◌<◌, Bool, true, false, ◌||◌, cond, eqb, List, [], ◌∷◌, ◌++◌, length, map, filter, find, get_or, None, Some, refl, sym, subst, ap, ap₂, ◌∙◌, arith}
 use Rattle.std.specs.List.{All, enumerate_from, list_any}
 use Rattle.std.specs.Option.{option_map}
 use Rattle.std.proofs.lemmas.Bool.{eqb-true, or_parts}
 use Rattle.std.proofs.lemmas.List.Elements.{All-cons, All-head, All-tail}
+use Rattle.std.proofs.Math.Bool.{or-true}
 
 -- what `find` found, and where
 pub record IsFound {X : Type 0} (p : X → Bool) (xs : List X) (x : X) : Type 0 where
@@ -62,11 +63,6 @@ module _ {X : Type 0} (p : X → Bool) where
       at : (b : Bool) → cond b (Some z) (find p zs) ≡ Some x → (find p zs ≡ Some x → find p (zs ++ y ∷ []) ≡ Some x) → cond b (Some z) (find p (zs ++ y ∷ [])) ≡ Some x
       at true e rest = e
       at false e rest = rest e
-
-  -- a test or one that passes
-  or-true : (b : Bool) → (b || true) ≡ true
-  or-true true = refl
-  or-true false = refl
 
   -- one that passes is kept by a filter that keeps each that passes
   pub list_any-kept : (q : X → Bool) (xs : List X) → All (λ x. p x ≡ true → q x ≡ true) xs → list_any p xs ≡ true → list_any p (filter q xs) ≡ true
@@ -136,3 +132,8 @@ All-enumerate_from {X = X} P n (x ∷ xs) all = All-cons (λ (e : ℕ × X). P e
 -- what holds of the only one holds of each
 pub All-one : {X : Type 0} (P : X → Type 0) (x : X) → P x → All P (x ∷ [])
 All-one P x p = All-cons P x [] p (λ k d within. absurd (omega arith))
+
+-- two tests that agree everywhere
+pub list_any-same : {X : Type 0} (p q : X → Bool) (xs : List X) → ((x : X) → p x ≡ q x) → list_any p xs ≡ list_any q xs
+list_any-same p q [] same = refl
+list_any-same p q (x ∷ xs) same = ap₂ (λ (a b : Bool). a || b) (same x) (list_any-same p q xs same)

@@ -6,7 +6,7 @@ use Rattle.cbm.specs.Masks.{has_way, lowest_run, ways_of}
 use Rattle.cbm.specs.Validity.{is_too_few}
 use Rattle.cbm.proofs.laws.Ways.{has_way-from}
 use Rattle.lists.proofs.Filters.{length-filter_some}
-use Rattle.mode_rules.specs.Space.{granted_ways, space_in}
+use Rattle.mode_rules.specs.StartingWays.{granted_ways, space_in}
 
 -- a mask that is not 0 has a way
 pub length-ways_of : (mask : ℕ) → mask < 2 ^ 64 → mask ≢ 0 → 0 < length (ways_of mask)

@@ -1,4 +1,4 @@
 pub mod Overlaps
 pub mod Refusals
 pub mod Setup
-pub mod Space
+pub mod StartingWays

@@ -39,11 +39,11 @@ stands_against mode mask others Other = keeps_apart mode && overlaps_counted mas
 stands_against mode mask others Hardware = keeps_apart mode && overlaps mask others.hardware
 stands_against mode mask others HasRegion = sets_up mode && has_region others
 
--- nothing for a mask that a group of this mode may have, and else the first that stands against it
+-- Ok for a mask that a group of this mode may have, and else the first that stands against it
 unfoldable pub write_overlap : Mode → ℕ → DomainUse → Result (Unit {0}) Overlap
 write_overlap mode mask others = first_of (stands_against mode mask others) (Exclusive ∷ Region ∷ Other ∷ Hardware ∷ HasRegion ∷ [])
 
--- nothing for a mask that a group may keep when it leaves pseudo-locksetup, and else the first that stands against it
+-- Ok for a mask that a group may keep when it leaves pseudo-locksetup, and else the first that stands against it
 unfoldable pub leaving_overlap : ℕ → DomainUse → Result (Unit {0}) Overlap
 leaving_overlap mask others = first_of (stands_against LockSetup mask others) (Exclusive ∷ Region ∷ [])
 

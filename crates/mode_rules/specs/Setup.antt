@@ -19,6 +19,6 @@ keeps_out group HasTasks = not (group.tasks == 0)
 keeps_out group HasCpus = not (group.cpus == 0)
 keeps_out group _ = false
 
--- nothing for a group that may enter, and else the first that keeps it out
+-- Ok for a group that may enter, and else the first that keeps it out
 unfoldable pub entry_refusal : Holdings → Result (Unit {0}) Why
 entry_refusal group = first_of (keeps_out group) (DefaultGroup ∷ HasMonGroups ∷ HasTasks ∷ HasCpus ∷ [])

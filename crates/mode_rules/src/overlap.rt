@@ -23,7 +23,7 @@ pub enum Overlap {
     HasRegion,
 }
 
-/// Whether a group of this mode may have this mask beside what others use, else the first that stands against it
+/// Ok where a group of this mode may have this mask beside what others use, else the first that stands against it
 /// (kernel documentation, "Resource alloc and monitor groups", on `mode`; the order of the tests is this project's
 /// profile).
 #[tactic(auto, unfolding(crate::specs::Overlaps::write_overlap, crate::specs::Overlaps::leaving_overlap))]

@@ -4,12 +4,12 @@ ghost use Rattle.std.specs.List.{range_with_len};
 ghost use Rattle.std.specs.Option.{option_map};
 ghost use Rattle.cbm.specs.Masks.{has_way, ways_of};
 ghost use Rattle.cbm.specs.Validity.{checked};
-ghost use Rattle.mode_rules.specs.Space.{initial_ways, may_start_with, starting_ways};
+ghost use Rattle.mode_rules.specs.StartingWays.{initial_ways, may_start_with, starting_ways};
 
 use crate::domain_use::DomainUse;
 use cbm::{Geometry, count, lowest_run};
 
-/// The mask of a new group in a cache that others use like this, and None exactly where there is no space.
+/// The mask of a new group in a cache that others use so, and None exactly where there is no space.
 ///
 /// A new group may start with the ways that other hardware or shareable groups use and those that nobody uses. It gets
 /// all of them on a sparse machine, and on any other their lowest run of adjacent ways. On either there is no space where

@@ -8,7 +8,7 @@ use crate::overlap::Overlap;
 use cbm::overlaps;
 use rc_base::Why;
 
-/// Whether a group may enter pseudo-locksetup, else the first that keeps it out: it is the default group, or has
+/// Ok where a group may enter pseudo-locksetup, else the first that keeps it out: it is the default group, or has
 /// monitor groups, tasks or CPUs (kernel documentation, "Cache Pseudo-Locking"; the order is this project's profile).
 ///
 /// `monitors` and `tasks` are how many it has, and `cpus` is its set of CPUs, bit c for CPU c.
@@ -33,7 +33,7 @@ pub fn may_enter_setup(is_default: bool, monitors: u32, tasks: u32, cpus: u64) -
     Ok(())
 }
 
-/// Whether a group may leave pseudo-locksetup with the mask that it kept, else what stands against it: an exclusive
+/// Ok where a group may leave pseudo-locksetup with the mask that it kept, else what stands against it: an exclusive
 /// group's mask, then a pseudo-locked region (this project's profile).
 #[tactic(auto, unfolding(crate::specs::Overlaps::leaving_overlap))]
 pub fn may_leave_setup(mask: u32, others: &DomainUse) -> Result<(), Overlap>

@@ -1,9 +1,9 @@
 -- Digits, one more at a time.
-use Rattle.std.proofs.Common.{◌≡◌, ℕ, zero, suc, ◌+◌, ◌*◌, ◌-◌, ◌^◌, ◌<◌, ◌≤◌, true, false, cond, eqb, not, ◌&&◌, is_some, inl, inr, List, [], ◌∷◌, length, get_or, take, Option, Some, None, refl, ap, ◌∙◌, arith}
+use Rattle.std.proofs.Common.{◌≡◌, ℕ, zero, suc, ◌+◌, ◌*◌, ◌-◌, ◌^◌, ◌<◌, ◌≤◌, true, false, cond, eqb, not, ◌&&◌, is_some, inl, inr, List, [], ◌∷◌, length, take, Option, Some, None, refl, ap, ◌∙◌, arith}
 use Rattle.std.specs.List.{list_all}
 use Rattle.std.specs.Char.{is_digit, digit_value}
 use Rattle.std.specs.Str.Parse.{digits_value, digits_value_after, AllDigits}
-use Rattle.std.proofs.lemmas.Bool.{le-ltb, lt-ltb, and_right, cases_lt, ne_eqb}
+use Rattle.std.proofs.lemmas.Bool.{le-ltb, lt-ltb, cases_lt, ne_eqb}
 use Rattle.num_text.specs.Numbers.{number_of, below, capped}
 
 -- digits make a number greater
@@ -38,16 +38,6 @@ below-too_great base limit k (c ∷ cs) h g =
 pub below-digits : (base limit : ℕ) (cs : List ℕ) → 0 < length cs → AllDigits base cs → digits_value base cs < limit → Some (digits_value base cs) ≡ below limit (number_of base cs)
 below-digits base limit [] h d lt = absurd (omega arith)
 below-digits base limit (c ∷ cs) h d lt = rw (list_all-digits base (c ∷ cs) d, lt-ltb (digits_value base (c ∷ cs)) limit lt) refl
-
--- another byte than a digit is read as nothing
-pub below-no_digit : (base limit k d : ℕ) (cs : List ℕ) → k < length cs → base ≤ digit_value (get_or cs k d) → None ≡ below limit (number_of base cs)
-below-no_digit base limit k d [] h g = absurd (omega arith)
-below-no_digit base limit k d (c ∷ cs) h g = rw (none (c ∷ cs) k h g) refl
-  where
-    none : (xs : List ℕ) (i : ℕ) → i < length xs → base ≤ digit_value (get_or xs i d) → list_all (λ b. is_digit b base) xs ≡ false
-    none [] i h g = absurd (omega arith)
-    none (x ∷ xs) zero h g = rw (le-ltb (digit_value x) base g) refl
-    none (x ∷ xs) (suc i) h g = and_right (is_digit x base) (list_all (λ b. is_digit b base) xs) (none xs i (omega arith) g)
 
 -- a text is a number where it is some digits and nothing else
 pub is_some-number_of : (base : ℕ) (cs : List ℕ) → is_some (number_of base cs) ≡ (not (eqb (length cs) 0) && list_all (λ b. is_digit b base) cs)

@@ -11,11 +11,11 @@ div-lt_number base n low h = div-lt_self (omega arith) low
 -- ---- room for any number of 64 bits
 
 -- in decimal
-pub length-decimal : (n : ℕ) → n < 2 ^ 64 → length (filled 10 0 n) ≤ 20
-length-decimal n small = length-filled 10 19 0 n (omega arith) (omega arith) small (omega arith)
+pub length-filled_decimal : (n : ℕ) → n < 2 ^ 64 → length (filled 10 0 n) ≤ 20
+length-filled_decimal n small = length-filled 10 19 0 n (omega arith) (omega arith) small (omega arith)
 
 -- a number in decimal
-pub ruleset decimal_printed = (filled-no_width, length-decimal)
+pub ruleset decimal_printed = (filled-no_width, length-filled_decimal)
 
 -- and in hexadecimal
 pub ruleset hexadecimal_printed = (length-hexadecimal)

@@ -30,10 +30,10 @@ hex_of text = number_of 16 (without_prefix text)
 abbrev pub num_of : List ℕ → Option ℕ
 num_of text = if has_prefix text then number_of 16 (drop 2 text) else number_of 10 text
 
--- a number that is below a limit
+-- the number, where it is below the limit
 abbrev pub below : ℕ → Option ℕ → Option ℕ
 below limit number = option_and_then (λ n. if nat_lt n limit then Some n else None) number
 
--- a number, with the greatest of 64 bits in place of those above it
+-- the number, or 2 ^ 64 - 1 where it is greater
 abbrev pub capped : Option ℕ → Option ℕ
 capped number = option_map (λ n. min n (2 ^ 64 - 1)) number

@@ -1,4 +1,4 @@
--- The canonical texts of numbers, and that they read back.
+-- The canonical texts of numbers, and the laws that they read back.
 use Rattle.std.specs.Prelude.{◌≡◌, ℕ, ◌-◌, ◌^◌, ◌<◌, false, List, ◌++◌, length, replicate, Some, decimal}
 use Rattle.std.specs.Fmt.{digits}
 use Rattle.num_text.specs.Numbers.{dec_of, hex_of}

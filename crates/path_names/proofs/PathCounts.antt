@@ -89,11 +89,6 @@ path_ids-named (Mon owner group) name = refl
 path_ids-named (MonData holder) name = refl
 path_ids-named (MonDomain holder domain) name = refl
 
--- a name that comes is one name more at most
-pub length-interned : (name : List ℕ) (names : List (List ℕ)) → length (interned name names) ≤ length names + 1
-length-interned name names = elim (list_any (bytes_eq name) names) as (λ b. length (cond b names (names ++ name ∷ [])) ≤ length names + 1)
-    [ true ↦ omega arith | false ↦ grind (arith, common_steps) ]
-
 -- the same names are kept
 pub Keeps-same : (names : List (List ℕ)) → Keeps names names
 Keeps-same names = grind (arith, common_steps)

@@ -1,20 +1,14 @@
 -- Where components lead from what was reached.
-use Rattle.std.proofs.Common.{◌≡◌, ℕ, List, [], ◌∷◌, Some, None, refl, ap}
+use Rattle.std.proofs.Common.{◌≡◌, ℕ, List, [], ◌∷◌, Some, None, refl}
 use Rattle.path_names.specs.declared.dirs.DirRef.{DirRef}
 use Rattle.path_names.specs.declared.path_ref.PathRef.{PathRef}
 use Rattle.path_names.specs.declared.path_ref.PathRef.TheVariants.{Dir, File, Free, Nowhere}
-use Rattle.path_names.specs.PathTable.{entry_of}
-use Rattle.path_names.specs.Reading.{Reached, entry_or_named, reached_from}
+use Rattle.path_names.specs.Reading.{reached_from}
 
 -- nowhere leads nowhere
 pub reached_from-nowhere : (domains : ℕ) (names parts : List (List ℕ)) → reached_from domains (None, names) parts ≡ (None, names)
 reached_from-nowhere domains names [] = refl
 reached_from-nowhere domains names (name ∷ parts) = reached_from-nowhere domains names parts
-
--- one component more
-pub reached_from-cons : (domains : ℕ) (dir : DirRef) (names : List (List ℕ)) (name : List ℕ) (parts : List (List ℕ)) (path : PathRef) (known : List (List ℕ))
-    → entry_or_named (entry_of domains dir name) dir name names ≡ (Some path, known) → reached_from domains (Some (Dir dir), names) (name ∷ parts) ≡ reached_from domains (Some path, known) parts
-reached_from-cons domains dir names name parts path known led = ap (λ (at : Reached). reached_from domains at parts) led
 
 -- a component below a file or a free name
 pub reached_from-no_directory : (domains : ℕ) (path : PathRef) (names : List (List ℕ)) (name : List ℕ) (parts : List (List ℕ)) → ((dir : DirRef) → path ≡ Dir dir → ⊥)

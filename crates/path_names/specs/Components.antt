@@ -20,7 +20,7 @@ is_dots name = is_text name (codes ".") || is_text name (codes "..")
 unfoldable pub is_component : List ℕ → Bool
 is_component name = nat_le 1 (length name) && nat_le (length name) MOST_NAME_BYTES && list_all is_visible name && not (is_dots name)
 
--- the parts between the slashes, after a first byte
+-- the parts between the slashes, once the first byte is left out
 abbrev pub components : List ℕ → List (List ℕ)
 components [] = []
 components (first ∷ rest) = slice_split is_slash rest
@@ -30,7 +30,7 @@ abbrev pub begins_with_slash : List ℕ → Bool
 begins_with_slash [] = false
 begins_with_slash (first ∷ rest) = is_slash first
 
--- components that each follow a slash
+-- whether a text is components, each after a slash
 unfoldable pub is_well_formed : List ℕ → Bool
 is_well_formed text = begins_with_slash text && list_all is_component (components text)
 

@@ -1,4 +1,5 @@
 -- Short names as numbers.
+-- (For functions and proofs: no promise of the program stands on it.)
 use Rattle.std.specs.Prelude.{ℕ, ◌+◌, ◌*◌, Bool, ◌&&◌, nat_lt, nat_le, List, length}
 use Rattle.std.specs.List.{fold, list_all}
 use Rattle.path_names.specs.declared.name_key.TheConstants.{MOST_KEY_BYTES}
@@ -7,7 +8,7 @@ use Rattle.path_names.specs.declared.name_key.TheConstants.{MOST_KEY_BYTES}
 abbrev pub is_byte : ℕ → Bool
 is_byte byte = nat_lt byte 256
 
--- bytes, and so few that their key is a number of 128 bits
+-- whether a name is bytes, and so few that their key is a number of 128 bits
 abbrev pub has_key : List ℕ → Bool
 has_key name = nat_le (length name) MOST_KEY_BYTES && list_all is_byte name
 

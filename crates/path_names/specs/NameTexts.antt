@@ -1,4 +1,5 @@
 -- Names one after the other in one text, by the places where they end.
+-- (For functions and proofs: no promise of the program stands on it.)
 use Rattle.std.specs.Prelude.{◌≡◌, ℕ, zero, suc, ◌≤◌, List, [], ◌∷◌, slice_range, slice_index_or}
 use Rattle.std.specs.Coded.{Coded-set, coded_ℕ, ×_prop, le_prop}
 
@@ -17,7 +18,7 @@ abbrev pub EndsRise : ℕ → List ℕ → ℕ → Type 0
 EndsRise start [] len = start ≡ len
 EndsRise start (end ∷ ends) len = (start ≤ end) × EndsRise end ends len
 
--- so the ends rise in one way
+-- that ends rise has at most one proof
 pub EndsRise-prop : (start : ℕ) (ends : List ℕ) (len : ℕ) → IsProp (EndsRise start ends len)
 EndsRise-prop start [] len = Coded-set coded_ℕ start len
 EndsRise-prop start (end ∷ ends) len = ×_prop le_prop (EndsRise-prop end ends len)

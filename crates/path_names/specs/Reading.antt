@@ -12,12 +12,12 @@ use Rattle.path_names.specs.PathTable.{entry_of, named}
 abbrev pub Reached : Type 0
 Reached = Option PathRef × List (List ℕ)
 
--- a fixed entry, or else what the name stands for, which is then known
+-- the fixed entry, or else what the name stands for, and then the name is known
 abbrev pub entry_or_named : Option PathRef → DirRef → List ℕ → List (List ℕ) → Reached
 entry_or_named (Some path) dir name names = (Some path, names)
 entry_or_named None dir name names = (Some (named dir (id_of name names)), interned name names)
 
--- where a component leads from here: on in a directory, and nowhere else
+-- where a component leads from here: from a directory on, and from anything else to nothing
 abbrev pub led : ℕ → Option PathRef → List (List ℕ) → List ℕ → Reached
 led domains (Some (Dir dir)) names name = entry_or_named (entry_of domains dir name) dir name names
 led domains (Some (File dir kind)) names name = (None, names)
@@ -33,7 +33,7 @@ reached_from domains start parts = fold (λ (at : Reached) name. led domains at.
 abbrev pub reached : ℕ → List (List ℕ) → List (List ℕ) → Reached
 reached domains names parts = reached_from domains (Some (Dir Root), names) parts
 
--- the same, but a path that leads nowhere is kept whole, as one name
+-- what was reached, where a path that leads to nothing is kept whole, as one name
 abbrev pub or_nowhere : List ℕ → Reached → PathRef × List (List ℕ)
 or_nowhere text (Some path, names) = (path, names)
 or_nowhere text (None, names) = (Nowhere (id_of text names), interned text names)

@@ -8,7 +8,7 @@ use rc_base::is_text;
 /// How many bytes the name of a component has at most (this project's profile).
 pub const MOST_NAME_BYTES: usize = 255;
 
-/// Whether the text is components that each follow a slash.
+/// Whether the text is components, each after a slash.
 #[tactic(auto, unfolding(crate::specs::Components::is_well_formed))]
 pub(crate) fn is_well_formed(text: &[u8]) -> bool
     ensures { result ≡ is_well_formed text.now }

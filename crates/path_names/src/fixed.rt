@@ -74,59 +74,77 @@ fn owner_at(dir: DirRef) -> Owner
     }
 }
 
-/// The fixed entries of a directory, in the order in which they are listed. Those of `mon_data` are none here: it has one
+// The fixed entries of `/`.
+const ROOT: [FixedEntry; 9] = [
+    FixedEntry::File(FileKind::Cpus),
+    FixedEntry::File(FileKind::CpusList),
+    FixedEntry::Info,
+    FixedEntry::File(FileKind::Mode),
+    FixedEntry::MonData,
+    FixedEntry::MonGroups,
+    FixedEntry::File(FileKind::Schemata),
+    FixedEntry::File(FileKind::Size),
+    FixedEntry::File(FileKind::Tasks),
+];
+
+// The fixed entries of a control group's directory.
+const CONTROL: [FixedEntry; 8] = [
+    FixedEntry::File(FileKind::Cpus),
+    FixedEntry::File(FileKind::CpusList),
+    FixedEntry::File(FileKind::Mode),
+    FixedEntry::MonData,
+    FixedEntry::MonGroups,
+    FixedEntry::File(FileKind::Schemata),
+    FixedEntry::File(FileKind::Size),
+    FixedEntry::File(FileKind::Tasks),
+];
+
+// The fixed entries of a monitor group's directory.
+const MONITOR: [FixedEntry; 4] = [
+    FixedEntry::File(FileKind::Cpus),
+    FixedEntry::File(FileKind::CpusList),
+    FixedEntry::MonData,
+    FixedEntry::File(FileKind::Tasks),
+];
+
+// The fixed entries of `/info`.
+const INFO: [FixedEntry; 3] = [
+    FixedEntry::InfoL3,
+    FixedEntry::InfoL3Mon,
+    FixedEntry::File(FileKind::LastStatus),
+];
+
+// The fixed entries of `/info/L3`.
+const INFO_L3: [FixedEntry; 6] = [
+    FixedEntry::File(FileKind::BitUsage),
+    FixedEntry::File(FileKind::CbmMask),
+    FixedEntry::File(FileKind::MinCbmBits),
+    FixedEntry::File(FileKind::NumClosids),
+    FixedEntry::File(FileKind::ShareableBits),
+    FixedEntry::File(FileKind::SparseMasks),
+];
+
+// The fixed entries of `/info/L3_MON`.
+const INFO_L3_MON: [FixedEntry; 3] = [
+    FixedEntry::File(FileKind::MaxThreshold),
+    FixedEntry::File(FileKind::MonFeatures),
+    FixedEntry::File(FileKind::NumRmids),
+];
+
+/// The fixed entries of a directory, in the order in which they are listed. `mon_data` has none here: in it is one
 /// directory for each domain of the machine, by `domain_name`.
 pub fn fixed_in(dir: DirRef) -> &'static [FixedEntry]
     ensures { result.now ≡ fixed_in dir }
 {
     match dir {
-        DirRef::Root => &[
-            FixedEntry::File(FileKind::Cpus),
-            FixedEntry::File(FileKind::CpusList),
-            FixedEntry::Info,
-            FixedEntry::File(FileKind::Mode),
-            FixedEntry::MonData,
-            FixedEntry::MonGroups,
-            FixedEntry::File(FileKind::Schemata),
-            FixedEntry::File(FileKind::Size),
-            FixedEntry::File(FileKind::Tasks),
-        ],
-        DirRef::Ctrl(_) => &[
-            FixedEntry::File(FileKind::Cpus),
-            FixedEntry::File(FileKind::CpusList),
-            FixedEntry::File(FileKind::Mode),
-            FixedEntry::MonData,
-            FixedEntry::MonGroups,
-            FixedEntry::File(FileKind::Schemata),
-            FixedEntry::File(FileKind::Size),
-            FixedEntry::File(FileKind::Tasks),
-        ],
-        DirRef::Mon(_, _) => &[
-            FixedEntry::File(FileKind::Cpus),
-            FixedEntry::File(FileKind::CpusList),
-            FixedEntry::MonData,
-            FixedEntry::File(FileKind::Tasks),
-        ],
+        DirRef::Root => &ROOT,
+        DirRef::Ctrl(_) => &CONTROL,
+        DirRef::Mon(_, _) => &MONITOR,
         DirRef::MonGroups(_) | DirRef::MonData(_) => &[],
         DirRef::MonDomain(_, _) => &[FixedEntry::File(FileKind::Occupancy)],
-        DirRef::Info => &[
-            FixedEntry::InfoL3,
-            FixedEntry::InfoL3Mon,
-            FixedEntry::File(FileKind::LastStatus),
-        ],
-        DirRef::InfoL3 => &[
-            FixedEntry::File(FileKind::BitUsage),
-            FixedEntry::File(FileKind::CbmMask),
-            FixedEntry::File(FileKind::MinCbmBits),
-            FixedEntry::File(FileKind::NumClosids),
-            FixedEntry::File(FileKind::ShareableBits),
-            FixedEntry::File(FileKind::SparseMasks),
-        ],
-        DirRef::InfoL3Mon => &[
-            FixedEntry::File(FileKind::MaxThreshold),
-            FixedEntry::File(FileKind::MonFeatures),
-            FixedEntry::File(FileKind::NumRmids),
-        ],
+        DirRef::Info => &INFO,
+        DirRef::InfoL3 => &INFO_L3,
+        DirRef::InfoL3Mon => &INFO_L3_MON,
     }
 }
 

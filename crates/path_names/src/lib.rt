@@ -15,6 +15,7 @@ pub mod path_text;
 pub mod paths;
 #[cfg(test)]
 mod tests;
+pub mod theorems;
 
 pub use components::MOST_NAME_BYTES;
 pub use dirs::{DirRef, Holder, Owner};

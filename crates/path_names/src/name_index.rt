@@ -20,7 +20,7 @@ pub(crate) struct NameIndex {
     alloc: Global,
 }
 
-// The number of a key, which is this one if the key has none yet: one search.
+// The number of a key; a key that has none yet gets this one. One search.
 fn number_of_key(numbers: &mut BTreeMap<u128, u32>, key: u128, number: u32) -> Result<u32, NoMemory>
     ensures number { IfOk result (λ n. n ≡ unwrap_or (get_by (nat_cmp key) numbers.old) number) }
     ensures ok { IfOk result (λ n. Updates nat_cmp numbers.old numbers.new key (Some n)) }
@@ -69,7 +69,7 @@ impl NameIndex {
         }
     }
 
-    /// The number of this name, which is this one if the name has none yet.
+    /// The number of this name; a name that has none yet gets this one.
     pub(crate) fn number_or(&mut self, name: &[u8], number: u32) -> Result<u32, NoMemory>
         ensures number { IfOk result (λ n. n ≡ unwrap_or (number_at self.old name.now) number) }
         ensures ok { IfOk result (λ n. (other : List ℕ) → number_at self.new other ≡ (if bytes_eq name.now other then Some n else number_at self.old other)) }

@@ -2,7 +2,7 @@
 ghost use Rattle.std.specs.Prelude.{◌≡◌, ◌≤◌, length};
 ghost use Rattle.path_names.specs.NameKeys.{has_key, key_of};
 
-/// How many bytes a name has at most that has a key: a key has 128 bits, and the leading 1 takes some.
+/// The most bytes of a name that has a key: a key has 128 bits, and the leading 1 takes some of them.
 pub(crate) const MOST_KEY_BYTES: usize = 15;
 
 /// Whether the name is short enough for a key.

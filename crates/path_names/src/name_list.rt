@@ -37,7 +37,7 @@ impl NameList {
         self.ends.len()
     }
 
-    /// Makes room for this name. An error leaves the names as they were; it comes too where they would have more than
+    /// Makes room for this name. An error leaves the names as they were; it comes also where they would have more than
     /// `MOST_LIST_BYTES` bytes in all.
     pub(crate) fn reserve(&mut self, name: &[u8]) -> Result<(), NoMemory>
         ensures room { OnOk result (HasRoom self.new name.now) }

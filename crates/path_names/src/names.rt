@@ -48,8 +48,8 @@ impl Names {
         })
     }
 
-    /// The number of this name, which is kept if it is new. Numbers that were given stay those of their names. It is out of
-    /// memory too where the names would have more than `u32::MAX` bytes in all.
+    /// The number of this name, which is kept if it is new. Names that were known keep their numbers. NoMemory comes also
+    /// where the names would have more than `u32::MAX` bytes in all.
     pub fn intern(&mut self, name: &[u8]) -> Result<NameId, NoMemory>
         requires { length self.old < 2 ^ 32 - 1 }
         ensures id { IfOk result (λ id. id ≡ id_of name.now self.old) }

@@ -22,7 +22,7 @@ pub const MOST_PATH_NAMES: usize = 4;
 /// Why a path was not read.
 #[derive(Clone, Copy, Debug, PartialEq, Eq)]
 pub enum PathFault {
-    /// The text is neither `/` nor components that each follow a `/`. A component is 1 to 255 bytes from `!` to `~`
+    /// The text is neither `/` nor components, each after a `/`. A component is 1 to 255 bytes from `!` to `~`
     /// without `/`, and neither `.` nor `..` (this project's profile).
     Bad,
     /// Out of memory for a name.

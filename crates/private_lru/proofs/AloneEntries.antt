@@ -7,7 +7,7 @@ use Rattle.cache_core.specs.declared.entry.What.{What}
 use Rattle.cache_core.specs.declared.entry.What.TheVariants.{Access, Raise, Flush, Lock, Look, Drop}
 use Rattle.cache_core.specs.declared.entry.SliceEntry.{SliceEntry}
 use Rattle.std.proofs.lemmas.List.Sums.{length-filter}
-use Rattle.private_lru.specs.Counted.{hits_of_group, is_own_hit}
+use Rattle.private_lru.specs.GroupCounts.{hits_of_group, is_own_hit}
 use Rattle.private_lru.specs.Covered.{covered, covered_after, is_covered, is_loaded_use, is_other_use, is_own}
 use Rattle.private_lru.proofs.laws.CoveredAccesses.{covered_after-none}
 

@@ -2,8 +2,8 @@
 use Rattle.std.proofs.Common.{◌≡◌, ℕ, ◌+◌, ◌%◌, ◌*◌, ◌<◌, ◌≤◌, Bool, true, false, not, ◌&&◌, ◌==◌, List, [], ◌∷◌, ◌++◌, cond, length, reverse, Option, Some, None, IsSome, arith, refl, sym, ◌∙◌, ap, subst, inl, inr}
 use Rattle.std.specs.Prelude.{MatchBool}
 use Rattle.std.proofs.Math.Path.{fun_ext}
-use Rattle.std.proofs.lemmas.Bool.{cases_Bool, eqb-true, eq-eqb, true≢false, false≢true, cond-false}
-use Rattle.std.proofs.lemmas.Option.{none-some}
+use Rattle.std.proofs.lemmas.Bool.{cases_Bool, eqb-true, eq-eqb, true≢false, false≢true, cond-false, and_right, and_left}
+use Rattle.std.proofs.lemmas.Option.{none-some, same_Some}
 use Rattle.std.proofs.lemmas.List.{append_assoc, append-nil, reverse-append}
 use Rattle.rc_base.specs.declared.names.Gid.{Gid}
 use Rattle.cache_core.specs.declared.entry.What.{What}
@@ -25,7 +25,7 @@ use Rattle.private_lru.specs.Isolation.{Opens}
 use Rattle.private_lru.proofs.OtherUsers.{Loads}
 use Rattle.private_lru.proofs.Recency.{kept, without-absent}
 use Rattle.private_lru.proofs.KeptWays.{Keeps, Keeps-used, Keeps-passed, Keeps-emptied, Keeps-dropped, among-nowhere, has_way-foreign, has_way-other}
-use Rattle.private_lru.proofs.WayLines.{line_in, Some-same}
+use Rattle.private_lru.proofs.WayLines.{line_in}
 
 -- a line that passes a test
 abbrev pub Own : (ℕ → Bool) → ℕ → Type 0
@@ -59,16 +59,6 @@ and-second_false true false c h = refl
 and-second_false false true c h = refl
 and-second_false false false c h = refl
 
--- of two tests the second fails
-and-right_false : (a b : Bool) → b ≡ false → (a && b) ≡ false
-and-right_false true b h = h
-and-right_false false b h = refl
-
--- of two tests the first fails
-and-left_false : (a b : Bool) → a ≡ false → (a && b) ≡ false
-and-left_false true b h = absurd (true≢false h)
-and-left_false false b h = refl
-
 -- an entry that touches no place of the set
 KeepsAfter-unchanged : (m : Shape) (mask set : ℕ) (own : ℕ → Bool) (history : List SliceEntry) (e : SliceEntry) (back : List Item)
     → ((w : ℕ) → decides m set w e.what ≡ false) → ((w : ℕ) → uses m set w e.what ≡ false)
@@ -101,16 +91,16 @@ KeepsAfter-access m narrow group mask set own history thread op epoch owner rmid
     let e : SliceEntry = entry thread op epoch (Access hit way owner rmid its line) in
     elim (cases_Bool (line % m.sets == set)) [
       | inr c ↦
-          let none : ((owner.0 == group) && (line % m.sets == set)) ≡ false = and-right_false (owner.0 == group) _ c in
+          let none : ((owner.0 == group) && (line % m.sets == set)) ≡ false = and_right (owner.0 == group) _ c in
           rw none
-          (KeepsAfter-unchanged m mask set own history e back (λ w. and-second_false (not hit) (line % m.sets == set) (way == w) c) (λ w. and-left_false (line % m.sets == set) (way == w) c) keeps)
+          (KeepsAfter-unchanged m mask set own history e back (λ w. and-second_false (not hit) (line % m.sets == set) (way == w) c) (λ w. and_left (line % m.sets == set) (way == w) c) keeps)
       | inl c ↦
           let outcome : IsOutcome m.ways its (held m history set) (used m history set) line hit way =
           subst (λ s. IsOutcome m.ways its (held m history s) (used m history s) line hit way) (eqb-true (line % m.sets) set c) may.1 in
           let same : (u : ℕ) → (way == u) ≡ false → held m (history ++ e ∷ []) set u ≡ held m history set u =
           λ u k. held-push m history e set u ∙ cond-false (decides m set u e.what) _ _ (and-third_false (not hit) (line % m.sets == set) (way == u) k) in
           let same_age : (u : ℕ) → (way == u) ≡ false → used m (history ++ e ∷ []) set u ≡ used m history set u =
-          λ u k. used-push m history e set u ∙ cond-false (uses m set u e.what) _ _ (and-right_false (line % m.sets == set) (way == u) k) in
+          λ u k. used-push m history e set u ∙ cond-false (uses m set u e.what) _ _ (and_right (line % m.sets == set) (way == u) k) in
           let now : line_in (held m (history ++ e ∷ []) set way) ≡ Some line = held-access m history thread op epoch owner rmid its line way set hit c outcome in
           let there : (way == way) ≡ true = eq-eqb way way refl in
           elim (cases_Bool (owner.0 == group)) [
@@ -126,12 +116,12 @@ KeepsAfter-access m narrow group mask set own history thread op epoch owner rmid
                 )
             | inr o ↦
                 let other : overlaps its mask ≡ false × (own line ≡ true → ⊥) = rw o at fits in
-                let none : ((owner.0 == group) && (line % m.sets == set)) ≡ false = and-left_false (owner.0 == group) _ o in
+                let none : ((owner.0 == group) && (line % m.sets == set)) ≡ false = and_left (owner.0 == group) _ o in
                 rw none (
                   keeps.0,
                   Keeps-passed m.ways mask way (Own own) (held m history set) (held m (history ++ e ∷ []) set) (used m history set) (used m (history ++ e ∷ []) set) keeps.0 _
                       (has_way-other m.ways mask its line way hit (Own own) (held m history set) (used m history set) keeps.0 _ narrow other.0 other.1 outcome keeps.1)
-                      same (λ y h f. other.1 (subst (Own own) (Some-same (sym h ∙ now)) f)) same_age keeps.1,
+                      same (λ y h f. other.1 (subst (Own own) (same_Some _ _ (sym h ∙ now)) f)) same_age keeps.1,
                 )
           ]
     ]
@@ -155,7 +145,7 @@ KeepsAfter-drop m group mask set own history thread op epoch line (Some way) bac
     let lines : List ℕ = kept (ways_below mask m.ways) back in
     let there : (way == way) ≡ true = eq-eqb way way refl in
     let same : (u : ℕ) → (way == u) ≡ false → held m (history ++ e ∷ []) set u ≡ held m history set u =
-    λ u k. held-push m history e set u ∙ cond-false (decides m set u e.what) _ _ (and-right_false (line % m.sets == set) (way == u) k) in
+    λ u k. held-push m history e set u ∙ cond-false (decides m set u e.what) _ _ (and_right (line % m.sets == set) (way == u) k) in
     let none : held m (history ++ e ∷ []) set way ≡ None = held-push m history e set way ∙ rw (c, there) refl in
     let old : (u : ℕ) → used m (history ++ e ∷ []) set u ≡ used m history set u = λ u. used-push m history e set u in
     elim (cases_Bool (own line)) [
@@ -185,7 +175,7 @@ KeepsAfter-drop_elsewhere : (m : Shape) (mask set : ℕ) (own : ℕ → Bool) (h
     → (line % m.sets == set) ≡ false → KeepsAfter m mask own set history back → KeepsAfter m mask own set (history ++ entry thread op epoch (Drop line at) ∷ []) back
 KeepsAfter-drop_elsewhere m mask set own history thread op epoch line None back c keeps = KeepsAfter-unchanged m mask set own history (entry thread op epoch (Drop line None)) back (λ _. refl) (λ _. refl) keeps
 KeepsAfter-drop_elsewhere m mask set own history thread op epoch line (Some way) back c keeps =
-    KeepsAfter-unchanged m mask set own history (entry thread op epoch (Drop line (Some way))) back (λ w. and-left_false (line % m.sets == set) (way == w) c) (λ _. refl) keeps
+    KeepsAfter-unchanged m mask set own history (entry thread op epoch (Drop line (Some way))) back (λ w. and_left (line % m.sets == set) (way == w) c) (λ _. refl) keeps
 
 -- one entry more
 KeepsAfter-push : (m : Shape) (narrow : m.ways ≤ 64) (group mask set : ℕ) (own : ℕ → Bool) (history : List SliceEntry) (thread op epoch : ℕ) (what : What) (back : List Item)
@@ -204,7 +194,7 @@ KeepsAfter-push m narrow group mask set own history thread op epoch (Drop line a
           subst (λ (l : List Item). KeepsAfter m mask own set (history ++ entry thread op epoch (Drop line at) ∷ []) l) (reverse-dropped (own line) (line % m.sets == set) line back c)
           (KeepsAfter-drop m group mask set own history thread op epoch line at back c place keeps)
       | inr c ↦
-          let none : (own line && (line % m.sets == set)) ≡ false = and-right_false (own line) _ c in
+          let none : (own line && (line % m.sets == set)) ≡ false = and_right (own line) _ c in
           rw none (KeepsAfter-drop_elsewhere m mask set own history thread op epoch line at back c keeps)
     ]
 
@@ -248,7 +238,7 @@ KeepsAfter-opening m narrow group mask set own history thread op epoch (Lock oth
           (λ v l k s. true≢false (sym k ∙ has_way-apart others mask v opens (omega arith) (locked v s)))
           (λ v y l k h o. elim (cases_Bool (has_way others v)) [
             | inl b ↦
-                let line : first_line + set + ways_below others v * m.sets ≡ y = Some-same (rw b at (sym (ap line_in (is v)) ∙ h)) in
+                let line : first_line + set + ways_below others v * m.sets ≡ y = same_Some _ _ (rw b at (sym (ap line_in (is v)) ∙ h)) in
                 free y o (set, v, inside, l, b, sym line)
             | inr b ↦ let no : None ≡ Some y = rw b at (sym (ap line_in (is v)) ∙ h) in none-some y no
           ]),

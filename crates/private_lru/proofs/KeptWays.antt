@@ -2,7 +2,7 @@
 use Rattle.std.proofs.Common.{◌≡◌, ℕ, suc, ◌+◌, ◌<◌, ◌≤◌, Bool, true, false, ◌==◌, List, [], ◌∷◌, length, map, take, Option, Some, None, ◌⊎◌, IsSome, arith, refl, sym, ◌∙◌, ap, subst, inl, inr, take_all}
 use Rattle.std.proofs.lemmas.List.{length-map}
 use Rattle.std.proofs.lemmas.Bool.{cases_Bool, eqb-true, eqb-false, ne_eqb, true≢false, false≢true}
-use Rattle.std.proofs.lemmas.Option.{none-some}
+use Rattle.std.proofs.lemmas.Option.{none-some, same_Some}
 use Rattle.cbm.specs.Masks.{has_way, overlaps}
 use Rattle.cbm.proofs.laws.Overlaps.{has_way-apart}
 use Rattle.cache_core.specs.Fills.{Resident, Holds, IsVictim, IsOutcome}
@@ -10,7 +10,7 @@ use Rattle.cache_core.specs.History.{ways_below}
 use Rattle.private_lru.specs.Private.{among, without}
 use Rattle.private_lru.proofs.Recency.{among-take_some, among-without_other, without-absent}
 use Rattle.private_lru.proofs.MissingWays.{length-order, missing, missing-all}
-use Rattle.private_lru.proofs.WayLines.{Descends, Descends-same, Descends-without, IsSome-line_in, Some-same, among-line_of_way, among-way_of_line, among-without_parts, line_in, map-same, map-without, map-without_oldest}
+use Rattle.private_lru.proofs.WayLines.{Descends, Descends-same, Descends-without, IsSome-line_in, among-line_of_way, among-way_of_line, among-without_parts, line_in, map-same, map-without, map-without_oldest}
 
 -- The ways of the mask hold just these lines, the one used last in map-without_used; no other way holds a line of the group.
 pub record Keeps (ways mask : ℕ) (Own : ℕ → Type 0) (residents : ℕ → Option Resident) (age : ℕ → ℕ) (order lines : List ℕ) : Type 0 where
@@ -30,7 +30,7 @@ hit-among n mask x v true Own residents age order lines own outcome keeps =
       | inl m ↦
           let a : among v order ≡ true = keeps.complete v outcome.0 m (IsSome-line_in (residents v) x outcome.1) in
           let r = among-line_of_way (λ (u : ℕ). line_in (residents u)) v order lines keeps.hold a in
-          let same : r.0 ≡ x = Some-same (sym r.1 ∙ outcome.1) in
+          let same : r.0 ≡ x = same_Some _ _ (sym r.1 ∙ outcome.1) in
           sym (subst (λ y. among y lines ≡ true) same r.2)
       | inr m ↦ absurd (keeps.others v x outcome.0 m outcome.1 own)
     ]
@@ -146,7 +146,7 @@ Keeps-used n mask x v t hit Own residents residents' age age' order lines own ou
       ];
       descends = descends;
       alone = λ u w y lu lw mu mw hu hw.
-          let there : (z : ℕ) → (v == z) ≡ true → Holds residents' y z → y ≡ x = λ z k h. Some-same (sym h ∙ (ap (λ i. line_in (residents' i)) (sym (eqb-true v z k)) ∙ now)) in
+          let there : (z : ℕ) → (v == z) ≡ true → Holds residents' y z → y ≡ x = λ z k h. same_Some _ _ (sym h ∙ (ap (λ i. line_in (residents' i)) (sym (eqb-true v z k)) ∙ now)) in
           let back : (z : ℕ) → (v == z) ≡ false → Holds residents' y z → Holds residents y z = λ z k h. subst (λ (o : Option Resident). line_in o ≡ Some y) (same z k) h in
           let no : (z : ℕ) → z < n → has_way mask z ≡ true → (v == z) ≡ false → Holds residents' y z → y ≡ x → ⊥ =
           λ z l m k h e. Holds-nowhere_else n mask x v hit Own residents age order lines own outcome keeps z l m k (subst (λ i. Holds residents i z) e (back z k h)) in
@@ -211,7 +211,7 @@ has_way-foreign n mask x v Own residents age order lines foreign inside holds ke
       | inl m ↦
           let a : among v order ≡ true = keeps.complete v inside m (IsSome-line_in (residents v) x holds) in
           let r = among-line_of_way (λ (u : ℕ). line_in (residents u)) v order lines keeps.hold a in
-          let same : r.0 ≡ x = Some-same (sym r.1 ∙ holds) in
+          let same : r.0 ≡ x = same_Some _ _ (sym r.1 ∙ holds) in
           absurd (foreign (subst Own same (keeps.known r.0 r.2)))
       | inr m ↦ m
     ]

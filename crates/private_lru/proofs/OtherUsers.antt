@@ -9,7 +9,9 @@ use Rattle.cache_core.specs.declared.entry.SliceEntry.{SliceEntry}
 use Rattle.cache_core.specs.History.{Shape, ways_below}
 use Rattle.cbm.specs.Masks.{has_way, ways_of}
 use Rattle.private_lru.specs.Covered.{is_covered, is_loaded_use, is_other_use, is_use, loads, uses_line}
-use Rattle.private_lru.proofs.Ways.{ways_below-all, ways_below-le, ways_below-lt, ways_below-nth}
+use Rattle.private_lru.proofs.Ways.{ways_below-all, ways_below-le, ways_below-nth}
+use Rattle.lists.proofs.Choices.{and-not_true}
+use Rattle.cache_core.proofs.laws.WaysBelow.{ways_below-lt}
 
 -- the group accesses the line somewhere in these entries
 abbrev pub Uses : ℕ → List SliceEntry → ℕ → Type 0
@@ -112,18 +114,12 @@ is_other_use-line group x window (Lock mask first_line) other uses = absurd (fal
 is_other_use-line group x window (Look rmid lines) other uses = absurd (false≢true other)
 is_other_use-line group x window (Drop line at) other uses = absurd (false≢true other)
 
--- neither of two
-not-both : (a b : Bool) → (not a && not b) ≡ true → (a ≡ false) × (b ≡ false)
-not-both true b h = absurd (false≢true h)
-not-both false true h = absurd (false≢true h)
-not-both false false h = (refl, refl)
-
 -- a covered access, line by line
 pub IsCovered-is_covered : (m : Shape) (group : ℕ) (opening : What) (window earlier : List SliceEntry) → is_covered m.sets group opening window earlier ≡ true → IsCovered m group opening window earlier
 IsCovered-is_covered m group opening window earlier is =
     let at_opening : SliceEntry → Bool = λ e. is_loaded_use m.sets group opening e.what in
     let before : SliceEntry → Bool = λ e. is_other_use group window e.what in
-    let none = not-both (list_any at_opening window) (list_any before earlier) is in
+    let none = and-not_true (list_any at_opening window) (list_any before earlier) is in
     record {
       at_opening = λ x uses loaded.
           let u = Any-from_list_any (λ (e : SliceEntry). is_use group x e.what) window uses in

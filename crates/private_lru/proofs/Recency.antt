@@ -1,6 +1,7 @@
 -- A private cache as a list of lines, the one used last in front.
-use Rattle.std.proofs.Common.{◌≡◌, ℕ, zero, suc, ◌<◌, ◌≤◌, Bool, true, false, cond, not, ◌&&◌, ◌||◌, ◌==◌, nat_lt, List, [], ◌∷◌, length, take, reverse, arith, refl, sym, ◌∙◌, ap, subst, inl, inr}
+use Rattle.std.proofs.Common.{◌≡◌, ℕ, zero, suc, ◌<◌, ◌≤◌, Bool, true, false, cond, not, ◌&&◌, ◌==◌, nat_lt, List, [], ◌∷◌, length, take, reverse, arith, refl, sym, ◌∙◌, ap, subst, inl, inr}
 use Rattle.std.proofs.lemmas.Bool.{cases_Bool, eqb-true, eqb-false, eq-eqb, ne_eqb, false≢true, lt-ltb, le-ltb, cases_lt, or_parts, and_parts, ltb-true}
+use Rattle.std.proofs.Math.Bool.{and-true}
 use Rattle.private_lru.specs.Private.{among, without, alive, is_used, since, always_fewer, private_hit, is_hit, kept_after, was_kept}
 use Rattle.private_lru.specs.declared.item.Item.{Item}
 use Rattle.private_lru.specs.declared.item.Item.TheVariants.{Use, Drop}
@@ -14,15 +15,6 @@ kept ways (item ∷ items) = kept_after ways (kept ways items) item
 abbrev before_first : ℕ → List ℕ → List ℕ
 before_first x [] = []
 before_first x (y ∷ ys) = cond (y == x) [] (y ∷ before_first x ys)
-
--- a choice whose first test fails
-or-false_left : (x y : ℕ) (b : Bool) → (y == x) ≡ false → ((y == x) || b) ≡ b
-or-false_left x y b h = rw h refl
-
--- a line that may stand in front
-among-cond : (x z : ℕ) (b : Bool) (l : List ℕ) → among x (cond b (z ∷ l) l) ≡ cond b ((z == x) || among x l) (among x l)
-among-cond x z true l = refl
-among-cond x z false l = refl
 
 -- taking out one line leaves the others
 pub among-without : (x y : ℕ) (l : List ℕ) → among x (without y l) ≡ (not (x == y) && among x l)
@@ -123,17 +115,12 @@ and-false_both true f true e = e
 and-false_both true f false e = refl
 and-false_both false f c e = refl
 
--- a test that holds
-and-true_right : (c : Bool) → (c && true) ≡ c
-and-true_right true = refl
-and-true_right false = refl
-
 -- a test more on each side
 and-both_tested : (a u f : Bool) → a ≡ (u && f) → (b c : Bool) → (a ≡ true → b ≡ c) → (a && b) ≡ (u && (c && f))
 and-both_tested true u f e b c h =
     let parts = and_parts u f (sym e) in
     let left : u ≡ true = parts.0 in
-    let right : f ≡ true = parts.1 in rw (left, right) (h refl ∙ sym (and-true_right c))
+    let right : f ≡ true = parts.1 in rw (left, right) (h refl ∙ sym (and-true c))
 and-both_tested false u f e b c h = and-false_both u f c e
 
 -- a test more that holds

@@ -1,7 +1,7 @@
 -- Ways in the order of their use, and the lines that they hold.
 use Rattle.std.proofs.Common.{◌≡◌, ℕ, zero, suc, ◌<◌, ◌≤◌, true, false, not, ◌==◌, List, [], ◌∷◌, length, map, take, Option, Some, None, option_map, IsSome, arith, refl, sym, ◌∙◌, ap, subst, inl, inr}
 use Rattle.std.proofs.lemmas.Bool.{cases_Bool, eqb-true, eqb-false, eq-eqb, ne_eqb, false≢true, and_parts}
-use Rattle.std.proofs.lemmas.Option.{none-some}
+use Rattle.std.proofs.lemmas.Option.{none-some, same_Some}
 use Rattle.cache_core.specs.Fills.{Resident}
 use Rattle.private_lru.specs.Private.{among, without}
 use Rattle.private_lru.proofs.Recency.{among-without}
@@ -22,10 +22,6 @@ eqb-same v = eq-eqb v v refl
 -- equal lists have equal heads and tails
 pub cons-parts : {X : Type 0} {x y : X} {xs ys : List X} → x ∷ xs ≡ y ∷ ys → (x ≡ y) × (xs ≡ ys)
 cons-parts e = (cc, cc)
-
--- equal options have equal values
-pub Some-same : {X : Type 0} {x y : X} → Some x ≡ Some y → x ≡ y
-Some-same e = cc
 
 -- an ordered way holds one of the lines
 pub among-line_of_way : (f : ℕ → Option ℕ) (v : ℕ) (order lines : List ℕ) → map f order ≡ map (λ (y : ℕ). Some y) lines → among v order ≡ true → (y : ℕ) × (f v ≡ Some y) × (among y lines ≡ true)
@@ -68,7 +64,7 @@ map-without f v x (u ∷ us) (y ∷ ys) e h one =
     let ih : map f (without v us) ≡ map (λ (y : ℕ). Some y) (without x ys) = map-without f v x us ys parts.1 h less in
     elim (cases_Bool (u == v)) [
       | inl k ↦
-          let same : (y == x) ≡ true = eq-eqb y x (Some-same (sym first ∙ (ap f (eqb-true u v k) ∙ h))) in
+          let same : (y == x) ≡ true = eq-eqb y x (same_Some _ _ (sym first ∙ (ap f (eqb-true u v k) ∙ h))) in
           rw (k, same) ih
       | inr k ↦
           let there : (u == u) ≡ true = eqb-same u in

@@ -49,14 +49,6 @@ ways_below-all mask n small narrow =
     let whole : ways_below mask 64 ≡ length (filter (has_way mask) (range_with_len 0 64)) = ways_below-add mask 0 64 ∙ omega arith in
     sym (ap (ways_below mask) (sym all) ∙ ways_below-above mask n (64 - n) small) ∙ whole
 
--- fewer ways are below one of a mask's ways than below a later place
-pub ways_below-lt : (mask way n : ℕ) → way < n → has_way mask way ≡ true → ways_below mask way < ways_below mask n
-ways_below-lt mask way zero less has = absurd (omega arith)
-ways_below-lt mask way (suc n) less has = elim (cases_lt way n) [
-  | inl lt ↦ let rest : ways_below mask way < ways_below mask n = ways_below-lt mask way n lt has in omega arith
-  | inr le ↦ let same : n ≡ way = omega arith in rw (same, has) (omega arith)
-]
-
 -- the way of a mask below which so many of its ways are
 pub ways_below-nth : (mask k n : ℕ) → k < ways_below mask n → (way : ℕ) × (way < n) × (has_way mask way ≡ true) × (ways_below mask way ≡ k)
 ways_below-nth mask k zero less = absurd (omega arith)

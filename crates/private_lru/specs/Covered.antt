@@ -24,7 +24,7 @@ is_use group x what = false
 abbrev pub uses_line : ℕ → List SliceEntry → ℕ → Bool
 uses_line group entries x = list_any (λ (e : SliceEntry). is_use group x e.what) entries
 
--- the lock of a region loads this line: the lines of a region stand one after the other from its first, a line of each set for each way
+-- whether the lock of a region loads this line: its lines stand one after the other from the first, one for each set and way
 abbrev pub loads : ℕ → What → ℕ → Bool
 loads sets (Lock mask first_line) x = nat_le first_line x && nat_lt x (first_line + sets * length (ways_of mask))
 loads sets what x = false
@@ -41,8 +41,8 @@ abbrev pub is_other_use : ℕ → List SliceEntry → What → Bool
 is_other_use group window (Access hit way owner rmid mask line) = not (owner.0 == group) && uses_line group window line
 is_other_use group window what = false
 
--- An access that stands after these entries of the window is covered where no other user of a line of the group's stands at
--- the window's opening or among them.
+-- An access that stands after these entries of the window is covered where no one else has used a line that the group uses in the
+-- window: not the lock that opens the window, and no entry among these.
 abbrev pub is_covered : ℕ → ℕ → What → List SliceEntry → List SliceEntry → Bool
 is_covered sets group opening window earlier =
     not (list_any (λ (e : SliceEntry). is_loaded_use sets group opening e.what) window)
@@ -60,13 +60,13 @@ covered_after sets group opening window earlier (e ∷ es) =
 abbrev pub covered : ℕ → ℕ → What → List SliceEntry → List SliceEntry
 covered sets group opening window = covered_after sets group opening window [] window
 
--- an entry before others that stand after it; it is left out where nothing stands after it that counts, and it does not
+-- an entry in front of those that are kept after it; it is left out where none is kept after it and it does not count itself
 abbrev pub with_front : Bool → SliceEntry → List SliceEntry → List SliceEntry
 with_front true e rest = e ∷ rest
 with_front false e [] = []
 with_front false e (r ∷ rest) = e ∷ r ∷ rest
 
--- of these entries of the window, which stand after some earlier ones, those up to the last covered access of the group
+-- these entries of the window, which stand after some earlier ones, up to the last covered access of the group among them
 abbrev pub covered_front_after : ℕ → ℕ → What → List SliceEntry → List SliceEntry → List SliceEntry → List SliceEntry
 covered_front_after sets group opening window earlier [] = []
 covered_front_after sets group opening window earlier (e ∷ es) =
@@ -88,13 +88,13 @@ item_of sets group set own what = []
 abbrev pub items : ℕ → ℕ → ℕ → (ℕ → Bool) → List SliceEntry → List Item
 items sets group set own entries = flat_map (λ (e : SliceEntry). item_of sets group set own e.what) entries
 
--- whether an item is an access that hit
+-- for an entry that is an item of this set: whether it is an access that hit
 abbrev pub hit_of : ℕ → ℕ → ℕ → (ℕ → Bool) → What → List Bool
 hit_of sets group set own (Access hit way owner rmid mask line) = if (owner.0 == group) && (line % sets == set) then hit ∷ [] else []
 hit_of sets group set own (Drop line at) = if own line && (line % sets == set) then false ∷ [] else []
 hit_of sets group set own what = []
 
--- whether each of the group's items in this set is, in order
+-- whether each of the group's items in this set is an access that hit, in order
 abbrev pub hits_in : ℕ → ℕ → ℕ → (ℕ → Bool) → List SliceEntry → List Bool
 hits_in sets group set own entries = flat_map (λ (e : SliceEntry). hit_of sets group set own e.what) entries
 

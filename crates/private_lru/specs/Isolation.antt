@@ -8,7 +8,7 @@ use Rattle.cbm.specs.Masks.{overlaps}
 use Rattle.private_lru.specs.Covered.{is_covered, items, uses_line}
 use Rattle.private_lru.specs.Private.{private_hit}
 
--- the entries after the first place, up to and without the second
+-- the entries after the first place, up to, but not including, the second
 abbrev pub between : List SliceEntry → ℕ → ℕ → List SliceEntry
 between entries from to = take (to - (from + 1)) (drop (from + 1) entries)
 

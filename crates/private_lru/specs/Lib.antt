@@ -1,6 +1,6 @@
-pub mod Counted
 pub mod Covered
+pub mod GroupCounts
 pub mod Isolation
-pub mod Laws
 pub mod Locked
 pub mod Private
+pub mod SliceLaws

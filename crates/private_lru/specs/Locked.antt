@@ -13,7 +13,7 @@ abbrev pub Spares : ℕ → What → Type 0
 Spares region (Access hit way owner rmid mask line) = overlaps mask region ≡ false
 Spares region what = empties what ≡ false
 
--- a drop of this line
+-- whether this is a drop of this line
 abbrev pub is_drop : ℕ → What → Bool
 is_drop x (Drop line at) = line == x
 is_drop x what = false
@@ -27,7 +27,7 @@ abbrev pub HitsLoaded : ℕ → What → List SliceEntry → What → Type 0
 HitsLoaded sets lock earlier (Access hit way owner rmid mask line) = loads sets lock line ≡ true → drops_line earlier line ≡ false → hit ≡ true
 HitsLoaded sets lock earlier what = Unit {0}
 
--- each of these entries that stand after the lock does
+-- each access in this window after the lock hits so
 abbrev pub HoldsLoaded : ℕ → What → List SliceEntry → Type 0
 HoldsLoaded sets lock window =
     (at : ℕ) (e : SliceEntry) → at < length window → HitsLoaded sets lock (take at window) (slice_index_or window at e).what

@@ -26,7 +26,7 @@ is_used x [] = false
 is_used x (Use y ∷ items) = if y == x then true else is_used x items
 is_used x (Drop y ∷ items) = if y == x then false else is_used x items
 
--- the items since the last of this line
+-- the items since the last one of this line
 abbrev pub since : ℕ → List Item → List Item
 since x [] = []
 since x (Use y ∷ items) = if y == x then [] else Use y ∷ since x items
@@ -49,18 +49,18 @@ abbrev pub is_hit : ℕ → List Item → Item → Bool
 is_hit ways earlier (Use x) = private_hit ways earlier x
 is_hit ways earlier (Drop x) = false
 
--- whether each of these is, after some that stand before them
+-- whether each of these items is a use that hits, after some earlier ones
 abbrev pub hits_after : ℕ → List Item → List Item → List Bool
 hits_after ways earlier [] = []
 hits_after ways earlier (item ∷ items) = is_hit ways earlier item ∷ hits_after ways (earlier ++ item ∷ []) items
 
--- whether each of these is, in a cache that is empty at first
+-- whether each of these items is a use that hits, in a cache that is empty at first
 abbrev pub hits_of : ℕ → List Item → List Bool
 hits_of ways items = hits_after ways [] items
 
 -- ---- a list of the lines that are kept, the one used last in front
 
--- after one item more
+-- the lines that are kept after one item more
 abbrev pub kept_after : ℕ → List ℕ → Item → List ℕ
 kept_after ways lines (Use x) = take ways (x ∷ without x lines)
 kept_after ways lines (Drop x) = without x lines

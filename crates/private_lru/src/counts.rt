@@ -4,7 +4,7 @@ ghost use Rattle.std.specs.Prelude.{◌≡◌, ◌≤◌, ℕ, List, filter, len
 ghost use Rattle.std.specs.BTreeSet.{contains};
 ghost use Rattle.std.specs.List.{list_any, position};
 ghost use Rattle.std.specs.Ordering.{nat_cmp};
-ghost use Rattle.private_lru.specs.Counted.{accesses_of, hits_of_group};
+ghost use Rattle.private_lru.specs.GroupCounts.{accesses_of, hits_of_group};
 ghost use Rattle.private_lru.specs.Covered.{covered, is_loaded_use, is_other_use, is_own, uses_line};
 
 use crate::users;
@@ -20,7 +20,8 @@ pub struct WindowCounts {
     pub accesses: u64,
     /// Those that hit.
     pub hits: u64,
-    /// Those that are covered: nobody else had used a line that the group uses in the window.
+    /// Those that are covered: before them nobody else, in the window or by the lock that opens it, had used any line that the
+    /// group uses in the window.
     pub covered: u64,
     /// Those of the covered that hit.
     pub covered_hits: u64,
@@ -65,7 +66,7 @@ fn first_other_use(window: &[SliceEntry], group: Gid, lines: &BTreeSet<u64>) -> 
         .position(|e| users::is_other_use(e.what, group, lines))
 }
 
-// How many entries of the window leave the accesses after them covered.
+// How many entries of the window stand before the first after which no access of the group is covered.
 fn covered_len(
     sets: u32,
     opening: What,

@@ -1,4 +1,5 @@
-//! What a group's accesses would do in a private cache, and the law that a slice does the same.
+//! What a group's accesses would do in a private cache, and the law that a slice does the same. A call that runs out of memory
+//! answers NoMemory.
 #![tactic(auto)]
 
 pub mod counts;

@@ -1,6 +1,6 @@
 //! The laws of one slice's list, each proved with an empty body.
 
-ghost use Rattle.private_lru.specs.Laws.{CoveredHits, CoveredHitsAreCounted, SliceHolds, SliceIsolation, TwoWorlds};
+ghost use Rattle.private_lru.specs.SliceLaws.{CoveredHits, CoveredHitsAreCounted, SliceHolds, SliceIsolation, TwoWorlds};
 
 /// In a window of one slice, the covered accesses of a group that has its ways for itself hit as in a private cache.
 pub fn slice_isolation()

@@ -3,7 +3,7 @@
 ghost use Rattle.std.specs.Prelude.{◌≡◌, ℕ, List, IfOk};
 ghost use Rattle.std.specs.BTreeSet.{contains};
 ghost use Rattle.std.specs.Ordering.{nat_cmp};
-ghost use Rattle.private_lru.specs.Counted.{is_own_hit};
+ghost use Rattle.private_lru.specs.GroupCounts.{is_own_hit};
 ghost use Rattle.private_lru.specs.Covered.{is_loaded_use, is_other_use, is_own, loads, uses_line};
 
 use cache_core::{SliceEntry, What};

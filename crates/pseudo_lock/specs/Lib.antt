@@ -1,3 +1,3 @@
-pub mod Laws
+pub mod FirstLines
 pub mod Lines
 pub mod Regions

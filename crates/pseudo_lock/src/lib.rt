@@ -8,7 +8,7 @@ pub mod regions;
 #[cfg(test)]
 mod tests;
 
-pub use laws::first_lines;
+pub use laws::{first_lines, limits_are_stated};
 pub use lines::{line_at, load_place};
 pub use region::Region;
 pub use regions::{DOMAINS, MAX_PLACED, Regions};

@@ -2,7 +2,7 @@
 use Rattle.std.specs.Prelude.{List, [], ◌∷◌, ◌++◌}
 
 module _ {E : Type 0} where
-  -- after these, each entry may follow all that stands before it
+  -- after the entries `before`, each of these may follow all that stand before it
   abbrev pub GoesOn : (List E → E → Type 0) → List E → List E → Type 0
   GoesOn may before [] = Unit {0}
   GoesOn may before (e ∷ es) = may before e × GoesOn may (before ++ e ∷ []) es

@@ -7,6 +7,7 @@ pub mod reasons;
 pub mod replies;
 pub mod text_buf;
 pub mod texts;
+pub mod theorems;
 
 pub use look_list::LookList;
 pub use names::{Gid, Mode, NoMemory, Tag};

@@ -6,7 +6,7 @@ use std::alloc::Global;
 use std::marker::Model;
 
 /// Numbers of lines, one for each count that a command needs. Contracts see the numbers, and as `spare` how many more fit.
-/// Most commands need none, so a list with no room is one word and a pointer that is not there: 16 bytes.
+/// Most commands need none: a list without room holds no vector, and takes 16 bytes in all.
 #[derive(Drop)]
 pub struct LookList {
     items: Option<Box<Vec<u64>>>,
@@ -28,7 +28,7 @@ impl LookList {
     /// An empty list with room for `n` numbers.
     pub fn with_room(alloc: Global, n: u32) -> Result<LookList, NoMemory>
         ensures empty { IfOk result (λ l. l.numbers ≡ []) }
-        ensures room { IfOk result (λ l. n ≤ l.spare) }
+        ensures room { IfOk result (λ l. l.spare ≡ n) }
     {
         if n == 0 {
             return Ok(LookList { items: None });

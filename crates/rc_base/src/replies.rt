@@ -62,7 +62,7 @@ impl Errno {
 pub enum Why {
     /// The path names no file or directory, or no directory would hold it.
     NoSuchPath = 1,
-    /// The directory holds no groups, or the thing is no directory of a group.
+    /// The directory holds no groups, or what is at the path is no group's directory.
     NotAPlace,
     /// The path is there already.
     Exists,

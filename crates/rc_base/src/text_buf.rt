@@ -27,7 +27,7 @@ impl TextBuf {
     /// An empty text with room for `n` bytes.
     pub fn with_room(alloc: Global, n: usize) -> Result<TextBuf, NoMemory>
         ensures empty { IfOk result (λ b. b.bytes ≡ []) }
-        ensures room { IfOk result (λ b. n ≤ b.spare) }
+        ensures room { IfOk result (λ b. b.spare ≡ n) }
     {
         let text = Vec::with_capacity(alloc, n)?;
         Ok(TextBuf { text })

@@ -1,6 +1,9 @@
 //! The sink over a writer, as standard output.
-ghost use Rattle.std.specs.Prelude.{◌≡◌, true};
+ghost use Rattle.std.specs.Prelude.{◌≡◌, ◌+◌, ◌-◌, ◌^◌, ◌<◌, IfOk, OnOk, OnErr, false, true};
+ghost use Rattle.std.specs.Io.KnownBytes.{Keeps, WriteAppends};
+ghost use Rattle.rc_stream.specs.Causes.{HasCause, TakesSome};
 
+use crate::answers::{counted, taken_of};
 use crate::streams::{Failed, Sink};
 use std::io::Write;
 
@@ -35,27 +38,33 @@ impl<W: Write> Sink for StdSink<W> {
 
     ghost faults = { λ s. s.faults };
 
-    fn write(&mut self, piece: &[u8]) -> Result<usize, Failed> {
+    fn write(&mut self, piece: &[u8]) -> Result<usize, Failed>
+        requires { self.old.faults < 2 ^ 64 - 1 }
+        ensures bound { TakesSome result piece.now }
+        ensures bytes { WriteAppends (W.contents self.old.output) (W.contents self.new.output) result piece.now }
+        ensures holds { IfOk result (λ n. 0 < n → self.new.held ≡ true) }
+        ensures cause { HasCause self.old.faults self.new.faults result }
+
+        ensures one_fault { OnErr result (self.new.faults ≡ self.old.faults + 1) }
+    {
         self.held = true;
-        match self.output.write(piece) {
-            Ok(count) if count > 0 || piece.is_empty() => Ok(count),
-            _ => {
-                self.faults += 1;
-                Err(Failed)
-            }
-        }
+        let taken = taken_of(piece, self.output.write(piece));
+        counted(taken, &mut self.faults)
     }
 
-    fn flush(&mut self) -> Result<(), Failed> {
-        match self.output.flush() {
-            Ok(()) => {
-                self.held = false;
-                Ok(())
-            }
-            Err(_) => {
-                self.faults += 1;
-                Err(Failed)
-            }
+    fn flush(&mut self) -> Result<(), Failed>
+        requires { self.old.faults < 2 ^ 64 - 1 }
+        ensures bytes { Keeps (W.contents self.old.output) (W.contents self.new.output) }
+        ensures none_held { OnOk result (self.new.held ≡ false) }
+        ensures cause { HasCause self.old.faults self.new.faults result }
+
+        ensures still_held { OnErr result (self.new.held ≡ self.old.held) }
+        ensures one_fault { OnErr result (self.new.faults ≡ self.old.faults + 1) }
+    {
+        let flushed = counted(self.output.flush(), &mut self.faults);
+        if flushed.is_ok() {
+            self.held = false;
         }
+        flushed
     }
 }

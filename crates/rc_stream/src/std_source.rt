@@ -1,6 +1,10 @@
 //! The source over a reader, as standard input.
-ghost use Rattle.std.specs.Prelude.{◌≡◌};
+ghost use Rattle.std.specs.Prelude.{◌≡◌, ◌+◌, ◌-◌, ◌^◌, ◌<◌, OnErr};
+ghost use Rattle.std.specs.Io.{ReadsAtMost};
+ghost use Rattle.std.specs.Io.KnownBytes.{ReadConsumes};
+ghost use Rattle.rc_stream.specs.Causes.{HasCause};
 
+use crate::answers::counted;
 use crate::streams::{Failed, Source};
 use std::io::Read;
 
@@ -27,13 +31,14 @@ impl<R: Read> Source for StdSource<R> {
 
     ghost faults = { λ s. s.faults };
 
-    fn read(&mut self, into: &mut [u8]) -> Result<usize, Failed> {
-        match self.input.read(into) {
-            Ok(count) => Ok(count),
-            Err(_) => {
-                self.faults += 1;
-                Err(Failed)
-            }
-        }
+    fn read(&mut self, into: &mut [u8]) -> Result<usize, Failed>
+        requires { self.old.faults < 2 ^ 64 - 1 }
+        ensures bound { ReadsAtMost result into.new }
+        ensures bytes { ReadConsumes (R.remaining self.old.input) (R.remaining self.new.input) result into.new }
+        ensures cause { HasCause self.old.faults self.new.faults result }
+
+        ensures one_fault { OnErr result (self.new.faults ≡ self.old.faults + 1) }
+    {
+        counted(self.input.read(into), &mut self.faults)
     }
 }

@@ -1,28 +1,15 @@
 //! The program: reads a script from standard input and writes its report to standard output.
 #![tactic(auto)]
 
-use rc_stream::{StdSink, StdSource};
-use resctrl_top::{Status, top_step};
-use std::alloc::AllocError;
+use rc_stream::{OpenGate, StdSink, StdSource};
+use resctrl_top::run_program;
 use std::env;
-use std::io::ErrorKind;
 use std::process::ExitCode;
-
-// The words after the program's name. Where one of them is no text in UTF-8 there are none, which is no form either.
-fn words(rt: &HostRuntime) -> Result<Vec<String>, AllocError> {
-    match env::args(rt) {
-        Ok(words) => words.skip(1).collect(rt.alloc()),
-        Err(error) if error.kind() == ErrorKind::InvalidData => Ok(Vec::new(rt.alloc())),
-        Err(_) => Err(AllocError),
-    }
-}
+use top_parts::words_of;
 
 fn main(rt: HostRuntime) -> ExitCode {
+    let words = words_of(rt.alloc(), env::args(&rt));
     let mut source = StdSource::new(rt.stdin());
     let mut sink = StdSink::new(rt.stdout());
-    let status = match words(&rt) {
-        Ok(words) => top_step(rt.alloc(), &words, &mut source, &mut sink).status,
-        Err(AllocError) => Status::NoMemory,
-    };
-    ExitCode::from(status.code())
+    run_program(&rt, rt.alloc(), words, &mut source, &mut sink, &OpenGate)
 }

@@ -4,11 +4,11 @@ use Rattle.std.specs.Io.KnownBytes.{Keeps}
 use Rattle.resctrl_top.specs.declared.ended.Status.{Status}
 use Rattle.resctrl_top.specs.declared.ended.Status.TheVariants.{Done, Refused, Usage, ReadFault, WriteFault, NoMemory}
 use Rattle.top_parts.specs.declared.command.Command.{Command}
-use Rattle.top_parts.specs.declared.command.Command.TheVariants.{Gen, Step}
+use Rattle.top_parts.specs.declared.command.Command.TheVariants.{Gen, Run, Step}
 use Rattle.top_parts.specs.declared.form.Form.{Form}
 use Rattle.top_parts.specs.declared.refusal.Refusal.{Refusal}
 use Rattle.resctrl_top.specs.Endings.{Call, Ends, IsComplete, IsDue, IsPromised, PlaysAs, ReadsWell, Reports, Says, SaysNothing, WritesWell}
-use Rattle.top_parts.specs.Forms.{input_of, is_of_source, reads_source, usage_line}
+use Rattle.top_parts.specs.Forms.{input_of, is_of_source, is_run, reads_source, usage_line}
 use Rattle.resctrl_top.specs.Outputs.{IsOutput}
 use Rattle.top_parts.specs.Meaning.{meaning, refusal_line}
 use Rattle.top_parts.specs.Outside.{IsMeant, IsToTheEnd, LeavesNothing, LeavesPlayed, LeavesRefused}
@@ -26,11 +26,19 @@ Keeps-same (Some xs) = refl
 -- a play by the order lines is one of every command
 pub PlaysAs-play : (command : Command) (script : ScriptValue) (run : JournalsValue) → IsPlay script run → PlaysAs command script run
 PlaysAs-play Step script run play = play
+PlaysAs-play Run script run play = tt
 PlaysAs-play (Gen n) script run play = play
+
+-- any order of the workers is one of `run`
+pub PlaysAs-run : (command : Command) (script : ScriptValue) (run : JournalsValue) → is_run command ≡ true → PlaysAs command script run
+PlaysAs-run Step script run is = absurd cc
+PlaysAs-run Run script run is = tt
+PlaysAs-run (Gen n) script run is = absurd cc
 
 -- what is left of a source that was read, and of one that was not
 pub LeavesPlayed-of : (command : Command) (left now : Option (List ℕ)) → (is_of_source command ≡ true → LeavesNothing left now) → (is_of_source command ≡ false → now ≡ left) → LeavesPlayed command left now
 LeavesPlayed-of Step left now read unread = read refl
+LeavesPlayed-of Run left now read unread = read refl
 LeavesPlayed-of (Gen n) left now read unread = unread refl
 
 -- ---- ends

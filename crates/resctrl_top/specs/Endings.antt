@@ -3,7 +3,7 @@ use Rattle.std.specs.Prelude.{◌≡◌, ℕ, ◌<◌, ◌⊎◌, false, true, L
 use Rattle.resctrl_top.specs.declared.ended.Status.{Status}
 use Rattle.resctrl_top.specs.declared.ended.Status.TheVariants.{Done, Refused, Usage, ReadFault, WriteFault, NoMemory}
 use Rattle.top_parts.specs.declared.command.Command.{Command}
-use Rattle.top_parts.specs.declared.command.Command.TheVariants.{Gen, Step}
+use Rattle.top_parts.specs.declared.command.Command.TheVariants.{Gen, Run, Step}
 use Rattle.top_parts.specs.declared.form.Form.{Form}
 use Rattle.top_parts.specs.Forms.{input_of, is_of_source, reads_source, usage_line}
 use Rattle.resctrl_top.specs.Isolation.{BeginsLockWindows, HoldsRegions, IsolatesGroups}
@@ -34,9 +34,10 @@ ReadsWell c = c.source.faults_now ≡ c.source.faults
 abbrev pub WritesWell : Call → Type 0
 WritesWell c = c.sink.faults_now ≡ c.sink.faults
 
--- how a command plays a script: `step` and `gen` by its order lines
+-- how a command plays a script: `step` and `gen` by its order lines, and `run` in whatever order its workers take the locks
 abbrev pub PlaysAs : Command → ScriptValue → JournalsValue → Type 0
 PlaysAs Step script run = IsPlay script run
+PlaysAs Run script run = Unit {0}
 PlaysAs (Gen n) script run = IsPlay script run
 
 -- What is promised of the journals of a script that was played: they are a run of it, played as the command says, which isolates

@@ -1,35 +1,18 @@
-//! The top call: reads or makes a script, plays it and writes its report. A call that runs out of memory answers NoMemory, and
+//! The top calls: they read or make a script, play it and write its report. A call that runs out of memory answers NoMemory, and
 //! writes nothing.
 #![tactic(auto)]
 
+pub mod calls;
 pub mod ended;
+pub mod program;
 mod report;
-pub mod top;
+mod telling;
 
+pub use calls::{top, top_step};
 pub use ended::{Ended, Status};
-pub use top::top_step;
+pub use program::run_program;
 
 #[cfg(test)]
-mod answer_tests;
-#[cfg(test)]
-mod binding_tests;
-#[cfg(test)]
-mod drop_tests;
-#[cfg(test)]
-mod ending_tests;
-#[cfg(test)]
-mod flag_tests;
-#[cfg(test)]
-mod form_tests;
-#[cfg(test)]
-mod info_tests;
-#[cfg(test)]
-mod journal_tests;
-#[cfg(test)]
-mod machine_tests;
-#[cfg(test)]
-mod mode_tests;
-#[cfg(test)]
-mod monitor_tests;
+mod run_tests;
 #[cfg(test)]
 mod tests;

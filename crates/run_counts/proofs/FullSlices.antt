@@ -1,16 +1,16 @@
 -- Slices of which each place holds a line: what came before adds nothing.
-use Rattle.std.proofs.Common.{◌≡◌, ℕ, zero, suc, ◌+◌, ◌*◌, ◌/◌, ◌%◌, ◌<◌, ◌≤◌, ◌==◌, Bool, true, false, cond, List, ◌++◌, take, drop, ◌⊎◌, Option, Some, None, refl, sym, ap, ◌∙◌, arith, inl, inr}
+use Rattle.std.proofs.Common.{◌≡◌, ℕ, zero, suc, ◌+◌, ◌*◌, ◌/◌, ◌%◌, ◌<◌, ◌≤◌, ◌==◌, Bool, true, false, cond, List, ◌++◌, take, drop, Option, Some, None, refl, sym, ap, ◌∙◌, arith, inl, inr}
 use Rattle.std.specs.Prelude.{is_some, option_and_then}
-use Rattle.std.proofs.lemmas.Bool.{cases_Bool, eq-eqb, eqb-true}
+use Rattle.std.proofs.lemmas.Bool.{cases_Bool, eq-eqb}
 use Rattle.std.proofs.lemmas.List.{take-append-drop}
-use Rattle.std.proofs.lemmas.Nat.{div-add-mod', mod-mul-add}
-use Rattle.cache_core.proofs.laws.Places.{places_with-changed, sum_below-greater}
+use Rattle.std.proofs.lemmas.Nat.{div-add-mod'}
+use Rattle.cache_core.proofs.laws.Places.{places_with-changed}
 use Rattle.cache_core.proofs.laws.Suffixes.{last_such-append_later}
 use Rattle.cache_core.specs.Filled.{places_with}
 use Rattle.cache_core.specs.Fills.{Resident}
 use Rattle.cache_core.specs.History.{IsOwn, Shape, decides, held, is_own, last_such, left_by}
 use Rattle.cache_core.specs.declared.entry.SliceEntry.{SliceEntry}
-use Rattle.lists.proofs.Sums.{one_if-le, sum_below-le, sum_below-zero}
+use Rattle.lists.proofs.Sums.{one_if-le, sum_below-le, sum_below-rows}
 use Rattle.lists.specs.Sums.{one_if, sum_below}
 use Rattle.run_counts.proofs.Occupancies.{HasCounted-alike, is_at, is_at-other}
 use Rattle.run_counts.specs.Occupancies.{HasCounted, OccupancyValue}
@@ -24,40 +24,6 @@ sum_below-le_each (suc n) f g each =
     let less : sum_below n f ≤ sum_below n g = sum_below-le_each n f g (λ k h. each k (omega arith)) in
     let here : f n ≤ g n = each n (omega arith) in
     omega arith
-
--- a sum in two parts
-sum_below-plus : (a b : ℕ) (f : ℕ → ℕ) → sum_below (a + b) f ≡ sum_below a f + sum_below b (λ k. f (a + k))
-sum_below-plus a zero f = ap (λ n. sum_below n f) (let same : a + 0 ≡ a = omega arith in same) ∙ (let same : sum_below a f ≡ sum_below a f + 0 = omega arith in same)
-sum_below-plus a (suc b) f =
-    let next : a + suc b ≡ suc (a + b) = omega arith in
-    let less : sum_below (a + b) f ≡ sum_below a f + sum_below b (λ k. f (a + k)) = sum_below-plus a b f in
-    ap (λ n. sum_below n f) next ∙ (let all : sum_below (a + b) f + f (a + b) ≡ sum_below a f + (sum_below b (λ k. f (a + k)) + f (a + b)) = omega arith in all)
-
--- of d numbers in a row one leaves r modulo d
-sum_below-row : (q d r w : ℕ) → r < d → sum_below d (λ k. cond ((q * d + k) % d == r) w 0) ≡ w
-sum_below-row q d r w within =
-    let none : sum_below d (λ k. 0) ≡ 0 = sum_below-zero d (λ k. 0) (λ k h. refl) in
-    let one : sum_below d (λ k. cond ((q * d + k) % d == r) w 0) ≡ sum_below d (λ k. 0) + w =
-    sum_below-greater d r w (λ k. 0) (λ k. cond ((q * d + k) % d == r) w 0) within
-    (λ k h apart. other k h apart (cases_Bool ((q * d + k) % d == r)))
-    (ap (λ b. cond b w 0) (eq-eqb ((q * d + r) % d) r (mod-mul-add q d r within)) ∙ (let same : w ≡ 0 + w = omega arith in same)) in
-    omega arith
-  where
-    other : (k : ℕ) → k < d → (k ≡ r → ⊥) → (((q * d + k) % d == r) ≡ true) ⊎ (((q * d + k) % d == r) ≡ false) → cond ((q * d + k) % d == r) w 0 ≡ 0
-    other k h apart (inl e) = absurd (apart (sym (mod-mul-add q d k h) ∙ eqb-true ((q * d + k) % d) r e))
-    other k h apart (inr e) = ap (λ b. cond b w 0) e
-
--- of q rows of d numbers one of each leaves r modulo d
-sum_below-rows : (q d r w : ℕ) → r < d → sum_below (q * d) (λ k. cond (k % d == r) w 0) ≡ q * w
-sum_below-rows zero d r w within =
-    let none : 0 * d ≡ 0 = omega arith in
-    ap (λ n. sum_below n (λ k. cond (k % d == r) w 0)) none ∙ (let same : 0 ≡ 0 * w = omega arith in same)
-sum_below-rows (suc q) d r w within =
-    let next : suc q * d ≡ q * d + d = omega arith in
-    let less : sum_below (q * d) (λ k. cond (k % d == r) w 0) ≡ q * w = sum_below-rows q d r w within in
-    let parts : sum_below (q * d + d) (λ k. cond (k % d == r) w 0) ≡ sum_below (q * d) (λ k. cond (k % d == r) w 0) + sum_below d (λ k. cond ((q * d + k) % d == r) w 0) = sum_below-plus (q * d) d (λ k. cond (k % d == r) w 0) in
-    let row : sum_below d (λ k. cond ((q * d + k) % d == r) w 0) ≡ w = sum_below-row q d r w within in
-    ap (λ n. sum_below n (λ k. cond (k % d == r) w 0)) next ∙ (let all : sum_below (q * d + d) (λ k. cond (k % d == r) w 0) ≡ suc q * w = omega arith in all)
 
 -- no more places pass a test than a slice has
 places_with-le_slice : (m : Shape) (p : Option Resident → Bool) (holds : ℕ → ℕ → Option Resident) → m.slice < m.slices → m.sets % m.slices ≡ 0 → places_with m p holds ≤ m.sets / m.slices * m.ways

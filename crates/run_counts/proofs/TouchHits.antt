@@ -3,7 +3,7 @@ use Rattle.std.proofs.Common.{◌≡◌, ℕ, ◌+◌, ◌*◌, ◌<◌, ◌==�
 use Rattle.std.specs.Prelude.{IsTrue, slice_index_or}
 use Rattle.std.specs.List.{AllByRecursion, flat_map}
 use Rattle.std.specs.Option.{option_map, option_or}
-use Rattle.std.proofs.lemmas.Bool.{cases_Bool, eq-eqb, eqb-false, eqb-true}
+use Rattle.std.proofs.lemmas.Bool.{cases_Bool, eq-eqb, eqb-false, eqb-true, and_right}
 use Rattle.std.proofs.lemmas.List.Elements.{recursion_from_All}
 use Rattle.std.proofs.lemmas.Grind.{flat_map-append}
 use Rattle.std.proofs.lemmas.List.{append-nil, get_or_default, take_more}
@@ -29,13 +29,10 @@ use Rattle.script_ops.specs.Values.{ScriptValue, op_at}
 use Rattle.script_ops.specs.declared.op.Op.{Op}
 use Rattle.script_ops.specs.declared.op.Op.TheVariants as ops
 use Rattle.tree_law.specs.Steps.{after, needs, next}
+use Rattle.lists.proofs.Options.{option_or-assoc}
+use Rattle.lists.proofs.Recursions.{AllByRecursion-append}
 
 -- ---- lists by recursion
-
--- what holds of the elements of two lists
-pub AllByRecursion-append : {X : Type 0} (P : X → Type 0) (xs ys : List X) → AllByRecursion P xs → AllByRecursion P ys → AllByRecursion P (xs ++ ys)
-AllByRecursion-append P [] ys these those = those
-AllByRecursion-append P (x ∷ xs) ys these those = (these.0, AllByRecursion-append P xs ys these.1 those)
 
 -- and of those of many
 pub AllByRecursion-flat_map : {X Y : Type 0} (P : Y → Type 0) (f : X → List Y) → ((x : X) → AllByRecursion P (f x)) → (xs : List X) → AllByRecursion P (flat_map f xs)
@@ -149,11 +146,6 @@ AreTouchesOf-run script j k h run there =
 
 -- ---- what is told
 
--- a choice of three
-option_or-assoc : {X : Type 0} (a b c : Option X) → option_or (option_or a b) c ≡ option_or a (option_or b c)
-option_or-assoc None b c = refl
-option_or-assoc (Some x) b c = refl
-
 -- the first of two lists of entries
 pub touch_hit-append : (k : ℕ) (h : TreeEntryValue) (xs ys : List SliceEntry) → touch_hit k h (xs ++ ys) ≡ option_or (touch_hit k h xs) (touch_hit k h ys)
 touch_hit-append k h [] ys = refl
@@ -198,11 +190,6 @@ first_hit-run script j k h run there = first_hit-flat_map k h j.slices (AreTouch
 
 -- ---- the pass over the entries
 
--- neither of two
-and-false : (a b : Bool) → b ≡ false → (a && b) ≡ false
-and-false true b is = is
-and-false false b is = refl
-
 -- the entry at a position
 pub At-entry : (es : List TreeEntry) (k : ℕ) (e : TreeEntry) → k < length es → e ≡ get_or es k e → At (map entry_value es) k (entry_value e)
 At-entry es k e within is = slice_get-map entry_value es k ∙ ap (option_map entry_value) (slice_get_read es (length es) k e refl within is)
@@ -216,7 +203,7 @@ is_touch_of-other tree at command e within is epoch lacks k h there = elim (case
       let own : At (map entry_value tree) at (entry_value command) = At-entry tree at command within is in
       let entry : entry_value command ≡ h = let both : Some (entry_value command) ≡ Some h = sym own ∙ subst (λ i. At (map entry_value tree) i h) (sym same) there in cc in
       ap (λ b. b && (e.epoch == k + 1)) (ap (λ x. is_access_by x e) (sym entry) ∙ lacks)
-  | inr apart ↦ and-false (is_access_by h e) (e.epoch == k + 1) (elim (cases_Bool (e.epoch == k + 1)) [
+  | inr apart ↦ and_right (is_access_by h e) (e.epoch == k + 1) (elim (cases_Bool (e.epoch == k + 1)) [
     | inl equal ↦ absurd (eqb-false at k apart (let next : e.epoch ≡ k + 1 = eqb-true e.epoch (k + 1) equal in omega arith))
     | inr differ ↦ differ
   ])

@@ -22,6 +22,7 @@ pub fn number_of(script: &Script, domain: u8, slice: u8) -> u32
     ensures number { result ≡ slice_number script.now.machine domain slice }
     ensures within { result < slice_count script.now.machine }
 {
+    // There are few slices, and so a slice's number fits.
     let _few = slices_of(script);
     script.machine().slice_number(domain, slice) as u32
 }

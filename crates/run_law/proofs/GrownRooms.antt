@@ -7,7 +7,7 @@ use Rattle.std.proofs.lemmas.Grind.{get_or_default_zero}
 use Rattle.std.proofs.lemmas.List.{get_or-replicate, get_or-set_other, get_or-set_same, length-replicate, length-set}
 use Rattle.std.proofs.lemmas.List.Sums.{sum_by_more}
 use Rattle.machine.specs.Slices.{slice_count}
-use Rattle.run_law.specs.Quotas.{AreRooms, AreWithin, HaveGrown, quotas_of, room_of}
+use Rattle.run_law.specs.Quotas.{AreRooms, HaveGrown, quotas_of, room_of}
 use Rattle.script_ops.specs.Values.{ScriptValue, threads_of}
 
 -- ---- one growth
@@ -23,12 +23,6 @@ HaveGrown-set more most k y rooms there is few none = record {
   ];
   few = λ i within. elim (cases_eq i k) [ inl same ↦ rw same few | inr other ↦ omega (arith, none i within other) ];
 }
-
--- none has become too great
-pub AreWithin-grown : (more : ℕ → ℕ) (most limit new : ℕ) (before after : List ℕ) → AreWithin limit before → HaveGrown more most before after → limit + most ≤ new → AreWithin new after
-AreWithin-grown more most limit new before after small grown enough i within =
-    let there : i < length before = omega (arith, grown.count, within) in
-    omega (arith, grown.each i there, grown.few i there, small i there)
 
 -- ---- the sums so far
 

@@ -11,6 +11,7 @@ pub mod JobKinds
 pub mod JobLists
 pub mod LaterEntries
 pub mod LegalHistories
+pub mod LightCounts
 pub mod LightRooms
 pub mod Lines
 pub mod ListCounts
@@ -26,12 +27,15 @@ pub mod NotedTruth
 pub mod OpKinds
 pub mod OpMarks
 pub mod OpQuotas
+pub mod OwedEntries
 pub mod OwnLines
 pub mod Pairs
 pub mod Positions
 pub mod ReadTags
 pub mod ReadyLists
 pub mod RoomSums
+pub mod RunLengths
+pub mod RunSizes
 pub mod SliceDomains
 pub mod SoundHistories
 pub mod StandingEntries

@@ -1,6 +1,6 @@
 -- The lists for the counts of a thread's commands, that of its next command last.
 -- (For functions and proofs: no promise of the program stands on it.)
-use Rattle.std.specs.Prelude.{◌≡◌, ℕ, ◌+◌, ◌≤◌, if◌then◌else◌, List, [], ◌∷◌, ◌++◌}
+use Rattle.std.specs.Prelude.{◌≡◌, ℕ, ◌+◌, if◌then◌else◌, List, [], ◌∷◌, ◌++◌}
 use Rattle.machine.specs.declared.parameters.Parameters.{Parameters}
 use Rattle.rc_base.specs.Buffers.{Looks}
 use Rattle.run_law.specs.Ops.{is_command}
@@ -12,10 +12,10 @@ abbrev pub rooms_of : Parameters → List Op → List ℕ
 rooms_of m [] = []
 rooms_of m (op ∷ ops) = if is_command op then most_counts m op ∷ rooms_of m ops else rooms_of m ops
 
--- there is an empty list for each of these rooms, with at least that room: the last list is for the first, and so on
+-- there is an empty list for each of these rooms, with just that room, and no other: the last list is for the first, and so on
 abbrev pub AreReady : List ℕ → List Looks → Type 0
-AreReady [] lists = Unit {0}
-AreReady (room ∷ rooms) lists = (front : List Looks) × (last : Looks) × (lists ≡ front ++ last ∷ []) × (last.numbers ≡ []) × (room ≤ last.spare) × AreReady rooms front
+AreReady [] lists = lists ≡ []
+AreReady (room ∷ rooms) lists = (front : List Looks) × (last : Looks) × (lists ≡ front ++ last ∷ []) × (last.numbers ≡ []) × (last.spare ≡ room) × AreReady rooms front
 
 -- how many more numbers fit into the last list
 abbrev pub spare_in : List Looks → ℕ

@@ -1,8 +1,8 @@
 -- Ops of a script: which are commands, and which come before which.
-use Rattle.std.specs.Prelude.{◌≡◌, ℕ, ◌+◌, ◌-◌, ◌<◌, ◌⊎◌, Bool, true, false, nat_lt, if◌then◌else◌, IsTrue, List, [], ◌∷◌, length, Some}
+use Rattle.std.specs.Prelude.{◌≡◌, ℕ, ◌+◌, ◌-◌, ◌<◌, ◌⊎◌, Bool, true, false, nat_lt, if◌then◌else◌, List, [], ◌∷◌, length}
 use Rattle.script_ops.specs.declared.op.Op.{Op}
 use Rattle.script_ops.specs.declared.op.Op.TheVariants.{Access}
-use Rattle.script_ops.specs.Values.{PhaseValue, ScriptValue, op_at}
+use Rattle.script_ops.specs.Values.{PhaseValue, ScriptValue}
 
 -- every op but an access is a command
 abbrev pub is_command : Op → Bool
@@ -13,10 +13,6 @@ is_command op = true
 abbrev pub ByKind : (ℕ → ℕ → ℕ → Type 0) → Type 0 → Op → Type 0
 ByKind OfAccess OfCommand (Access task cpu addr) = OfAccess task cpu addr
 ByKind OfAccess OfCommand op = OfCommand
-
--- this holds of every command of a script
-abbrev pub EachCommand : (Op → Type 0) → ScriptValue → Type 0
-EachCommand Holds script = (thread op : ℕ) (c : Op) → op_at script thread op ≡ Some c → IsTrue (is_command c) → Holds c
 
 -- the number of the phase that a thread is of
 abbrev pub phase_in : List PhaseValue → ℕ → ℕ

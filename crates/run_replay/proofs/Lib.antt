@@ -1,4 +1,3 @@
 pub mod Entries
-pub mod FewCommands
 pub mod Replays
 pub mod laws

@@ -4,6 +4,7 @@ use Rattle.std.specs.List.{position_or_len, slice_get}
 use Rattle.std.proofs.lemmas.Bool.{cases_Bool, ltb-false, ltb-true, or_parts}
 use Rattle.std.proofs.lemmas.List.{length-drop}
 use Rattle.std.proofs.lemmas.Nat.{div-mul-add}
+use Rattle.std.proofs.lemmas.Option.{slice_get_within}
 use Rattle.cache_core.specs.Filled.{empties}
 use Rattle.cache_core.specs.declared.entry.SliceEntry.{SliceEntry}
 use Rattle.machine.proofs.laws.Slices.{slice_number-lt}
@@ -11,17 +12,16 @@ use Rattle.machine.specs.Slices.{slice_number}
 use Rattle.rc_base.specs.declared.names.Gid.{Gid}
 use Rattle.cbm.specs.Masks.{ways_of}
 use Rattle.private_lru.proofs.laws.CoveredAccesses.{hits_of_group-covered}
-use Rattle.private_lru.specs.Counted.{accesses_of, covered_private_hits, hits_of_group}
+use Rattle.private_lru.specs.GroupCounts.{accesses_of, covered_private_hits, hits_of_group}
 use Rattle.private_lru.specs.Covered.{covered}
 use Rattle.private_lru.specs.Isolation.{IsIsolated, between}
 use Rattle.run_law.specs.Runs.{IsRun}
 use Rattle.run_law.specs.declared.window.Window.{Window}
-use Rattle.run_windows.specs.Counted.{AreCounts, IsCountedWindow}
+use Rattle.run_windows.specs.WindowCounts.{AreCounts, IsCountedWindow}
 use Rattle.run_windows.proofs.IsolatedWindows.{IsIsolated-window}
 use Rattle.run_law.specs.Journals.{At, JournalsValue, slice_at}
 use Rattle.script_ops.specs.Values.{IsLawful, ScriptValue}
 use Rattle.run_windows.specs.Windows.{Ends, GoesOver, IsWindow, StaysExclusive, ends_window}
-use Rattle.run_windows.proofs.Epochs.{At-within}
 use Rattle.run_windows.proofs.WindowLengths.{position_or_len-at, position_or_len-before, position_or_len-le, slice_get-drop}
 
 -- an entry that does not end a window
@@ -48,7 +48,7 @@ IsWindow-from script j domain slice from n opening group mask last exists there 
     let i : ℕ = slice_number script.machine domain slice in
     let entries : List SliceEntry = slice_at j i in
     let rest : List SliceEntry = drop (from + 1) entries in
-    let inside : from < length entries = At-within entries from opening opens in
+    let inside : from < length entries = slice_get_within entries from opening opens in
     let le : position_or_len (ends_window last) rest ≤ length rest = position_or_len-le (ends_window last) rest in
     record {
       slice_exists = slice_number-lt script.machine domain slice exists there;

@@ -5,13 +5,14 @@ use Rattle.std.specs.Prelude.{IsSome}
 use Rattle.std.specs.List.{All, flat_map}
 use Rattle.std.proofs.lemmas.Bool.{cases_Bool, eq-eqb, eqb-true}
 use Rattle.std.proofs.lemmas.List.Elements.{All-append, All-nil}
-use Rattle.std.proofs.lemmas.Nat.{div-mul-add, div_below, mod_below}
+use Rattle.std.proofs.lemmas.Nat.{div_below}
+use Rattle.std.proofs.lemmas.Option.{slice_get_within}
 use Rattle.cache_core.specs.declared.entry.SliceEntry.{SliceEntry}
 use Rattle.cache_core.specs.declared.entry.What.{What}
 use Rattle.cache_core.specs.declared.entry.What.TheVariants as whats
 use Rattle.lists.specs.Sums.{one_if}
 use Rattle.lists.proofs.Tests.{All-one}
-use Rattle.machine.specs.Maps.{domain_of, line_of, set_of, slice_of}
+use Rattle.machine.specs.Maps.{domain_of, line_of}
 use Rattle.machine.specs.Slices.{domain_in, slice_count, slice_of_line}
 use Rattle.machine.specs.declared.parameters.Parameters.{Parameters}
 use Rattle.rc_base.specs.declared.names.Gid.{Gid}
@@ -30,8 +31,10 @@ use Rattle.tree_law.specs.Steps.{after, needs}
 use Rattle.tree_law.specs.declared.follow.Follow.{Follow}
 use Rattle.tree_law.specs.declared.follow.Follow.TheVariants as follows
 use Rattle.run_windows.specs.Epochs.{state_at}
-use Rattle.run_windows.proofs.Epochs.{At-within, Fits-state_at, IsSound-state_at, op_at-fits, state_at-suc}
+use Rattle.run_windows.proofs.Epochs.{Fits-state_at, IsSound-state_at, state_at-suc}
 use Rattle.run_windows.proofs.StepFollows.{IsGivenFollow, IsRegionOf, IsResolved, after-given}
+use Rattle.machine.proofs.laws.Slices.{domain_in-slice_of_line}
+use Rattle.run_law.proofs.laws.SoundHistories.{Fits-op_at}
 
 -- An entry of a domain's slice says what a state gives: an access an owner with a mask, a lock the region.
 abbrev pub IsGiven : Parameters → ℕ → State → What → Type 0
@@ -62,10 +65,6 @@ factor-some a (suc b) i below = omega arith
 pub domain_in-lt : (m : Parameters) (i : ℕ) → i < slice_count m → domain_in m i < m.domains
 domain_in-lt m i within = div_below i m.slices m.domains (factor-some m.domains m.slices i within) within
 
--- the slice of a line is of the domain
-domain_in-slice_of_line : (m : Parameters) (domain line : ℕ) → 0 < m.slices → domain_in m (slice_of_line m domain line) ≡ domain
-domain_in-slice_of_line m domain line some = div-mul-add domain m.slices (slice_of m (set_of m line)) (mod_below (set_of m line) m.slices some)
-
 -- ---- commands
 
 -- what one of a list is
@@ -93,12 +92,12 @@ unfolding owed_by_command
 owed_by_command-given script j i k h op lawful run there is =
     let m : Parameters = script.machine in
     let s : State = state_at script j k in
-    let within : k < length j.tree = At-within j.tree k h there in
+    let within : k < length j.tree = slice_get_within j.tree k h there in
     All-append (IsGivenOwed script j i) (flat_map (look_in m i k) (needs m s op)) (flat_map (follow_in m i (k + 1)) (after m s k op))
     (All-flat_map (IsGivenOwed script j i) (look_in m i k) (needs m s op) (λ n d lt. look (get_or (needs m s op) n d) within))
     (All-flat_map (IsGivenOwed script j i) (follow_in m i (k + 1)) (after m s k op) (λ n d lt. follow (get_or (after m s k op) n d) within
     (subst (λ t. IsGivenFollow m t (get_or (after m s k op) n d)) (sym (state_at-suc script j k h op there is))
-    (after-given m s k op h.looks lawful.in_range (IsSound-state_at script j lawful run k (omega arith)) (Fits-state_at script j k op (op_at-fits script h.thread h.op op lawful is)) n d lt))))
+    (after-given m s k op h.looks lawful.in_range (IsSound-state_at script j lawful run k (omega arith)) (Fits-state_at script j k op (Fits-op_at script h.thread h.op op lawful is)) n d lt))))
   where
     look : (need : ℕ × ℕ) → k < length j.tree → All (IsGivenOwed script j i) (look_in script.machine i k need)
     look need within = elim (cases_Bool (need.0 == domain_in script.machine i)) [
@@ -197,7 +196,7 @@ IsRun-given script j i p e lawful run within there = of (op_at script e.thread e
     by_op : (op : Op) → op_at script e.thread e.op ≡ Some op → IsTrueTo script j.tree i e (Some op) → IsGivenEntry script j i e
     by_op (ops.Access task cpu addr) is t = record {
       known = t.0;
-      given = IsTrueAccess-given script j i e task cpu addr (op_at-fits script e.thread e.op (ops.Access task cpu addr) lawful is).1 (domain_of-access script j i p e task cpu addr lawful run within there is) t.1;
+      given = IsTrueAccess-given script j i e task cpu addr (Fits-op_at script e.thread e.op (ops.Access task cpu addr) lawful is).1 (domain_of-access script j i p e task cpu addr lawful run within there is) t.1;
     }
     by_op op is t = IsOwed-given script j i e op lawful run is t
 

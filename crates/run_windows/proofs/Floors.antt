@@ -2,7 +2,7 @@
 use Rattle.std.proofs.Common.{◌≡◌, ℕ, zero, suc, ◌<◌, ◌≤◌, Bool, true, false, List, [], ◌∷◌, length, take, get_or, refl, subst, ap, ◌∙◌, arith}
 use Rattle.std.proofs.lemmas.Bool.{false≢true}
 use Rattle.std.proofs.lemmas.List.{get_or-take, length-take}
-use Rattle.std.proofs.lemmas.Option.{get_or_from_slice_get}
+use Rattle.std.proofs.lemmas.Option.{get_or_from_slice_get, slice_get_within}
 use Rattle.cache_core.specs.Filled.{empties}
 use Rattle.cache_core.specs.History.{EntryMayFollow, IsLegal, MayHappen, Shape, floor_of, sets_floor}
 use Rattle.cache_core.specs.declared.entry.SliceEntry.{SliceEntry}
@@ -10,7 +10,6 @@ use Rattle.cache_core.specs.declared.entry.What.{What}
 use Rattle.cache_core.specs.declared.entry.What.TheVariants.{Access, Raise, Flush, Lock, Look, Drop}
 use Rattle.rc_base.proofs.laws.Histories.{EachFollows-at}
 use Rattle.run_law.specs.Journals.{At}
-use Rattle.run_windows.proofs.Epochs.{At-within}
 
 -- an access
 abbrev pub is_access : What → Bool
@@ -36,7 +35,7 @@ floor_of-le m before epoch (Drop line at) access may = absurd (false≢true acce
 pub epoch-le : (m : Shape) (es : List SliceEntry) (q p : ℕ) (earlier e : SliceEntry) → IsLegal m es → At es q earlier → At es p e → q < p → sets_floor earlier.what ≡ true → is_access e.what ≡ true
     → earlier.epoch ≤ e.epoch
 epoch-le m es q p earlier e legal first second before sets access =
-    let within : p < length es = At-within es p e second in
+    let within : p < length es = slice_get_within es p e second in
     let is : get_or es p e ≡ e = get_or_from_slice_get es p e e second in
     let may : EntryMayFollow m (take p es) e = subst (λ (x : SliceEntry). EntryMayFollow m (take p es) x) is (EachFollows-at (EntryMayFollow m) es p e legal within) in
     let low : floor_of (take p es) ≤ e.epoch = floor_of-le m (take p es) e.epoch e.what access may in

@@ -13,7 +13,7 @@ use Rattle.run_law.specs.Journals.{At, JournalsValue, slice_at}
 use Rattle.run_law.specs.Runs.{IsRun}
 use Rattle.run_law.specs.Slices.{shape_in}
 use Rattle.script_ops.specs.Values.{IsLawful, ScriptValue}
-use Rattle.run_windows.specs.Laws.{IsWindowOf, WindowsAreIsolated, WorldsAgree}
+use Rattle.run_windows.specs.WindowLaws.{IsWindowOf, WindowsAreIsolated, WorldsAgree}
 use Rattle.run_windows.proofs.WindowEntries.{IsValid-window, Opens-window, Respects-window}
 
 -- what holds of the entries between two places holds of each of the list of them

@@ -8,7 +8,7 @@ use Rattle.std.proofs.lemmas.Bool.{cases_eq, eq-eqb, eqb-true, ne_eqb, true≢fa
 use Rattle.std.proofs.lemmas.List.{length-map}
 use Rattle.std.proofs.lemmas.List.Elements.{All-cons, All-map}
 use Rattle.std.proofs.lemmas.List.Kept.{AllPairs-filter}
-use Rattle.std.proofs.lemmas.Option.{slice_get-get_or}
+use Rattle.std.proofs.lemmas.Option.{slice_get-get_or, same_Some}
 use Rattle.group_tree.specs.Records.{has_gid, has_mode, mask_in}
 use Rattle.group_tree.specs.declared.group.Group.{Group}
 use Rattle.lists.proofs.Pairs.{AllPairs-map}
@@ -20,10 +20,10 @@ use Rattle.run_law.proofs.laws.Pairs.{both_eqb-true}
 use Rattle.run_law.specs.Journals.{At, JournalsValue}
 use Rattle.run_law.specs.Runs.{IsRun}
 use Rattle.run_law.specs.TreeHistory.{TreeEntryValue, tree_after}
-use Rattle.run_windows.proofs.Epochs.{At-same, At-taken, IsSound-state_at, state_at-suc}
+use Rattle.run_windows.proofs.Epochs.{IsSound-state_at, state_at-suc}
 use Rattle.run_windows.proofs.OneWindow.{mask-same}
 use Rattle.run_windows.proofs.Owners.{IsSomeAnd-parts}
-use Rattle.run_windows.proofs.RisingGroups.{AreRisen, AreRisen-next, AreRisen-opening}
+use Rattle.tree_law.proofs.laws.RisingGroups.{AreRisen, AreRisen-next, AreRisen-opening}
 use Rattle.run_windows.specs.Epochs.{state_at}
 use Rattle.run_windows.specs.Stays.{AreStays, extended, is_same, stay_of, stays_in}
 use Rattle.run_windows.specs.Windows.{IsExclusive, StaysExclusive}
@@ -31,6 +31,7 @@ use Rattle.run_windows.specs.declared.stay.Stay.{Stay}
 use Rattle.script_ops.specs.Values.{IsLawful, ScriptValue}
 use Rattle.tree_law.specs.Existing.{group_of}
 use Rattle.tree_law.specs.State.{State}
+use Rattle.run_law.proofs.laws.SoundHistories.{IsTaken-at}
 
 -- the gids of these
 abbrev pub gids : List Stay → List ℕ
@@ -45,7 +46,7 @@ AreRisen-state_at script j zero lawful run known = AreRisen-opening script.machi
 AreRisen-state_at script j (suc k) lawful run known =
     let there : At j.tree k (get_or j.tree k blank) = slice_get-get_or j.tree k blank (omega arith) in
     let h : TreeEntryValue = get_or j.tree k blank in
-    let taken = At-taken script j k h run there in
+    let taken = IsTaken-at script j.tree k h run.tree_legal there in
     let one : suc k ≡ k + 1 = omega arith in
     subst (λ (s : State). AreRisen s.groups) (sym (ap (state_at script j) one ∙ state_at-suc script j k h taken.op there taken.is))
     (AreRisen-next script.machine (state_at script j k) taken.op h.looks (IsSound-state_at script j lawful run k (omega arith)).named.serial (AreRisen-state_at script j k lawful run (omega arith)))
@@ -72,7 +73,7 @@ stays_in-all domain last (x ∷ xs) group g found mode = at (has_gid group x) (h
     at : (b c : Bool) → has_gid group x ≡ b → has_mode Exclusive x ≡ c → cond b (Some x) (find (has_gid group) xs) ≡ Some g → (find (has_gid group) xs ≡ Some g → Contains (gids (stays_in domain last xs)) group.0)
         → Contains (gids (map (stay_of domain last) (cond c (x ∷ filter (has_mode Exclusive) xs) (filter (has_mode Exclusive) xs)))) group.0
     at true true own is e rest = (0, omega arith, sym (eqb-true group.0 x.gid.0 own))
-    at true false own is e rest = absurd (true≢false (sym mode ∙ (ap (has_mode Exclusive) (At-same g x (sym e)) ∙ is)))
+    at true false own is e rest = absurd (true≢false (sym mode ∙ (ap (has_mode Exclusive) (same_Some g x (sym e)) ∙ is)))
     at false true other is e rest = let it = rest e in (suc it.0, omega (arith, it.1), it.2)
     at false false other is e rest = rest e
 

@@ -8,13 +8,9 @@ mod LockEnds
 mod LockWindows
 mod OneWindow
 mod Openings
-mod OwedEntries
 mod Owners
 mod Replays
 mod RisingGids
-mod RisingGroups
-mod RunLengths
-mod RunSizes
 mod SiteOrder
 mod StepFollows
 mod Timelines

@@ -1,7 +1,8 @@
 -- Each lock begins a window of the region that it loaded.
-use Rattle.std.proofs.Common.{◌≡◌, ℕ, zero, suc, ◌+◌, ◌-◌, ◌<◌, ◌≤◌, true, false, List, [], ◌∷◌, length, Option, None, Some, ◌⊎◌, inl, inr, refl, sym, subst, ap, ◌∙◌, arith}
+use Rattle.std.proofs.Common.{◌≡◌, ℕ, zero, suc, ◌+◌, ◌-◌, ◌<◌, ◌≤◌, true, false, List, length, Option, None, Some, ◌⊎◌, inl, inr, refl, sym, subst, ap, ◌∙◌, arith}
 use Rattle.std.specs.Prelude.{IfSome, slice_get}
 use Rattle.std.proofs.lemmas.Bool.{cases_Bool, cases_eq, cases_lt}
+use Rattle.std.proofs.lemmas.Option.{same_Some, slice_get_past, slice_get_within}
 use Rattle.cache_core.specs.Filled.{empties}
 use Rattle.cache_core.specs.declared.entry.SliceEntry.{SliceEntry}
 use Rattle.cache_core.specs.declared.entry.What.TheVariants.{Lock}
@@ -9,10 +10,9 @@ use Rattle.machine.specs.Slices.{domain_in}
 use Rattle.pseudo_lock.specs.declared.region.Region.{Region}
 use Rattle.run_law.specs.Journals.{At, slice_at}
 use Rattle.run_windows.specs.Epochs.{state_at}
-use Rattle.run_windows.specs.Laws.{LockWindowsExist}
+use Rattle.run_windows.specs.WindowLaws.{LockWindowsExist}
 use Rattle.run_windows.specs.Regions.{HasRegion}
 use Rattle.run_windows.proofs.Entries.{IsGiven, IsRun-given}
-use Rattle.run_windows.proofs.Epochs.{At-same, At-within}
 use Rattle.run_windows.proofs.StepFollows.{IsRegionOf}
 use Rattle.tree_law.specs.State.{State}
 
@@ -77,18 +77,13 @@ pub record FirstLockEnd (es : List SliceEntry) (P E : SliceEntry → Type 0) (st
   pub over : (p : ℕ) (e : SliceEntry) → At es p e → start ≤ p → p < to → P e
   pub ends : IfSome (slice_get es to) E
 
-slice_get-past : (es : List SliceEntry) (k : ℕ) → length es ≤ k → slice_get es k ≡ None
-slice_get-past [] k le = refl
-slice_get-past (x ∷ xs) zero le = absurd (omega arith)
-slice_get-past (x ∷ xs) (suc k) le = slice_get-past xs k (omega arith)
-
 FirstLockEnd-some : (es : List SliceEntry) (P E : SliceEntry → Type 0) → ((e : SliceEntry) → P e ⊎ E e) → (fuel start : ℕ) → start + fuel ≡ length es → FirstLockEnd es P E start
 FirstLockEnd-some es P E either zero start is = record {
   to = start;
   begins = omega arith;
   within = omega arith;
   over = λ p e there low high. absurd (omega arith);
-  ends = subst (λ (o : Option SliceEntry). IfSome o E) (sym (slice_get-past es start (omega arith))) tt;
+  ends = subst (λ (o : Option SliceEntry). IfSome o E) (sym (slice_get_past es start (omega arith))) tt;
 }
 FirstLockEnd-some es P E either (suc fuel) start is = at (slice_get es start) refl (FirstLockEnd-some es P E either fuel (start + 1) (omega arith))
   where
@@ -111,7 +106,7 @@ FirstLockEnd-some es P E either (suc fuel) start is = at (slice_get es start) re
               | inl lt ↦ rest.over p x there (omega arith) high
               | inr le ↦
                   let same : start ≡ p = omega arith in
-                  let is_e : e ≡ x = At-same e x (sym here ∙ (ap (slice_get es) same ∙ there)) in
+                  let is_e : e ≡ x = same_Some e x (sym here ∙ (ap (slice_get es) same ∙ there)) in
                   subst P is_e over
             ];
             ends = rest.ends;
@@ -133,7 +128,7 @@ IsLockWindow-some script j i from mask first_line opening lawful run there opens
     let said = IsRun-given script j i from opening lawful run there opens in
     let lock : IsRegionOf (state_at script j opening.epoch) domain mask first_line = subst (IsGiven script.machine domain (state_at script j opening.epoch)) locks said.given in
     let r : Region = lock.region in
-    let inside : from < length (slice_at j i) = At-within (slice_at j i) from opening opens in
+    let inside : from < length (slice_at j i) = slice_get_within (slice_at j i) from opening opens in
     let f : FirstLockEnd (slice_at j i) (Over state domain r) (EndsLock state domain r) (from + 1) =
     FirstLockEnd-some (slice_at j i) (Over state domain r) (EndsLock state domain r) (Over-or_ends state domain r) (length (slice_at j i) - (from + 1)) (from + 1) (omega arith) in
     let begins = f.begins in (

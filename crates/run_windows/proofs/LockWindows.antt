@@ -20,7 +20,7 @@ use Rattle.tree_law.specs.Resolving.{owner_of}
 use Rattle.tree_law.specs.Sound.{IsSound}
 use Rattle.tree_law.specs.State.{State}
 use Rattle.run_windows.specs.Epochs.{state_at}
-use Rattle.run_windows.specs.Laws.{RegionsHold}
+use Rattle.run_windows.specs.WindowLaws.{RegionsHold}
 use Rattle.run_windows.specs.Regions.{HasRegion}
 use Rattle.run_windows.proofs.Entries.{IsGiven, IsGivenEntry, IsRun-given}
 use Rattle.run_windows.proofs.Epochs.{IsSound-state_at}

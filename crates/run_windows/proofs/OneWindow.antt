@@ -2,6 +2,7 @@
 use Rattle.std.proofs.Common.{◌≡◌, ℕ, zero, suc, List, [], ◌∷◌, length, ◌+◌, ◌<◌, ◌≤◌, true, Option, None, Some, inl, inr, refl, sym, subst, ap, ◌∙◌, arith}
 use Rattle.std.specs.Prelude.{IfSome, slice_get}
 use Rattle.std.proofs.lemmas.Bool.{cases_order, true≢false}
+use Rattle.std.proofs.lemmas.Option.{same_Some}
 use Rattle.cache_core.specs.declared.entry.SliceEntry.{SliceEntry}
 use Rattle.group_tree.specs.Records.{has_mode, mask_in}
 use Rattle.group_tree.specs.declared.group.Group.{Group}
@@ -13,9 +14,8 @@ use Rattle.script_ops.specs.Values.{ScriptValue}
 use Rattle.tree_law.specs.Existing.{group_of}
 use Rattle.tree_law.specs.State.{State}
 use Rattle.run_windows.specs.Epochs.{state_at}
-use Rattle.run_windows.specs.Laws.{WindowsAreUnique}
+use Rattle.run_windows.specs.WindowLaws.{WindowsAreUnique}
 use Rattle.run_windows.specs.Windows.{Ends, GoesOver, IsExclusive, StaysExclusive}
-use Rattle.run_windows.proofs.Epochs.{At-same}
 use Rattle.run_windows.proofs.Owners.{IsSomeAnd-parts}
 
 -- a group has one mask in a domain
@@ -23,7 +23,7 @@ pub mask-same : (s : State) (domain : ℕ) (group : Gid) (mask other : ℕ) → 
 mask-same s domain group mask other first second =
     let x = IsSomeAnd-parts (λ (g : Group). (has_mode Exclusive g ≡ true) × (mask_in domain g ≡ mask)) (group_of s group) first in
     let y = IsSomeAnd-parts (λ (g : Group). (has_mode Exclusive g ≡ true) × (mask_in domain g ≡ other)) (group_of s group) second in
-    let same : x.0 ≡ y.0 = At-same x.0 y.0 (sym x.1 ∙ y.1) in
+    let same : x.0 ≡ y.0 = same_Some x.0 y.0 (sym x.1 ∙ y.1) in
     sym x.2.1 ∙ (ap (mask_in domain) same ∙ y.2.1)
 
 -- the group does not stay exclusive beyond its last epoch
@@ -72,7 +72,7 @@ to-same es last from to other ends other_ends begins other_begins most other_mos
 pub IsWindow-same : WindowsAreUnique
 IsWindow-same script j i from to other_to opening other group mask other_mask last other_last one two =
     let domain : ℕ = domain_in script.machine i in
-    let same_opening : other ≡ opening = At-same other opening (sym two.opens ∙ one.opens) in
+    let same_opening : other ≡ opening = same_Some other opening (sym two.opens ∙ one.opens) in
     let stays : StaysExclusive script j domain group other_mask opening.epoch other_last = subst (λ (e : SliceEntry). StaysExclusive script j domain group other_mask e.epoch other_last) same_opening two.exclusive in
     let first = one.exclusive.from_first in
     let other_first = stays.from_first in

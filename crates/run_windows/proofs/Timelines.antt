@@ -4,7 +4,7 @@ use Rattle.std.specs.Prelude.{Vec, slice_get}
 use Rattle.std.specs.declared.alloc.Global.{Global}
 use Rattle.std.proofs.lemmas.List.{get_or-map, length-append, length-map, map-append, take_more}
 use Rattle.std.proofs.lemmas.List.Elements.{filter-append}
-use Rattle.std.proofs.lemmas.Option.{get_or_from_slice_get, slice_get-get_or}
+use Rattle.std.proofs.lemmas.Option.{get_or_from_slice_get, slice_get-get_or, same_Some, slice_get_within}
 use Rattle.group_tree.specs.Records.{has_mode}
 use Rattle.group_tree.specs.declared.group.Group.{Group}
 use Rattle.rc_base.specs.declared.names.Mode.TheVariants.{Exclusive}
@@ -13,7 +13,6 @@ use Rattle.run_law.specs.Journals.{At, JournalsValue}
 use Rattle.run_law.specs.TreeHistory.{TreeEntryValue}
 use Rattle.run_law.specs.declared.journals.TreeEntry.{TreeEntry}
 use Rattle.run_law.specs.Runs.{IsRun}
-use Rattle.run_windows.proofs.Epochs.{At-same, At-within}
 use Rattle.run_windows.proofs.KeptStays.{AreStays-before, AreStays-last}
 use Rattle.run_windows.specs.Epochs.{state_at}
 use Rattle.run_windows.specs.Stays.{AreSnapshots, AreStays, IsReplayed, IsTimeline, extended, stay_of, stays_in}
@@ -26,7 +25,7 @@ use Rattle.tree_law.specs.State.{State}
 
 -- what stands in a list with one more
 At-push : {X : Type 0} (xs : List X) (x : X) (k : ℕ) (y : X) → At (xs ++ x ∷ []) k y → At xs k y ⊎ ((k ≡ length xs) × (y ≡ x))
-At-push [] x zero y e = inr (refl, At-same y x (sym e))
+At-push [] x zero y e = inr (refl, same_Some y x (sym e))
 At-push [] x (suc k) y e = absurd (let none : None ≡ Some y = e in cc)
 At-push (z ∷ zs) x zero y e = inl e
 At-push (z ∷ zs) x (suc k) y e = elim (At-push zs x k y e) [
@@ -41,7 +40,7 @@ filter-push groups g = filter-append (has_mode Exclusive) groups (g ∷ [])
 -- the exclusive ones of the first groups, and of one more
 pub stays_in-take_suc : (domain last : ℕ) (groups : List Group) (i : ℕ) (g : Group) → Some g ≡ slice_get groups i → stays_in domain last (take (i + 1) groups) ≡ stays_in domain last (take i groups) ++ stays_in domain last (g ∷ [])
 stays_in-take_suc domain last groups i g there =
-    let within : i < length groups = At-within groups i g (sym there) in
+    let within : i < length groups = slice_get_within groups i g (sym there) in
     let more : take (i + 1) groups ≡ take i groups ++ g ∷ [] = take_more groups i g within ∙ ap (λ (x : Group). take i groups ++ x ∷ []) (get_or_from_slice_get groups i g g (sym there)) in
     ap (stays_in domain last) more ∙ (ap (map (stay_of domain last)) (filter-push (take i groups) g) ∙ map-append (stay_of domain last) (filter (has_mode Exclusive) (take i groups)) (filter (has_mode Exclusive) (g ∷ [])))
 

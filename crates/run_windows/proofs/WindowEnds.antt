@@ -1,15 +1,15 @@
 -- Each entry that empties a slice begins a window of each group that is exclusive then.
-use Rattle.std.proofs.Common.{◌≡◌, ℕ, zero, suc, ◌+◌, ◌-◌, ◌<◌, ◌≤◌, true, List, [], ◌∷◌, length, Option, None, Some, ◌⊎◌, inl, inr, refl, sym, subst, ap, ◌∙◌, arith}
+use Rattle.std.proofs.Common.{◌≡◌, ℕ, zero, suc, ◌+◌, ◌-◌, ◌<◌, ◌≤◌, true, List, length, Option, None, Some, ◌⊎◌, inl, inr, refl, sym, subst, ap, ◌∙◌, arith}
 use Rattle.std.specs.Prelude.{IfSome, IsSomeAnd, slice_get}
 use Rattle.std.proofs.lemmas.Bool.{cases_Bool, cases_eq, cases_lt, true≢false}
+use Rattle.std.proofs.lemmas.Option.{same_Some, slice_get_past, slice_get_within}
 use Rattle.cache_core.specs.Filled.{empties}
 use Rattle.machine.specs.Slices.{domain_in}
 use Rattle.run_law.specs.Journals.{At, JournalsValue, slice_at}
 use Rattle.run_windows.specs.Epochs.{state_at}
-use Rattle.run_windows.specs.Laws.{WindowsExist}
+use Rattle.run_windows.specs.WindowLaws.{WindowsExist}
 use Rattle.run_windows.specs.Windows.{Ends, GoesOver, IsExclusive, StaysExclusive}
 use Rattle.run_windows.proofs.Entries.{IsRun-given}
-use Rattle.run_windows.proofs.Epochs.{At-same, At-within}
 use Rattle.cache_core.specs.declared.entry.SliceEntry.{SliceEntry}
 use Rattle.group_tree.specs.Records.{has_mode, mask_in}
 use Rattle.group_tree.specs.declared.group.Group.{Group}
@@ -101,12 +101,6 @@ pub record FirstEnd (es : List SliceEntry) (last start : ℕ) : Type 0 where
   pub over : (p : ℕ) (e : SliceEntry) → At es p e → start ≤ p → p < to → GoesOver last e
   pub ends : IfSome (slice_get es to) (Ends last)
 
--- nothing stands past the end
-slice_get-past : (es : List SliceEntry) (k : ℕ) → length es ≤ k → slice_get es k ≡ None
-slice_get-past [] k le = refl
-slice_get-past (x ∷ xs) zero le = absurd (omega arith)
-slice_get-past (x ∷ xs) (suc k) le = slice_get-past xs k (omega arith)
-
 -- looked for from a place on
 FirstEnd-some : (es : List SliceEntry) (last fuel start : ℕ) → start + fuel ≡ length es → FirstEnd es last start
 FirstEnd-some es last zero start is = record {
@@ -114,7 +108,7 @@ FirstEnd-some es last zero start is = record {
   begins = omega arith;
   within = omega arith;
   over = λ p e there low high. absurd (omega arith);
-  ends = subst (λ (o : Option SliceEntry). IfSome o (Ends last)) (sym (slice_get-past es start (omega arith))) tt;
+  ends = subst (λ (o : Option SliceEntry). IfSome o (Ends last)) (sym (slice_get_past es start (omega arith))) tt;
 }
 FirstEnd-some es last (suc fuel) start is = at (slice_get es start) refl (FirstEnd-some es last fuel (start + 1) (omega arith))
   where
@@ -137,7 +131,7 @@ FirstEnd-some es last (suc fuel) start is = at (slice_get es start) refl (FirstE
               | inl lt ↦ rest.over p x there (omega arith) high
               | inr le ↦
                   let same : start ≡ p = omega arith in
-                  let is_e : e ≡ x = At-same e x (sym here ∙ (ap (slice_get es) same ∙ there)) in
+                  let is_e : e ≡ x = same_Some e x (sym here ∙ (ap (slice_get es) same ∙ there)) in
                   subst (GoesOver last) is_e over
             ];
             ends = rest.ends;
@@ -157,7 +151,7 @@ FirstEnd-some es last (suc fuel) start is = at (slice_get es start) refl (FirstE
 pub IsWindow-some : WindowsExist
 IsWindow-some script j i from opening group mask lawful run there opens empty exclusive =
     let s = StaysExclusive-some script j (domain_in script.machine i) group mask opening.epoch (IsRun-given script j i from opening lawful run there opens).known exclusive in
-    let inside : from < length (slice_at j i) = At-within (slice_at j i) from opening opens in
+    let inside : from < length (slice_at j i) = slice_get_within (slice_at j i) from opening opens in
     let f : FirstEnd (slice_at j i) s.0 (from + 1) = FirstEnd-some (slice_at j i) s.0 (length (slice_at j i) - (from + 1)) (from + 1) (omega arith) in
     let begins = f.begins in (
       f.to,

@@ -1,15 +1,7 @@
 -- The first element that passes a test, or the end of a list.
 use Rattle.std.proofs.Common.{◌≡◌, ℕ, zero, suc, ◌+◌, ◌<◌, ◌≤◌, Bool, true, false, cond, not, nat_lt, List, [], ◌∷◌, length, drop, None, Some, unwrap_or, inl, inr, refl, sym, ap, ◌∙◌, arith}
-use Rattle.std.specs.List.{position, position_or_len, range_with_len, slice_get}
+use Rattle.std.specs.List.{position, position_or_len, slice_get}
 use Rattle.std.proofs.lemmas.Bool.{cases_Bool, ltb-false}
-use Rattle.std.proofs.lemmas.List.FromFn.{length-range_with_len}
-use Rattle.std.proofs.lemmas.List.Sums.{count_by-le-length, length-filter}
-use Rattle.cbm.specs.Masks.{has_way, ways_of}
-
--- a mask has at most 64 ways
-pub length-ways_of : (mask : ℕ) → length (ways_of mask) ≤ 64
-unfolding ways_of
-length-ways_of mask = let most = count_by-le-length (has_way mask) (range_with_len 0 64) in omega (arith, length-filter (has_way mask) (range_with_len 0 64), length-range_with_len 0 64)
 
 module _ {X : Type 0} (p : X → Bool) where
   -- it is within the list, or the end

@@ -7,14 +7,14 @@ use Rattle.std.proofs.lemmas.List.Elements.{All-push, Contains-append_left, Cont
 use Rattle.std.proofs.lemmas.List.Quantifiers.{all_pairs_push}
 use Rattle.cache_core.specs.declared.entry.SliceEntry.{SliceEntry}
 use Rattle.machine.specs.Slices.{slice_number}
-use Rattle.private_lru.specs.Counted.{accesses_of}
+use Rattle.private_lru.specs.GroupCounts.{accesses_of}
 use Rattle.private_lru.specs.Isolation.{between}
 use Rattle.run_law.specs.Journals.{JournalsValue, slice_at}
 use Rattle.run_law.specs.declared.window.Window.{Window}
 use Rattle.run_windows.proofs.OneWindow.{IsWindow-same}
 use Rattle.run_windows.proofs.SiteOrder.{Precedes-gid, Precedes-next, Precedes-or_not, grows-gid, site, site-same}
 use Rattle.run_windows.specs.AllWindows.{AreWindowsBefore, IsUsed, IsUsedWindow, with_used}
-use Rattle.run_windows.specs.Counted.{IsCountedWindow}
+use Rattle.run_windows.specs.WindowCounts.{IsCountedWindow}
 use Rattle.run_windows.specs.Sites.{Precedes, Site, site_of}
 use Rattle.script_ops.specs.Values.{ScriptValue}
 

@@ -3,7 +3,7 @@ use Rattle.std.proofs.Common.{◌≡◌, ℕ, suc, ◌+◌, ◌<◌, ◌≤◌, 
 use Rattle.std.specs.List.{Contains}
 use Rattle.std.proofs.lemmas.Bool.{true≢false}
 use Rattle.std.proofs.lemmas.List.{get_or-map, length-map}
-use Rattle.std.proofs.lemmas.Option.{get_or_from_slice_get}
+use Rattle.std.proofs.lemmas.Option.{get_or_from_slice_get, same_Some, slice_get_within}
 use Rattle.cache_core.specs.Filled.{empties}
 use Rattle.cache_core.specs.declared.entry.SliceEntry.{SliceEntry}
 use Rattle.cache_core.specs.declared.entry.What.TheVariants.{Access}
@@ -11,7 +11,6 @@ use Rattle.machine.specs.Slices.{domain_in, slice_number}
 use Rattle.run_law.specs.Journals.{At, JournalsValue, slice_at}
 use Rattle.run_law.specs.declared.window.Window.{Window}
 use Rattle.run_windows.proofs.CountedWindows.{domain_in-slice_number}
-use Rattle.run_windows.proofs.Epochs.{At-same, At-within}
 use Rattle.run_windows.proofs.KeptStays.{gids}
 use Rattle.run_windows.proofs.Openings.{IsOpening-entry}
 use Rattle.run_windows.proofs.RisingGids.{Contains-past, Contains-past_all, first_past, first_past-le}
@@ -45,7 +44,7 @@ module _ (script : ScriptValue) (j : JournalsValue) where
   -- the group of a window is listed at the epoch of its opening
   IsUsed-listed : (d x f g : ℕ) (e : SliceEntry) (stays : List Stay) → At (entries_of d x) f e → AreStays script j d e.epoch stays → IsUsed script j (site d x f g) → Contains (gids stays) g
   IsUsed-listed d x f g e stays there listed used =
-      let same : used.opening ≡ e = At-same used.opening e (sym used.is.opens ∙ there) in
+      let same : used.opening ≡ e = same_Some used.opening e (sym used.is.opens ∙ there) in
       let first = used.is.exclusive.from_first in
       let here : IsExclusive (domain_in script.machine (slice_number script.machine d x)) (gid_of g) used.mask (state_at script j used.opening.epoch) = used.is.exclusive.always used.opening.epoch (omega arith) first in
       let own : IsExclusive d (gid_of g) used.mask (state_at script j used.opening.epoch) =
@@ -119,7 +118,7 @@ module _ (script : ScriptValue) (j : JournalsValue) where
       (λ s isnt is used.
       let at = Precedes-from s d x f 0 isnt is in
       let own = IsUsed-site s d x f s.gid at.0 at.1 at.2 refl used in
-      let same : own.opening ≡ e = At-same own.opening e (sym own.is.opens ∙ there) in
+      let same : own.opening ≡ e = same_Some own.opening e (sym own.is.opens ∙ there) in
       true≢false (sym own.is.empty ∙ (ap (λ (o : SliceEntry). empties o.what) same ∙ full)))
       old
 
@@ -131,7 +130,7 @@ module _ (script : ScriptValue) (j : JournalsValue) where
       let at = Precedes-slice s d x f isnt is in
       let low = at.2 in
       let own = IsUsed-site s d x s.from s.gid at.0 at.1 refl refl used in
-      let within = At-within (entries_of d x) s.from own.opening own.is.opens in
+      let within = slice_get_within (entries_of d x) s.from own.opening own.is.opens in
       omega (arith, within, low, all))
       old
 

@@ -3,12 +3,12 @@ use Rattle.std.specs.Prelude.{◌≡◌, ℕ, ◌<◌, true, All, AllPairs, Cont
 use Rattle.cache_core.specs.Filled.{empties}
 use Rattle.cache_core.specs.declared.entry.SliceEntry.{SliceEntry}
 use Rattle.machine.specs.Slices.{slice_number}
-use Rattle.private_lru.specs.Counted.{accesses_of}
+use Rattle.private_lru.specs.GroupCounts.{accesses_of}
 use Rattle.private_lru.specs.Isolation.{between}
 use Rattle.rc_base.specs.declared.names.Gid.{Gid}
 use Rattle.run_law.specs.Journals.{JournalsValue, slice_at}
 use Rattle.run_law.specs.declared.window.Window.{Window}
-use Rattle.run_windows.specs.Counted.{IsCountedWindow}
+use Rattle.run_windows.specs.WindowCounts.{IsCountedWindow}
 use Rattle.run_windows.specs.Sites.{Precedes, Site, site_of}
 use Rattle.run_windows.specs.Windows.{IsWindow}
 use Rattle.script_ops.specs.Values.{ScriptValue}

@@ -1,8 +1,8 @@
 pub mod AllWindows
-pub mod Counted
 pub mod Epochs
-pub mod Laws
 pub mod Regions
 pub mod Sites
 pub mod Stays
+pub mod WindowCounts
+pub mod WindowLaws
 pub mod Windows

@@ -7,7 +7,7 @@ ghost use Rattle.cbm.specs.Masks.{ways_of};
 ghost use Rattle.machine.specs.Slices.{domain_in, slice_count, slice_number};
 ghost use Rattle.run_law.specs.Journals.{At, slice_at};
 ghost use Rattle.run_law.specs.Runs.{IsRun};
-ghost use Rattle.run_windows.specs.Counted.{AreCounts, IsCountedWindow};
+ghost use Rattle.run_windows.specs.WindowCounts.{AreCounts, IsCountedWindow};
 ghost use Rattle.run_windows.specs.Windows.{StaysExclusive, ends_window};
 ghost use Rattle.script_ops.specs.Values.{IsLawful};
 

@@ -1,6 +1,6 @@
 //! The laws of the windows of a run, each proved with an empty body.
 
-ghost use Rattle.run_windows.specs.Laws.{EpochsAreSound, LockWindowsExist, RegionsHold, WindowsAreIsolated, WindowsAreUnique, WindowsExist, WorldsAgree};
+ghost use Rattle.run_windows.specs.WindowLaws.{EpochsAreSound, LockWindowsExist, RegionsHold, WindowsAreIsolated, WindowsAreUnique, WindowsExist, WorldsAgree};
 
 /// The tree of a run is sound at every epoch.
 pub fn epochs_are_sound()

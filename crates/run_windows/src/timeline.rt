@@ -93,6 +93,7 @@ pub(crate) fn timeline(
     requires domain { domain < script.now.machine.domains }
     ensures { IfOk result (λ all. IsTimeline script.now journals.now domain (length journals.now.tree + 1) all.items) }
 {
+    // What the type keeps makes the script a lawful one.
     let _lawful = script.threads();
     let snapshots = snapshots(alloc, script, journals, domain)?;
     last_first(alloc, script, journals, domain, &snapshots)

@@ -7,16 +7,19 @@ pub data Item : Type 0 where
   Line : List ℕ → Item
   Entry : List ℕ → Item
 
--- the separators: of lines, of a name and its rest, of entries, of an id and its mask
+-- a newline, which separates lines
 abbrev pub newline : ℕ → Bool
 newline b = b == 10
 
+-- a colon, which separates the name in a line from the rest
 abbrev pub colon : ℕ → Bool
 colon b = b == 58
 
+-- a semicolon, which separates entries
 abbrev pub semicolon : ℕ → Bool
 semicolon b = b == 59
 
+-- an equals sign, which separates the id in an entry from the mask
 abbrev pub equals : ℕ → Bool
 equals b = b == 61
 

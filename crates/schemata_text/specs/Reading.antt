@@ -15,6 +15,7 @@ use Rattle.schemata_text.specs.Items.{Item, Line, Entry, colon, equals, items_of
 -- ---- one step after the other, up to the first fault
 
 infixl 10 ◌>>=◌
+-- the reading that follows from a value, or the fault where there is none
 abbrev pub ◌>>=◌ : {A B : Type 0} → Result A TextFault → (A → Result B TextFault) → Result B TextFault
 (Ok x) >>= f = f x
 (Err e) >>= f = Err e

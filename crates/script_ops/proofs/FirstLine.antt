@@ -4,15 +4,10 @@ use Rattle.std.specs.List.{list_any, slice_split, before_first, after_first}
 use Rattle.std.specs.Str.Lines.{lines, lines_of_parts, strip_carriage_return}
 use Rattle.std.proofs.lemmas.Bool.{ne_eqb}
 use Rattle.std.proofs.lemmas.List.Splits.{length-slice_split}
-use Rattle.lists.proofs.Cuts.{length-after_first, slice_split-none, slice_split-some}
+use Rattle.lists.proofs.Cuts.{length-after_first, slice_split-none, slice_split-some, lines_of_parts-cons}
 
 abbrev pub newline : ℕ → Bool
 newline b = b == 10
-
--- one part in front
-lines_of_parts-cons : (x : List ℕ) (parts : List (List ℕ)) → 0 < length parts → lines_of_parts (x ∷ parts) ≡ strip_carriage_return x ∷ lines_of_parts parts
-lines_of_parts-cons x [] h = absurd (omega arith)
-lines_of_parts-cons x (y ∷ more) h = refl
 
 -- a text with a newline
 pub lines-some : (text : List ℕ) → list_any newline text ≡ true → (lines text ≡ strip_carriage_return (before_first newline text) ∷ lines (after_first newline text)) × (length (after_first newline text) < length text)

@@ -6,14 +6,6 @@ use Rattle.std.proofs.lemmas.List.Folds.{length-flat_map-take}
 use Rattle.script_ops.specs.declared.op.Op.{Op}
 use Rattle.script_ops.specs.Values.{PhaseValue, threads_in}
 
--- the threads of the phases up to one, and of that one
-pub length-threads_in_take : (phases : List PhaseValue) (i : ℕ) (d : PhaseValue) → i < length phases → length (threads_in (take (i + 1) phases)) ≡ length (threads_in (take i phases)) + length (get_or phases i d).threads
-length-threads_in_take [] i d h = absurd (omega arith)
-length-threads_in_take (p ∷ ps) zero d h = length-append p.threads [] ∙ omega arith
-length-threads_in_take (p ∷ ps) (suc i) d h =
-    let one_more : suc i + 1 ≡ suc (i + 1) = omega arith in
-    rw one_more (length-append p.threads (threads_in (take (i + 1) ps)) ∙ omega (arith, length-threads_in_take ps i d (omega arith), length-append p.threads (threads_in (take i ps))))
-
 -- a thread by its number is one of its phase
 pub get_or-threads_in : (phases : List PhaseValue) (i left thread : ℕ) (d : PhaseValue) (e : List Op) → i < length phases → left + length (threads_in (take i phases)) ≡ thread → left < length (get_or phases i d).threads → get_or (threads_in phases) thread e ≡ get_or (get_or phases i d).threads left e
 get_or-threads_in [] i left thread d e h s n = absurd (omega arith)

@@ -45,7 +45,7 @@ op_ids (ops.Touch cpu path task offset) = path_ids path
 op_ids (ops.DropLine addr) = []
 op_ids (ops.DropRegion path offset) = path_ids path
 
--- the numbers of the names of components in an op
+-- the numbers of the names that are components of the path in an op
 abbrev pub op_component_ids : Op → List ℕ
 op_component_ids (ops.Mkdir path) = component_ids path
 op_component_ids (ops.Rmdir path) = component_ids path

@@ -50,13 +50,13 @@ first_thread script phase = length (threads_in (take phase script.phases))
 abbrev pub total_weight : ScriptValue → ℕ
 total_weight script = sum_by (weights_of script.machine) (threads_of script)
 
--- phases of a script, of so many threads
+-- no more phases, and no more threads in each, than a script may have
 pub record AreFew (phases : List PhaseValue) : Type 0 where
   pub few_phases : length phases ≤ MOST_PHASES
   pub few_threads : All (λ p. length p.threads ≤ MOST_PHASE_THREADS) phases
 
--- What each script keeps to: a machine whose parameters are in range, few tasks that rise, few phases of few threads, ops whose
--- names are known, whose components are short, and that fit the machine and the tasks, and little weight.
+-- The rules of every script: the parameters of its machine are in range, its tasks rise and are few, its phases and their threads
+-- are few, its ops have known names and short components and fit the machine and the tasks, and their weight is within the limit.
 pub record IsLawful (script : ScriptValue) : Type 0 where
   pub in_range : InRange script.machine
   pub rising : IsStrictlyIncreasing script.tasks

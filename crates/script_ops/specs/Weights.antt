@@ -11,11 +11,11 @@ use Rattle.script_ops.specs.declared.op.Op.TheVariants as ops
 abbrev pub slices_of : Parameters → ℕ
 slices_of m = m.domains * m.slices
 
--- a look at each RMID in each slice, and one
+-- a look at each RMID in each slice, one more entry in each slice, and 1
 abbrev pub looks_weight : Parameters → ℕ
 looks_weight m = (m.rmids + 1) * slices_of m + 1
 
--- a schemata write enters each slice, a mode write each slice twice
+-- a write of `schemata` makes one entry in each slice, and one of `mode` two
 abbrev pub write_weight : Parameters → PathRef → ℕ
 write_weight m (File dir Schemata) = slices_of m + 1
 write_weight m (File dir Mode) = 2 * slices_of m + 1

@@ -21,13 +21,6 @@ impl Model for Bytes {
 }
 
 impl Bytes {
-    /// A copy of these bytes.
-    pub fn copy(alloc: Global, text: &[u8]) -> Result<Bytes, NoMemory>
-        ensures { IfOk result (λ b. b ≡ text.now) }
-    {
-        Bytes::from_vec(alloc, Vec::from_slice(alloc, text)?)
-    }
-
     /// These bytes.
     pub fn from_vec(alloc: Global, text: Vec<u8>) -> Result<Bytes, NoMemory>
         ensures { IfOk result (λ b. b ≡ text.items) }

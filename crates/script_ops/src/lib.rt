@@ -1,4 +1,4 @@
-//! Ops, phases and scripts: their values, what they weigh and keep to, their canonical texts and their limits.
+//! Ops, phases and scripts: their values, weights and rules, their canonical texts and their limits.
 #![tactic(auto)]
 
 pub mod bytes;
@@ -10,6 +10,7 @@ pub mod phase;
 pub mod printing;
 pub mod script;
 pub mod text_lines;
+pub mod theorems;
 pub mod weights;
 mod written;
 

@@ -51,7 +51,7 @@ impl Phase {
         Phase { order, threads }
     }
 
-    /// The numbers of its threads in whose order they take their steps. A number that is no thread of it does nothing.
+    /// The numbers of its threads, in the order in which they take their steps. A number of no thread of it does nothing.
     pub fn order(&self) -> &[u32]
         ensures { result.now ≡ self.now.order }
     {

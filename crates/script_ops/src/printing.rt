@@ -124,7 +124,7 @@ impl GrowingText {
 }
 
 /// Adds the canonical text of an op, which a line of a script may be: its words with one space between, numbers in decimal,
-/// and the escapes of a written text (this project's profile). Nothing is added where it is out of memory.
+/// and the escapes of a written text (this project's profile). An error is out of memory, and then nothing is added.
 pub fn push_op(alloc: Global, op: &Op, names: &Names, out: &mut Vec<u8>) -> Result<(), NoMemory>
     requires { AreKnown (length names.now) (op_ids op.now) }
     ensures ok { OnOk result (out.new.items ≡ out.old.items ++ op_text names.now op.now) }

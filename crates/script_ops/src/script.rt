@@ -14,7 +14,8 @@ use machine::Machine;
 use path_names::Names;
 use std::marker::Model;
 
-/// A script: a machine, its tasks, and phases of threads. Phases are numbered from 0, and threads from 0 through the whole script.
+/// A script: a machine, its tasks, and phases of threads. Phases are numbered from 0, and threads from 0 through the whole
+/// script.
 #[derive(Drop)]
 pub struct Script {
     machine: Machine,
@@ -36,7 +37,7 @@ impl Model for Script {
 }
 
 impl Script {
-    /// The script of these parts, which keep to what each script keeps to.
+    /// The script of these parts, which meet the rules of every script.
     pub fn new(machine: Machine, tasks: Vec<u32>, names: Names, phases: Vec<Phase>) -> Script
         requires lawful { IsLawful (record { machine = parameters_of machine; tasks = tasks.items; names = names; phases = phases.items }) }
         ensures { result ≡ record { machine = parameters_of machine; tasks = tasks.items; names = names; phases = phases.items } }
@@ -80,7 +81,7 @@ impl Script {
         self.phases.len() as u32
     }
 
-    /// The numbers of threads in whose order a phase takes its steps. A number that is no thread of the phase does nothing.
+    /// The numbers of threads, in the order in which they take steps in a phase. A number of no thread of the phase does nothing.
     pub fn order(&self, phase: u32) -> &[u32]
         requires { phase < length self.now.phases }
         ensures { result.now ≡ (phase_at self.now phase).order }
@@ -113,7 +114,7 @@ impl Script {
         ensures threads { result ≡ length (threads_of self.now) }
         ensures few { result ≤ MOST_THREADS }
 
-        // All that a script keeps to.
+        // The rules of every script.
         ensures lawful { IsLawful self.now }
     {
         count_threads(&self.phases)

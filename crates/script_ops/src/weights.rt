@@ -7,7 +7,7 @@ use crate::op::Op;
 use machine::Machine;
 use path_names::{FileKind, PathRef};
 
-// A look at each RMID in each slice, and one.
+// A look at each RMID in each slice, one more entry in each slice, and 1.
 fn looks_weight(m: &Machine) -> u64
     ensures value { result ≡ looks_weight (parameters_of m.now) }
     ensures some { 0 < result }

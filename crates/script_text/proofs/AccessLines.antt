@@ -1,18 +1,18 @@
 -- Access lines in their usual form: their words, and what they mean.
-use Rattle.std.proofs.Common.{◌≡◌, ℕ, ◌-◌, ◌^◌, ◌<◌, Bool, true, false, cond, eqb, ltb, ◌++◌, List, [], ◌∷◌, length, filter, get_or, drop, min, Some, None, option_and_then, refl, sym, ap, ◌∙◌, arith, append_assoc, length-append}
+use Rattle.std.proofs.Common.{◌≡◌, ℕ, ◌-◌, ◌^◌, ◌<◌, Bool, true, false, cond, eqb, ltb, ◌++◌, List, [], ◌∷◌, length, filter, drop, min, Some, None, option_and_then, refl, sym, ap, ◌∙◌, arith, append_assoc, length-append}
 use Rattle.std.specs.Prelude.{codes}
 use Rattle.std.specs.Char.{digit_value}
 use Rattle.std.specs.List.{list_any, slice_split}
-use Rattle.std.specs.Str.Lines.{lines, lines_of_parts, strip_carriage_return}
+use Rattle.std.specs.Str.Lines.{lines, lines_of_parts}
 use Rattle.std.specs.Str.Parse.{digits_value, AllDigits}
-use Rattle.std.proofs.lemmas.Bool.{ne_eqb, le-ltb}
-use Rattle.std.proofs.lemmas.List.Folds.{list_any-append, list_any_at}
+use Rattle.std.proofs.lemmas.Bool.{le-ltb}
+use Rattle.std.proofs.lemmas.List.Folds.{list_any-append}
 use Rattle.std.proofs.lemmas.List.Splits.{length-slice_split}
 use Rattle.std.proofs.lemmas.Str.Parse.{digit_from_value}
-use Rattle.lists.proofs.Cuts.{slice_split-none, slice_split-some}
+use Rattle.lists.proofs.Cuts.{slice_split-none, slice_split-some, lines_of_parts-cons, strip_carriage_return-none}
 use Rattle.num_text.specs.Blanks.{is_blank}
 use Rattle.num_text.specs.Numbers.{dec_of, num_of, number_of}
-use Rattle.num_text.proofs.laws.Digits.{number_of-digits, has_prefix-digits, AllDigits-hexadecimal_digits}
+use Rattle.num_text.proofs.laws.Digits.{number_of-digits, has_prefix-digits, AllDigits-hexadecimal_digits, eqb-decimal, is_blank-decimal, list_any-decimal}
 use Rattle.num_text.proofs.laws.Pieces.{Cut-append}
 use Rattle.machine.specs.declared.parameters.Parameters.{Parameters}
 use Rattle.script_text.specs.declared.arguments.Use.{Use}
@@ -28,14 +28,6 @@ use Rattle.script_text.proofs.FirstWord.{filter-some_word, words-blank}
 
 -- ---- decimal digits
 
--- no digit is another byte
-eqb-decimal : (c k : ℕ) → k < 48 → digit_value c < 10 → eqb c k ≡ false
-eqb-decimal c k low digit = ne_eqb c k (λ e. omega (arith, e, low, (digit_from_value c digit).0))
-
--- no digit is a blank
-pub is_blank-decimal : (c : ℕ) → digit_value c < 10 → is_blank c ≡ false
-is_blank-decimal c digit = rw (eqb-decimal c 32 (omega arith) digit, eqb-decimal c 9 (omega arith) digit) refl
-
 -- no digit is a bad byte
 is_bad-decimal : (c : ℕ) → digit_value c < 10 → is_bad c ≡ false
 is_bad-decimal c digit =
@@ -43,11 +35,6 @@ is_bad-decimal c digit =
     rw (le-ltb c 32 (omega (arith, range.0)), le-ltb 126 c (omega (arith, range.1))) refl
 
 module _ (p : ℕ → Bool) where
-  -- a test that no digit passes
-  pub list_any-decimal : ((c : ℕ) → digit_value c < 10 → p c ≡ false) → (cs : List ℕ) → AllDigits 10 cs → list_any p cs ≡ false
-  list_any-decimal h [] all = refl
-  list_any-decimal h (c ∷ cs) all = rw (h c all.0) (list_any-decimal h cs all.1)
-
   -- a piece, a byte and the rest
   list_any-piece : (x : List ℕ) (b : ℕ) (rest : List ℕ) → list_any p x ≡ false → p b ≡ false → list_any p rest ≡ false → list_any p (x ++ b ∷ rest) ≡ false
   list_any-piece x b rest none sep after = list_any-append p x (b ∷ rest) ∙ rw (none, sep, after) refl
@@ -69,19 +56,6 @@ words-one : (x : List ℕ) → 0 < length x → list_any is_blank x ≡ false �
 words-one x some none = ap (filter is_some_word) (slice_split-none is_blank x none) ∙ filter-some_word x [] some
 
 -- ---- lines
-
--- one part in front
-lines_of_parts-cons : (x : List ℕ) (parts : List (List ℕ)) → 0 < length parts → lines_of_parts (x ∷ parts) ≡ strip_carriage_return x ∷ lines_of_parts parts
-lines_of_parts-cons x [] h = absurd (omega arith)
-lines_of_parts-cons x (y ∷ more) h = refl
-
--- a line without a carriage return
-strip_carriage_return-none : (x : List ℕ) → 0 < length x → list_any (λ b. eqb b 13) x ≡ false → strip_carriage_return x ≡ x
-strip_carriage_return-none x some none = at (eqb (get_or x (length x - 1) 0) 13) refl
-  where
-    at : (b : Bool) → eqb (get_or x (length x - 1) 0) 13 ≡ b → strip_carriage_return x ≡ x
-    at true e = let any = list_any_at (λ b. eqb b 13) x (length x - 1) 0 (omega arith) e in absurd cc
-    at false e = rw e refl
 
 -- a line and its newline
 lines-piece : (x rest : List ℕ) → 0 < length x → list_any (λ b. eqb b 10) x ≡ false → list_any (λ b. eqb b 13) x ≡ false → lines (x ++ 10 ∷ rest) ≡ x ∷ lines rest

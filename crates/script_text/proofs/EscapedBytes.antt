@@ -1,5 +1,5 @@
 -- A text whose escapes are read, byte by byte.
-use Rattle.std.proofs.Common.{◌≡◌, ℕ, ◌==◌, ◌++◌, false, List, [], ◌∷◌, Option, Some, None, refl, sym, ap, append_assoc}
+use Rattle.std.proofs.Common.{◌≡◌, ℕ, ◌==◌, ◌++◌, false, List, [], ◌∷◌, Some, refl, ap}
 use Rattle.std.specs.Option.{option_map}
 use Rattle.std.proofs.lemmas.List.{append-nil}
 use Rattle.script_text.specs.Escapes.{unescaped}
@@ -14,10 +14,5 @@ unescaped-plain b (c ∷ rest) h = rw h refl
 pub option_map-unescaped_nil : (bytes left : List ℕ) → left ≡ [] → option_map (λ rest. bytes ++ rest) (unescaped left) ≡ Some bytes
 unfolding unescaped
 option_map-unescaped_nil bytes left e = rw e (ap (λ (xs : List ℕ). Some xs) (append-nil bytes))
-
--- one more byte
-pub option_map-cons : (bytes : List ℕ) (b : ℕ) (o : Option (List ℕ)) → option_map (λ rest. bytes ++ rest) (option_map (λ xs. b ∷ xs) o) ≡ option_map (λ rest. (bytes ++ b ∷ []) ++ rest) o
-option_map-cons bytes b None = refl
-option_map-cons bytes b (Some xs) = ap (λ (ys : List ℕ). Some ys) (sym (append_assoc bytes (b ∷ []) xs))
 
 pub ruleset plain_bytes = (unescaped-plain)

@@ -1,30 +1,13 @@
 -- Kinds of line by their words, each of which its first two bytes tell from the others.
-use Rattle.std.proofs.Common.{◌≡◌, ℕ, ◌<◌, ◌≤◌, Bool, true, false, cond, ◌&&◌, eqb, List, [], ◌∷◌, length, get_or, Option, Some, None, refl, sym, ap, subst, ◌∙◌, arith}
+use Rattle.std.proofs.Common.{◌≡◌, ℕ, ◌<◌, ◌≤◌, Bool, true, false, cond, List, [], ◌∷◌, length, get_or, Option, Some, None, refl, sym, ap, subst, ◌∙◌, arith}
 use Rattle.std.proofs.lemmas.Bool.{false≢true}
-use Rattle.std.proofs.lemmas.Bool.Decides.{Decides-eqb}
 use Rattle.std.proofs.lemmas.Option.{none-some, same_Some}
 use Rattle.std.specs.Option.{option_or}
 use Rattle.rc_base.specs.Texts.{is_text}
 use Rattle.script_text.specs.declared.kind.Kind.{Kind}
 use Rattle.script_text.specs.declared.kind.Kind.TheVariants as kinds
 use Rattle.script_text.specs.Kinds.{part_kind, command_kind, access_kind, kind_of, kind_name, kind_with}
-
--- two tests that both pass
-both : (a b : Bool) → (a && b) ≡ true → (a ≡ true) × (b ≡ true)
-both true b e = (refl, e)
-both false b e = absurd cc
-
--- equal texts
-same-is_text : (xs ys : List ℕ) → is_text xs ys ≡ true → xs ≡ ys
-unfolding is_text
-same-is_text [] [] e = refl
-same-is_text [] (c ∷ cs) e = absurd cc
-same-is_text (b ∷ bs) [] e = absurd cc
-same-is_text (b ∷ bs) (c ∷ cs) e =
-    let parts = both (eqb b c) (is_text bs cs) e in
-    let first : b ≡ c = (Decides-eqb b c).0 parts.0 in
-    let rest : bs ≡ cs = same-is_text bs cs parts.1 in
-    cc
+use Rattle.rc_base.proofs.laws.Texts.{is_text-same}
 
 -- a kind that was found by its name
 abbrev Named : List ℕ → Option Kind → Type 0
@@ -118,7 +101,7 @@ length-kind_name kinds.Touch = omega arith
 
 -- a word that is this kind's
 pub kind_of-named : (word : List ℕ) (k : Kind) → is_text word (kind_name k) ≡ true → kind_of word ≡ Some k
-kind_of-named word k e = subst (λ (w : List ℕ). kind_of w ≡ Some k) (sym (same-is_text word (kind_name k) e)) (kind_of-kind_name k)
+kind_of-named word k e = subst (λ (w : List ℕ). kind_of w ≡ Some k) (sym (is_text-same word (kind_name k) e)) (kind_of-kind_name k)
 
 -- a word that is the name of none
 kind_of-none : (word : List ℕ) → ((k : Kind) → is_text word (kind_name k) ≡ false) → kind_of word ≡ None
@@ -136,13 +119,13 @@ never false h = refl
 -- a word of one byte or none
 pub kind_of-short : (word : List ℕ) → length word < 2 → kind_of word ≡ None
 kind_of-short word short = kind_of-none word (λ k. never (is_text word (kind_name k)) (λ is.
-    let same : length word ≡ length (kind_name k) = ap length (same-is_text word (kind_name k) is) in
+    let same : length word ≡ length (kind_name k) = ap length (is_text-same word (kind_name k) is) in
     absurd (omega (arith, length-kind_name k, same))))
 
 -- a word that is not the name of the only kind that it can be
 kind_of-other : (first second : ℕ) (rest : List ℕ) → is_text (first ∷ second ∷ rest) (kind_name (kind_with first second)) ≡ false → kind_of (first ∷ second ∷ rest) ≡ None
 kind_of-other first second rest differ = kind_of-none (first ∷ second ∷ rest) (λ k. never (is_text (first ∷ second ∷ rest) (kind_name k)) (λ is.
-    let kind : kind_with first second ≡ k = begins k first second rest (same-is_text (first ∷ second ∷ rest) (kind_name k) is) in
+    let kind : kind_with first second ≡ k = begins k first second rest (is_text-same (first ∷ second ∷ rest) (kind_name k) is) in
     let same : is_text (first ∷ second ∷ rest) (kind_name (kind_with first second)) ≡ true = ap (λ (k : Kind). is_text (first ∷ second ∷ rest) (kind_name k)) kind ∙ is in
     absurd (false≢true (sym differ ∙ same))))
 

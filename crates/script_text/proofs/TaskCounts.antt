@@ -1,7 +1,7 @@
 -- How often ranges have a task, in whatever order they stand.
-use Rattle.std.proofs.Common.{◌≡◌, ℕ, ◌+◌, ◌<◌, ◌≤◌, Bool, true, false, cond, ◌&&◌, leb, eqb, ◌++◌, List, [], ◌∷◌, Some, None, refl, sym, ap, ◌∙◌, arith, inl, inr, rules, eq-eqb}
+use Rattle.std.proofs.Common.{◌≡◌, ℕ, ◌+◌, ◌<◌, ◌≤◌, Bool, true, false, cond, ◌&&◌, leb, eqb, ◌++◌, List, [], ◌∷◌, Some, None, refl, sym, ap, ◌∙◌, arith, inl, inr, eq-eqb}
 use Rattle.std.specs.List.{list_any, position_or_len, sum_by, All}
-use Rattle.std.proofs.lemmas.Bool.{cases_lt, and_parts, le-leb, leb-true, ne_eqb}
+use Rattle.std.proofs.lemmas.Bool.{cases_lt, and_parts, le-leb, leb-true, ne_eqb, lt-leb}
 use Rattle.std.proofs.lemmas.List.{append-nil}
 use Rattle.std.proofs.lemmas.List.Elements.{All-nil, All-cons, All-tail}
 use Rattle.std.proofs.lemmas.List.Sums.{sum_by-append, sum_by-insert, sum_by-cons}
@@ -14,21 +14,17 @@ use Rattle.script_text.proofs.TaskLists.{IsOrdered, with_all}
 abbrev pub holds : ℕ → TaskRange → ℕ
 holds x t = cond (has_task x t) 1 0
 
--- a number that is not at most another
-leb-above : (a b : ℕ) → b < a → leb a b ≡ false
-leb-above a b h = search rules
-
 -- a task of a range
 pub holds-inside : (x : ℕ) (t : TaskRange) → t.first ≤ x → x ≤ t.last → holds x t ≡ 1
 holds-inside x t low high = rw (le-leb t.first x low, le-leb x t.last high) refl
 
 -- a task before a range
 holds-before : (x : ℕ) (t : TaskRange) → x < t.first → holds x t ≡ 0
-holds-before x t h = rw (leb-above t.first x h) refl
+holds-before x t h = rw (lt-leb t.first x h) refl
 
 -- a task after a range
 holds-behind : (x : ℕ) (t : TaskRange) → t.last < x → holds x t ≡ 0
-holds-behind x t h = rw (leb-above x t.last h) (ap (λ (b : Bool). cond b 1 0) (at (leb t.first x)))
+holds-behind x t h = rw (lt-leb x t.last h) (ap (λ (b : Bool). cond b 1 0) (at (leb t.first x)))
   where
     at : (b : Bool) → (b && false) ≡ false
     at true = refl

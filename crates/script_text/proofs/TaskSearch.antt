@@ -1,12 +1,9 @@
 -- Where a task is in ranges that rise.
-use Rattle.std.proofs.Common.{◌≡◌, ℕ, zero, suc, ◌+◌, ◌<◌, ◌≤◌, Bool, true, false, ◌&&◌, ◌||◌, leb, List, [], ◌∷◌, length, get_or, refl, sym, ◌∙◌, arith, le-leb, leb-false, rules}
+use Rattle.std.proofs.Common.{◌≡◌, ℕ, zero, suc, ◌+◌, ◌<◌, ◌≤◌, Bool, true, false, ◌&&◌, ◌||◌, leb, List, [], ◌∷◌, length, get_or, refl, sym, ◌∙◌, arith, le-leb, leb-false}
 use Rattle.std.specs.List.{list_any, AllWithin}
+use Rattle.std.proofs.lemmas.Bool.{lt-leb}
 use Rattle.script_text.specs.declared.tasks.TaskRange.{TaskRange}
 use Rattle.script_text.specs.Tasks.{has_task, meets, RiseFrom}
-
--- a number above is not at most
-leb-above : (a b : ℕ) → b < a → leb a b ≡ false
-leb-above a b h = search rules
 
 -- ---- the ends and the beginnings rise
 
@@ -36,7 +33,7 @@ get_or-last_rises low (t ∷ ts) rise (suc i) (suc j) d le h = get_or-last_rises
 list_any-meets_none : (low : ℕ) (all : List TaskRange) (t : TaskRange) → RiseFrom low all → t.last < low → list_any (meets t) all ≡ false
 list_any-meets_none low [] t rise h = refl
 list_any-meets_none low (u ∷ us) t rise h =
-    let behind : leb u.first t.last ≡ false = leb-above u.first t.last (omega (arith, rise.0, h)) in
+    let behind : leb u.first t.last ≡ false = lt-leb u.first t.last (omega (arith, rise.0, h)) in
     rw behind (apart (leb t.first u.last) (list_any-meets_none (u.last + 1) us t rise.2 (omega (arith, rise.0, rise.1, h))))
   where
     apart : (a : Bool) {b : Bool} → b ≡ false → ((a && false) || b) ≡ false
@@ -54,14 +51,14 @@ leb-list_any_meets low (u ∷ us) t zero d rise before h end =
     at true e = refl
     at false e = sym (list_any-meets_none (u.last + 1) us t rise.2 (omega (arith, leb-false u.first t.last e, rise.1)))
 leb-list_any_meets low (u ∷ us) t (suc i) d rise before h end =
-    let over : leb t.first u.last ≡ false = leb-above t.first u.last (before 0 d (omega arith) (omega arith)) in
+    let over : leb t.first u.last ≡ false = lt-leb t.first u.last (before 0 d (omega arith) (omega arith)) in
     rw over (leb-list_any_meets (u.last + 1) us t i d rise.2 (λ k e a b. before (suc k) e (omega arith) (omega arith)) (omega arith) end)
 
 -- all end before it begins
 pub list_any-meets_before : (all : List TaskRange) (t : TaskRange) → AllWithin (λ u. u.last < t.first) all 0 (length all) → list_any (meets t) all ≡ false
 list_any-meets_before [] t before = refl
 list_any-meets_before (u ∷ us) t before =
-    let over : leb t.first u.last ≡ false = leb-above t.first u.last (before 0 u (omega arith) (omega arith)) in
+    let over : leb t.first u.last ≡ false = lt-leb t.first u.last (before 0 u (omega arith) (omega arith)) in
     rw over (list_any-meets_before us t (λ k e a b. before (suc k) e (omega arith) (omega arith)))
 
 -- ---- ranges that have an id

@@ -17,7 +17,7 @@ cpu_of m word = below m.cpus (dec_of word)
 abbrev pub addr_of : List ℕ → Option ℕ
 addr_of word = below (2 ^ 48) (num_of word)
 
--- TASK CPU at a place, which is an address or an offset
+-- the words TASK CPU, and a place that is an address or an offset
 unfoldable pub use_of : Parameters → List ℕ → List ℕ → Option ℕ → Option Use
 use_of m task cpu place = option_and_then (λ t. option_and_then (λ c. option_and_then (λ at. Some (record { task = t; cpu = c; at = at })) place) (cpu_of m cpu)) (capped (dec_of task))
 
@@ -63,7 +63,7 @@ unfoldable pub order_from : List ℕ → List (List ℕ) → Option (List ℕ)
 order_from numbers [] = Some numbers
 order_from numbers (word ∷ words) = option_and_then (λ n. order_from (numbers ++ n ∷ []) words) (below (2 ^ 32) (dec_of word))
 
--- one number or more
+-- the numbers of an order, one or more
 abbrev pub order_of : List (List ℕ) → Option (List ℕ)
 order_of [] = None
 order_of (word ∷ words) = order_from [] (word ∷ words)
@@ -78,7 +78,7 @@ abbrev pub first_of : List (List ℕ) → Option (List ℕ)
 first_of [] = None
 first_of (word ∷ words) = Some word
 
--- What a function left behind is this order, unless memory ran out.
+-- After the call the numbers are this order, or memory ran out. BadArgument says that there is no order.
 abbrev pub Orders : Result (Unit {0}) LineError → List ℕ → Option (List ℕ) → Type 0
 Orders (Ok u) after order = order ≡ Some after
 Orders (Err errors.NoMemory) after order = Unit {0}

@@ -16,7 +16,7 @@ equals b = b == 61
 abbrev pub at_most : ℕ → Option ℕ → Option ℕ
 at_most high number = option_and_then (λ n. if nat_le n high then Some n else None) number
 
--- a number of a key, which was not given before
+-- the number of a key, if it is at most this and the key was not given before
 abbrev pub once : Bool → ℕ → Option ℕ → Option ℕ
 once given high number = if given then None else at_most high number
 

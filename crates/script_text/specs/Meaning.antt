@@ -24,13 +24,13 @@ use Rattle.script_text.specs.Tasks.{declared, task_of, count_of}
 use Rattle.script_ops.specs.Weights.{weight_of}
 use Rattle.script_ops.specs.declared.limits.TheConstants.{MOST_WEIGHT, MOST_TASKS, MOST_TEXT_BYTES, MOST_ORDER, MOST_PHASES, MOST_PHASE_THREADS}
 
--- a value and what follows it, or its fault
 infixl 10 ◌>>=◌
+-- the meaning that follows from a value, or the fault where there is none
 abbrev pub ◌>>=◌ : {A B : Type 0} → Result A LineFault → (A → Result B LineFault) → Result B LineFault
 (Ok x) >>= f = f x
 (Err e) >>= f = Err e
 
--- a fault, where a test fails
+-- this fault where the test is true, and else nothing
 abbrev pub unless : Bool → LineFault → Result (Unit {0}) LineFault
 unless b fault = if b then Err fault else Ok tt
 
@@ -41,7 +41,7 @@ or_fault (Some x) fault = Ok x
 
 -- ---- parts of a meaning
 
--- ops at the end of the open thread
+-- ops at the end of the open thread, or TooLarge where they weigh too much
 abbrev pub with_ops : ReaderState → ℕ → List Op → Result ReaderState LineFault
 with_ops s weight ops = if nat_lt MOST_WEIGHT (s.weight + weight) then Err TooLarge else Ok (record s { ops = s.ops ++ ops; weight = s.weight + weight })
 
@@ -158,16 +158,16 @@ word_means s word rest = do
   b ← unless (not (may_stand kind s.place)) OutOfPlace
   means kind s rest
 
--- A comment and a line without words say nothing.
+-- what a line means by its words; one without words leaves the state as it is
 abbrev pub said_by : ReaderState → List (List ℕ) → List ℕ → Result ReaderState LineFault
 said_by s [] rest = Ok s
 said_by s (word ∷ words) rest = word_means s word rest
 
--- what a line says that is no comment
+-- what a line means that is no comment
 abbrev pub says : ReaderState → List ℕ → Result ReaderState LineFault
 says s line = said_by s (words line) (behind_word line)
 
--- what a line means after these, or its first fault
+-- what a line means in this state, or its first fault
 unfoldable pub line_meaning : ReaderState → List ℕ → Result ReaderState LineFault
 line_meaning s line = do
   a ← unless (list_any is_bad line) BadByte
@@ -175,17 +175,17 @@ line_meaning s line = do
 
 -- ---- what the readers promise
 
--- An error is this fault, or out of memory.
+-- The error is the fault of this meaning, or out of memory.
 abbrev pub Fails : {A : Type 0} → LineError → Result A LineFault → Type 0
 Fails errors.NoMemory meaning = Unit {0}
 Fails (errors.Fault f) meaning = meaning ≡ Err f
 
--- What a function left behind is this meaning, unless memory ran out.
+-- After the call the state is this meaning, or memory ran out. Any other error is the fault of this meaning.
 abbrev pub Means : Result (Unit {0}) LineError → ReaderState → Result ReaderState LineFault → Type 0
 Means (Ok u) after meaning = meaning ≡ Ok after
 Means (Err e) after meaning = Fails e meaning
 
--- A function found what the line's only argument names, and added its names alone.
+-- The call found what the only argument of the line names, and added the names in it and nothing else.
 abbrev pub FindsAlone : Result PathRef LineError → ReaderState → ReaderState → Result Named LineFault → Type 0
 FindsAlone (Ok path) before after meaning = (meaning ≡ Ok (path, after.names)) × (after ≡ with_names before after.names)
 FindsAlone (Err e) before after meaning = Fails e meaning

@@ -15,15 +15,15 @@ use Rattle.script_text.specs.States.{ReaderState, close_phase, is_start}
 use Rattle.script_text.specs.Meaning.{line_meaning}
 use Rattle.script_text.specs.Tasks.{ids_of}
 
--- before the first line
+-- the state before the first line
 abbrev pub nothing_read : ReaderState
 nothing_read = record { place = Start; machine = usual; tasks = []; names = []; phases = []; order = []; threads = []; ops = []; weight = 0 }
 
--- the script of all lines
+-- the script of a state after all lines
 abbrev pub script_in : ReaderState → ScriptValue
 script_in s = record { machine = s.machine; tasks = ids_of s.tasks; names = s.names; phases = s.phases }
 
--- the script after these many lines
+-- the script after so many lines, or NoMachine at the next line where no line named a machine
 abbrev pub finished : ℕ → ReaderState → Result ScriptValue ScriptFault
 finished n s = if is_start s.place then Err (record { line = n + 1; what = NoMachine }) else Ok (script_in (close_phase s))
 
@@ -47,12 +47,12 @@ abbrev pub located : LineError → ℕ → ScriptError
 located (line_errors.Fault what) n = errors.Bad (record { line = n; what = what })
 located line_errors.NoMemory n = errors.NoMemory
 
--- An error is this fault, or out of memory.
+-- The error is the fault of this reading, or out of memory.
 abbrev pub Fails : ScriptError → Result ScriptValue ScriptFault → Type 0
 Fails errors.NoMemory script = Unit {0}
 Fails (errors.Bad fault) script = script ≡ Err fault
 
--- What a function returned is this, unless memory ran out.
+-- The result is this reading, or memory ran out.
 abbrev pub Reads : Result ScriptValue ScriptError → Result ScriptValue ScriptFault → Type 0
 Reads (Ok s) script = script ≡ Ok s
 Reads (Err e) script = Fails e script

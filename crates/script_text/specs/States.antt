@@ -15,7 +15,7 @@ use Rattle.script_ops.specs.Weights.{weights_of}
 use Rattle.path_names.specs.declared.paths.TheConstants.{MOST_PATH_NAMES}
 use Rattle.script_ops.specs.declared.limits.TheConstants.{MOST_PHASES, MOST_PHASE_THREADS, MOST_TASKS, MOST_WEIGHT}
 
--- The lines so far: the phases that are closed, the order and the closed threads of the open phase, and the ops of the open thread.
+-- The lines so far: the closed phases, the order and the closed threads of the open phase, and the ops of the open thread.
 pub record ReaderState : Type 0 where
   pub place : Place
   pub machine : Parameters
@@ -54,8 +54,8 @@ close_phase s = if is_head s.place then s else record (close_thread s) { phases 
 abbrev pub state_of : Reader → ReaderState
 state_of r = record { place = r.place; machine = parameters_of r.machine; tasks = r.tasks.items; names = r.names; phases = r.phases.items; order = r.order.items; threads = r.threads.items; ops = r.ops.items; weight = r.weight }
 
--- What the lines so far keep to, where so many phases and so many threads of the open phase may still be closed, with so many
--- names of an op that is not yet pushed. An op weighs 1 at least and has few names, so that these stay few.
+-- Limits while reading, with so many phases, threads of the open phase, and names still to come. Each op weighs at least 1 and
+-- has few names, so these stay bounded.
 pub record InLimits (more_phases more_threads extra : ℕ) (s : ReaderState) : Type 0 where
   pub names : length s.names ≤ MOST_PATH_NAMES * s.weight + extra
   pub weight : s.weight ≤ MOST_WEIGHT
@@ -67,7 +67,7 @@ pub record InLimits (more_phases more_threads extra : ℕ) (s : ReaderState) : T
   pub threads_named : All (AreNamed (length s.names)) s.threads
   pub phases_named : All (AreNamed (length s.names)) (threads_in s.phases)
 
--- one phase more can be closed, and one thread more
+-- one more phase and one more thread can be closed
 abbrev pub IsSound : ReaderState → Type 0
 IsSound s = InLimits 1 1 0 s
 
@@ -77,12 +77,12 @@ is_early Start = true
 is_early Head = true
 is_early place = false
 
--- before the first phase there are no ops
+-- before the first phase there are no ops, threads or phases
 abbrev pub BeginsBare : ReaderState → Type 0
 BeginsBare s = is_early s.place ≡ true → (s.ops ≡ []) × (s.threads ≡ []) × (s.phases ≡ [])
 
--- The tasks are few; the ops so far are of the machine and its tasks, their components have short names, and they weigh no more
--- than is counted.
+-- The tasks are few; the ops so far fit the machine and its tasks, their components have short names, and they weigh no more than
+-- is counted.
 pub record IsFit (s : ReaderState) : Type 0 where
   pub few_tasks : count_of s.tasks ≤ MOST_TASKS
   pub ops : AreFit s.machine (ids_of s.tasks) s.ops
@@ -94,7 +94,7 @@ pub record IsFit (s : ReaderState) : Type 0 where
   pub light : sum_by (weights_of s.machine) (threads_in s.phases) + sum_by (weights_of s.machine) s.threads + weights_of s.machine s.ops ≤ s.weight
   pub counted : s.weight ≤ MOST_WEIGHT
 
--- what the lines so far keep to, whatever the next one is
+-- what holds after the lines so far, whatever the next one is
 pub record IsReady (s : ReaderState) : Type 0 where
   pub bare : BeginsBare s
   pub fit : IsFit s

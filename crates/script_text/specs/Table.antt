@@ -1,4 +1,5 @@
 -- The faults of a line as a table: which faults it has, and the order in which they are tried.
+-- (For functions and proofs: no promise of the program stands on it.)
 use Rattle.std.specs.Prelude.{◌≡◌, ℕ, ◌+◌, Bool, true, false, not, ◌&&◌, ◌||◌, ◌==◌, nat_lt, nat_le, List, [], ◌∷◌, length, codes, Option, Some, None, Result, Ok, Err, is_none, if◌then◌else◌}
 use Rattle.std.specs.List.{list_any, find}
 use Rattle.rc_base.specs.Texts.{is_text}
@@ -121,17 +122,17 @@ word_fault s word rest UnknownWord = is_none (kind_of word)
 word_fault s word rest OutOfPlace = passes (λ k. not (may_stand k s.place)) (kind_of word)
 word_fault s word rest fault = passes (λ k. argument_fault k s rest fault) (kind_of word)
 
--- A comment and a line without words have none of these.
+-- the faults of a line by its words; one without words has none
 abbrev pub said_fault : ReaderState → List (List ℕ) → List ℕ → LineFault → Bool
 said_fault s [] rest fault = false
 said_fault s (word ∷ words) rest fault = word_fault s word rest fault
 
--- whether a line has a fault, after these
+-- whether a line has a fault, in this state
 unfoldable pub has_fault : ReaderState → List ℕ → LineFault → Bool
 has_fault s line BadByte = list_any is_bad line
 has_fault s line fault = not (is_comment line) && said_fault s (words line) (behind_word line) fault
 
--- the fault that a meaning is
+-- the fault of a meaning, where it is one
 abbrev pub fault_of : {A : Type 0} → Result A LineFault → Option LineFault
 fault_of (Ok s) = None
 fault_of (Err fault) = Some fault

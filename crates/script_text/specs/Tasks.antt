@@ -44,7 +44,7 @@ unfoldable pub declared_from : List TaskRange → List (List ℕ) → Option (Li
 declared_from all [] = Some all
 declared_from all (word ∷ words) = option_and_then (λ t. if list_any (meets t) all then None else declared_from (with_range t all) words) (tasks_of word)
 
--- one word or more
+-- the same, for one word or more
 abbrev pub declared : List TaskRange → List (List ℕ) → Option (List TaskRange)
 declared all [] = None
 declared all (word ∷ words) = declared_from all (word ∷ words)
@@ -63,7 +63,7 @@ abbrev pub RiseFrom : ℕ → List TaskRange → Type 0
 RiseFrom low [] = Unit {0}
 RiseFrom low (t ∷ ts) = (low ≤ t.first) × (t.first ≤ t.last) × RiseFrom (t.last + 1) ts
 
--- a declared task
+-- the task of this id, where it is declared
 abbrev pub task_of : List TaskRange → ℕ → Option ℕ
 task_of all id = if nat_lt id (2 ^ 32) && list_any (has_task id) all then Some id else None
 
@@ -83,7 +83,7 @@ ids_in t = range_with_len t.first (size_of t)
 abbrev pub ids_of : List TaskRange → List ℕ
 ids_of all = flat_map ids_in all
 
--- What a function left behind is this declaration, unless memory ran out.
+-- After the call the ranges are this declaration, or memory ran out. BadTasks says that there is none.
 abbrev pub Declares : Result (Unit {0}) LineError → List TaskRange → Option (List TaskRange) → Type 0
 Declares (Ok u) after declaration = declaration ≡ Some after
 Declares (Err errors.NoMemory) after declaration = Unit {0}

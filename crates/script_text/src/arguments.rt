@@ -17,7 +17,7 @@ pub struct Use {
     pub at: u64,
 }
 
-/// The first access of a sweep, how many accesses it is, and how many bytes they are apart.
+/// The first access of a sweep, how many accesses it has, and how many bytes they are apart.
 #[derive(Clone, Copy, Debug, PartialEq, Eq)]
 pub struct Sweep {
     pub first: Use,

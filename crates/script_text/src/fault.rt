@@ -10,9 +10,9 @@ use std::alloc::{AllocError, AllocFailed};
 pub enum LineFault {
     /// A byte below 0x20 other than the tab, or above 0x7e.
     BadByte,
-    /// The first line that says something is no machine line, or no line says anything.
+    /// The first line that is neither blank nor a comment is no machine line, or there is no such line.
     NoMachine,
-    /// The first word is none that a line begins with.
+    /// The first word is not one that begins a line.
     UnknownWord,
     /// The line may not stand here.
     OutOfPlace,
@@ -66,7 +66,7 @@ impl From<NoMemory> for LineError {
 /// The first bad line of a text, counted from 1, and its first fault.
 #[derive(Clone, Copy, Debug, PartialEq, Eq)]
 pub struct ScriptFault {
-    /// The number of the line; where no line says anything, the number of lines and one.
+    /// The number of the line; where all lines are blank or comments, the number of lines plus one.
     pub line: u32,
     /// Its first fault.
     pub what: LineFault,

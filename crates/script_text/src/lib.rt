@@ -23,6 +23,3 @@ mod words;
 pub use fault::{LineFault, ScriptError, ScriptFault};
 pub use reading::read_script;
 pub use script_ops::{Bytes, GrowingText, Op, Script, next_line, push_op};
-
-#[cfg(test)]
-mod tests;

@@ -112,6 +112,7 @@ impl Reader {
     }
 
     /// Takes in the first line of a text, and returns what stands after it; None where there is no line.
+    #[inline(always)]
     pub fn take_line<'a>(&mut self, text: &'a [u8]) -> Result<Option<&'a [u8]>, LineError>
         requires { IsSound (state_of self.old) }
         ensures said { TakesLine result (state_of self.old) (state_of self.new) text.now }

@@ -19,7 +19,7 @@ fn order_number(word: &[u8]) -> Option<u32>
     }
 }
 
-// The number that a text begins with, and what stands after it and a space. None says nothing of the text.
+// The number that a text begins with, and what stands after it and a space. None tells nothing of the text.
 #[tactic(auto, using(crate::proofs::OrderNumbers::numbers))]
 fn usual_number(text: &[u8]) -> Option<(u32, &[u8])>
     ensures { IfSome result (λ p. BeginsWithOrderNumber text.now p.0 p.1.now) }

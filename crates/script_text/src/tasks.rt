@@ -103,7 +103,7 @@ fn are_apart(all: &[TaskRange]) -> bool
     all.is_sorted_by(|t, u| t.last < u.first)
 }
 
-/// Adds the tasks of the words of a line. All words are seen before they are put in order.
+/// Adds the tasks of the words of a line. All words are read before their tasks are put in order.
 pub fn declare(all: &mut Vec<TaskRange>, text: &[u8]) -> Result<(), LineError>
     requires { RiseFrom 0 all.old.items }
     ensures said { Declares result all.new.items (declared all.old.items (words text.now)) }

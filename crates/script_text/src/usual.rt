@@ -7,10 +7,10 @@ ghost use Rattle.script_text.specs.Usual.{BeginsWithNumber, BeginsWithAccess, us
 use crate::arguments::Use;
 use machine::Machine;
 
-// The greatest number that may get any digit more.
+// The greatest number to which any digit can be appended.
 const MOST_BEFORE_A_DIGIT: u64 = u64::MAX / 10 - 1;
 
-// The decimal digit that a byte is. None says nothing of the byte.
+// The decimal digit that a byte is. None tells nothing of the byte.
 fn digit_of(byte: u8) -> Option<u64>
     ensures { IfSome result (λ d. (d ≡ digit_value byte) × (d < 10)) }
 {
@@ -29,7 +29,7 @@ fn with_digit(n: u64, digit: u64) -> Option<u64>
     Some(n * 10 + digit)
 }
 
-/// The number that a text begins with, and what stands after the byte that ends it. None says nothing of the text.
+/// The number that a text begins with, and what stands after the byte that ends it. None tells nothing of the text.
 pub fn number_before(text: &[u8], end: u8) -> Option<(u64, &[u8])>
     ensures { IfSome result (λ p. BeginsWithNumber text.now end p.0 p.1.now) }
 {
@@ -63,7 +63,7 @@ fn after_kind(text: &[u8]) -> Option<&[u8]>
     }
 }
 
-/// The task, the CPU and the address of an access line that a text begins with, and what stands after the line. None says
+/// The task, the CPU and the address of an access line that a text begins with, and what stands after the line. None tells
 /// nothing of the text.
 pub fn usual_access(text: &[u8]) -> Option<(u64, u64, u64, &[u8])>
     ensures { IfSome result (λ p. BeginsWithAccess text.now p.0 p.1 p.2 p.3.now) }

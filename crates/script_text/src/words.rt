@@ -108,7 +108,7 @@ pub fn five_words(text: &[u8]) -> Option<(&[u8], &[u8], &[u8], &[u8], &[u8])>
     }
 }
 
-// Whether no line may have a byte.
+// Whether this is a byte that no line may have.
 fn is_bad(byte: u8) -> bool
     ensures { result ≡ is_bad byte }
 {

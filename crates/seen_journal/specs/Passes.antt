@@ -1,4 +1,5 @@
 -- A pass, as contracts see it, and what it has seen of its journal.
+-- (For functions and proofs: no promise of the program stands on it.)
 use Rattle.std.specs.Prelude.{◌≡◌, ℕ, ◌<◌, ◌==◌, List, [], slice_index_or, count_by}
 use Rattle.seen_journal.specs.Entries.{entries_of}
 use Rattle.seen_journal.specs.Journals.{JournalName}

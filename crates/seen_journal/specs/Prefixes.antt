@@ -1,4 +1,5 @@
 -- Beginnings of lists.
+-- (For functions and proofs: no promise of the program stands on it.)
 use Rattle.std.specs.Prelude.{◌≡◌, nat_lt, if◌then◌else◌, List, [], ◌∷◌, ◌++◌, length}
 
 -- the first list begins the second

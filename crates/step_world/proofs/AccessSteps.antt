@@ -19,7 +19,7 @@ use Rattle.run_law.proofs.laws.LegalHistories.{legal_entry}
 use Rattle.run_law.proofs.laws.MatchedLooks.{look_by_owed, not_look}
 use Rattle.run_law.proofs.laws.OpMarks.{not_some}
 use Rattle.run_law.proofs.laws.GrownLists.{Adds, with_tree}
-use Rattle.step_world.proofs.MachineStates.{can_be_is, can_be_same, can_be_tree, kept_as, nobody_holds, progress_moved, tree_can_be, where_now}
+use Rattle.step_world.proofs.MachineStates.{can_be_is, can_be_same, can_be_tree, IsKept-same, nobody_holds, progress_moved, tree_can_be, where_now}
 use Rattle.run_law.proofs.laws.ReadTags.{outside, tag_keeps, untag_keeps}
 use Rattle.run_law.proofs.laws.TakenCommands.{idle}
 use Rattle.run_law.proofs.laws.MadeAccesses.{touch_keeps}
@@ -63,7 +63,7 @@ tag_step script t task cpu addr old new here is_op place free tags so_far =
       kept = λ all can.
           let same : all ≡ new.journals.tree = can_be_tree new new.holder all (tags.holder ∙ free) can in
           let was : IsKept script old.journals (progress_in old) old.phase = so_far.kept old.journals.tree (tree_can_be old old.holder free) in
-          kept_as script old.journals.tree all old.journals.slices new.journals.slices (moved (progress_in old) t (outside n (Some tag))) (progress_in new) old.phase new.phase
+          IsKept-same script old.journals.tree all old.journals.slices new.journals.slices (moved (progress_in old) t (outside n (Some tag))) (progress_in new) old.phase new.phase
           (same ∙ tree) slices at tags.moves.phase (tag_keeps script old.journals (progress_in old) old.phase t n task cpu addr here was_at is_op nobody was);
     }
 
@@ -84,7 +84,7 @@ untag_step script t tag old new here place tags so_far =
       looking = looks_same script old new t now tree (where_now old new t now tags.moves) (λ m c is is_c. absurd (not_looking Ready m refl is)) so_far.looking;
       following = follows_same script old new t now tree (where_now old new t now tags.moves) (λ m k c is is_c last. absurd (not_following Ready m refl is)) so_far.following;
       kept = λ all can.
-          kept_as script all all old.journals.slices new.journals.slices (moved (progress_in old) t (idle n)) (progress_in new) old.phase new.phase refl slices at tags.moves.phase
+          IsKept-same script all all old.journals.slices new.journals.slices (moved (progress_in old) t (idle n)) (progress_in new) old.phase new.phase refl slices at tags.moves.phase
           (untag_keeps script (with_tree old.journals all) (progress_in old) old.phase t n tag here was_at
           (so_far.kept all (outside_can_be old new t now all tags.moves tree tags.holder so_far.held none can)));
     }
@@ -162,7 +162,7 @@ touch_step script t tag task cpu addr old new here is_op place touches so_far =
           let could : CanBe old old.holder all = outside_can_be old new t now all touches.moves notes.tree touches.holder so_far.held none can in
           let was : IsKept script (with_tree old.journals all) (progress_in old) old.phase = so_far.kept all could in
           let free : IsFree (progress_in old) all tag.epoch = (was.tags t task cpu addr tag its (ap (λ (x : Progress). x.tag) was_at)).free in
-          kept_as script all all new.journals.slices new.journals.slices (moved (progress_in old) t (idle (n + 1))) (progress_in new) old.phase new.phase refl refl at touches.moves.phase
+          IsKept-same script all all new.journals.slices new.journals.slices (moved (progress_in old) t (idle (n + 1))) (progress_in new) old.phase new.phase refl refl at touches.moves.phase
           (touch_keeps script (with_tree old.journals all) (progress_in old) old.phase t n task cpu addr tag e new.journals.slices
           (record {
             here = here;

@@ -3,14 +3,14 @@ use Rattle.std.proofs.Common.{◌≡◌, ℕ, ◌-◌, ◌<◌, ◌≤◌, inl, 
 use Rattle.std.specs.Prelude.{IsSome, IsTrue}
 use Rattle.std.proofs.lemmas.Bool.{cases_lt}
 use Rattle.std.proofs.lemmas.List.{length_push}
-use Rattle.std.proofs.lemmas.Option.{get_or_from_slice_get, slice_get_within}
+use Rattle.std.proofs.lemmas.Option.{get_or_from_slice_get, slice_get_within, same_Some}
 use Rattle.lists.specs.Sums.{one_if}
 use Rattle.rc_base.proofs.laws.Histories.{EachFollows-at}
 use Rattle.rc_base.specs.declared.replies.Reply.TheVariants as replies
 use Rattle.run_law.proofs.laws.CountedOps.{length-quotas}
 use Rattle.run_law.proofs.laws.Pairs.{both_eqb-true}
 use Rattle.run_law.proofs.laws.Positions.{At-append, At-one}
-use Rattle.run_law.proofs.laws.SoundHistories.{taken}
+use Rattle.run_law.proofs.laws.SoundHistories.{IsTaken-follows}
 use Rattle.run_law.specs.Growth.{IsKept}
 use Rattle.run_law.specs.Journals.{At}
 use Rattle.run_law.specs.Ops.{is_command}
@@ -25,10 +25,6 @@ use Rattle.step_world.proofs.MachineStates.{at_can_be}
 use Rattle.step_world.specs.Machine.{MachineValue, thread_at}
 use Rattle.step_world.specs.Moments.{IsRunSoFar, progress_by, progress_in}
 use Rattle.step_world.specs.declared.place.Place.TheVariants.{Looking}
-
--- equal options of ops
-equal_ops : (a b : Op) → Some a ≡ Some b → a ≡ b
-equal_ops a b h = cc
 
 module _ (script : ScriptValue) (s : MachineValue) (t made : ℕ) (op : Op) (so_far : IsRunSoFar script s) (place : (thread_at s t).place ≡ Looking made) (is : op_at script t (thread_at s t).next ≡ Some op) where
   -- the command as it will be in the tree's history, whatever its reply
@@ -59,7 +55,7 @@ module _ (script : ScriptValue) (s : MachineValue) (t made : ℕ) (op : Op) (so_
         let same : get_or s.journals.tree k claim ≡ e = get_or_from_slice_get s.journals.tree k e claim front in
         let may : CommandMayFollow script (take k s.journals.tree) e =
         subst (CommandMayFollow script (take k s.journals.tree)) same (EachFollows-at (CommandMayFollow script) s.journals.tree k claim so_far.legal.tree_legal (slice_get_within s.journals.tree k e front)) in
-        let its = taken script (take k s.journals.tree) e may in
+        let its = IsTaken-follows script (take k s.journals.tree) e may in
         record { c = its.op; is_op = its.is; command = its.command }
     | inr back ↦
         let same : e ≡ claim = (At-one claim (k - length s.journals.tree) e back.1).1 in
@@ -77,7 +73,7 @@ module _ (script : ScriptValue) (s : MachineValue) (t made : ℕ) (op : Op) (so_
         let (k, e, there, mine) = found (is_taken_from u o) all some in
         let both = both_eqb-true e.thread u e.op o mine in
         let its = of_command k e there in
-        let same : its.c ≡ c = equal_ops its.c c (sym its.is_op ∙ (ap (λ v. op_at script v e.op) both.0 ∙ (ap (λ x. op_at script u x) both.1 ∙ at))) in
+        let same : its.c ≡ c = same_Some its.c c (sym its.is_op ∙ (ap (λ v. op_at script v e.op) both.0 ∙ (ap (λ x. op_at script u x) both.1 ∙ at))) in
         let command : IsTrue (is_command c) = subst (λ x. IsTrue (is_command x)) same its.command in
         let begun : HasBegun (progress_in s u) o = subst (λ x. HasBegun (progress_in s u) x) both.1 (subst (λ v. HasBegun (progress_in s v) e.op) both.0 (kept.of_begun.commands k e there)) in
         let one : one_if (is_command c) ≡ 1 = rw command refl in

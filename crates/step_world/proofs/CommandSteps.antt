@@ -15,12 +15,12 @@ use Rattle.run_law.proofs.laws.LegalHistories.{legal_command, legal_entry}
 use Rattle.run_law.proofs.laws.JobKinds.{follow_no_look}
 use Rattle.run_law.proofs.laws.DoneCommands.{let_go_keeps}
 use Rattle.run_law.proofs.laws.MatchedLooks.{look_by_owed, not_look}
-use Rattle.run_law.proofs.laws.MovedThreads.{here_moved}
+use Rattle.run_law.proofs.laws.MovedThreads.{moved-own}
 use Rattle.run_law.proofs.laws.NotedTruth.{holding, one_op}
 use Rattle.run_law.proofs.laws.NotedEntries.{note_keeps}
 use Rattle.run_law.proofs.laws.Positions.{At-append}
 use Rattle.run_law.proofs.laws.GrownLists.{with_slices, with_tree}
-use Rattle.step_world.proofs.MachineStates.{at_can_be, can_be_at, can_be_tree, holder_off, holder_on, kept_as, place_off, place_on, progress_moved, where_now}
+use Rattle.step_world.proofs.MachineStates.{at_can_be, can_be_at, can_be_tree, holder_off, holder_on, IsKept-same, place_behind-ready, place_behind-following, progress_moved, where_now}
 use Rattle.run_law.proofs.laws.TakenCommands.{idle}
 use Rattle.run_law.specs.Jobs.{Job, follows_of, jobs_of, looks_of}
 use Rattle.step_world.specs.Machine.{Decides, Moves, Follows, MachineValue, thread_at}
@@ -30,7 +30,7 @@ use Rattle.step_world.specs.declared.place.Thread.{Thread}
 use Rattle.run_law.specs.Growth.{AreLegal, IsKept}
 use Rattle.run_law.specs.Progress.{Progress, moved}
 use Rattle.step_world.specs.Moments.{IsRunSoFar, progress_by, progress_in}
-use Rattle.step_world.proofs.StepParts.{place_of, held_on, held_off, only_holder, looks_same, follows_same, not_looking, not_following, following_is, looking_not, journals_are, decided_are, twice, still_there}
+use Rattle.step_world.proofs.StepParts.{place_of, IsHeldBy-held, IsHeldBy-free, only_holder, looks_same, follows_same, not_looking, not_following, following_is, looking_not, journals_are, decided_are, moved-twice, still_there}
 
 -- ---- Follow
 
@@ -65,12 +65,12 @@ follow_step script t made op old new some here is_op place follows so_far =
     elim (cases_lt (made + 1) (length jobs)) [
       | inl less ↦
           let now : Thread = record { next = n; place = Following (made + 1) } in
-          let moves : Moves t now old new = subst (λ v. Moves t v old new) (place_on n (made + 1) (length jobs) less) follows.moves in
+          let moves : Moves t now old new = subst (λ v. Moves t v old new) (place_behind-following n (made + 1) (length jobs) less) follows.moves in
           let holder : new.holder ≡ Some t = follows.holder ∙ holder_on t (made + 1) (length jobs) less in
           let at : (u : ℕ) → progress_in new u ≡ moved (progress_in old) t (holding n (made + 1)) u = progress_moved old new t now moves in
           record {
             legal = legal;
-            held = held_on old new t (holding n (made + 1)) at refl only holder;
+            held = IsHeldBy-held old new t (holding n (made + 1)) at refl only holder;
             looking = looks_same script old new t now notes.tree (where_now old new t now moves) (λ m c is is_c. absurd (looking_not m (made + 1) (sym is))) so_far.looking;
             following = follows_same script old new t now notes.tree (where_now old new t now moves)
                 (λ m k c is is_c last.
@@ -81,26 +81,26 @@ follow_step script t made op old new some here is_op place follows so_far =
                 (subst (λ x. length (looks_of script old.journals.tree follows.position x) ≤ m) c_is (omega (arith, count, decided)))) so_far.following;
             kept = λ all can.
                 let same : all ≡ new.journals.tree = can_be_at new new.holder t (Following (made + 1)) all holder (ap (λ (v : Thread). v.place) moves.there) can in
-                kept_as script old.journals.tree all new.journals.slices new.journals.slices (moved (progress_in old) t (holding n (made + 1))) (progress_in new) old.phase new.phase
+                IsKept-same script old.journals.tree all new.journals.slices new.journals.slices (moved (progress_in old) t (holding n (made + 1))) (progress_in new) old.phase new.phase
                 (same ∙ notes.tree) refl at moves.phase noted;
           }
       | inr more ↦
           let now : Thread = record { next = n + 1; place = Ready } in
-          let moves : Moves t now old new = subst (λ v. Moves t v old new) (place_off n (made + 1) (length jobs) more) follows.moves in
+          let moves : Moves t now old new = subst (λ v. Moves t v old new) (place_behind-ready n (made + 1) (length jobs) more) follows.moves in
           let holder : new.holder ≡ None = follows.holder ∙ holder_off t (made + 1) (length jobs) more in
           let at : (u : ℕ) → progress_in new u ≡ moved (progress_in old) t (idle (n + 1)) u = progress_moved old new t now moves in
           record {
             legal = legal;
-            held = held_off old new t (idle (n + 1)) at refl only holder;
+            held = IsHeldBy-free old new t (idle (n + 1)) at refl only holder;
             looking = looks_same script old new t now notes.tree (where_now old new t now moves) (λ m c is is_c. absurd (not_looking Ready m refl is)) so_far.looking;
             following = follows_same script old new t now notes.tree (where_now old new t now moves) (λ m k c is is_c last. absurd (not_following Ready m refl is)) so_far.following;
             kept = λ all can.
                 let same : all ≡ new.journals.tree = can_be_tree new new.holder all holder can in
                 let between : ℕ → Progress = moved (progress_in old) t (holding n (made + 1)) in
-                kept_as script old.journals.tree all new.journals.slices new.journals.slices (moved between t (idle (n + 1))) (progress_in new) old.phase new.phase
-                (same ∙ notes.tree) refl (λ u. at u ∙ twice (progress_in old) t (holding n (made + 1)) (idle (n + 1)) u) moves.phase
+                IsKept-same script old.journals.tree all new.journals.slices new.journals.slices (moved between t (idle (n + 1))) (progress_in new) old.phase new.phase
+                (same ∙ notes.tree) refl (λ u. at u ∙ moved-twice (progress_in old) t (holding n (made + 1)) (idle (n + 1)) u) moves.phase
                 (let_go_keeps script (with_slices old.journals new.journals.slices) between old.phase t n (made + 1) follows.position op
-                (record { some = some; here = here; place = here_moved (progress_in old) t (holding n (made + 1)); is_op = is_op; last = sym follows.last; all = omega (arith, more, within) }) noted);
+                (record { some = some; here = here; place = moved-own (progress_in old) t (holding n (made + 1)); is_op = is_op; last = sym follows.last; all = omega (arith, more, within) }) noted);
           }
     ]
 
@@ -134,13 +134,13 @@ decide_step script t made op old new some here is_op place looked decides so_far
     elim (cases_lt made (length jobs)) [
       | inl less ↦
           let now : Thread = record { next = n; place = Following made } in
-          let moves : Moves t now old new = subst (λ v. Moves t v old new) (place_on n made (length jobs) less) decides.moves in
+          let moves : Moves t now old new = subst (λ v. Moves t v old new) (place_behind-following n made (length jobs) less) decides.moves in
           let holder : new.holder ≡ Some t = decides.holder ∙ holder_on t made (length jobs) less in
           let at : (u : ℕ) → progress_in new u ≡ moved (progress_in old) t (holding n made) u = progress_moved old new t now moves in
           let same_at : (u : ℕ) → progress_in new u ≡ progress_in old u = λ u. at u ∙ still_there (progress_in old) t (holding n made) was_at u in
           record {
             legal = legal;
-            held = held_on old new t (holding n made) at refl only holder;
+            held = IsHeldBy-held old new t (holding n made) at refl only holder;
             looking = λ u m c is is_c. absurd
                 (elim (where_now old new t now moves u) [
                   | inl mine ↦ looking_not m made (sym is ∙ ap (λ (v : Thread). v.place) mine.1)
@@ -160,17 +160,17 @@ decide_step script t made op old new some here is_op place looked decides so_far
                 ];
             kept = λ all can.
                 let same : all ≡ new.journals.tree = can_be_at new new.holder t (Following made) all holder (ap (λ (v : Thread). v.place) moves.there) can in
-                kept_as script tree all old.journals.slices new.journals.slices (progress_in old) (progress_in new) old.phase new.phase (same ∙ decides.tree) decides.slices same_at moves.phase was;
+                IsKept-same script tree all old.journals.slices new.journals.slices (progress_in old) (progress_in new) old.phase new.phase (same ∙ decides.tree) decides.slices same_at moves.phase was;
           }
       | inr more ↦
           let now : Thread = record { next = n + 1; place = Ready } in
-          let moves : Moves t now old new = subst (λ v. Moves t v old new) (place_off n made (length jobs) more) decides.moves in
+          let moves : Moves t now old new = subst (λ v. Moves t v old new) (place_behind-ready n made (length jobs) more) decides.moves in
           let holder : new.holder ≡ None = decides.holder ∙ holder_off t made (length jobs) more in
           let at : (u : ℕ) → progress_in new u ≡ moved (progress_in old) t (idle (n + 1)) u = progress_moved old new t now moves in
           let made_all : made ≡ length (jobs_of script tree k op) = omega (arith, within, fits, more, ap length (jobs_front script old.journals.tree (h ∷ []) k op (omega arith))) in
           record {
             legal = legal;
-            held = held_off old new t (idle (n + 1)) at refl only holder;
+            held = IsHeldBy-free old new t (idle (n + 1)) at refl only holder;
             looking = λ u m c is is_c. absurd
                 (elim (where_now old new t now moves u) [
                   | inl mine ↦ not_looking Ready m refl (sym (ap (λ (v : Thread). v.place) mine.1) ∙ is)
@@ -183,7 +183,7 @@ decide_step script t made op old new some here is_op place looked decides so_far
                 ]);
             kept = λ all can.
                 let same : all ≡ new.journals.tree = can_be_tree new new.holder all holder can in
-                kept_as script tree all old.journals.slices new.journals.slices (moved (progress_in old) t (idle (n + 1))) (progress_in new) old.phase new.phase (same ∙ decides.tree) decides.slices at moves.phase
+                IsKept-same script tree all old.journals.slices new.journals.slices (moved (progress_in old) t (idle (n + 1))) (progress_in new) old.phase new.phase (same ∙ decides.tree) decides.slices at moves.phase
                 (let_go_keeps script (with_tree old.journals tree) (progress_in old) old.phase t n made k op
                 (record { some = some; here = here; place = was_at; is_op = is_op; last = sym (length_push old.journals.tree h); all = made_all }) was);
           }

@@ -1,10 +1,11 @@
 -- A command of a world is decided.
-use Rattle.std.proofs.Common.{◌≡◌, ◌≢◌, ℕ, ◌+◌, ◌<◌, ◌≤◌, inl, inr, List, [], ◌∷◌, ◌++◌, length, map, take, get_or, set, get_or-set_same, get_or-set_other, length-set, All, Some, None, refl, sym, ap, ◌∙◌, subst, arith}
+use Rattle.std.proofs.Common.{◌≡◌, ◌≢◌, ℕ, ◌+◌, ◌<◌, ◌≤◌, inl, inr, List, [], ◌∷◌, ◌++◌, length, map, take, get_or, set, get_or-set_same, get_or-set_other, length-set, All, Some, refl, sym, ap, ◌∙◌, subst, arith}
 use Rattle.std.specs.Prelude.{slice_get, sum_by, vec_capacity}
 use Rattle.std.specs.List.{flat_map}
 use Rattle.std.proofs.Math.Seq.{take-length}
 use Rattle.std.proofs.lemmas.Bool.{cases_lt}
 use Rattle.std.proofs.lemmas.List.{length-append, length_push, map_push, take-append-le}
+use Rattle.std.proofs.lemmas.Option.{same_Some, none-some}
 use Rattle.rc_base.specs.Buffers.{Looks}
 use Rattle.run_law.proofs.laws.LongerHistories.{looks_front}
 use Rattle.run_law.proofs.laws.TreeHistory.{tree_after-push}
@@ -20,7 +21,7 @@ use Rattle.run_law.proofs.laws.FollowCounts.{follows-are, length-follows, none-f
 use Rattle.step_world.proofs.KeptWorlds.{IsWorldOf-step, Leaves, moves-leaves}
 use Rattle.step_world.proofs.LookedCounts.{looked_given}
 use Rattle.step_world.proofs.LookingWorlds.{held, lists-there, looks-few}
-use Rattle.step_world.proofs.MachineStates.{holder_off, holder_on, place_off, place_on, some_same}
+use Rattle.step_world.proofs.MachineStates.{holder_off, holder_on, place_behind-ready, place_behind-following}
 use Rattle.step_world.proofs.StepRows.{step_decides}
 use Rattle.step_world.proofs.TakenWorlds.{within-next}
 use Rattle.step_world.specs.Answers.{HasDecided, HasNext}
@@ -173,30 +174,24 @@ module _ (script : ScriptValue) (t made : ℕ) (op : Op) (w : World) (world : Is
             let now : Thread = record { next = n; place = Following made } in
             let (holder, threads) = settles.goes (omega (arith, some, applied.at)) in
             let mine : new.holder ≡ Some t = holder ∙ (applied.holder ∙ held script t made op w world nexts place) in
-            let kept : Leaves t now w new = leaves now (threads ∙ ap (λ ts. set ts.items t now) applied.threads) (λ u apart other. apart (some_same u t (sym other ∙ mine))) in
+            let kept : Leaves t now w new = leaves now (threads ∙ ap (λ ts. set ts.items t now) applied.threads) (λ u apart other. apart (same_Some u t (sym other ∙ mine))) in
             let moves : Moves t now (machine_of w) (machine_of new) = moves-leaves t now w new (within-next script w t op world nexts) kept in
             let less : made < length (jobs_of script tree (length tree) op) = omega (arith, jobs-all, some-follow script.machine world.lawful.in_range.some_slice follows some) in
-            let decides : Decides script t made op (machine_of w) (machine_of new) = row now moves (place_on n made (length (jobs_of script tree (length tree) op)) less) (mine ∙ sym (holder_on t made (length (jobs_of script tree (length tree) op)) less)) in
+            let decides : Decides script t made op (machine_of w) (machine_of new) = row now moves (place_behind-following n made (length (jobs_of script tree (length tree) op)) less) (mine ∙ sym (holder_on t made (length (jobs_of script tree (length tree) op)) less)) in
             let step : Steps script t (machine_of w) (machine_of new) = step_decides script t made op (machine_of w) (machine_of new) nexts.present nexts.is place (omega (arith, looks-all script t made op w world nexts place lists its done)) decides in (
               IsWorldOf-step script w new t now world (within-next script w t op world nexts) step kept tree-now slices-now (λ d. lists-now d)
-                  (λ other d held_by is. subst (λ c. IsFollowing script (machine_of new).journals.tree made c new.work) (one_op op other (sym nexts.is ∙ subst (λ k. op_at script t k ≡ Some other) number is)) (following some)),
+                  (λ other d held_by is. subst (λ c. IsFollowing script (machine_of new).journals.tree made c new.work) (same_Some op other (sym nexts.is ∙ subst (λ k. op_at script t k ≡ Some other) number is)) (following some)),
               record { made = made; place = place; looked = omega (arith, looks-all script t made op w world nexts place lists its done); row = decides; told = refl },
             )
         | inr none ↦
             let now : Thread = record { next = n + 1; place = Ready } in
             let (holder, threads) = settles.ends (omega (arith, none, applied.at)) in
-            let kept : Leaves t now w new = leaves now (threads ∙ ap (λ ts. set ts.items t now) applied.threads) (λ u apart other. none_some u (sym holder ∙ other)) in
+            let kept : Leaves t now w new = leaves now (threads ∙ ap (λ ts. set ts.items t now) applied.threads) (λ u apart other. none-some u (sym holder ∙ other)) in
             let moves : Moves t now (machine_of w) (machine_of new) = moves-leaves t now w new (within-next script w t op world nexts) kept in
             let all : length (jobs_of script tree (length tree) op) ≤ made = omega (arith, jobs-all, none-follow script.machine follows none) in
-            let decides : Decides script t made op (machine_of w) (machine_of new) = row now moves (place_off n made (length (jobs_of script tree (length tree) op)) all) (holder ∙ sym (holder_off t made (length (jobs_of script tree (length tree) op)) all)) in
+            let decides : Decides script t made op (machine_of w) (machine_of new) = row now moves (place_behind-ready n made (length (jobs_of script tree (length tree) op)) all) (holder ∙ sym (holder_off t made (length (jobs_of script tree (length tree) op)) all)) in
             let step : Steps script t (machine_of w) (machine_of new) = step_decides script t made op (machine_of w) (machine_of new) nexts.present nexts.is place (omega (arith, looks-all script t made op w world nexts place lists its done)) decides in (
               IsWorldOf-step script w new t now world (within-next script w t op world nexts) step kept tree-now slices-now (λ d. lists-now d) (λ other d held_by is. tt),
               record { made = made; place = place; looked = omega (arith, looks-all script t made op w world nexts place lists its done); row = decides; told = refl },
             )
       ]
-        where
-          none_some : (u : ℕ) → None ≡ Some u → ⊥
-          none_some u wrong = cc
-
-          one_op : (a b : Op) → Some a ≡ Some b → a ≡ b
-          one_op a b same = cc

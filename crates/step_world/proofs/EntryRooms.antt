@@ -11,7 +11,7 @@ use Rattle.run_law.proofs.laws.JobLists.{in_slice_append, owed_are}
 use Rattle.run_law.proofs.laws.OpQuotas.{owed_by_command-few}
 use Rattle.run_law.proofs.laws.Pairs.{both_eqb-true}
 use Rattle.run_law.proofs.laws.Positions.{filter-none_at}
-use Rattle.run_law.proofs.laws.SoundHistories.{Fits-op_at, IsSound-take, NamesDomain-fits}
+use Rattle.run_law.proofs.laws.SoundHistories.{Fits-op_at, IsSound-take}
 use Rattle.run_law.proofs.laws.TakenCommands.{fails, idle_not_begun}
 use Rattle.run_law.specs.Growth.{HasMade, IsKept}
 use Rattle.run_law.specs.Jobs.{in_slice, jobs_of}
@@ -30,10 +30,7 @@ use Rattle.step_world.proofs.MachineStates.{can_be_is}
 use Rattle.step_world.specs.Machine.{MachineValue}
 use Rattle.step_world.specs.Moments.{CanBe, IsRunSoFar, progress_in}
 use Rattle.tree_law.specs.Sound.{IsSound}
-
--- equal options of ops
-equal_ops : (a b : Op) → Some a ≡ Some b → a ≡ b
-equal_ops a b h = cc
+use Rattle.tree_law.proofs.laws.Counts.{NamesDomain-fits}
 
 -- one that a filter keeps is there
 pub found : {A : Type 0} (p : A → Bool) (xs : List A) → 0 < length (filter p xs) → (k : ℕ) × (x : A) × At xs k x × IsTrue (p x)

@@ -1,10 +1,10 @@
 -- One entry follows a command of a world that was decided.
-use Rattle.std.proofs.Common.{◌≡◌, ◌≢◌, ℕ, ◌+◌, ◌<◌, ◌≤◌, inl, inr, List, length, map, take, get_or, set, All, Some, None, sym, ap, ◌∙◌, subst, arith}
+use Rattle.std.proofs.Common.{◌≡◌, ◌≢◌, ℕ, ◌+◌, ◌<◌, ◌≤◌, inl, inr, List, length, map, take, get_or, set, All, Some, sym, ap, ◌∙◌, subst, arith}
 use Rattle.std.specs.Prelude.{slice_get, sum_by, vec_capacity}
 use Rattle.std.proofs.lemmas.Bool.{cases_lt}
 use Rattle.std.proofs.lemmas.List.{get_or_default, take_all}
 use Rattle.std.proofs.lemmas.List.Sums.{sum_by-take-le}
-use Rattle.std.proofs.lemmas.Option.{slice_get-get_or}
+use Rattle.std.proofs.lemmas.Option.{slice_get-get_or, same_Some, none-some}
 use Rattle.arrayvec.specs.ArrayVec.{ArrayVec}
 use Rattle.rc_base.specs.Buffers.{Looks}
 use Rattle.run_law.specs.Entries.{entry_value}
@@ -16,7 +16,7 @@ use Rattle.script_ops.specs.Values.{ScriptValue, op_at}
 use Rattle.script_ops.specs.declared.op.Op.{Op}
 use Rattle.run_law.proofs.laws.FollowCounts.{some-slices, sum-next}
 use Rattle.step_world.proofs.KeptWorlds.{AreInPlay-set, IsWorldOf-step, Leaves, moves-leaves, notes-grows}
-use Rattle.step_world.proofs.MachineStates.{holder_off, holder_on, place_off, place_on, some_same}
+use Rattle.step_world.proofs.MachineStates.{holder_off, holder_on, place_behind-ready, place_behind-following}
 use Rattle.step_world.proofs.StepRows.{step_follows}
 use Rattle.step_world.proofs.TakenWorlds.{within-next}
 use Rattle.step_world.specs.Answers.{HasDone, HasNext}
@@ -70,13 +70,10 @@ module _ (script : ScriptValue) (t made : ℕ) (op : Op) (w : World) (world : Is
       slice-on g there_g = elim (cases_lt (w.work.slice + 1) slices) [
         | inl within ↦
             let (at, slice_on) = on.within within in
-            let one : f ≡ g = one_follow f g (sym is ∙ (ap (slice_get items) (sym at) ∙ there_g)) in
+            let one : f ≡ g = same_Some f g (sym is ∙ (ap (slice_get items) (sym at) ∙ there_g)) in
             omega (arith, slice_on, within, same, ap (slices_for script.machine) one)
         | inr past ↦ omega (arith, (on.last past).1, some-slices script.machine g world.lawful.in_range.some_slice)
       ]
-        where
-          one_follow : (a b : Follow) → Some a ≡ Some b → a ≡ b
-          one_follow a b wrong = cc
 
       slice-end : length items ≤ between.work.at → between.work.slice ≡ 0
       slice-end end = elim (cases_lt (w.work.slice + 1) slices) [
@@ -172,28 +169,22 @@ module _ (script : ScriptValue) (t made : ℕ) (op : Op) (w : World) (world : Is
             let now : Thread = record { next = n; place = Following (made + 1) } in
             let (holder, threads) = settles.goes (omega (arith, more, ap length items-on)) in
             let mine : new.holder ≡ Some t = holder ∙ (holder_is ∙ held script t made op w world nexts place) in
-            let kept : Leaves t now w new = leaves now (threads ∙ ap (λ ts. set ts.items t now) threads_are) (λ u apart other. apart (some_same u t (sym other ∙ mine))) in
+            let kept : Leaves t now w new = leaves now (threads ∙ ap (λ ts. set ts.items t now) threads_are) (λ u apart other. apart (same_Some u t (sym other ∙ mine))) in
             let moves : Moves t now (machine_of w) (machine_of new) = moves-leaves t now w new (within-next script w t op world nexts) kept in
-            let follows : Follows script t made op (machine_of w) (machine_of new) = row now moves (place_on n (made + 1) all (more-jobs more)) (mine ∙ sym (holder_on t (made + 1) all (more-jobs more))) in
+            let follows : Follows script t made op (machine_of w) (machine_of new) = row now moves (place_behind-following n (made + 1) all (more-jobs more)) (mine ∙ sym (holder_on t (made + 1) all (more-jobs more))) in
             let step : Steps script t (machine_of w) (machine_of new) = step_follows script t made op (machine_of w) (machine_of new) nexts.present nexts.is place follows in (
               IsWorldOf-step script w new t now world (within-next script w t op world nexts) step kept tree-now play-now (λ d. lists-now d)
-                  (λ other d held_by there_op. subst (λ c. IsFollowing script (machine_of new).journals.tree (made + 1) c new.work) (one_op op other (sym nexts.is ∙ subst (λ k. op_at script t k ≡ Some other) number there_op)) (goes-on more)),
+                  (λ other d held_by there_op. subst (λ c. IsFollowing script (machine_of new).journals.tree (made + 1) c new.work) (same_Some op other (sym nexts.is ∙ subst (λ k. op_at script t k ≡ Some other) number there_op)) (goes-on more)),
               record { made = made; place = place; row = follows },
             )
         | inr none ↦
             let now : Thread = record { next = n + 1; place = Ready } in
             let (holder, threads) = settles.ends (omega (arith, none, ap length items-on)) in
-            let kept : Leaves t now w new = leaves now (threads ∙ ap (λ ts. set ts.items t now) threads_are) (λ u apart other. none_some u (sym holder ∙ other)) in
+            let kept : Leaves t now w new = leaves now (threads ∙ ap (λ ts. set ts.items t now) threads_are) (λ u apart other. none-some u (sym holder ∙ other)) in
             let moves : Moves t now (machine_of w) (machine_of new) = moves-leaves t now w new (within-next script w t op world nexts) kept in
-            let follows : Follows script t made op (machine_of w) (machine_of new) = row now moves (place_off n (made + 1) all (no-jobs none)) (holder ∙ sym (holder_off t (made + 1) all (no-jobs none))) in
+            let follows : Follows script t made op (machine_of w) (machine_of new) = row now moves (place_behind-ready n (made + 1) all (no-jobs none)) (holder ∙ sym (holder_off t (made + 1) all (no-jobs none))) in
             let step : Steps script t (machine_of w) (machine_of new) = step_follows script t made op (machine_of w) (machine_of new) nexts.present nexts.is place follows in (
               IsWorldOf-step script w new t now world (within-next script w t op world nexts) step kept tree-now play-now (λ d. lists-now d) (λ other d held_by there_op. tt),
               record { made = made; place = place; row = follows },
             )
       ]
-        where
-          none_some : (u : ℕ) → None ≡ Some u → ⊥
-          none_some u wrong = cc
-
-          one_op : (a b : Op) → Some a ≡ Some b → a ≡ b
-          one_op a b same_op = cc

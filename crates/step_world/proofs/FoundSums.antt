@@ -11,7 +11,6 @@ use Rattle.run_law.proofs.laws.Positions.{At-last}
 use Rattle.run_law.specs.FoundLooks.{AreDistinct}
 use Rattle.run_law.specs.Journals.{At}
 use Rattle.script_ops.specs.Values.{ScriptValue}
-use Rattle.script_ops.specs.declared.op.Op.{Op}
 use Rattle.run_law.specs.LookLists.{AreReady, HasNoted, spare_in}
 use Rattle.step_world.specs.Worlds.{HasList, found_at, rooms_from}
 
@@ -55,10 +54,6 @@ get-push_front (y ∷ xs) x (suc k) h = get-push_front xs x k (omega arith)
 
 pub get-push_last : (xs : List ℕ) (x k : ℕ) → k ≡ length xs → slice_get (xs ++ x ∷ []) k ≡ Some x
 get-push_last xs x k is = ap (slice_get (xs ++ x ∷ [])) is ∙ At-last xs x
-
--- equal options of ops
-pub one_op : (a b : Op) → Some a ≡ Some b → a ≡ b
-one_op a b h = cc
 
 -- the list of a command with a number more
 pub list-noted : (script : ScriptValue) (t n : ℕ) (numbers : List ℕ) (lines : ℕ) (lists now : List LooksValue) → HasList script t n numbers lists → HasNoted lines lists now → HasList script t n (numbers ++ lines ∷ []) now

@@ -113,15 +113,15 @@ module _ (script : ScriptValue) (t : ℕ) (old new : MachineValue) (so_far : IsR
       at (Tagged tag) place = tagged_turn op tag (subst (λ o. IsIn (Tagged tag) o) is (subst (λ p. IsIn p (op_at script t n)) place (within t).1)) is place (step_from_place script t op (Tagged tag) old new here is place step)
 
   -- after its command the thread is nearer to its end too
-  pub turned : (last : MachineValue) → turns_left script old t ≡ 3 * (count - n) + 2 → n < count → thread_at last t ≡ (record { next = n + 1; place = Ready }) → turns_left script last t < turns_left script old t
-  turned last before below there =
+  pub turns_left-after_command : (last : MachineValue) → turns_left script old t ≡ 3 * (count - n) + 2 → n < count → thread_at last t ≡ (record { next = n + 1; place = Ready }) → turns_left script last t < turns_left script old t
+  turns_left-after_command last before below there =
       let now : turns_left script last t ≡ 3 * (count - (n + 1)) + turns_from script last (op_at script t (n + 1)) Ready = turns_at script last t (record { next = n + 1; place = Ready }) (op_at script t (n + 1)) there refl in
       omega (arith, before, now, turns_ready script last (op_at script t (n + 1)), below)
 
 -- a thread before an op that has come further is nearer to its end
-pub onward : (script : ScriptValue) (t m : ℕ) (old new : MachineValue) → (thread_at old t).place ≡ Ready → (thread_at old t).next < length (ops_of script t) → (thread_at old t).next < m
+pub turns_left-further : (script : ScriptValue) (t m : ℕ) (old new : MachineValue) → (thread_at old t).place ≡ Ready → (thread_at old t).next < length (ops_of script t) → (thread_at old t).next < m
     → thread_at new t ≡ (record { next = m; place = Ready }) → turns_left script new t < turns_left script old t
-onward script t m old new place below further there =
+turns_left-further script t m old new place below further there =
     let n : ℕ = (thread_at old t).next in
     let before = turns_by script old t (op_at script t n) Ready place refl in
     let now = turns_at script new t (record { next = m; place = Ready }) (op_at script t m) there refl in

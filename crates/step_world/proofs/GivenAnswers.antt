@@ -1,5 +1,5 @@
 -- What the answer of a step says is the step that was taken, and tells exactly why none was.
-use Rattle.std.proofs.Common.{◌≡◌, ℕ, ◌↔◌, length, inl, inr, Option, Some, None, refl, sym, ap, ◌∙◌, subst, arith}
+use Rattle.std.proofs.Common.{◌≡◌, ℕ, ◌↔◌, length, inl, inr, Some, None, refl, sym, ap, ◌∙◌, subst, arith}
 use Rattle.std.specs.Prelude.{◌==◌}
 use Rattle.std.proofs.lemmas.Bool.{cases_Bool, eqb-false, eqb-true}
 use Rattle.std.proofs.lemmas.Option.{slice_get_within}
@@ -19,6 +19,7 @@ use Rattle.step_world.specs.declared.action.Action.TheVariants as actions
 use Rattle.step_world.specs.declared.action.Stepped.{Stepped}
 use Rattle.step_world.specs.declared.action.Stepped.TheVariants.{Did, Blocked, Ended}
 use Rattle.step_world.specs.declared.place.Place.TheVariants.{Ready, Looking, Following, Tagged}
+use Rattle.lists.proofs.Options.{not_some-none}
 
 module _ (script : ScriptValue) (t : ℕ) (old new : MachineValue) where
   -- a thread at its end takes none
@@ -39,11 +40,6 @@ module _ (script : ScriptValue) (t : ℕ) (old new : MachineValue) where
       none_some : (c : Op) → None ≡ Some c → ⊥
       none_some c wrong = cc
 
-  -- a thread that does a row is not blocked
-  free-not_held : (o : Option ℕ) (u : ℕ) → o ≡ None → o ≡ Some u → ⊥
-  free-not_held None u free held = absurd cc
-  free-not_held (Some x) u free held = absurd cc
-
   looking-not_ready : (made : ℕ) → Looking made ≡ Ready → ⊥
   looking-not_ready made wrong = cc
 
@@ -59,11 +55,11 @@ module _ (script : ScriptValue) (t : ℕ) (old new : MachineValue) where
   touched-not_ready (Stale floor) op its ready = tagged-not_ready its.tag (sym its.place ∙ ready)
 
   does-not_blocked : (action : Action) (op : Op) → Does script t action op old new → IsBlocked script old t → ⊥
-  does-not_blocked actions.Took op its held = free-not_held old.holder held.holder its.free held.held
+  does-not_blocked actions.Took op its held = not_some-none old.holder held.holder its.free held.held
   does-not_blocked (actions.Looked lines) op its held = looking-not_ready its.made (sym its.place ∙ held.place)
   does-not_blocked (actions.Decided reply) op its held = looking-not_ready its.made (sym its.place ∙ held.place)
   does-not_blocked actions.Followed op its held = following-not_ready its.made (sym its.place ∙ held.place)
-  does-not_blocked (actions.Tagged epoch) op its held = free-not_held old.holder held.holder its.free held.held
+  does-not_blocked (actions.Tagged epoch) op its held = not_some-none old.holder held.holder its.free held.held
   does-not_blocked (actions.Touched touched) op its held = touched-not_ready touched op its held.place
 
   -- Ended exactly where the thread is at its end

@@ -3,8 +3,9 @@ use Rattle.std.proofs.Common.{◌≡◌, ℕ, zero, suc, ◌+◌, ◌*◌, ◌/�
 use Rattle.std.specs.Prelude.{◌%◌, ◌==◌, ◌&&◌, option_map}
 use Rattle.std.proofs.Math.Nat.{mul-div_cancel}
 use Rattle.std.proofs.Math.Seq.{take-length}
-use Rattle.std.proofs.lemmas.Bool.{cases_Bool, cases_order, eqb-false, eqb-true}
+use Rattle.std.proofs.lemmas.Bool.{eqb-true, and_parts}
 use Rattle.std.proofs.lemmas.List.{take_more}
+use Rattle.std.proofs.lemmas.Option.{same_Some}
 use Rattle.cache_core.proofs.laws.Histories.{held-push}
 use Rattle.cache_core.specs.Fills.{Holds, Resident}
 use Rattle.cache_core.specs.History.{EntryMayFollow, IsLegal, MayHappen, Shape, decides, held, left_by, ways_below}
@@ -12,32 +13,10 @@ use Rattle.cache_core.specs.declared.entry.SliceEntry.{SliceEntry}
 use Rattle.cache_core.specs.declared.entry.What.{What}
 use Rattle.cache_core.specs.declared.entry.What.TheVariants as whats
 use Rattle.cbm.specs.Masks.{has_way}
-use Rattle.lists.specs.Sums.{one_if}
 use Rattle.rc_base.proofs.laws.Histories.{EachFollows-at}
+use Rattle.cache_core.proofs.laws.WaysBelow.{ways_below-same}
 
 -- ---- the lines of a region
-
--- of two ways of a mask the lower one has fewer ways of the mask below it
-ways_below-less : (mask v w : ℕ) → v < w → has_way mask v ≡ true → ways_below mask v < ways_below mask w
-ways_below-less mask v zero less here = absurd (omega arith)
-ways_below-less mask v (suc w) less here = elim (cases_Bool (v == w)) [
-  | inl last ↦
-      let is : v ≡ w = eqb-true v w last in
-      let one : one_if (has_way mask w) ≡ 1 = ap one_if (subst (λ x. has_way mask x ≡ true) is here) in
-      omega (arith, one, ap (ways_below mask) is)
-  | inr before ↦ omega (arith, ways_below-less mask v w (between before) here)
-]
-  where
-    between : (v == w) ≡ false → v < w
-    between before = let apart = eqb-false v w before in omega (arith, less, apart)
-
--- so that ways of a mask are the same where as many are below them
-ways_below-same : (mask v w : ℕ) → has_way mask v ≡ true → has_way mask w ≡ true → ways_below mask v ≡ ways_below mask w → v ≡ w
-ways_below-same mask v w here there same = elim (cases_order v w) [
-  | inl is ↦ is
-  | inr (inl less) ↦ absurd (omega (arith, ways_below-less mask v w less here, same))
-  | inr (inr more) ↦ absurd (omega (arith, ways_below-less mask w v more there, same))
-]
 
 -- equal products with one number have equal other numbers
 same_factor : (a b n : ℕ) → 0 < n → a * n ≡ b * n → a ≡ b
@@ -58,15 +37,6 @@ cases_line : (b : Bool) (x y : Option Resident) (line : ℕ) → line_in (cond b
 cases_line true x y line is = inl (refl, is)
 cases_line false x y line is = inr is
 
--- equal lines
-same_line : (a b : ℕ) → Some a ≡ Some b → a ≡ b
-same_line a b is = cc
-
--- both of two tests hold
-both_true : (a b : Bool) → (a && b) ≡ true → (a ≡ true) × (b ≡ true)
-both_true true b is = (refl, is)
-both_true false b is = absurd cc
-
 module _ (m : Shape) (es : List SliceEntry) (some : 0 < m.sets) (before : HoldsOnce m es) where
   -- what a place holds after one more entry
   abbrev after : What → ℕ → ℕ → Option Resident
@@ -82,8 +52,8 @@ module _ (m : Shape) (es : List SliceEntry) (some : 0 < m.sets) (before : HoldsO
     where
       at : (a b : Bool) → has_way mask v ≡ a → has_way mask w ≡ b → line_in (cond a (Some (record { line = locked mask first_line set v; rmid = 0 })) None) ≡ Some line → line_in (cond b (Some (record { line = locked mask first_line set w; rmid = 0 })) None) ≡ Some line → v ≡ w
       at true true is its there here =
-          let first : locked mask first_line set v ≡ line = same_line (locked mask first_line set v) line there in
-          let second : locked mask first_line set w ≡ line = same_line (locked mask first_line set w) line here in
+          let first : locked mask first_line set v ≡ line = same_Some (locked mask first_line set v) line there in
+          let second : locked mask first_line set w ≡ line = same_Some (locked mask first_line set w) line here in
           ways_below-same mask v w is its (same_factor (ways_below mask v) (ways_below mask w) m.sets some (omega (arith, first, second)))
       at false b is its there here = absurd (let wrong : ◌≡◌ {A = Option ℕ} None (Some line) = there in cc)
       at true false is its there here = absurd (let wrong : ◌≡◌ {A = Option ℕ} None (Some line) = here in cc)
@@ -95,11 +65,11 @@ module _ (m : Shape) (es : List SliceEntry) (some : 0 < m.sets) (before : HoldsO
   fill-once at rmid l set v w line nowhere lv lw there here =
       elim (cases_line ((l % m.sets == set) && (at == v)) (Some (record { line = l; rmid = rmid })) (held m es set v) line there) [
         | inl (first, mine) ↦ elim (cases_line ((l % m.sets == set) && (at == w)) (Some (record { line = l; rmid = rmid })) (held m es set w) line here) [
-          | inl (second, its) ↦ sym (eqb-true at v (both_true (l % m.sets == set) (at == v) first).1) ∙ eqb-true at w (both_true (l % m.sets == set) (at == w) second).1
-          | inr old ↦ absurd (held_nowhere w lw (both_true (l % m.sets == set) (at == v) first).0 (same_line l line mine) old)
+          | inl (second, its) ↦ sym (eqb-true at v (and_parts (l % m.sets == set) (at == v) first).1) ∙ eqb-true at w (and_parts (l % m.sets == set) (at == w) second).1
+          | inr old ↦ absurd (held_nowhere w lw (and_parts (l % m.sets == set) (at == v) first).0 (same_Some l line mine) old)
         ]
         | inr kept ↦ elim (cases_line ((l % m.sets == set) && (at == w)) (Some (record { line = l; rmid = rmid })) (held m es set w) line here) [
-          | inl (second, its) ↦ absurd (held_nowhere v lv (both_true (l % m.sets == set) (at == w) second).0 (same_line l line its) kept)
+          | inl (second, its) ↦ absurd (held_nowhere v lv (and_parts (l % m.sets == set) (at == w) second).0 (same_Some l line its) kept)
           | inr old ↦ before.once set v w line lv lw kept old
         ]
       ]

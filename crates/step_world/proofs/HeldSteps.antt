@@ -12,7 +12,7 @@ use Rattle.run_law.specs.Progress.{Progress}
 use Rattle.script_ops.specs.Values.{ScriptValue, op_at}
 use Rattle.script_ops.specs.declared.op.Op.{Op}
 use Rattle.step_world.proofs.AccessSteps.{some_can_be}
-use Rattle.step_world.proofs.MachineStates.{holder_off, holder_on, place_off, place_on}
+use Rattle.step_world.proofs.MachineStates.{holder_off, holder_on, place_behind-ready, place_behind-following}
 use Rattle.step_world.proofs.StepParts.{place_of}
 use Rattle.step_world.specs.Machine.{Decides, Follows, Looks, MachineValue, StepFrom, StepOf, Steps, thread_at}
 use Rattle.step_world.specs.Moments.{IsRunSoFar, progress_by, progress_in}
@@ -76,7 +76,7 @@ module _ (script : ScriptValue) (t : ℕ) (old new : MachineValue) (so_far : IsR
       let within = so_far.looking t made op at is in
       elim (cases_lt made all) [
         | inl more ↦
-            let there : thread_at new t ≡ (record { next = n; place = Following made }) = decides.moves.there ∙ place_on n made all more in
+            let there : thread_at new t ≡ (record { next = n; place = Following made }) = decides.moves.there ∙ place_behind-following n made all more in
             let holder : new.holder ≡ Some t = decides.holder ∙ holder_on t made all more in
             let now : holding_left script new (Some t) ≡ length (jobs_of script new.journals.tree (length new.journals.tree - 1) op) - made = left_at script new t (record { next = n; place = Following made }) (Some op) there is in
             let position : length new.journals.tree - 1 ≡ length tree = omega (arith, ap length decides.tree, length_push tree decides.entry) in
@@ -90,7 +90,7 @@ module _ (script : ScriptValue) (t : ℕ) (old new : MachineValue) (so_far : IsR
             let holder : new.holder ≡ None = decides.holder ∙ holder_off t made all ends in
             record {
               less = omega (arith, left_of script new None holder, before, parts, within);
-              which = inr (holder, decides.moves.there ∙ place_off n made all ends);
+              which = inr (holder, decides.moves.there ∙ place_behind-ready n made all ends);
             }
       ]
 
@@ -105,7 +105,7 @@ module _ (script : ScriptValue) (t : ℕ) (old new : MachineValue) (so_far : IsR
       let within : made < all = slice_get_within (jobs_of script tree follows.position op) made follows.job follows.there in
       elim (cases_lt (made + 1) all) [
         | inl more ↦
-            let there : thread_at new t ≡ (record { next = n; place = Following (made + 1) }) = follows.moves.there ∙ place_on n (made + 1) all more in
+            let there : thread_at new t ≡ (record { next = n; place = Following (made + 1) }) = follows.moves.there ∙ place_behind-following n (made + 1) all more in
             let holder : new.holder ≡ Some t = follows.holder ∙ holder_on t (made + 1) all more in
             let now : holding_left script new (Some t) ≡ length (jobs_of script new.journals.tree (length new.journals.tree - 1) op) - (made + 1) =
             left_at script new t (record { next = n; place = Following (made + 1) }) (Some op) there is in
@@ -118,7 +118,7 @@ module _ (script : ScriptValue) (t : ℕ) (old new : MachineValue) (so_far : IsR
             let holder : new.holder ≡ None = follows.holder ∙ holder_off t (made + 1) all ends in
             record {
               less = omega (arith, left_of script new None holder, before, count, within);
-              which = inr (holder, follows.moves.there ∙ place_off n (made + 1) all ends);
+              which = inr (holder, follows.moves.there ∙ place_behind-ready n (made + 1) all ends);
             }
       ]
 

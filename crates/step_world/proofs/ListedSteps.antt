@@ -1,16 +1,13 @@
 -- The steps of an order list by what is found out once.
-use Rattle.std.proofs.Common.{◌≡◌, ℕ, ◌+◌, ◌<◌, ◌≤◌, length, Option, Some, None, refl, arith}
+use Rattle.std.proofs.Common.{◌≡◌, ℕ, ◌+◌, ◌<◌, ◌≤◌, length, refl, arith}
 use Rattle.run_law.specs.Ops.{phase_in}
 use Rattle.script_ops.specs.Values.{ScriptValue}
 use Rattle.step_world.proofs.GivenAnswers.{answers-steps}
-use Rattle.step_world.proofs.PassedWorlds.{resolved-same}
 use Rattle.step_world.proofs.PhaseThreads.{in_phase, of_phase}
-use Rattle.step_world.specs.Listed.{AreOf, Knows}
+use Rattle.step_world.specs.Listed.{AreOf}
 use Rattle.step_world.specs.Machine.{MachineValue, Steps}
 use Rattle.step_world.specs.declared.action.Stepped.TheVariants.{Ended}
-use Rattle.step_world.specs.declared.listed.Known.{Known}
 use Rattle.step_world.specs.declared.listed.PhaseThreads.{PhaseThreads}
-use Rattle.step_world.specs.declared.world.World.{World}
 
 module _ (script : ScriptValue) (phase t : ℕ) (threads : PhaseThreads) (there : phase < length script.phases) (are : AreOf script phase threads) where
   -- one of the threads of a phase is of it
@@ -24,8 +21,3 @@ module _ (script : ScriptValue) (phase t : ℕ) (threads : PhaseThreads) (there 
 -- a thread of another phase takes no step
 pub step-absent : (script : ScriptValue) (s : MachineValue) (t : ℕ) → (phase_in script.phases t ≡ s.phase → ⊥) → Steps script t s s
 step-absent script s t away = answers-steps script t s s Ended ((λ here. absurd (away here)), refl)
-
--- what is known stays true while the tree stays
-pub knows-same : (old new : World) (known : Option Known) → new.tree ≡ old.tree → Knows known old → Knows known new
-knows-same old new None same knows = knows
-knows-same old new (Some k) same knows = resolved-same old new k.task k.cpu k.tag same knows

@@ -19,7 +19,7 @@ use Rattle.run_law.proofs.laws.NotedEntries.{note_keeps}
 use Rattle.run_law.proofs.laws.Pairs.{both_eqb-true, both_eqb-same}
 use Rattle.run_law.proofs.laws.Positions.{At-append_front}
 use Rattle.run_law.proofs.laws.GrownLists.{with_tree}
-use Rattle.step_world.proofs.MachineStates.{at_can_be, can_be_at, kept_as, nobody_holds, progress_moved, tree_can_be, where_now}
+use Rattle.step_world.proofs.MachineStates.{at_can_be, can_be_at, IsKept-same, nobody_holds, progress_moved, tree_can_be, where_now}
 use Rattle.run_law.proofs.laws.TakenCommands.{fails, take_keeps}
 use Rattle.run_law.specs.Jobs.{follows_of, jobs_of, looks_of}
 use Rattle.step_world.specs.Machine.{Looks, MachineValue, Takes, thread_at}
@@ -28,7 +28,7 @@ use Rattle.step_world.specs.declared.place.Thread.{Thread}
 use Rattle.run_law.specs.Growth.{AreLegal, IsKept}
 use Rattle.run_law.specs.Progress.{Progress, moved}
 use Rattle.step_world.specs.Moments.{IsRunSoFar, progress_in}
-use Rattle.step_world.proofs.StepParts.{place_of, held_on, only_holder, looks_same, follows_same, looking_is, looking_not, journals_are}
+use Rattle.step_world.proofs.StepParts.{place_of, IsHeldBy-held, only_holder, looks_same, follows_same, looking_is, looking_not, journals_are}
 
 -- ---- Take
 
@@ -44,7 +44,7 @@ take_step script t op old new here is_op command place free takes so_far =
     let at : (u : ℕ) → progress_in new u ≡ moved (progress_in old) t p u = progress_moved old new t (record { next = n; place = Looking 0 }) takes.moves in
     record {
       legal = subst (λ j. AreLegal script j) (sym takes.journals) so_far.legal;
-      held = held_on old new t p at refl (λ u some. absurd (nobody u some)) takes.holder;
+      held = IsHeldBy-held old new t p at refl (λ u some. absurd (nobody u some)) takes.holder;
       looking = looks_same script old new t (record { next = n; place = Looking 0 }) tree (where_now old new t (record { next = n; place = Looking 0 }) takes.moves)
           (λ made c is is_c. (let none : 0 ≡ made = looking_is 0 made is in omega (arith, none))) so_far.looking;
       following = follows_same script old new t (record { next = n; place = Looking 0 }) tree (where_now old new t (record { next = n; place = Looking 0 }) takes.moves)
@@ -54,7 +54,7 @@ take_step script t op old new here is_op command place free takes so_far =
           let h : TreeEntryValue = claim.0 in
           let number : h.op ≡ n = claim.2 ∙ ap (λ (v : Thread). v.next) takes.moves.there in
           let was : IsKept script old.journals (progress_in old) old.phase = so_far.kept old.journals.tree (tree_can_be old old.holder free) in
-          kept_as script (old.journals.tree ++ h ∷ []) all old.journals.slices new.journals.slices (moved (progress_in old) t p) (progress_in new) old.phase new.phase
+          IsKept-same script (old.journals.tree ++ h ∷ []) all old.journals.slices new.journals.slices (moved (progress_in old) t p) (progress_in new) old.phase new.phase
           (claim.3 ∙ ap (λ hs. hs ++ h ∷ []) tree) slices at takes.moves.phase
           (take_keeps script old.journals (progress_in old) old.phase t n op h
           (record { here = here; place = place_of old t Ready place; is_op = is_op; command = command; nobody = nobody; thread = claim.1; number = number }) was);
@@ -100,7 +100,7 @@ look_step script t made op old new some here is_op place looks so_far =
           let is = both_eqb-true e.thread h.thread e.op h.op mine in
           not_decided script old t made place held so_far k h there (both_eqb-same h.thread t h.op n (sym is.0 ∙ pays.thread) (sym is.1 ∙ pays.op)))))
           so_far.legal);
-      held = held_on old new t p at refl (only_holder old t so_far.held holds) (looks.holder ∙ held);
+      held = IsHeldBy-held old new t p at refl (only_holder old t so_far.held holds) (looks.holder ∙ held);
       looking = looks_same script old new t now notes.tree (where_now old new t now looks.moves)
           (λ m c is is_c.
           let count : made + 1 ≡ m = looking_is (made + 1) m is in
@@ -115,7 +115,7 @@ look_step script t made op old new some here is_op place looks so_far =
           let was : IsKept script (with_tree old.journals tree) (progress_in old) old.phase = so_far.kept tree (at_can_be old old.holder t (Looking made) tree held place (h, claim.1, number, refl)) in
           let job : At (jobs_of script old.journals.tree (length old.journals.tree) op) made looks.job =
           At-append_front (looks_of script old.journals.tree (length old.journals.tree) op) (follows_of script old.journals.tree (length old.journals.tree) op) made looks.job looks.there in
-          kept_as script tree all new.journals.slices new.journals.slices (moved (progress_in old) t p) (progress_in new) old.phase new.phase
+          IsKept-same script tree all new.journals.slices new.journals.slices (moved (progress_in old) t p) (progress_in new) old.phase new.phase
           (claim.3 ∙ ap (λ hs. hs ++ h ∷ []) notes.tree) refl at looks.moves.phase
           (note_keeps script (with_tree old.journals tree) (progress_in old) old.phase t n made (length old.journals.tree) op looks.job e new.journals.slices
           (record {

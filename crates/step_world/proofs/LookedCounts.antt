@@ -3,6 +3,7 @@ use Rattle.std.proofs.Common.{◌≡◌, ◌≢◌, ℕ, ◌+◌, ◌*◌, ◌<�
 use Rattle.std.specs.Prelude.{◌==◌, IsSome, nat_lt, slice_get}
 use Rattle.std.proofs.lemmas.Bool.{MatchBool-at_false, MatchBool-at_true, cases_Bool}
 use Rattle.std.proofs.lemmas.List.{length_push}
+use Rattle.std.proofs.lemmas.Option.{same_Some}
 use Rattle.lists.specs.Sums.{sum_below}
 use Rattle.cache_core.specs.declared.entry.SliceEntry.{SliceEntry}
 use Rattle.cache_core.specs.declared.entry.What.{What}
@@ -27,7 +28,7 @@ use Rattle.run_law.proofs.laws.JobKinds.{pair_of_look}
 use Rattle.run_law.proofs.laws.MatchedLooks.{not_by}
 use Rattle.run_law.proofs.laws.Pairs.{both_eqb-true, both_eqb-same}
 use Rattle.run_law.proofs.laws.GrownLists.{Adds, with_slices}
-use Rattle.step_world.proofs.MachineStates.{some_same, tree_can_be}
+use Rattle.step_world.proofs.MachineStates.{tree_can_be}
 use Rattle.step_world.specs.Looked.{HasLooked}
 use Rattle.step_world.specs.Machine.{Begins, Looks, MachineValue, Reaches, StepFrom, StepOf, Steps, TagsAgain, Takes, Touches, floor_for, thread_at}
 use Rattle.step_world.specs.declared.place.Place.{Place}
@@ -133,10 +134,10 @@ place_other : (script : ScriptValue) (t u : ℕ) (op : Op) (place : Place) (old 
 place_other script t u op Ready old new apart held so_far at begins = blocked script t u op old.holder old new held begins
 place_other script t u op (Looking made) old new apart held so_far at step =
     let holds : IsSome (progress_in old u).made = subst (λ (x : Progress). IsSome x.made) (sym (ap (progress_by (thread_at old u).next) at)) refl in
-    absurd (apart (some_same t u (sym held ∙ (so_far.held u).0 holds)))
+    absurd (apart (same_Some t u (sym held ∙ (so_far.held u).0 holds)))
 place_other script t u op (Following made) old new apart held so_far at step =
     let holds : IsSome (progress_in old u).made = subst (λ (x : Progress). IsSome x.made) (sym (ap (progress_by (thread_at old u).next) at)) refl in
-    absurd (apart (some_same t u (sym held ∙ (so_far.held u).0 holds)))
+    absurd (apart (same_Some t u (sym held ∙ (so_far.held u).0 holds)))
 place_other script t u op (Tagged tag) old new apart held so_far at step = tagged_other script t u op tag old new apart step
 
 -- of each op

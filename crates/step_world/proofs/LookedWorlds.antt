@@ -4,7 +4,7 @@ use Rattle.std.specs.Prelude.{IsSome, slice_get}
 use Rattle.std.proofs.lemmas.Bool.{cases_lt}
 use Rattle.std.proofs.lemmas.List.{length_push}
 use Rattle.std.proofs.lemmas.Nat.{mul-le}
-use Rattle.std.proofs.lemmas.Option.{slice_get_within}
+use Rattle.std.proofs.lemmas.Option.{slice_get_within, same_Some}
 use Rattle.cache_core.specs.History.{lines_of}
 use Rattle.cache_core.specs.Stands.{entry}
 use Rattle.cache_core.specs.declared.entry.SliceEntry.{SliceEntry}
@@ -23,7 +23,7 @@ use Rattle.run_law.specs.Progress.{Progress}
 use Rattle.run_law.specs.TreeHistory.{tree_after}
 use Rattle.script_ops.specs.Values.{ScriptValue, op_at}
 use Rattle.script_ops.specs.declared.op.Op.{Op}
-use Rattle.step_world.proofs.FoundSums.{AreDistinct-pairs, At-map, found_at-last, found_at-push, get-push_front, get-push_last, list-noted, one_op}
+use Rattle.step_world.proofs.FoundSums.{AreDistinct-pairs, At-map, found_at-last, found_at-push, get-push_front, get-push_last, list-noted}
 use Rattle.step_world.proofs.KeptWorlds.{AreInPlay-set, IsWorldOf-step, Leaves, moves-leaves, notes-grows}
 use Rattle.step_world.proofs.LookedCounts.{look_looked}
 use Rattle.step_world.proofs.SoundStates.{IsSound-now}
@@ -161,7 +161,7 @@ module _ (script : ScriptValue) (t : ℕ) (op : Op) (old : World) (world : IsWor
             (subst (λ ss. AreInPlay script ss) (sym slices) (AreInPlay-set script old.slices.items i e s inside counts.grows world.slices))
             (λ d. (work.numbers, subst (λ ls. HasList script t n work.numbers ls) (sym (now_are d)) (subst (λ k. HasList script t k work.numbers now) (now_next ∙ sym number) work.list)))
             (λ other d held is.
-            let one : op ≡ other = one_op op other (sym next.is ∙ subst (λ k. op_at script t k ≡ Some other) number is) in
+            let one : op ≡ other = same_Some op other (sym next.is ∙ subst (λ k. op_at script t k ≡ Some other) number is) in
             subst (λ c. IsLookingAt script (machine_of new) t c (get_or new.lists.items t d) new.work) one (subst (λ ls. IsLookingAt script (machine_of new) t op ls new.work) (sym (now_are d)) work)),
         record { made = length its.found; place = its.looked.place; row = row; counts = (need.1, refl) },
       )

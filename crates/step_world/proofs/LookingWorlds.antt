@@ -3,7 +3,7 @@ use Rattle.std.proofs.Common.{◌≡◌, ℕ, ◌+◌, ◌*◌, ◌<◌, ◌≤�
 use Rattle.std.specs.Prelude.{◌^◌, IsSome, slice_get, vec_capacity}
 use Rattle.std.proofs.lemmas.List.{get_or_default, length_push}
 use Rattle.std.proofs.lemmas.Nat.{mul-le}
-use Rattle.std.proofs.lemmas.Option.{get_or_from_slice_get, slice_get_within}
+use Rattle.std.proofs.lemmas.Option.{get_or_from_slice_get, slice_get_within, same_Some}
 use Rattle.cache_core.specs.History.{lines_of}
 use Rattle.machine.specs.Slices.{slice_number}
 use Rattle.rc_base.specs.Buffers.{Looks}
@@ -13,7 +13,6 @@ use Rattle.run_law.proofs.laws.Lines.{lines_of-few}
 use Rattle.run_law.proofs.laws.LongerHistories.{jobs_front}
 use Rattle.run_law.proofs.laws.NeededCounts.{needs-few}
 use Rattle.run_law.proofs.laws.Positions.{At-append_front}
-use Rattle.run_law.proofs.laws.SoundHistories.{NamesDomain-fits}
 use Rattle.run_law.proofs.laws.SoundHistories.{Fits-op_at}
 use Rattle.run_law.specs.FoundLooks.{look_pairs}
 use Rattle.run_law.specs.Jobs.{Job, follows_of, jobs_of, looks_of}
@@ -28,7 +27,7 @@ use Rattle.step_world.proofs.NextRooms.{room-job}
 use Rattle.run_law.proofs.laws.ReadyLists.{spare_in-last}
 use Rattle.step_world.proofs.FoundSums.{At-map}
 use Rattle.step_world.proofs.LookedWorlds.{counted}
-use Rattle.step_world.proofs.MachineStates.{can_be_at, some_same}
+use Rattle.step_world.proofs.MachineStates.{can_be_at}
 use Rattle.step_world.proofs.RoomLeft.{has-room}
 use Rattle.step_world.proofs.SoundStates.{IsSound-now}
 use Rattle.step_world.proofs.StepParts.{looking_is}
@@ -42,7 +41,7 @@ use Rattle.step_world.specs.Works.{CountsOn}
 use Rattle.step_world.specs.Worlds.{IsAtWork, IsLookingAt, IsWorldOf, machine_of}
 use Rattle.step_world.specs.declared.place.Place.TheVariants.{Looking}
 use Rattle.step_world.specs.declared.world.World.{World}
-use Rattle.tree_law.proofs.laws.Counts.{needs-exist}
+use Rattle.tree_law.proofs.laws.Counts.{needs-exist, NamesDomain-fits}
 use Rattle.tree_law.specs.LawsCounts.{CanLook}
 use Rattle.tree_law.specs.Steps.{needs}
 
@@ -150,7 +149,7 @@ module _ (script : ScriptValue) (t made : ℕ) (op : Op) (w : World) (world : Is
         closing = closing;
         lists_count = ap length lists ∙ length-set w.lists.items t now;
         others = λ u d apart. ap (λ ls. get_or ls u d) lists ∙ get_or-set_other w.lists.items t u now d apart;
-        work = λ u apart other. absurd (apart (some_same u t (sym other ∙ (holder ∙ held))));
+        work = λ u apart other. absurd (apart (same_Some u t (sym other ∙ (holder ∙ held))));
       })
       kept now (λ d. ap (λ ls. get_or ls t d) lists ∙ get_or-set_same w.lists.items t now d lists-there)
       (subst (λ k. CountsOn k here w.work new.work (get_or w.lists.items t had) now) same (subst (λ ls. CountsOn slices here w.work new.work ls now) had_is on))

@@ -14,12 +14,13 @@ use Rattle.step_world.specs.declared.place.Thread.{Thread}
 use Rattle.run_law.specs.Progress.{Progress, moved}
 use Rattle.step_world.specs.Moments.{CanBe, IsHeldBy, WithClaim, progress_by, progress_in}
 use Rattle.run_law.specs.Growth.{IsKept}
+use Rattle.lists.proofs.Options.{not_some-none}
 
 -- what is kept is kept of equal things
-pub kept_as : (script : ScriptValue) (all more : List TreeEntryValue) (slices some : List (List SliceEntry)) (at then_at : ℕ → Progress) (phase now : ℕ)
+pub IsKept-same : (script : ScriptValue) (all more : List TreeEntryValue) (slices some : List (List SliceEntry)) (at then_at : ℕ → Progress) (phase now : ℕ)
     → more ≡ all → some ≡ slices → ((u : ℕ) → then_at u ≡ at u) → now ≡ phase
     → IsKept script (record { tree = all; slices = slices }) at phase → IsKept script (record { tree = more; slices = some }) then_at now
-kept_as script all more slices some at then_at phase now a b c d kept =
+IsKept-same script all more slices some at then_at phase now a b c d kept =
     subst (λ x. IsKept script (record { tree = x; slices = some }) then_at now) (sym a)
     (subst (λ x. IsKept script (record { tree = all; slices = x }) then_at now) (sym b)
     (subst (λ x. IsKept script (record { tree = all; slices = slices }) x now) (sym (fun_ext c))
@@ -88,12 +89,12 @@ can_be_is s (Some t) all can = elim (claim_is s.journals.tree t (thread_at s t).
 -- ---- after the last entry
 
 -- there is more to follow
-pub place_on : (next made all : ℕ) → made < all → place_behind next made all ≡ (record { next = next; place = Following made })
-place_on next made all less = rw (lt-ltb made all less) refl
+pub place_behind-following : (next made all : ℕ) → made < all → place_behind next made all ≡ (record { next = next; place = Following made })
+place_behind-following next made all less = rw (lt-ltb made all less) refl
 
 -- all has followed
-pub place_off : (next made all : ℕ) → all ≤ made → place_behind next made all ≡ (record { next = next + 1; place = Ready })
-place_off next made all more = rw (le-ltb made all more) refl
+pub place_behind-ready : (next made all : ℕ) → all ≤ made → place_behind next made all ≡ (record { next = next + 1; place = Ready })
+place_behind-ready next made all more = rw (le-ltb made all more) refl
 
 -- there is more to follow
 pub holder_on : (t made all : ℕ) → made < all → holder_behind t made all ≡ Some t
@@ -105,14 +106,6 @@ holder_off t made all more = rw (le-ltb made all more) refl
 
 -- ---- who holds the tree
 
--- equal options have equal values
-pub some_same : (t u : ℕ) → Some t ≡ Some u → t ≡ u
-some_same t u h = cc
-
 -- nobody holds the tree
 pub nobody_holds : (s : MachineValue) → IsHeldBy s s.holder → s.holder ≡ None → (u : ℕ) → IsSome (progress_in s u).made → ⊥
-nobody_holds s held none u some = none_is s.holder u none ((held u).0 some)
-  where
-    none_is : (o : Option ℕ) (u : ℕ) → o ≡ None → o ≡ Some u → ⊥
-    none_is None u a b = absurd cc
-    none_is (Some x) u a b = absurd cc
+nobody_holds s held none u some = not_some-none s.holder u none ((held u).0 some)

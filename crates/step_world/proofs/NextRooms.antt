@@ -4,6 +4,7 @@ use Rattle.std.specs.Prelude.{◌==◌, IsSome, if◌then◌else◌}
 use Rattle.std.proofs.lemmas.Bool.{cases_Bool, eq-eqb}
 use Rattle.std.proofs.lemmas.List.{length-append, length-map, length_push, take-append-drop}
 use Rattle.std.proofs.lemmas.List.Elements.{filter-append}
+use Rattle.std.proofs.lemmas.Option.{same_Some}
 use Rattle.cache_core.specs.declared.entry.SliceEntry.{SliceEntry}
 use Rattle.cache_core.specs.declared.entry.What.TheVariants as whats
 use Rattle.machine.specs.Maps.{domain_of, line_of}
@@ -27,10 +28,6 @@ use Rattle.step_world.proofs.AccessSteps.{some_can_be}
 use Rattle.step_world.specs.Machine.{MachineValue}
 use Rattle.step_world.specs.Moments.{CanBe, IsRunSoFar, progress_in}
 use Rattle.step_world.proofs.EntryRooms.{none_yet, op-few, owed-few}
-
--- equal options of ops
-equal_ops : (a b : Op) → Some a ≡ Some b → a ≡ b
-equal_ops a b h = cc
 
 module _ (script : ScriptValue) (s : MachineValue) (lawful : IsLawful script) (so_far : IsRunSoFar script s) where
   module _ (all : List TreeEntryValue) (can : CanBe s s.holder all) (i : ℕ) (there : i < slice_count script.machine) where
@@ -87,7 +84,7 @@ module _ (script : ScriptValue) (s : MachineValue) (lawful : IsLawful script) (s
             | inl mine ↦
                 let both = both_eqb-true t u n o mine in
                 let one : length (filter (is_made_by u o) (more_entry ∷ [])) ≡ 1 = rw mine refl in
-                let same : c ≡ d = equal_ops c d (sym is ∙ subst (λ x. op_at script t x ≡ Some d) (sym both.1) (subst (λ v. op_at script v o ≡ Some d) (sym both.0) at)) in
+                let same : c ≡ d = same_Some c d (sym is ∙ subst (λ x. op_at script t x ≡ Some d) (sym both.1) (subst (λ v. op_at script v o ≡ Some d) (sym both.0) at)) in
                 let less : length (entries u o) < quota script.machine i d =
                 subst (λ x. length (entries u o) < quota script.machine i x) same (subst (λ x. length (entries u x) < quota script.machine i c) both.1 (subst (λ v. length (entries v n) < quota script.machine i c) both.0 few)) in
                 omega (arith, split, one, less)

@@ -1,5 +1,5 @@
 -- A world before its first step is one of its script, in the opening state.
-use Rattle.std.proofs.Common.{◌≡◌, ℕ, ◌<◌, ◌≤◌, inl, inr, List, [], ◌∷◌, length, map, get_or, Some, None, sym, ap, ◌∙◌, subst, arith}
+use Rattle.std.proofs.Common.{◌≡◌, ℕ, ◌<◌, inl, inr, List, [], ◌∷◌, length, map, get_or, Some, None, sym, ap, ◌∙◌, subst, arith}
 use Rattle.std.specs.Prelude.{vec_capacity}
 use Rattle.std.proofs.lemmas.Bool.{cases_lt}
 use Rattle.std.proofs.lemmas.List.{get_or-map, get_or_past, length-map}
@@ -54,7 +54,7 @@ pub record IsMade (script : ScriptValue) (w : World) : Type 0 where
   pub phase : w.phase ≡ 0
   pub holder : w.holder ≡ None
   pub closing : w.closing.items ≡ []
-  pub closing_room : length w.slices.items ≤ vec_capacity w.closing
+  pub closing_room : vec_capacity w.closing ≡ length w.slices.items
 
 module _ (script : ScriptValue) (w : World) (made : IsMade script w) where
   -- its state is the opening one
@@ -70,7 +70,13 @@ module _ (script : ScriptValue) (w : World) (made : IsMade script w) where
 
   -- it has just the rooms that the script needs
   pub HasRooms-made : HasRooms script w
-  HasRooms-made = record { commands = made.room; count = made.slices.count; slices = made.slices.rooms }
+  HasRooms-made = record {
+    commands = made.room;
+    count = made.slices.count;
+    slices = made.slices.rooms;
+    closing = made.closing_room ∙ made.slices.count;
+    lists = made.lists;
+  }
 
   -- each thread is at its beginning
   first_within : (t : ℕ) → IsWithin script t opening_thread

@@ -1,5 +1,5 @@
 -- The slices, the threads and the lists of counts before the first step.
-use Rattle.std.proofs.Common.{◌≡◌, ℕ, zero, suc, ◌+◌, ◌-◌, ◌<◌, ◌≤◌, true, false, inl, inr, List, [], ◌∷◌, ◌++◌, length, drop, get_or, Some, refl, sym, ap, ◌∙◌, subst, arith}
+use Rattle.std.proofs.Common.{◌≡◌, ℕ, ◌+◌, ◌-◌, ◌<◌, ◌≤◌, true, false, inl, inr, List, [], ◌∷◌, ◌++◌, length, drop, get_or, Some, refl, sym, ap, ◌∙◌, subst, arith}
 use Rattle.std.proofs.lemmas.Bool.{cases_lt}
 use Rattle.std.proofs.Math.Seq.{get_or-append_seam}
 use Rattle.std.proofs.lemmas.List.{get_or_append_left, length-append}
@@ -9,14 +9,11 @@ use Rattle.rc_base.specs.Buffers.{Looks}
 use Rattle.run_law.specs.Journals.{At}
 use Rattle.run_law.specs.Ops.{is_command}
 use Rattle.run_law.specs.Quotas.{most_counts, room_of}
-use Rattle.script_ops.specs.Values.{ScriptValue, ops_of}
+use Rattle.script_ops.specs.Values.{ScriptValue}
 use Rattle.script_ops.specs.declared.op.Op.{Op}
 use Rattle.script_ops.specs.declared.op.Op.TheVariants.{Access}
-use Rattle.run_law.specs.LookLists.{AreReady, rooms_of}
-use Rattle.step_world.specs.Machine.{opening_thread}
-use Rattle.step_world.specs.Openings.{AreFirst, AreFresh, AreListed}
+use Rattle.step_world.specs.Openings.{AreFresh}
 use Rattle.step_world.specs.Slices.{IsFresh, SliceValue}
-use Rattle.step_world.specs.declared.place.Thread.{Thread}
 
 -- what holds of each element holds of each of a longer list
 all-push : {X : Type 0} (P : ℕ → X → Type 0) (n : ℕ) (xs : List X) (x : X) → length xs ≡ n → ((i : ℕ) (d : X) → i < n → P i (get_or xs i d)) → P n x → (i : ℕ) (d : X) → i < n + 1 → P i (get_or (xs ++ x ∷ []) i d)
@@ -37,42 +34,4 @@ AreFresh-push script n slices s all one room = record {
   rooms = all-push (λ i (x : SliceValue). x.room ≡ room_of script i) n slices s all.count all.rooms room;
 }
 
--- none yet
-pub AreFresh-nil : (script : ScriptValue) (n : ℕ) (slices : List SliceValue) → slices ≡ [] → n ≡ 0 → AreFresh script n slices
-AreFresh-nil script n slices empty zero_is = record {
-  count = ap length empty ∙ sym zero_is;
-  each = λ i d within. absurd (omega (arith, within, zero_is));
-  rooms = λ i d within. absurd (omega (arith, within, zero_is));
-}
-
 -- ---- threads
-
--- one thread more
-pub AreFirst-push : (n : ℕ) (threads : List Thread) → AreFirst n threads → AreFirst (n + 1) (threads ++ opening_thread ∷ [])
-AreFirst-push n threads all = record {
-  count = length-append threads (opening_thread ∷ []) ∙ omega (arith, all.count);
-  each = all_of threads all.each;
-}
-  where
-    all_of : (xs : List Thread) → ((t : ℕ) → get_or xs t opening_thread ≡ opening_thread) → (t : ℕ) → get_or (xs ++ opening_thread ∷ []) t opening_thread ≡ opening_thread
-    all_of [] each zero = refl
-    all_of [] each (suc t) = refl
-    all_of (x ∷ xs) each zero = each 0
-    all_of (x ∷ xs) each (suc t) = all_of xs (λ k. each (suc k)) t
-
--- none yet
-pub AreFirst-nil : (threads : List Thread) → threads ≡ [] → AreFirst 0 threads
-AreFirst-nil threads empty = record { count = ap length empty; each = λ t. subst (λ xs. get_or xs t opening_thread ≡ opening_thread) (sym empty) refl }
-
--- ---- lists of counts
-
--- one thread's lists more
-pub AreListed-push : (script : ScriptValue) (n : ℕ) (lists : List (List Looks)) (l : List Looks) → AreListed script n lists → AreReady (rooms_of script.machine (ops_of script n)) l → AreListed script (n + 1) (lists ++ l ∷ [])
-AreListed-push script n lists l all one = record {
-  count = length-append lists (l ∷ []) ∙ omega (arith, all.count);
-  each = all-push (λ t x. AreReady (rooms_of script.machine (ops_of script t)) x) n lists l all.count all.each one;
-}
-
--- none yet
-pub AreListed-nil : (script : ScriptValue) (lists : List (List Looks)) → lists ≡ [] → AreListed script 0 lists
-AreListed-nil script lists empty = record { count = ap length empty; each = λ t d within. absurd (omega (arith, within)) }

@@ -1,12 +1,12 @@
 -- Steps of one phase, one after the other.
 use Rattle.std.proofs.Common.{◌≡◌, ℕ, zero, suc, ◌+◌, ◌<◌, ◌≤◌, ◌⊎◌, inl, inr, List, [], ◌∷◌, ◌++◌, length, replicate, Option, Some, None, refl, sym, ap, ◌∙◌, subst, arith}
 use Rattle.std.specs.List.{range_with_len}
+use Rattle.std.proofs.lemmas.Option.{same_Some}
 use Rattle.lists.proofs.Ranges.{range_with_len-suc}
 use Rattle.run_law.specs.Ops.{phase_in}
 use Rattle.script_ops.specs.Values.{ScriptValue, first_thread, phase_at}
 use Rattle.step_world.proofs.EndedThreads.{ended_stays}
 use Rattle.step_world.proofs.HeldSteps.{held_step}
-use Rattle.step_world.proofs.MachineStates.{some_same}
 use Rattle.step_world.proofs.PhaseThreads.{of_phase}
 use Rattle.step_world.specs.Machine.{HasEnded, MachineValue, Steps, thread_at}
 use Rattle.step_world.specs.Moments.{IsRunSoFar}
@@ -57,7 +57,7 @@ module _ (script : ScriptValue) where
   IsLettingGo-step None t first old new is so_far held step same = absurd (let wrong : None ≡ Some t = sym is ∙ (ap (λ (s : MachineValue). s.holder) (sym same) ∙ held) in cc)
   IsLettingGo-step (Some u) t first old new is so_far held step (inr gone) = absurd (let wrong : None ≡ Some t = sym gone.1 ∙ held in cc)
   IsLettingGo-step (Some u) t first old new is so_far held step (inl holds) =
-      let same : t ≡ u = some_same t u (sym held ∙ holds.holder) in
+      let same : t ≡ u = same_Some t u (sym held ∙ holds.holder) in
       let mine : Steps script u old new = subst (λ x. Steps script x old new) same step in
       let has = held_step script u old new so_far holds.holder mine in
       elim has.which [
@@ -86,7 +86,7 @@ module _ (script : ScriptValue) where
   StepsOf-gone (Some u) t first last (inl mine) gone =
       let ((n, between, steps, step, free), none, there) = gone in
       let its : StepsOf script (replicate n u ++ replicate 1 u) first last = StepsOf-append (replicate n u) (u ∷ []) first between last (StepsOf-holding u n first between steps) (StepsOf-one u between last step) in
-      (n + 1, subst (λ x. StepsOf script (replicate (n + 1) x) first last) (some_same u t mine) (subst (λ ts. StepsOf script ts first last) (replicate-add u n 1) its))
+      (n + 1, subst (λ x. StepsOf script (replicate (n + 1) x) first last) (same_Some u t mine) (subst (λ ts. StepsOf script ts first last) (replicate-add u n 1) its))
 
   -- ---- threads to their ends
 

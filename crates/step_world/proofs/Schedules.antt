@@ -15,7 +15,7 @@ use Rattle.script_ops.specs.Values.{ScriptValue, op_at}
 use Rattle.script_ops.specs.declared.op.Op.{Op}
 use Rattle.run_law.proofs.laws.Endings.{op_phase, opening_kept, phase_keeps, run_when_over}
 use Rattle.run_law.proofs.laws.OpMarks.{not_some}
-use Rattle.step_world.proofs.MachineStates.{can_be_same, can_be_tree, kept_as, tree_can_be}
+use Rattle.step_world.proofs.MachineStates.{can_be_same, can_be_tree, IsKept-same, tree_can_be}
 use Rattle.step_world.proofs.AccessSteps.{some_can_be}
 use Rattle.step_world.proofs.KeptSteps.{step_keeps}
 use Rattle.step_world.specs.Machine.{Event, GoesOn, Happens, IsOpening, IsOver, MachineValue, Next, Plays, Step, opening_thread, thread_at}
@@ -23,6 +23,7 @@ use Rattle.step_world.specs.declared.place.Place.{Place}
 use Rattle.step_world.specs.declared.place.Place.TheVariants.{Ready, Looking, Following}
 use Rattle.step_world.specs.declared.place.Thread.{Thread}
 use Rattle.step_world.specs.Moments.{CanBe, IsRunSoFar, progress_by, progress_in}
+use Rattle.lists.proofs.Options.{not_some-none}
 
 -- ---- the opening state
 
@@ -42,11 +43,6 @@ ready_not_looking made h = absurd cc
 ready_not_following : (made : ℕ) → Ready ≡ Following made → ⊥
 ready_not_following made h = absurd cc
 
--- there is none
-none_not_some : (o : Option ℕ) (t : ℕ) → o ≡ None → o ≡ Some t → ⊥
-none_not_some None t a b = absurd cc
-none_not_some (Some x) t a b = absurd cc
-
 -- the opening state
 pub opening_so_far : (script : ScriptValue) (s : MachineValue) → IsOpening script s → IsRunSoFar script s
 opening_so_far script s opening = record {
@@ -58,13 +54,13 @@ opening_so_far script s opening = record {
   };
   held = λ t. (
     λ some. absurd (not_some (progress_in s t).made (ap (λ (x : Progress). x.made) (opening_at s t (opening.threads t))) some),
-    λ is. absurd (none_not_some s.holder t opening.holder is),
+    λ is. absurd (not_some-none s.holder t opening.holder is),
   );
   looking = λ t made op place is. absurd (ready_not_looking made (opening_place s t (Looking made) (opening.threads t) place));
   following = λ t made k op place is last. absurd (ready_not_following made (opening_place s t (Following made) (opening.threads t) place));
   kept = λ all can.
       let same : all ≡ s.journals.tree = can_be_tree s s.holder all opening.holder can in
-      kept_as script s.journals.tree all s.journals.slices s.journals.slices (progress_in s) (progress_in s) 0 s.phase same refl (λ u. refl) opening.phase
+      IsKept-same script s.journals.tree all s.journals.slices s.journals.slices (progress_in s) (progress_in s) 0 s.phase same refl (λ u. refl) opening.phase
       (opening_kept script s.journals (progress_in s) opening.tree opening.slices (λ t. opening_at s t (opening.threads t)));
 }
 
@@ -91,7 +87,7 @@ next_so_far script old new goes so_far =
           (so_far.following t made k op (sym (ap (λ (v : Thread). v.place) (same t)) ∙ place) (subst (λ (v : Thread). op_at script t v.next ≡ Some op) (same t) is) (last ∙ ap length tree));
       kept = λ all can.
           let could : CanBe old old.holder all = can_be_same old new all old.holder tree (λ u is. same u) (subst (λ o. CanBe new o all) goes.holder can) in
-          kept_as script all all old.journals.slices new.journals.slices (progress_in old) (progress_in new) (old.phase + 1) new.phase refl slices at goes.phase
+          IsKept-same script all all old.journals.slices new.journals.slices (progress_in old) (progress_in new) (old.phase + 1) new.phase refl slices at goes.phase
           (phase_keeps script (record { tree = all; slices = old.journals.slices }) (progress_in old) old.phase
           (λ t is. let ended = goes.ended t is in ap (progress_by (thread_at old t).next) ended.1 ∙ ap (λ n. idle n) ended.0) (so_far.kept all could));
     }

@@ -1,7 +1,8 @@
 -- What the rows of the machine have in common: who holds the tree after a step, and how far each thread has come.
-use Rattle.std.proofs.Common.{◌≡◌, ℕ, ◌+◌, ◌≤◌, ◌⊎◌, inl, inr, [], ◌∷◌, ◌++◌, length, Option, Some, None, refl, sym, ap, ◌∙◌, subst}
+use Rattle.std.proofs.Common.{◌≡◌, ℕ, ◌+◌, ◌≤◌, ◌⊎◌, inl, inr, [], ◌∷◌, ◌++◌, length, Some, None, refl, sym, ap, ◌∙◌, subst}
 use Rattle.std.specs.Prelude.{◌==◌, IsSome}
 use Rattle.std.proofs.lemmas.Bool.{cases_Bool}
+use Rattle.std.proofs.lemmas.Option.{same_Some}
 use Rattle.run_law.specs.Journals.{JournalsValue}
 use Rattle.run_law.specs.TreeHistory.{TreeEntryValue}
 use Rattle.script_ops.specs.Values.{ScriptValue, op_at}
@@ -9,7 +10,6 @@ use Rattle.script_ops.specs.declared.op.Op.{Op}
 use Rattle.run_law.proofs.laws.MovedThreads.{where_moved}
 use Rattle.run_law.proofs.laws.OpMarks.{not_some}
 use Rattle.run_law.proofs.laws.GrownLists.{with_slices, with_tree}
-use Rattle.step_world.proofs.MachineStates.{some_same}
 use Rattle.run_law.specs.Jobs.{looks_of}
 use Rattle.step_world.specs.Machine.{MachineValue, thread_at}
 use Rattle.step_world.specs.declared.place.Place.{Place}
@@ -17,28 +17,24 @@ use Rattle.step_world.specs.declared.place.Place.TheVariants.{Ready, Looking, Fo
 use Rattle.step_world.specs.declared.place.Thread.{Thread}
 use Rattle.run_law.specs.Progress.{Progress, moved}
 use Rattle.step_world.specs.Moments.{FollowsBehind, IsHeldBy, LooksWithin, progress_by, progress_in}
+use Rattle.lists.proofs.Options.{not_some-none}
 
 -- ---- who holds the tree after a step
-
--- there is none
-pub none_is : (o : Option ℕ) (u : ℕ) → o ≡ None → o ≡ Some u → ⊥
-none_is None u a b = absurd cc
-none_is (Some x) u a b = absurd cc
 
 -- a thread's progress by its place
 pub place_of : (s : MachineValue) (t : ℕ) (place : Place) → (thread_at s t).place ≡ place → progress_in s t ≡ progress_by (thread_at s t).next place
 place_of s t place is = ap (progress_by (thread_at s t).next) is
 
 -- the one that holds the tree goes on holding it, or takes it when nobody did
-pub held_on : (old new : MachineValue) (t : ℕ) (p : Progress) → ((u : ℕ) → progress_in new u ≡ moved (progress_in old) t p u) → IsSome p.made
+pub IsHeldBy-held : (old new : MachineValue) (t : ℕ) (p : Progress) → ((u : ℕ) → progress_in new u ≡ moved (progress_in old) t p u) → IsSome p.made
     → ((u : ℕ) → IsSome (progress_in old u).made → u ≡ t) → new.holder ≡ Some t → IsHeldBy new new.holder
-held_on old new t p at holds only is u = (
+IsHeldBy-held old new t p at holds only is u = (
   λ some. elim (where_moved (progress_in old) t p u) [
     | inl here ↦ is ∙ ap (λ v. Some v) (sym here.0)
     | inr away ↦ absurd (away.0 (only u (subst (λ (x : Progress). IsSome x.made) (at u ∙ away.1) some)))
   ],
   λ same.
-      let u_is : t ≡ u = some_same t u (sym is ∙ same) in
+      let u_is : t ≡ u = same_Some t u (sym is ∙ same) in
       elim (where_moved (progress_in old) t p u) [
         | inl here ↦ subst (λ (x : Progress). IsSome x.made) (sym (at u ∙ here.1)) holds
         | inr away ↦ absurd (away.0 (sym u_is))
@@ -46,14 +42,14 @@ held_on old new t p at holds only is u = (
 )
 
 -- it lets the tree go
-pub held_off : (old new : MachineValue) (t : ℕ) (p : Progress) → ((u : ℕ) → progress_in new u ≡ moved (progress_in old) t p u) → p.made ≡ None
+pub IsHeldBy-free : (old new : MachineValue) (t : ℕ) (p : Progress) → ((u : ℕ) → progress_in new u ≡ moved (progress_in old) t p u) → p.made ≡ None
     → ((u : ℕ) → IsSome (progress_in old u).made → u ≡ t) → new.holder ≡ None → IsHeldBy new new.holder
-held_off old new t p at lets only is u = (
+IsHeldBy-free old new t p at lets only is u = (
   λ some. elim (where_moved (progress_in old) t p u) [
     | inl here ↦ absurd (not_some (progress_in new u).made (ap (λ (x : Progress). x.made) (at u ∙ here.1) ∙ lets) some)
     | inr away ↦ absurd (away.0 (only u (subst (λ (x : Progress). IsSome x.made) (at u ∙ away.1) some)))
   ],
-  λ same. absurd (none_is new.holder u is same),
+  λ same. absurd (not_some-none new.holder u is same),
 )
 
 -- a thread that holds nothing moves
@@ -70,7 +66,7 @@ held_same old new t p at lets not_held is held u =
 
 -- only the holder holds
 pub only_holder : (s : MachineValue) (t : ℕ) → IsHeldBy s s.holder → IsSome (progress_in s t).made → (u : ℕ) → IsSome (progress_in s u).made → u ≡ t
-only_holder s t held holds u some = some_same u t (sym ((held u).0 some) ∙ (held t).0 holds)
+only_holder s t held holds u some = same_Some u t (sym ((held u).0 some) ∙ (held t).0 holds)
 
 -- ---- looks of others
 
@@ -136,9 +132,9 @@ pub decided_are : (old new : JournalsValue) (h : TreeEntryValue) → new.tree �
 decided_are old new h tree slices =
     ap (λ hs. (let j : JournalsValue = record { tree = hs; slices = old.slices } in j)) (sym tree) ∙ ap (λ ss. (let j : JournalsValue = record { tree = new.tree; slices = ss } in j)) (sym slices)
 
--- moving twice is moving once
-pub twice : (at : ℕ → Progress) (t : ℕ) (p q : Progress) (u : ℕ) → moved at t q u ≡ moved (moved at t p) t q u
-twice at t p q u = elim (cases_Bool (u == t)) [ inl here ↦ rw here refl | inr away ↦ rw away refl ]
+-- moving moved-twice is moving once
+pub moved-twice : (at : ℕ → Progress) (t : ℕ) (p q : Progress) (u : ℕ) → moved at t q u ≡ moved (moved at t p) t q u
+moved-twice at t p q u = elim (cases_Bool (u == t)) [ inl here ↦ rw here refl | inr away ↦ rw away refl ]
 
 -- a thread that is where it was
 pub still_there : (at : ℕ → Progress) (t : ℕ) (p : Progress) → at t ≡ p → (u : ℕ) → moved at t p u ≡ at u

@@ -1,5 +1,6 @@
 -- An access of a world reads its tag.
 use Rattle.std.proofs.Common.{◌≡◌, ℕ, false, length, map, get_or, Some, None, refl, sym, ap, ◌∙◌, subst}
+use Rattle.std.proofs.lemmas.Option.{same_Some, none-some}
 use Rattle.machine.specs.Maps.{domain_of}
 use Rattle.rc_base.specs.declared.names.Tag.{Tag}
 use Rattle.run_law.proofs.laws.SoundHistories.{Fits-tree_after}
@@ -21,7 +22,7 @@ use Rattle.step_world.specs.declared.place.Thread.{Thread}
 use Rattle.step_world.specs.declared.world.World.{World}
 use Rattle.tree_law.specs.Resolving.{Owned, resolve}
 use Rattle.tree_law.specs.State.{tasks_of}
-use Rattle.step_world.proofs.TakenWorlds.{IsQuiet, journals-quiet, leaves-quiet, lists-quiet, one_op, tree-quiet, within-next}
+use Rattle.step_world.proofs.TakenWorlds.{IsQuiet, journals-quiet, leaves-quiet, lists-quiet, tree-quiet, within-next}
 
 -- a tag is what its parts are
 same_tag : (a b : Tag) → a.epoch ≡ b.epoch → a.owner ≡ b.owner → a.class ≡ b.class → a.rmid ≡ b.rmid → a.mask ≡ b.mask → a.domain ≡ b.domain → a ≡ b
@@ -56,7 +57,7 @@ pub tagged : (script : ScriptValue) (t n task cpu addr : ℕ) (tag : Tag) (old n
 tagged script t n task cpu addr tag old new world next number place free resolved quiet slices holder =
     let now : Thread = record { next = n; place = Tagged tag } in
     let within = within-next script old t (ops.Access task cpu addr) world next in
-    let nobody : (u : ℕ) → new.holder ≡ Some u → ⊥ = λ u held. none_some u (sym (holder ∙ free) ∙ held) in
+    let nobody : (u : ℕ) → new.holder ≡ Some u → ⊥ = λ u held. none-some u (sym (holder ∙ free) ∙ held) in
     let leaves : Leaves t now old new = leaves-quiet script t now old new world within quiet (λ u apart held. absurd (nobody u held)) in
     let moves : Moves t now (machine_of old) (machine_of new) = moves-leaves t now old new within leaves in
     let tags : Tags script t task cpu (machine_of old) (machine_of new) = record {
@@ -68,12 +69,9 @@ tagged script t n task cpu addr tag old new world next number place free resolve
     let step : Steps script t (machine_of old) (machine_of new) = step_tags script t task cpu addr (machine_of old) (machine_of new) next.present next.is place free tags in (
       IsWorldOf-step script old new t now world within step leaves (tree-quiet script t now old new world within quiet) (subst (λ ss. AreInPlay script ss) (sym slices) world.slices)
           (λ d. subst (λ k. KeepsLists script t k (get_or new.lists.items t d)) (sym number) (record {
-            access = λ other is. subst (λ c. is_command c ≡ false) (one_op (ops.Access task cpu addr) other (sym next.is ∙ is)) refl;
+            access = λ other is. subst (λ c. is_command c ≡ false) (same_Some (ops.Access task cpu addr) other (sym next.is ∙ is)) refl;
             ready = lists-quiet script t now old new world within quiet Ready d place;
           }))
           (λ other d held is. absurd (nobody t held)),
       record { task = task; cpu = cpu; addr = addr; access = refl; place = place; free = free; row = tags; told = resolved.epoch ∙ world.tree.epoch },
     )
-  where
-    none_some : (u : ℕ) → None ≡ Some u → ⊥
-    none_some u h = cc

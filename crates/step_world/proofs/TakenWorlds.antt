@@ -1,6 +1,7 @@
 -- A command takes the tree of a world.
 use Rattle.std.proofs.Common.{◌≡◌, ◌≢◌, ℕ, zero, suc, ◌+◌, ◌*◌, ◌<◌, ◌≤◌, true, List, [], ◌∷◌, length, map, drop, get_or, set, Option, Some, None, refl, sym, ap, ◌∙◌, subst, arith}
 use Rattle.std.specs.Prelude.{◌^◌, IsSome, vec_capacity}
+use Rattle.std.proofs.lemmas.Option.{same_Some}
 use Rattle.rc_base.specs.Buffers.{Looks}
 use Rattle.run_law.specs.Entries.{entry_value}
 use Rattle.run_law.specs.Journals.{At, JournalsValue}
@@ -36,18 +37,10 @@ rooms-command script t n op is command = ap (rooms_of script.machine) (drop-at (
 pub rooms-access : (script : ScriptValue) (t n task cpu addr : ℕ) → op_at script t n ≡ Some (ops.Access task cpu addr) → rooms_from script t n ≡ rooms_from script t (n + 1)
 rooms-access script t n task cpu addr is = ap (rooms_of script.machine) (drop-at (ops_of script t) n (ops.Access task cpu addr) is)
 
--- an op by its number is one op
-pub one_op : (a b : Op) → Some a ≡ Some b → a ≡ b
-one_op a b h = cc
-
 -- a thread with a next op is there
 pub within-next : (script : ScriptValue) (w : World) (t : ℕ) (op : Op) → IsWorldOf script w → HasNext script (machine_of w) t op → t < length w.threads.items
 within-next script w t op world next =
     omega (arith, world.threads, thread_within (threads_of script) t (thread_at (machine_of w) t).next (subst (λ (o : Option Op). IsSome o) (sym next.is) refl))
-
--- equal options have equal values
-same_some : (a b : ℕ) → Some a ≡ Some b → a ≡ b
-same_some a b h = cc
 
 -- ---- steps that leave the journals
 
@@ -105,17 +98,17 @@ list-taken script t n op lists is command ready =
       last = its.1;
       is = its.2;
       numbers_are = its.3;
-      room = λ other there. subst (λ c. most_counts script.machine c ≤ 0 + its.1.spare) (one_op op other (sym is ∙ there)) (omega (arith, its.4));
+      room = λ other there. subst (λ c. most_counts script.machine c ≤ 0 + its.1.spare) (same_Some op other (sym is ∙ there)) (omega (arith, its.4));
       ready = its.5;
     }
 
-pub took : (script : ScriptValue) (t n : ℕ) (op : Op) (old new : World) → IsWorldOf script old → HasNext script (machine_of old) t op → n ≡ (thread_at (machine_of old) t).next
+pub IsWorldOf-taken : (script : ScriptValue) (t n : ℕ) (op : Op) (old new : World) → IsWorldOf script old → HasNext script (machine_of old) t op → n ≡ (thread_at (machine_of old) t).next
     → (thread_at (machine_of old) t).place ≡ Ready → old.holder ≡ None → is_command op ≡ true → IsQuiet t (record { next = n; place = Looking 0 }) old new → new.slices.items ≡ old.slices.items → new.holder ≡ Some t → BeginsWork op old new
     → IsWorldOf script new × HasTaken t op (machine_of old) (machine_of new)
-took script t n op old new world next number place free command quiet slices holder work =
+IsWorldOf-taken script t n op old new world next number place free command quiet slices holder work =
     let now : Thread = record { next = n; place = Looking 0 } in
     let within = within-next script old t op world next in
-    let leaves : Leaves t now old new = leaves-quiet script t now old new world within quiet (λ u apart held. absurd (apart (same_some u t (sym held ∙ holder)))) in
+    let leaves : Leaves t now old new = leaves-quiet script t now old new world within quiet (λ u apart held. absurd (apart (same_Some u t (sym held ∙ holder)))) in
     let journals = journals-quiet script t now old new world within quiet slices in
     let moves : Moves t now (machine_of old) (machine_of new) = moves-leaves t now old new within leaves in
     let takes : Takes t (machine_of old) (machine_of new) = record {
@@ -132,7 +125,7 @@ took script t n op old new world next number place free command quiet slices hol
     ap (λ m. needs m old.tree.state op) world.tree.machine ∙ (ap (λ s. needs script.machine s op) world.tree.state ∙ ap (λ (j : JournalsValue). needs script.machine (tree_after script j.tree) op) (sym journals)) in (
       IsWorldOf-step script old new t now world within step leaves (tree-quiet script t now old new world within quiet) (subst (λ ss. AreInPlay script ss) (sym slices) world.slices) (λ d. ([], list d))
           (λ other d held is.
-          let its : op ≡ other = one_op op other (sym next.is ∙ subst (λ k. op_at script t k ≡ Some other) number is) in
+          let its : op ≡ other = same_Some op other (sym next.is ∙ subst (λ k. op_at script t k ≡ Some other) number is) in
           subst (λ c. IsLookingAt script (machine_of new) t c (get_or new.lists.items t d) new.work) its (record {
             found = [];
             looked = looked;

@@ -23,7 +23,7 @@ use Rattle.step_world.proofs.KeptWorlds.{AreInPlay-set, IsWorldOf-step, Leaves, 
 use Rattle.step_world.proofs.MachineStates.{can_be_is}
 use Rattle.step_world.proofs.StepRows.{step_stale, step_touches}
 use Rattle.step_world.proofs.TakenWorlds.{IsQuiet, journals-quiet, leaves-quiet, lists-quiet, rooms-access, tree-quiet, within-next}
-use Rattle.step_world.specs.Answers.{HasNext, HasTouched, HasUsed, IsStale}
+use Rattle.step_world.specs.Answers.{HasNext, HasTouched, HasUsed, HasStaleTag}
 use Rattle.run_law.specs.LookLists.{AreReady}
 use Rattle.step_world.specs.Machine.{Moves, Notes, Steps, TagsAgain, Touches, floor_for, thread_at}
 use Rattle.step_world.specs.Moments.{progress_by, progress_in}
@@ -112,7 +112,7 @@ module _ (script : ScriptValue) (t task cpu addr : ℕ) (tag : Tag) (old : World
   pub stale : (new : World) (n i floor : ℕ) (s : SliceValue) → n ≡ (thread_at (machine_of old) t).next → i ≡ slice_of_line script.machine tag.domain (line_of addr)
       → i < length old.slices.items → IsQuiet t (record { next = n; place = Ready }) old new → new.slices.items ≡ set old.slices.items i s → new.holder ≡ old.holder → new.work ≡ old.work
       → s ≡ get_or old.slices.items i s → floor ≡ (get_or old.slices.items i s).cache.floor → tag.epoch < floor
-      → IsWorldOf script new × IsStale script t floor (ops.Access task cpu addr) (machine_of old) (machine_of new)
+      → IsWorldOf script new × HasStaleTag script t floor (ops.Access task cpu addr) (machine_of old) (machine_of new)
   stale new n i floor s number slice there quiet slices holder work same floor_is below =
       let now : Thread = record { next = n; place = Ready } in
       let within = within-next script old t (ops.Access task cpu addr) world next in

@@ -7,7 +7,7 @@ use Rattle.run_law.specs.Ops.{phase_in}
 use Rattle.script_ops.specs.Values.{ScriptValue, op_at, ops_of}
 use Rattle.script_ops.specs.declared.op.Op.{Op}
 use Rattle.script_ops.specs.declared.op.Op.TheVariants as ops
-use Rattle.step_world.proofs.FreeSteps.{free_step, turned}
+use Rattle.step_world.proofs.FreeSteps.{free_step, turns_left-after_command}
 use Rattle.step_world.proofs.PhaseSteps.{StepsOf-gone}
 use Rattle.step_world.specs.Machine.{HasEnded, MachineValue, Steps, thread_at}
 use Rattle.step_world.specs.Moments.{IsRunSoFar}
@@ -32,7 +32,7 @@ turn script t old mid last so_far within free here some step gone = with_op (op_
           let below : (thread_at old t).next < length (ops_of script t) = slice_get_within (ops_of script t) (thread_at old t).next op is in
           let there : thread_at last t ≡ (record { next = (thread_at old t).next + 1; place = Ready }) = its.2 ∙ ap after_op next in
           let rest = StepsOf-gone script (Some t) t mid last (inl refl) its in
-          (turned script t old mid so_far free last before below there, (suc rest.0, (mid, step, rest.1)))
+          (turns_left-after_command script t old mid so_far free last before below there, (suc rest.0, (mid, step, rest.1)))
       | inr (none, less) ↦
           let same : last ≡ mid = subst (λ o. HasLetGo script o mid last) none gone in
           (subst (λ s. turns_left script s t < turns_left script old t) (sym same) less, (1, (mid, step, same)))

@@ -100,7 +100,7 @@ pub record HasUsed (script : ScriptValue) (t : ℕ) (hit : Bool) (way : ℕ) (op
   pub uses : Uses hit way row.entry.what
 
 -- the tag of its access is older than the floor of the slice
-pub record IsStale (script : ScriptValue) (t floor : ℕ) (op : Op) (old new : MachineValue) : Type 0 where
+pub record HasStaleTag (script : ScriptValue) (t floor : ℕ) (op : Op) (old new : MachineValue) : Type 0 where
   pub tag : Tag
   pub task : ℕ
   pub cpu : ℕ
@@ -115,7 +115,7 @@ pub record IsStale (script : ScriptValue) (t floor : ℕ) (op : Op) (old new : M
 abbrev pub HasTouched : ScriptValue → ℕ → Touched → Op → MachineValue → MachineValue → Type 0
 HasTouched script t (Hit way) op old new = HasUsed script t true way op old new
 HasTouched script t (Filled way) op old new = HasUsed script t false way op old new
-HasTouched script t (Stale floor) op old new = IsStale script t floor op old new
+HasTouched script t (Stale floor) op old new = HasStaleTag script t floor op old new
 
 -- the step that a thread took
 abbrev pub Does : ScriptValue → ℕ → Action → Op → MachineValue → MachineValue → Type 0

@@ -4,7 +4,7 @@ use Rattle.std.specs.Prelude.{◌≡◌, ℕ, ◌<◌, List, length, slice_index
 use Rattle.machine.specs.Slices.{slice_count}
 use Rattle.rc_base.specs.Buffers.{Looks}
 use Rattle.run_law.specs.Quotas.{command_count, room_of}
-use Rattle.script_ops.specs.Values.{ScriptValue, ops_of}
+use Rattle.script_ops.specs.Values.{ScriptValue, ops_of, threads_of}
 use Rattle.run_law.specs.LookLists.{AreReady, rooms_of}
 use Rattle.step_world.specs.Machine.{opening_thread}
 use Rattle.step_world.specs.Slices.{IsFresh, SliceValue}
@@ -27,8 +27,11 @@ pub record AreListed (script : ScriptValue) (n : ℕ) (lists : List (List Looks)
   pub count : length lists ≡ n
   pub each : (t : ℕ) (d : List Looks) → t < n → AreReady (rooms_of script.machine (ops_of script t)) (slice_index_or lists t d)
 
--- the journals of a world have just the rooms that a script needs
+-- A world has just the rooms that a script needs: those of its journals, one for the journal of each slice where they are closed,
+-- and a list for the counts of each command.
 pub record HasRooms (script : ScriptValue) (w : World) : Type 0 where
   pub commands : vec_capacity w.commands ≡ command_count script
   pub count : length w.slices.items ≡ slice_count script.machine
   pub slices : (i : ℕ) (d : SliceValue) → i < slice_count script.machine → (slice_index_or w.slices.items i d).room ≡ room_of script i
+  pub closing : vec_capacity w.closing ≡ slice_count script.machine
+  pub lists : AreListed script (length (threads_of script)) w.lists.items

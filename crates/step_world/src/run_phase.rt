@@ -56,7 +56,7 @@ fn take_turn(world: &mut World, script: &Script, t: u32, ops: &[Op], op: &Op)
             pass_all(world, script, t, ops, *task, *cpu);
         }
         _ => {
-            world.step(script, t);
+            world.act(script, t, op);
             let_go(world, script);
         }
     }

@@ -36,10 +36,11 @@ counted group b = record { task = b.task; control = b.control; monitor = group }
 abbrev pub changed : (Binding → Bool) → (Binding → Binding) → List Binding → List Binding
 changed which how tasks = map (λ b. if which b then how b else b) tasks
 
--- the tasks of a control group, and those counted in a group, in the order of the list
+-- the tasks of a control group, in the order of the list
 abbrev pub control_members : Gid → List Binding → List ℕ
 control_members group tasks = map (λ b. b.task) (filter (has_control group) tasks)
 
+-- the tasks that are counted in a group, in the order of the list
 abbrev pub monitor_members : Gid → List Binding → List ℕ
 monitor_members group tasks = map (λ b. b.task) (filter (has_monitor group) tasks)
 

@@ -8,7 +8,7 @@ use Rattle.top_parts.specs.declared.refusal.Refusal.{Refusal}
 use Rattle.top_parts.specs.Meaning.{MeansAs, meaning}
 use Rattle.top_parts.specs.Outside.{HasRead, IsOfSource}
 use Rattle.script_ops.specs.Values.{ScriptValue}
-use Rattle.trace_gen.specs.Laws.{IsScriptText}
+use Rattle.trace_gen.specs.TraceLaws.{IsScriptText}
 
 -- it is read to its end
 pub HasRead-generated : (text : List ℕ) (faults : ℕ) (result : Result ScriptValue InputError) → IsScriptText text → MeansAs result (meaning text) → HasRead (Some text) faults faults result

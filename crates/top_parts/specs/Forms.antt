@@ -1,4 +1,4 @@
--- What the words after the program's name ask for: `step` or `gen N`, with any of four flags, each at most once, in any order.
+-- What the words after the program's name ask for: `step`, `run` or `gen N`, with any of four flags, each at most once, in any order.
 use Rattle.std.specs.Prelude.{ℕ, ◌≤◌, Bool, true, false, not, ◌&&◌, ◌||◌, nat_le, if◌then◌else◌, List, [], ◌∷◌, ◌++◌, count_by, filter, codes, string_bytes, String, Option, Some, None, option_map}
 use Rattle.std.specs.List.{list_any}
 use Rattle.std.specs.Option.{option_and_then}
@@ -6,7 +6,7 @@ use Rattle.std.specs.declared.alloc.Global.{Global}
 use Rattle.num_text.specs.Numbers.{dec_of}
 use Rattle.rc_base.specs.Texts.{is_text}
 use Rattle.top_parts.specs.declared.command.Command.{Command}
-use Rattle.top_parts.specs.declared.command.Command.TheVariants.{Gen, Step}
+use Rattle.top_parts.specs.declared.command.Command.TheVariants.{Gen, Run, Step}
 use Rattle.top_parts.specs.declared.form.Form.{Form}
 use Rattle.run_law.specs.declared.flags.Flags.{Flags}
 use Rattle.trace_gen.specs.Trace.{trace_text}
@@ -57,9 +57,13 @@ number_in word = option_and_then in_range (dec_of (string_bytes word))
 abbrev pub others_in : List (String Global) → List (String Global)
 others_in words = filter (λ w. not (is_flag w)) words
 
--- the command that the first word names, with those of the other words that are no flags: `step` takes none, `gen` its number
+-- the command that a word names alone: `step` or `run`
+abbrev pub bare_command : String Global → Option Command
+bare_command first = if is_word (codes "step") first then Some Step else if is_word (codes "run") first then Some Run else None
+
+-- the command that the first word names, with those of the other words that are no flags: `step` and `run` take none, `gen` its number
 abbrev pub command_of : String Global → List (String Global) → Option Command
-command_of first [] = if is_word (codes "step") first then Some Step else None
+command_of first [] = bare_command first
 command_of first (number ∷ []) = if is_word (codes "gen") first then option_map Gen (number_in number) else None
 command_of first (number ∷ next ∷ more) = None
 
@@ -74,6 +78,17 @@ abbrev pub form_of : List (String Global) → Option Form
 form_of [] = None
 form_of (first ∷ more) = if has_flags_once more then option_map (with_flags more) (command_of first (others_in more)) else None
 
+-- whether the first word is `run`
+abbrev pub begin_with_run : List (String Global) → Bool
+begin_with_run [] = false
+begin_with_run (first ∷ more) = is_word (codes "run") first
+
+-- the command is `run`
+abbrev pub is_run : Command → Bool
+is_run Step = false
+is_run Run = true
+is_run (Gen n) = false
+
 -- the line for a command line that is not valid
 abbrev pub usage_line : List ℕ
 usage_line = codes "usage: resctrl_sim step|run|gen N [--journal] [--json] [--windows] [--quiet]" ++ 10 ∷ []
@@ -83,11 +98,13 @@ usage_line = codes "usage: resctrl_sim step|run|gen N [--journal] [--json] [--wi
 -- whether a command plays what the source holds
 abbrev pub is_of_source : Command → Bool
 is_of_source Step = true
+is_of_source Run = true
 is_of_source (Gen n) = false
 
 -- a command whose number, if it has one, is one that the generator takes
 abbrev pub IsInRange : Command → Type 0
 IsInRange Step = Unit {0}
+IsInRange Run = Unit {0}
 IsInRange (Gen n) = (1 ≤ n) × (n ≤ MOST_THREAD_ACCESSES)
 
 -- whether a command line has the source read; one that is not valid does not
@@ -95,9 +112,10 @@ abbrev pub reads_source : Option Form → Bool
 reads_source None = false
 reads_source (Some form) = is_of_source form.command
 
--- the bytes that a command plays, where they are known: for `step` what the source has left, for `gen` the generator's text
+-- the bytes that a command plays, where they are known: for `step` and `run` what the source has left, for `gen` the generator's text
 abbrev pub bytes_of : Command → Option (List ℕ) → Option (List ℕ)
 bytes_of Step left = left
+bytes_of Run left = left
 bytes_of (Gen n) left = Some (trace_text n)
 
 -- the bytes that a form plays, where they are known

@@ -1,3 +1,4 @@
+pub mod Arguments
 pub mod Forms
 pub mod Meaning
 pub mod Outside

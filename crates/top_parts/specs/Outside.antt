@@ -2,7 +2,7 @@
 use Rattle.std.specs.Prelude.{◌≡◌, ℕ, ◌+◌, ◌<◌, Bool, false, List, [], ◌++◌, take, drop, Option, Some, None, Result, Ok, Err}
 use Rattle.std.specs.Io.KnownBytes.{Appends, Keeps}
 use Rattle.top_parts.specs.declared.command.Command.{Command}
-use Rattle.top_parts.specs.declared.command.Command.TheVariants.{Gen, Step}
+use Rattle.top_parts.specs.declared.command.Command.TheVariants.{Gen, Run, Step}
 use Rattle.top_parts.specs.declared.input.InputError.{InputError}
 use Rattle.top_parts.specs.declared.input.InputError.TheVariants.{Bad, Failed, NoMemory}
 use Rattle.top_parts.specs.Meaning.{meaning}
@@ -117,9 +117,10 @@ abbrev pub LeavesRefused : Refusal → Option (List ℕ) → Option (List ℕ) �
 LeavesRefused (BadLine fault) left now = LeavesNothing left now
 LeavesRefused TooLarge left now = LeavesRest left now
 
--- what a command leaves whose script was played: `step` nothing, and `gen` all that there was
+-- what a command leaves whose script was played: `step` and `run` nothing, and `gen` all that there was
 abbrev pub LeavesPlayed : Command → Option (List ℕ) → Option (List ℕ) → Type 0
 LeavesPlayed Step left now = LeavesNothing left now
+LeavesPlayed Run left now = LeavesNothing left now
 LeavesPlayed (Gen n) left now = now ≡ left
 
 -- what reading a script leaves, unless the source failed or memory ran out

@@ -138,8 +138,8 @@ fn generate(alloc: Global, n: u32) -> Result<Script, InputError>
     }
 }
 
-/// The script that a form plays: for `step` the one that the source holds; for `gen` the one that the generator makes, and then
-/// the source is not called. The errors are those of `read_input`.
+/// The script that a form plays: for `step` and `run` the one that the source holds; for `gen` the one that the generator makes,
+/// and then the source is not called. The errors are those of `read_input`.
 pub fn input_of<S: Source>(alloc: Global, form: Form, source: &mut S) -> Result<Script, InputError>
     requires faults { S.faults source.old < 2 ^ 64 - 1 }
     requires range { IsInRange form.command }
@@ -150,7 +150,7 @@ pub fn input_of<S: Source>(alloc: Global, form: Form, source: &mut S) -> Result<
     ensures unread { reads_source (Some form) ≡ false → source.new ≡ source.old }
 {
     match form.command {
-        Command::Step => read_input(alloc, source),
+        Command::Step | Command::Run => read_input(alloc, source),
         Command::Gen(n) => generate(alloc, n),
     }
 }

@@ -10,7 +10,7 @@ use Rattle.script_ops.specs.declared.limits.TheConstants.{MOST_SCRIPT_BYTES}
 use Rattle.trace_gen.specs.declared.making.TheConstants.{MOST_THREAD_ACCESSES}
 use Rattle.trace_gen.specs.Draws.{draw_at}
 use Rattle.trace_gen.specs.Trace.{access_line, address, cpu_of, ended, opening_lines, order_draws, order_line, order_number, task_draws, text_of, thread_lines, trace_text}
-use Rattle.trace_gen.proofs.Sizes.{length-decimal}
+use Rattle.num_text.proofs.laws.Prints.{length-decimal}
 
 -- the text of more lines
 length-text_of-append : (xs ys : List (List ℕ)) → length (text_of (xs ++ ys)) ≡ length (text_of xs) + length (text_of ys)

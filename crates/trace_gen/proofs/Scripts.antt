@@ -11,7 +11,7 @@ use Rattle.script_text.specs.Meaning.{line_meaning, means, word_means}
 use Rattle.script_text.specs.Reading.{nothing_read, reading_from}
 use Rattle.trace_gen.specs.declared.making.TheConstants.{MOST_THREAD_ACCESSES}
 use Rattle.trace_gen.specs.Draws.{draw_at, draws_from}
-use Rattle.trace_gen.specs.Laws.{TracesAreScripts, TracesSay}
+use Rattle.trace_gen.specs.TraceLaws.{TracesAreScripts, TracesSay}
 use Rattle.trace_gen.specs.Scripts.{accesses, trace_script}
 use Rattle.trace_gen.specs.Trace.{opening_lines, order_draws, order_line, order_number, task_draws, thread_lines, trace_lines, trace_text}
 use Rattle.trace_gen.proofs.Lengths.{length-trace_text}
@@ -20,6 +20,7 @@ use Rattle.trace_gen.proofs.Orders.{IsPlain-order, line_meaning-order}
 use Rattle.trace_gen.proofs.Steps.{meaning_of, meaning_of-append, meaning_of-cons, reading_from-meaning_of}
 use Rattle.trace_gen.proofs.Threads.{AllByRecursion-thread, IsTask, meaning_of-thread}
 use Rattle.trace_gen.proofs.Words.{IsPlain, lines-text_of}
+use Rattle.lists.proofs.Recursions.{AllByRecursion-append}
 
 -- ---- the tasks
 
@@ -67,11 +68,6 @@ meaning_of-four order a b c d la lb lc ld =
     ∙ meaning_of-append (thread_lines 2 b) (thread_lines 3 c ++ (thread_lines 4 d ++ [])) (second Thread order [] (accesses 1 a) (21 + length a)) (second Thread order (accesses 1 a ∷ []) (accesses 2 b) (21 + length a + length b)) (meaning_of-thread 2 two (second Thread order [] (accesses 1 a) (21 + length a)) order (accesses 1 a ∷ []) b (21 + length a) (second_thread order (accesses 1 a) (21 + length a)) (omega arith))
     ∙ meaning_of-append (thread_lines 3 c) (thread_lines 4 d ++ []) (second Thread order (accesses 1 a ∷ []) (accesses 2 b) (21 + length a + length b)) (second Thread order (accesses 1 a ∷ accesses 2 b ∷ []) (accesses 3 c) (21 + length a + length b + length c)) (meaning_of-thread 3 three (second Thread order (accesses 1 a ∷ []) (accesses 2 b) (21 + length a + length b)) order (accesses 1 a ∷ accesses 2 b ∷ []) c (21 + length a + length b) (third_thread order (accesses 1 a) (accesses 2 b) (21 + length a + length b)) (omega arith))
     ∙ meaning_of-append (thread_lines 4 d) [] (second Thread order (accesses 1 a ∷ accesses 2 b ∷ []) (accesses 3 c) (21 + length a + length b + length c)) (second Thread order (accesses 1 a ∷ accesses 2 b ∷ accesses 3 c ∷ []) (accesses 4 d) (21 + length a + length b + length c + length d)) (meaning_of-thread 4 four (second Thread order (accesses 1 a ∷ accesses 2 b ∷ []) (accesses 3 c) (21 + length a + length b + length c)) order (accesses 1 a ∷ accesses 2 b ∷ accesses 3 c ∷ []) d (21 + length a + length b + length c) (fourth_thread order (accesses 1 a) (accesses 2 b) (accesses 3 c) (21 + length a + length b + length c)) (omega arith))
-
--- their lines are plain
-AllByRecursion-append : {X : Type 0} (P : X → Type 0) (xs ys : List X) → AllByRecursion P xs → AllByRecursion P ys → AllByRecursion P (xs ++ ys)
-AllByRecursion-append P [] ys a b = b
-AllByRecursion-append P (x ∷ xs) ys a b = (a.0, AllByRecursion-append P xs ys a.1 b)
 
 AllByRecursion-four : (a b c d : List ℕ) → AllByRecursion IsPlain (four_threads a b c d)
 AllByRecursion-four a b c d =

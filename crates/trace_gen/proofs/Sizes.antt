@@ -1,10 +1,4 @@
 -- How long the texts of numbers are.
-use Rattle.std.proofs.Common.{ℕ, ◌^◌, ◌<◌, ◌≤◌, length, arith}
-use Rattle.std.specs.Fmt.{decimal}
-use Rattle.std.proofs.lemmas.Fmt.{length-decimal-le}
-
--- a number of 64 bits has at most 20 digits
-pub length-decimal : (n : ℕ) → n < 2 ^ 64 → length (decimal n) ≤ 20
-length-decimal n small = length-decimal-le 20 n (omega arith) (omega arith) small
+use Rattle.num_text.proofs.laws.Prints.{length-decimal}
 
 pub ruleset number_sizes = (length-decimal)

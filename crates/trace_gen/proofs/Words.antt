@@ -1,21 +1,20 @@
 -- Words with one space between, and the lines of a text. These belong beside `script_text`'s lines.
-use Rattle.std.proofs.Common.{◌≡◌, ℕ, ◌-◌, ◌^◌, ◌<◌, Bool, true, false, eqb, List, [], ◌∷◌, ◌++◌, length, filter, get_or, refl, ap, ◌∙◌, arith, append_assoc}
+use Rattle.std.proofs.Common.{◌≡◌, ℕ, ◌-◌, ◌^◌, ◌<◌, Bool, false, eqb, List, [], ◌∷◌, ◌++◌, length, filter, refl, ap, ◌∙◌, arith, append_assoc}
 use Rattle.std.specs.Prelude.{decimal}
 use Rattle.std.specs.Char.{digit_value}
 use Rattle.std.specs.List.{AllByRecursion, list_any, slice_split}
-use Rattle.std.specs.Str.Lines.{lines, lines_of_parts, strip_carriage_return}
-use Rattle.std.specs.Str.Parse.{AllDigits}
+use Rattle.std.specs.Str.Lines.{lines, lines_of_parts}
 use Rattle.std.proofs.lemmas.Bool.{ne_eqb, le-ltb}
 use Rattle.std.proofs.lemmas.Fmt.{decimal_nonempty}
-use Rattle.std.proofs.lemmas.List.Folds.{list_any_at}
 use Rattle.std.proofs.lemmas.List.Splits.{length-slice_split}
 use Rattle.std.proofs.lemmas.Str.Parse.{digit_from_value}
-use Rattle.lists.proofs.Cuts.{slice_split-some}
+use Rattle.lists.proofs.Cuts.{slice_split-some, lines_of_parts-cons, strip_carriage_return-none}
 use Rattle.num_text.specs.Blanks.{is_blank}
-use Rattle.num_text.proofs.laws.Digits.{AllDigits-decimal}
+use Rattle.num_text.proofs.laws.Digits.{AllDigits-decimal, is_blank-decimal, eqb-decimal, list_any-decimal}
 use Rattle.num_text.proofs.laws.Pieces.{Cut-append, list_any-join_with_byte, slice_split-join_with_byte}
 use Rattle.script_text.specs.Lines.{is_bad, is_some_word, words}
 use Rattle.trace_gen.specs.Trace.{spaced, text_of}
+use Rattle.lists.proofs.Recursions.{AllByRecursion-map}
 
 -- the bytes that end a line, or stand before one that does
 abbrev pub is_newline : ℕ → Bool
@@ -34,19 +33,6 @@ pub record IsWord (word : List ℕ) : Type 0 where
   pub no_newline : list_any is_newline word ≡ false
   pub no_return : list_any is_carriage_return word ≡ false
 
--- a test that no decimal digit passes
-list_any-decimal : (p : ℕ → Bool) → ((c : ℕ) → digit_value c < 10 → p c ≡ false) → (cs : List ℕ) → AllDigits 10 cs → list_any p cs ≡ false
-list_any-decimal p h [] all = refl
-list_any-decimal p h (c ∷ cs) all = rw (h c all.0) (list_any-decimal p h cs all.1)
-
--- no decimal digit is a byte below them
-eqb-decimal : (c k : ℕ) → k < 48 → digit_value c < 10 → eqb c k ≡ false
-eqb-decimal c k low digit = ne_eqb c k (λ e. omega (arith, e, low, (digit_from_value c digit).0))
-
--- none is a blank
-is_blank-decimal : (c : ℕ) → digit_value c < 10 → is_blank c ≡ false
-is_blank-decimal c digit = rw (eqb-decimal c 32 (omega arith) digit, eqb-decimal c 9 (omega arith) digit) refl
-
 -- none is a bad byte
 is_bad-decimal : (c : ℕ) → digit_value c < 10 → is_bad c ≡ false
 is_bad-decimal c digit =
@@ -64,11 +50,6 @@ IsWord-decimal n small =
       no_newline = list_any-decimal is_newline (λ c digit. eqb-decimal c 10 (omega arith) digit) (decimal n) all;
       no_return = list_any-decimal is_carriage_return (λ c digit. eqb-decimal c 13 (omega arith) digit) (decimal n) all;
     }
-
--- what follows of each follows of all
-pub AllByRecursion-map : {X : Type 0} (P Q : X → Type 0) → ((x : X) → P x → Q x) → (xs : List X) → AllByRecursion P xs → AllByRecursion Q xs
-AllByRecursion-map P Q f [] all = tt
-AllByRecursion-map P Q f (x ∷ xs) all = (f x all.0, AllByRecursion-map P Q f xs all.1)
 
 -- a filter keeps words
 filter-words : (ws : List (List ℕ)) → AllByRecursion IsWord ws → filter is_some_word ws ≡ ws
@@ -104,19 +85,6 @@ IsPlain-spaced b w ws all = record {
     some : (vs : List (List ℕ)) → 0 < length (spaced ((b ∷ w) ∷ vs))
     some [] = omega arith
     some (v ∷ vs) = omega arith
-
--- one part in front
-lines_of_parts-cons : (x : List ℕ) (parts : List (List ℕ)) → 0 < length parts → lines_of_parts (x ∷ parts) ≡ strip_carriage_return x ∷ lines_of_parts parts
-lines_of_parts-cons x [] h = absurd (omega arith)
-lines_of_parts-cons x (y ∷ more) h = refl
-
--- a line without a carriage return
-strip_carriage_return-none : (x : List ℕ) → 0 < length x → list_any is_carriage_return x ≡ false → strip_carriage_return x ≡ x
-strip_carriage_return-none x some none = at (eqb (get_or x (length x - 1) 0) 13) refl
-  where
-    at : (b : Bool) → eqb (get_or x (length x - 1) 0) 13 ≡ b → strip_carriage_return x ≡ x
-    at true e = let any = list_any_at is_carriage_return x (length x - 1) 0 (omega arith) e in absurd cc
-    at false e = rw e refl
 
 -- a line and its newline
 lines-cons : (x rest : List ℕ) → IsPlain x → lines (x ++ 10 ∷ rest) ≡ x ∷ lines rest

@@ -1,5 +1,5 @@
 pub mod Draws
-pub mod Laws
 pub mod Making
 pub mod Scripts
 pub mod Trace
+pub mod TraceLaws

@@ -1,4 +1,5 @@
 -- The script that a trace is.
+-- (For functions and proofs: no promise of the program stands on it.)
 use Rattle.std.specs.Prelude.{ℕ, false, List, [], ◌∷◌, map, codes, None}
 use Rattle.std.specs.List.{range_with_len}
 use Rattle.machine.specs.declared.parameters.Parameters.{Parameters}

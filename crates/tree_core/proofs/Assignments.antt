@@ -3,7 +3,6 @@ use Rattle.std.proofs.Common.{◌≡◌, ℕ, zero, suc, ◌^◌, ◌<◌, List,
 use Rattle.std.specs.List.{All, AllByRecursion, refill}
 use Rattle.std.proofs.lemmas.Bool.{cases_lt}
 use Rattle.std.proofs.lemmas.List.{append-nil, take_all, drop_all}
-use Rattle.std.proofs.lemmas.List.Elements.{All-set}
 use Rattle.cbm.proofs.laws.Validity.{checked-zero}
 use Rattle.machine.specs.declared.parameters.Parameters.{Parameters}
 use Rattle.tree_law.specs.Masks.{IsValid}
@@ -26,11 +25,6 @@ mask-valid m mask valid = (some, valid.bounded)
 pub length-assigned : (masks : List ℕ) (all : List Assignment) → length (assigned masks all) ≡ length masks
 length-assigned masks [] = refl
 length-assigned masks (a ∷ all) = length-assigned (set masks a.domain a.mask) all ∙ length-set masks a.domain a.mask
-
--- what holds of the masks and of those that are assigned holds of all after it
-pub All-assigned : (P : ℕ → Type 0) (masks : List ℕ) (all : List Assignment) → All P masks → AllByRecursion (λ (a : Assignment). P a.mask) all → All P (assigned masks all)
-All-assigned P masks [] each new = each
-All-assigned P masks (a ∷ all) each new = All-assigned P (set masks a.domain a.mask) all (All-set P masks a.domain a.mask new.0 each) new.1
 
 -- what lawful assignments name and give
 pub All-domains_of : (n : ℕ) (all : List Assignment) → AllByRecursion (λ d. d < n) (domains_of all) → All (λ (a : Assignment). a.domain < n) all

@@ -2,7 +2,7 @@
 use Rattle.std.proofs.Common.{◌≡◌, ℕ, suc, ◌+◌, ◌<◌, Bool, true, false, not, ◌&&◌, cond, List, [], ◌∷◌, length, map, get_or, None, Some, Result, Ok, Err, IsErr, refl, sym, subst, ap, ap₂, ◌∙◌, arith}
 use Rattle.std.specs.Prelude.{◌↔◌}
 use Rattle.std.specs.List.{enumerate_from, list_any}
-use Rattle.std.proofs.lemmas.Bool.{and_parts, eqb-true}
+use Rattle.std.proofs.lemmas.Bool.{and_parts, eqb-true, not-true}
 use Rattle.std.proofs.lemmas.List.{get_or_default}
 use Rattle.std.proofs.lemmas.List.FromFn.{get_or-enumerate_from, length-enumerate_from}
 use Rattle.std.proofs.lemmas.List.Folds.{Any-from_list_any, list_any_at}
@@ -39,14 +39,6 @@ pub cpus_after-monitor : (gid parent : Gid) (set : ℕ) (before after : List Cpu
 cpus_after-monitor gid parent set before after changes = list-changed (after_monitor gid set) 0 before after changes.count
     (λ cpu d within. let place : cpu ≡ 0 + cpu = omega arith in changes.each cpu d within ∙ ap (λ (i : ℕ). after_monitor gid set i (get_or before cpu d)) place)
 
--- CPUs that were changed whatever their number
-map-changed : (how : CpuGroups → CpuGroups) (before after : List CpuGroups) → length after ≡ length before → ((cpu : ℕ) (d : CpuGroups) → cpu < length before → get_or after cpu d ≡ how (get_or before cpu d)) → after ≡ map how before
-map-changed how [] [] count each = refl
-map-changed how [] (y ∷ ys) count each = absurd (omega arith)
-map-changed how (x ∷ xs) [] count each = absurd (omega arith)
-map-changed how (x ∷ xs) (y ∷ ys) count each =
-    ap₂ (λ (c : CpuGroups) (cs : List CpuGroups). c ∷ cs) (each 0 x (omega arith)) (map-changed how xs ys (omega arith) (λ cpu d within. each (suc cpu) d (omega arith)))
-
 -- ---- what is against a set
 
 -- a CPU with its number
@@ -70,11 +62,6 @@ module _ (test : ℕ × CpuGroups → Bool) (cpus : List CpuGroups) where
       let within : x.0 < length cpus = omega (arith, x.2, length-enumerate_from 0 cpus) in
       let found : (x.0, get_or cpus x.0 opening_cpu) ≡ x.1 = sym (get_or-enumerate cpus x.0 (x.0, opening_cpu) within) ∙ get_or_default (enumerate_from 0 cpus) x.0 (x.0, opening_cpu) x.1 x.2 ∙ x.3 in
       (x.0, within, ap test found ∙ x.4)
-
--- the opposite of a test
-not-true : (b : Bool) → not b ≡ true → b ≡ false
-not-true true e = absurd (let f : false ≡ true = e in cc)
-not-true false e = refl
 
 -- two tests that pass
 both-true : (a b : Bool) → a ≡ true → b ≡ true → (a && b) ≡ true

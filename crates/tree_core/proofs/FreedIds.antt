@@ -32,10 +32,6 @@ pub record HasFreed (m : Parameters) (freed looks : List ℕ) (old : MonitoringI
   pub left : length rest ≡ length (drop i freed) * m.domains
   pub taken : (id : ℕ) → contains id now.taken ≡ (not (contains id (take i freed)) && contains id old.taken)
 
--- before the first
-pub HasFreed-nil : (m : Parameters) (freed looks : List ℕ) (old : MonitoringIds) → length looks ≡ length freed * m.domains → HasFreed m freed looks old 0 old looks
-HasFreed-nil m freed looks old long = record { count = refl; threshold = refl; limbo = refl; left = long; taken = λ id. refl }
-
 -- an id more is no longer among them
 and-not_or : (same had was : Bool) → (not same && (not had && was)) ≡ (not (had || (same || false)) && was)
 and-not_or true true was = refl

@@ -5,6 +5,7 @@ use Rattle.std.specs.Option.{option_map_or, option_to_list}
 use Rattle.std.proofs.Math.Nat.{mul-lt-mul_of_pos_right}
 use Rattle.std.proofs.lemmas.Bool.{and_parts, eq-eqb}
 use Rattle.std.proofs.lemmas.List.Folds.{Any-from_list_any, list_any-append, list_any_at, list_any_none}
+use Rattle.std.proofs.Math.Bool.{or-false}
 use Rattle.group_tree.specs.Records.{has_gid, is_monitor_of}
 use Rattle.group_tree.specs.declared.group.Group.{Group}
 use Rattle.hw_ids.specs.Ids.{contains}
@@ -35,10 +36,6 @@ use Rattle.tree_law.specs.commands.Rmdir.{goes_with}
 pub contains-option_to_list : (id : ℕ) (o : Option ℕ) → contains id (option_to_list o) ≡ is_id id o
 contains-option_to_list id None = refl
 contains-option_to_list id (Some n) = or-false (eqb n id)
-  where
-    or-false : (b : Bool) → (b || false) ≡ b
-    or-false true = refl
-    or-false false = refl
 
 -- those of monitor groups
 contains-monitor_rmids : (id : ℕ) (gid : Gid) (groups : List Group) → contains id (monitor_rmids gid groups) ≡ list_any (λ (g : Group). is_monitor_of gid g.kind && is_id id g.rmid) groups

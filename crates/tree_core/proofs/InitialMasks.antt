@@ -9,7 +9,7 @@ use Rattle.std.proofs.lemmas.List.Recursion.{found_at, found_nowhere}
 use Rattle.lists.proofs.Filters.{filter-same}
 use Rattle.cbm.specs.Masks.{ways_of}
 use Rattle.cbm.specs.declared.geometry.Geometry.{Geometry}
-use Rattle.mode_rules.specs.Space.{initial_ways, may_start_with, space_in, starting_ways}
+use Rattle.mode_rules.specs.StartingWays.{initial_ways, may_start_with, space_in, starting_ways}
 use Rattle.mode_rules.specs.declared.domain_use.DomainUse.{DomainUse}
 use Rattle.machine.specs.declared.parameters.Parameters.{Parameters}
 use Rattle.tree_core.specs.Uses.{SameUse}

@@ -1,5 +1,5 @@
 -- What the type of the tree keeps, by its parts.
-use Rattle.std.proofs.Common.{◌≡◌, ◌≢◌, ℕ, ◌+◌, ◌<◌, true, List, [], ◌∷◌, length, find, get_or, Option, None, Some, IfSome, refl, sym, subst, ap, ◌∙◌, arith}
+use Rattle.std.proofs.Common.{◌≡◌, ◌≢◌, ℕ, ◌+◌, ◌<◌, true, List, [], ◌∷◌, length, get_or, Option, None, Some, IfSome, refl, subst, ap, ◌∙◌, arith}
 use Rattle.std.specs.Prelude.{IsSomeAnd}
 use Rattle.std.specs.List.{slice_get}
 use Rattle.std.proofs.lemmas.Bool.{eq-eqb}
@@ -55,11 +55,6 @@ length-positive (g ∷ gs) first = omega arith
 pub IsDefault-first : (groups : List Group) (d : Group) → IsSomeAnd (slice_get groups 0) IsDefault → IsDefault (get_or groups 0 d)
 IsDefault-first [] d first = absurd first
 IsDefault-first (g ∷ gs) d first = first
-
--- it is found first
-pub find-first : (groups : List Group) (d : Group) → IsSomeAnd (slice_get groups 0) IsDefault → find (has_gid (record { 0 = 0 })) groups ≡ Some (get_or groups 0 d)
-find-first [] d first = absurd first
-find-first (g ∷ gs) d first = rw (eq-eqb 0 g.gid.0 (sym first.gid)) refl
 
 -- ---- a group of the tree
 

@@ -1,11 +1,12 @@
 -- Groups without the monitor groups of a control group.
-use Rattle.std.proofs.Common.{◌≡◌, ◌≢◌, ℕ, suc, ◌+◌, ◌<◌, ◌≤◌, Bool, true, false, not, cond, List, [], ◌∷◌, ◌++◌, length, take, drop, get_or, None, Some, refl, sym, ap, ap₂, ◌∙◌, arith, append_assoc, length-append, length-take, length-drop, drop-cons}
+use Rattle.std.proofs.Common.{◌≡◌, ◌≢◌, ℕ, suc, ◌+◌, ◌<◌, Bool, true, false, not, cond, List, [], ◌∷◌, ◌++◌, length, take, drop, get_or, None, Some, refl, sym, ap, ap₂, ◌∙◌, arith, append_assoc, length-append, length-take, length-drop, drop-cons}
 use Rattle.std.specs.List.{All}
 use Rattle.std.proofs.lemmas.Bool.{eq-eqb, ne_eqb}
-use Rattle.std.proofs.lemmas.List.{append-nil, drop_all, get_or-drop, get_or-take, get_or_default, take_all, take_more}
+use Rattle.std.proofs.lemmas.List.{get_or-drop, get_or-take, get_or_default, take_more}
 use Rattle.std.proofs.lemmas.List.Elements.{All-append, All-drop, All-filter, All-head, All-tail, All-take, filter-append}
 use Rattle.std.proofs.lemmas.List.Folds.{list_any_at}
 use Rattle.std.proofs.Math.Seq.{get_or-append_seam}
+use Rattle.std.proofs.lemmas.Option.{same_Some}
 use Rattle.group_tree.specs.Lists.{GidsDiffer, has_group, without}
 use Rattle.group_tree.specs.Records.{blank, has_gid, is_monitor_of}
 use Rattle.group_tree.specs.declared.group.Group.{Group}
@@ -17,10 +18,7 @@ monitor_gid-some : (control : Gid) (g : Group) (gid : Gid) → monitor_gid contr
 monitor_gid-some control g gid is = at (is_monitor_of control g.kind) refl is
   where
     at : (b : Bool) → is_monitor_of control g.kind ≡ b → cond b (Some g.gid) None ≡ Some gid → (is_monitor_of control g.kind ≡ true) × (g.gid ≡ gid)
-    at true e some = (e, same g.gid gid some)
-      where
-        same : (a b : Gid) → Some a ≡ Some b → a ≡ b
-        same a b e = cc
+    at true e some = (e, same_Some g.gid gid some)
     at false e some = absurd (let none : None ≡ Some gid = some in cc)
 
 -- it is there
@@ -54,10 +52,6 @@ without-one g front back before later =
 -- the groups where those from a place on are gone
 abbrev pub off_from : Gid → ℕ → List Group → List Group
 off_from control j groups = take j groups ++ off_monitors control (drop j groups)
-
--- at first none is gone
-pub off_from-all : (control : Gid) (groups : List Group) (j : ℕ) → length groups ≤ j → off_from control j groups ≡ groups
-off_from-all control groups j all = ap₂ (λ (front back : List Group). front ++ off_monitors control back) (take_all j groups all) (drop_all j groups all) ∙ append-nil groups
 
 -- what holds of each group holds of those
 pub All-off_from : (P : Group → Type 0) (control : Gid) (j : ℕ) (groups : List Group) → All P groups → All P (off_from control j groups)

@@ -1,31 +1,28 @@
 -- Whose an access is: the groups of a declared task and of a CPU are there, with their ids.
-use Rattle.std.proofs.Common.{◌≡◌, ℕ, zero, suc, ◌<◌, Bool, true, false, ◌||◌, cond, List, [], ◌∷◌, length, map, find, get_or, is_some, Option, None, Some, IsSome, IfSome, unwrap_or, inl, inr, refl, sym, subst, ap, ap₂, ◌∙◌, arith}
+use Rattle.std.proofs.Common.{◌≡◌, ℕ, zero, suc, ◌<◌, Bool, true, ◌||◌, cond, List, [], ◌∷◌, length, map, find, get_or, is_some, Option, None, Some, IsSome, IfSome, unwrap_or, inl, inr, refl, sym, subst, ap, ap₂, ◌∙◌, arith}
 use Rattle.std.specs.List.{list_any}
 use Rattle.std.specs.Prelude.{Contains}
 use Rattle.std.specs.Option.{option_and_then, option_map_or}
 use Rattle.std.proofs.lemmas.Bool.{eq-eqb}
+use Rattle.std.proofs.Math.Bool.{or-true}
 use Rattle.cpu_binding.specs.Groups as cpu_groups
 use Rattle.group_tree.specs.Lists.{has_group}
-use Rattle.group_tree.specs.Records.{has_gid, is_control, is_monitor_of, mask_in}
+use Rattle.group_tree.specs.Records.{has_gid, is_monitor_of, mask_in}
 use Rattle.group_tree.specs.declared.group.Group.{Group}
-use Rattle.group_tree.specs.declared.group_kind.GroupKind.{GroupKind}
-use Rattle.group_tree.specs.declared.group_kind.GroupKind.TheVariants.{Control, Monitor}
 use Rattle.lists.proofs.Choices.{cond-both}
 use Rattle.lists.proofs.Tests.{IsFound-all, find-found, find-some}
 use Rattle.machine.specs.Maps.{domain_of}
 use Rattle.machine.specs.declared.parameters.Parameters.{Parameters}
 use Rattle.rc_base.specs.Gids.{default_gid, is_default}
 use Rattle.rc_base.specs.declared.names.Gid.{Gid}
-use Rattle.rc_base.specs.declared.names.Mode.{Mode}
-use Rattle.rc_base.specs.declared.names.Mode.TheVariants.{Shareable, Exclusive, LockSetup, Locked}
 use Rattle.task_binding.specs.Bindings.{binding_of, is_of}
 use Rattle.task_binding.specs.declared.binding.Binding.{Binding}
 use Rattle.tree_core.proofs.FoundGroups.{has_group-found}
-use Rattle.tree_law.proofs.laws.Access.{group_of-one}
-use Rattle.tree_law.specs.Counted.{is_counted, is_counted_mode}
+use Rattle.tree_law.proofs.laws.Access.{group_of-one, IsSome-counted, IsSome-monitor}
+use Rattle.tree_law.specs.Counted.{is_counted}
 use Rattle.tree_law.specs.Existing.{group_of}
 use Rattle.tree_law.specs.Resolving.{class_of, counted_at, cpu_groups_of, mask_of_group, owner_of, resolve, rmid_of}
-use Rattle.tree_law.specs.Sound.{HasIds, HasIdsOf, IsBound, IsCounted, IsOf, IsServed, IsSound}
+use Rattle.tree_law.specs.Sound.{HasIds, IsBound, IsCounted, IsOf, IsServed, IsSound}
 use Rattle.tree_law.specs.State.{State, tasks_of}
 
 -- ---- a declared task
@@ -34,11 +31,7 @@ use Rattle.tree_law.specs.State.{State, tasks_of}
 list_any-is_of : (task : ℕ) (tasks : List Binding) (k : ℕ) → k < length (map (λ (b : Binding). b.task) tasks) → get_or (map (λ (b : Binding). b.task) tasks) k task ≡ task → list_any (is_of task) tasks ≡ true
 list_any-is_of task [] k within is = absurd (omega arith)
 list_any-is_of task (b ∷ bs) zero within is = rw (eq-eqb b.task task is) refl
-list_any-is_of task (b ∷ bs) (suc k) within is = ap (λ (c : Bool). is_of task b || c) (list_any-is_of task bs k (omega arith) is) ∙ or-right (is_of task b)
-  where
-    or-right : (c : Bool) → (c || true) ≡ true
-    or-right true = refl
-    or-right false = refl
+list_any-is_of task (b ∷ bs) (suc k) within is = ap (λ (c : Bool). is_of task b || c) (list_any-is_of task bs k (omega arith) is) ∙ or-true (is_of task b)
 
 -- a task that is one of the declared has a binding
 pub IsSome-binding_of : (s : State) (task : ℕ) → Contains (tasks_of s) task → IsSome (binding_of task s.tasks)
@@ -70,34 +63,12 @@ pub record IsCounter (s : State) (gid : Gid) : Type 0 where
   pub rmid : IsSome group.rmid
 
 module _ (m : Parameters) (s : State) (sound : IsSound m s) where
-  -- the ids of a counted group
-  IsSome-counted : (g : Group) → is_counted g ≡ true → HasIds s.groups g.kind g → IsSome g.class × IsSome g.rmid
-  IsSome-counted g counted has = by_kind g.kind has counted
-    where
-      by_mode : (mode : Mode) → is_counted_mode mode ≡ true → HasIdsOf mode g → IsSome g.class × IsSome g.rmid
-      by_mode Shareable c h = h
-      by_mode Exclusive c h = h
-      by_mode LockSetup c h = absurd (let f : false ≡ true = c in cc)
-      by_mode Locked c h = absurd (let f : false ≡ true = c in cc)
-
-      by_kind : (kind : GroupKind) → HasIds s.groups kind g → cond (is_control kind) (is_counted_mode g.mode) false ≡ true → IsSome g.class × IsSome g.rmid
-      by_kind Control h c = by_mode g.mode c h
-      by_kind (Monitor p) h c = absurd (let f : false ≡ true = c in cc)
-
   -- a counted group owns
   pub IsOwner-counted : (gid : Gid) → IsCounted s.groups gid → IsOwner s gid
   IsOwner-counted gid counted =
       let g = group_of-one m s sound gid is_counted counted in
-      let ids = IsSome-counted g.0 g.3 (IsFound-all (λ (x : Group). HasIds s.groups x.kind x) (has_gid gid) s.groups g.0 g.2 sound.numbered.ids) in
+      let ids = IsSome-counted m s sound g.0 g.3 (IsFound-all (λ (x : Group). HasIds s.groups x.kind x) (has_gid gid) s.groups g.0 g.2 sound.numbered.ids) in
       record { group = g.0; there = g.1; class = ids.0; rmid = ids.1 }
-
-  -- the RMID of a monitor group
-  IsSome-monitor : (control : Gid) (g : Group) → is_monitor_of control g.kind ≡ true → HasIds s.groups g.kind g → IsSome g.rmid
-  IsSome-monitor control g monitor has = at g.kind monitor has
-    where
-      at : (kind : GroupKind) → is_monitor_of control kind ≡ true → HasIds s.groups kind g → IsSome g.rmid
-      at Control e h = absurd (let f : false ≡ true = e in cc)
-      at (Monitor p) e h = h.1
 
   abbrev gid_of : ℕ → Gid
   gid_of n = record { 0 = n }
@@ -109,7 +80,7 @@ module _ (m : Parameters) (s : State) (sound : IsSound m s) where
       subst (λ (n : ℕ). IsCounter s (gid_of n)) (sym same) (record { group = owner.group; there = owner.there; rmid = owner.rmid })
   IsCounter-of control gid counted (inr some) =
       let g = group_of-one m s sound gid (λ (x : Group). is_monitor_of control x.kind) some in
-      record { group = g.0; there = g.1; rmid = IsSome-monitor control g.0 g.3 (IsFound-all (λ (x : Group). HasIds s.groups x.kind x) (has_gid gid) s.groups g.0 g.2 sound.numbered.ids) }
+      record { group = g.0; there = g.1; rmid = IsSome-monitor m s sound control g.0 g.3 (IsFound-all (λ (x : Group). HasIds s.groups x.kind x) (has_gid gid) s.groups g.0 g.2 sound.numbered.ids) }
 
   -- the group at which a CPU counts
   IsCounter-cpu : (control : Gid) (monitor : Option Gid) → IsCounted s.groups control → IfSome monitor (IsOf s.groups control) → IsCounter s (unwrap_or monitor control)

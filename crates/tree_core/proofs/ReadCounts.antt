@@ -1,5 +1,5 @@
 -- The counts that reads and ticks need.
-use Rattle.std.proofs.Common.{◌≡◌, ℕ, false, true, cond, List, [], map, Option, None, Some, is_some, refl, sym, ap, ◌∙◌}
+use Rattle.std.proofs.Common.{◌≡◌, ℕ, false, true, cond, [], map, Option, None, Some, is_some, refl, sym, ap, ◌∙◌}
 use Rattle.std.specs.Option.{option_map_or}
 use Rattle.machine.specs.declared.parameters.Parameters.{Parameters}
 use Rattle.path_names.specs.declared.dirs.DirRef.TheVariants.{MonDomain}
@@ -9,24 +9,16 @@ use Rattle.path_names.specs.declared.path_ref.PathRef.{PathRef}
 use Rattle.path_names.specs.declared.path_ref.PathRef.TheVariants.{File}
 use Rattle.rc_base.specs.declared.names.Gid.{Gid}
 use Rattle.rc_base.specs.declared.replies.Why.TheVariants.{NoSuchPath}
-use Rattle.script_ops.specs.Fits.{Fits}
-use Rattle.script_ops.specs.declared.op.Op.{Op}
 use Rattle.script_ops.specs.declared.op.Op.TheVariants as ops
 use Rattle.tree_core.proofs.Outcomes.{needs-accepted, needs-nothing, needs-refused, refusal-read}
 use Rattle.tree_core.specs.Places.{is_occupancy}
 use Rattle.tree_law.specs.Existing.{holder_gid}
 use Rattle.tree_law.specs.Freeing.{counts_of, rmids_with}
-use Rattle.tree_law.specs.LawsCounts.{NamesDomain}
 use Rattle.tree_law.specs.Refusals.{plain}
 use Rattle.tree_law.specs.State.{State}
 use Rattle.tree_law.specs.Steps.{needs, needs_accepted, refusal}
 use Rattle.tree_law.specs.commands.Reads as reads
 use Rattle.tree_law.specs.commands.Tick as tick
-
--- a read that fits is of a domain that exists
-pub NamesDomain-fits : (m : Parameters) (tasks : List ℕ) (op : Op) → Fits m tasks op → NamesDomain m op
-NamesDomain-fits m tasks (ops.Read (File (MonDomain holder domain) kind)) fits = fits
-NamesDomain-fits m tasks op fits = tt
 
 -- a read of `llc_occupancy`, where it is accepted
 needs_accepted-occupancy : (m : Parameters) (s : State) (holder : Holder) (domain : ℕ) → needs_accepted m s (ops.Read (File (MonDomain holder domain) Occupancy)) ≡ map (λ rmid. (domain, rmid)) (option_map_or (rmids_with s) (holder_gid s holder) [])

@@ -6,7 +6,7 @@ use Rattle.std.proofs.lemmas.List.Folds.{list_any_none}
 use Rattle.cpu_binding.specs.Groups as cpu_groups
 use Rattle.cpu_binding.specs.declared.groups.CpuGroups.{CpuGroups}
 use Rattle.group_tree.specs.Lists.{GroupList, has_group, without}
-use Rattle.group_tree.specs.Records.{has_gid, is_control, is_monitor_of}
+use Rattle.group_tree.specs.Records.{has_gid, is_monitor_of}
 use Rattle.group_tree.specs.declared.group.Group.{Group}
 use Rattle.group_tree.specs.declared.group_kind.GroupKind.{GroupKind}
 use Rattle.group_tree.specs.declared.group_kind.GroupKind.TheVariants.{Control, Monitor}
@@ -55,6 +55,7 @@ use Rattle.pseudo_lock.specs.Regions.{RegionTable, without_group}
 use Rattle.pseudo_lock.specs.declared.region.Region.{Region}
 use Rattle.std.proofs.lemmas.List.{take-map}
 use Rattle.tree_core.specs.Given.{IsGiven}
+use Rattle.group_tree.proofs.laws.Records.{is_monitor_of-control}
 
 -- without its monitor groups and then without it, the groups are those that stay
 pub without-off_monitors : (gid : Gid) (groups : List Group) → without gid (off_monitors gid groups) ≡ staying gid groups
@@ -72,11 +73,6 @@ without-off_monitors gid (g ∷ gs) = at (is_monitor_of gid g.kind) (without-off
     at : (mon : Bool) → without gid (off_monitors gid gs) ≡ staying gid gs → filter (λ (x : Group). not (has_gid gid x)) (cond (not mon) (g ∷ off_monitors gid gs) (off_monitors gid gs)) ≡ cond (not (cond (has_gid gid g) true mon)) (g ∷ staying gid gs) (staying gid gs)
     at true rest = with_monitor (has_gid gid g) rest
     at false rest = with_other (has_gid gid g) rest
-
--- a control group is no monitor group
-is_monitor_of-control : (gid : Gid) (kind : GroupKind) → is_control kind ≡ true → is_monitor_of gid kind ≡ false
-is_monitor_of-control gid Control control = refl
-is_monitor_of-control gid (Monitor parent) control = absurd (let f : false ≡ true = control in cc)
 
 -- a monitor group has no class
 class-monitor : (groups : List Group) (gid : Gid) (kind : GroupKind) (g : Group) (id : ℕ) → HasIds groups kind g → (is_monitor_of gid kind && is_id id g.class) ≡ false

@@ -1,18 +1,16 @@
 -- How many groups there are, and that one more has a place.
-use Rattle.std.proofs.Common.{◌≡◌, ◌≢◌, ℕ, zero, suc, ◌+◌, ◌<◌, ◌≤◌, Bool, true, false, cond, eqb, List, [], ◌∷◌, length, filter, get_or, Option, None, Some, IsSome, IfSome, refl, sym, subst, ap, ◌∙◌, arith, length-append}
+use Rattle.std.proofs.Common.{◌≡◌, ◌≢◌, ℕ, zero, suc, ◌+◌, ◌<◌, ◌≤◌, Bool, true, false, cond, List, [], ◌∷◌, length, filter, get_or, Option, None, Some, IsSome, IfSome, refl, sym, subst, ap, ◌∙◌, arith, length-append}
 use Rattle.std.specs.Prelude.{IsSomeAnd}
-use Rattle.std.specs.List.{All, AllPairs, flat_map, list_any, slice_get}
+use Rattle.std.specs.List.{All, AllPairs, flat_map, slice_get}
 use Rattle.std.specs.Option.{option_map, option_to_list}
 use Rattle.std.proofs.lemmas.Bool.{eqb-true, ne_eqb}
-use Rattle.std.proofs.lemmas.List.Folds.{Any-from_list_any, list_any_none}
-use Rattle.std.proofs.lemmas.Map.Keys.{IsDistinct-from_apart}
-use Rattle.std.proofs.lemmas.Map.Steps.{length-le_from_distinct_below}
+use Rattle.std.proofs.lemmas.List.Folds.{list_any_none}
 use Rattle.group_tree.specs.Lists.{has_group}
 use Rattle.group_tree.specs.Records.{has_gid, has_mode}
 use Rattle.group_tree.specs.declared.group.Group.{Group}
 use Rattle.group_tree.specs.declared.group_kind.GroupKind.{GroupKind}
 use Rattle.group_tree.specs.declared.group_kind.GroupKind.TheVariants.{Control, Monitor}
-use Rattle.lists.proofs.Pairs.{All-flat_map, AllAcross, AllPairs-flat_map, AllPairs-one}
+use Rattle.lists.proofs.Pairs.{All-flat_map, AllAcross, AllPairs-flat_map, AllPairs-one, length-distinct}
 use Rattle.machine.specs.Ranges.{InRange}
 use Rattle.machine.specs.declared.parameters.Parameters.{Parameters}
 use Rattle.pseudo_lock.specs.declared.region.Region.{Region}
@@ -25,17 +23,6 @@ use Rattle.tree_law.specs.Sound.{Differ, HasIds, HasIdsOf, IsDefault, IsUsed}
 use Rattle.tree_law.specs.State.{State}
 
 -- ---- ids that differ
-
--- numbers that differ and are below one are no more than that
-pub length-distinct : (n : ℕ) (ids : List ℕ) → AllPairs (λ (a b : ℕ). a ≢ b) ids → All (λ id. id < n) ids → length ids ≤ n
-length-distinct n ids differ below = length-le_from_distinct_below ids n (IsDistinct-from_apart eqb ids (λ i j d lt within. ne_eqb (get_or ids i d) (get_or ids j d) (differ i j d lt within))) each
-  where
-    each : (q : ℕ) → list_any (eqb q) ids ≡ true → q < n
-    each q there = (let some = Any-from_list_any (eqb q) ids there in
-        let is : q ≡ some.1 = eqb-true q some.1 some.4 in
-        let least = below some.0 q some.2 in
-        let at : get_or ids some.0 q ≡ get_or ids some.0 q = refl in
-        omega (arith, is, least, some.3))
 
 -- the ids of these groups
 abbrev pub ids_of : (Group → Option ℕ) → List Group → List ℕ

@@ -3,8 +3,6 @@ use Rattle.std.proofs.Common.{◌≡◌, ℕ, suc, ◌<◌, Bool, true, false, �
 use Rattle.std.specs.List.{list_any}
 use Rattle.std.proofs.lemmas.Bool.{eq-eqb, eqb-false, eqb-true, ne_eqb}
 use Rattle.std.proofs.lemmas.List.Folds.{list_any-append}
-use Rattle.group_tree.specs.Lists.{replaced}
-use Rattle.group_tree.specs.Records.{has_gid}
 use Rattle.group_tree.specs.declared.group.Group.{Group}
 use Rattle.hw_ids.proofs.laws.Membership.{contains-with_id}
 use Rattle.hw_ids.specs.Classes.{Classes}
@@ -45,26 +43,6 @@ AreTaken-push m groups classes classes' rmids rmids' g class rmid taken class_ta
   rmid_taken = λ id. contains-with_id rmid id rmids.taken ∙ ap (λ (b : Bool). eqb id rmid || b) (taken.rmid_taken id) ∙ or-eqb_swap rmid id (list_any (λ (x : Group). is_id id x.rmid) groups)
       ∙ ap (λ (c : Option ℕ). list_any (λ (x : Group). is_id id x.rmid) groups || (is_id id c || false)) (sym is_rmid) ∙ sym (list_any-append (λ (x : Group). is_id id x.rmid) groups (g ∷ []));
 })
-
--- ---- one group in place of another with its ids
-
--- with another record of the same ids, the same are taken
-pub AreTaken-replaced : (m : Parameters) (groups : List Group) (classes : Classes) (rmids : MonitoringIds) (new : Group) → AreTaken m groups classes rmids
-    → ((k : ℕ) (d : Group) → k < length groups → has_gid new.gid (get_or groups k d) ≡ true → ((get_or groups k d).class ≡ new.class) × ((get_or groups k d).rmid ≡ new.rmid)) → AreTaken m (replaced new groups) classes rmids
-AreTaken-replaced m groups classes rmids new taken same = record {
-  class_count = taken.class_count;
-  class_taken = λ id. taken.class_taken id ∙ sym (any_same (λ (x : Group). x.class) id groups (λ k d within is. (same k d within is).0));
-  rmid_count = taken.rmid_count;
-  rmid_taken = λ id. taken.rmid_taken id ∙ sym (any_same (λ (x : Group). x.rmid) id groups (λ k d within is. (same k d within is).1));
-}
-  where
-    one_same : (of : Group → Option ℕ) (id : ℕ) (x : Group) (b : Bool) → has_gid new.gid x ≡ b → (has_gid new.gid x ≡ true → of x ≡ of new) → is_id id (of (cond b new x)) ≡ is_id id (of x)
-    one_same of id x true is same = ap (is_id id) (sym (same is))
-    one_same of id x false is same = refl
-
-    any_same : (of : Group → Option ℕ) (id : ℕ) (gs : List Group) → ((k : ℕ) (d : Group) → k < length gs → has_gid new.gid (get_or gs k d) ≡ true → of (get_or gs k d) ≡ of new) → list_any (λ (x : Group). is_id id (of x)) (replaced new gs) ≡ list_any (λ (x : Group). is_id id (of x)) gs
-    any_same of id [] same = refl
-    any_same of id (x ∷ xs) same = ap₂ (λ (a b : Bool). a || b) (one_same of id x (has_gid new.gid x) refl (same 0 x (omega arith))) (any_same of id xs (λ k d within is. same (suc k) d (omega arith) is))
 
 -- ---- a group less
 

@@ -1,5 +1,5 @@
 -- What all groups but one use of a cache, as the groups tell it and as the state has it.
-use Rattle.std.proofs.Common.{◌≡◌, ℕ, ◌<◌, Bool, true, false, ◌||◌, List, [], ◌∷◌, Option, Some, refl, subst, ap, ap₂, ◌∙◌, arith, zero-add}
+use Rattle.std.proofs.Common.{◌≡◌, ℕ, ◌<◌, Bool, true, false, List, Option, Some, refl, subst, ap, ◌∙◌, arith, zero-add}
 use Rattle.std.specs.List.{list_any, range_with_len}
 use Rattle.std.proofs.lemmas.List.Folds.{list_any_at, list_any_none}
 use Rattle.std.proofs.lemmas.List.FromFn.{get_or-range_with_len, length-range_with_len}
@@ -20,6 +20,7 @@ use Rattle.tree_core.specs.Uses.{SameUse}
 use Rattle.tree_law.specs.Space.{region_mask, used_in}
 use Rattle.tree_law.specs.State.{State}
 use Rattle.tree_law.specs.commands.Schemata.{against_entry, against_overlap}
+use Rattle.lists.proofs.Tests.{list_any-same}
 
 -- ---- what is told of a domain
 
@@ -37,11 +38,6 @@ module _ {m : Parameters} {t : Tables} {s : State} {epoch : ℕ} (keeps : Keeps 
       moved mode mask told = subst (λ (gs : List Group). IsUnionOfOthers gid mode domain gs mask) keeps.stands.groups told
 
 -- ---- tests of the same use
-
--- two tests that agree everywhere
-list_any-same : (p q : ℕ → Bool) (xs : List ℕ) → ((x : ℕ) → p x ≡ q x) → list_any p xs ≡ list_any q xs
-list_any-same p q [] same = refl
-list_any-same p q (x ∷ xs) same = ap₂ (λ (a b : Bool). a || b) (same x) (list_any-same p q xs same)
 
 -- a mask overlaps two masks with the same ways alike
 overlaps-same : (mask a b : ℕ) → ((way : ℕ) → has_way a way ≡ has_way b way) → overlaps mask a ≡ overlaps mask b

@@ -46,11 +46,6 @@ IsOtherKind-not_written s dir files.CpusList none other = other.cpus_list refl
 IsOtherKind-not_written s dir files.MaxThreshold none other = other.threshold refl
 IsOtherKind-not_written s dir kind none other = cond-not_none (not (dir_exists s dir)) NoSuchPath OnlyRead none
 
--- a refused write of a mode leaves the state, but for the last status
-pub with_status-mode : (s : State) (dir : DirRef) (text : List ℕ) (reply : Reply) → with_status (ops.Write (File dir files.Mode) text) reply (left s (ops.Write (File dir files.Mode) text)) ≡ record s { status = reply }
-unfolding write.refused
-with_status-mode s dir text reply = refl
-
 -- a directory that is not there is no group's
 group_at-absent : (s : State) (dir : DirRef) → dir_exists s dir ≡ false → group_at s dir ≡ None
 group_at-absent s Root none = absurd (let f : true ≡ false = none in cc)

@@ -1,10 +1,9 @@
 -- What a write of `max_threshold_occupancy` answers and leaves.
-use Rattle.std.proofs.Common.{◌≡◌, ℕ, ◌+◌, ◌<◌, ◌≤◌, Bool, true, false, cond, ltb, List, [], find, Option, None, Some, inl, inr, refl, sym, subst, ap, ◌∙◌, arith}
-use Rattle.std.proofs.lemmas.Bool.{cases_lt, le-ltb}
+use Rattle.std.proofs.Common.{◌≡◌, ℕ, ◌+◌, ◌≤◌, List, [], find, Option, None, Some, refl, ap, ◌∙◌, arith}
 use Rattle.machine.specs.Maps.{cache_bytes}
 use Rattle.machine.specs.declared.parameters.Parameters.{Parameters}
 use Rattle.num_text.specs.Blanks.{trim}
-use Rattle.num_text.specs.Numbers.{below, dec_of}
+use Rattle.num_text.specs.Numbers.{dec_of}
 use Rattle.path_names.specs.declared.dirs.DirRef.{DirRef}
 use Rattle.path_names.specs.declared.files.FileKind.TheVariants.{MaxThreshold}
 use Rattle.path_names.specs.declared.path_ref.PathRef.TheVariants.{File}
@@ -20,30 +19,12 @@ use Rattle.tree_law.specs.State.{State}
 use Rattle.tree_law.specs.Steps.{accepted, after, left, refusal, with_status}
 use Rattle.tree_law.specs.commands.Threshold as threshold
 use Rattle.tree_law.specs.commands.Write as write
-
--- a number that a test finds to be below another
-lt-from_ltb : (a b : ℕ) → ltb a b ≡ true → a < b
-lt-from_ltb a b e = elim (cases_lt a b) [
-  | inl lt ↦ lt
-  | inr le ↦ absurd (let f : true ≡ false = sym e ∙ le-ltb a b le in cc)
-]
-
--- a number that is below a limit
-below-some : (limit : ℕ) (number : Option ℕ) (n : ℕ) → below limit number ≡ Some n → n < limit
-below-some limit None n is = absurd (let none : None ≡ Some n = is in cc)
-below-some limit (Some k) n is = at (ltb k limit) refl is
-  where
-    at : (b : Bool) → ltb k limit ≡ b → cond b (Some k) None ≡ Some n → n < limit
-    at true lt some = subst (λ (x : ℕ). x < limit) (same k n some) (lt-from_ltb k limit lt)
-      where
-        same : (a b : ℕ) → Some a ≡ Some b → a ≡ b
-        same a b e = cc
-    at false lt some = absurd (let none : None ≡ Some n = some in cc)
+use Rattle.num_text.proofs.laws.Limits.{below-lt}
 
 -- a threshold that a text names is at most the bytes of one cache
 pub threshold_in-le : (m : Parameters) (text : List ℕ) (n : ℕ) → threshold.threshold_in m text ≡ Some n → n ≤ cache_bytes m
 unfolding threshold.threshold_in
-threshold_in-le m text n is = (let lt = below-some (cache_bytes m + 1) (dec_of (trim text)) n is in omega arith)
+threshold_in-le m text n is = (let lt = below-lt (cache_bytes m + 1) (dec_of (trim text)) n is in omega arith)
 
 module _ (m : Parameters) (s : State) (dir : DirRef) (text : List ℕ) (writable : find (write.against s (File dir MaxThreshold)) write.reasons ≡ None) where
   -- what is against the command is against the text

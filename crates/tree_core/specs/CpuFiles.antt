@@ -1,4 +1,5 @@
 -- The files that name CPUs, and what they say.
+-- (For functions and proofs: no promise of the program stands on it.)
 use Rattle.std.specs.Prelude.{◌≡◌, ℕ, Bool, true, false, if◌then◌else◌, is_some, List, Option, None, Result, Ok, Err}
 use Rattle.cpu_lists.specs.declared.fault.CpuFault.{CpuFault}
 use Rattle.group_tree.specs.declared.group.Group.{Group}
@@ -10,18 +11,18 @@ use Rattle.tree_law.specs.Sound.{IsSound}
 use Rattle.tree_law.specs.State.{State}
 use Rattle.tree_law.specs.commands.Cpus as cpus
 
--- a file that names CPUs
+-- whether a file names CPUs
 abbrev pub is_cpus : FileKind → Bool
 is_cpus Cpus = true
 is_cpus CpusList = true
 is_cpus kind = false
 
--- the CPUs that its text names
+-- the CPUs that the text of such a file names
 abbrev pub named_by : Parameters → FileKind → List ℕ → Result (List ℕ) CpuFault
 named_by m CpusList text = cpus.list_read m text
 named_by m kind text = cpus.mask_read m text
 
--- the same, as a set
+-- the CPUs that a text names, as a set
 abbrev pub set_read : Result (List ℕ) CpuFault → Result ℕ CpuFault
 set_read (Ok numbers) = Ok (cpus.set_of numbers)
 set_read (Err fault) = Err fault

@@ -1,4 +1,5 @@
 -- The directories of groups that come and go.
+-- (For functions and proofs: no promise of the program stands on it.)
 use Rattle.path_names.specs.declared.dirs.DirRef.TheVariants.{Ctrl, Mon}
 use Rattle.path_names.specs.declared.path_ref.PathRef.{PathRef}
 use Rattle.path_names.specs.declared.path_ref.PathRef.TheVariants.{Dir}

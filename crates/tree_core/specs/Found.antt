@@ -1,4 +1,5 @@
 -- The group that a look-up by its path found.
+-- (For functions and proofs: no promise of the program stands on it.)
 use Rattle.std.specs.Prelude.{◌≡◌, ◌≢◌, true, false, IfSome, Option, Some, None, Result, Ok, Err, find}
 use Rattle.std.specs.Option.{option_map, option_map_or}
 use Rattle.group_tree.specs.Records.{is_control}
@@ -17,7 +18,7 @@ use Rattle.tree_core.specs.declared.found_group.FoundGroup.{FoundGroup}
 use Rattle.tree_core.specs.declared.found_group.FoundGroup.TheVariants.{Control, Monitor}
 use Rattle.tree_core.specs.declared.monitor.Monitor as monitors
 
--- a control group of this name with its class, where it has one, which are not the default group's
+-- a control group of this name other than the default group, and its class, where it has one, which is not the default group's
 pub record IsControl (s : State) (found : controls.Control) : Type 0 where
   pub named : directory_gid s (Ctrl found.name) ≡ Some found.gid
   pub has_class : option_map (λ (g : Group). g.class) (group_of s found.gid) ≡ Some found.class
@@ -25,17 +26,17 @@ pub record IsControl (s : State) (found : controls.Control) : Type 0 where
   pub other_gid : found.gid.0 ≢ 0
   pub other_class : IfSome found.class (λ class. class ≢ 0)
 
--- a monitor group of this name, and its owner's group
+-- a monitor group of this name, and the control group that owns it
 pub record IsMonitor (s : State) (found : monitors.Monitor) : Type 0 where
   pub is_owner : owner_gid s found.owner ≡ Some found.parent
   pub named : directory_gid s (Mon found.owner found.name) ≡ Some found.gid
 
--- what was found under a name, where there is such a group
+-- the control group that was found under a name, and None where there is none
 abbrev pub FindsControl : State → NameId → Option controls.Control → Type 0
 FindsControl s name None = directory_gid s (Ctrl name) ≡ None
 FindsControl s name (Some found) = (name ≡ found.name) × IsControl s found
 
--- the same among the monitor groups of an owner
+-- the monitor group of an owner that was found under a name, and None where there is none
 abbrev pub FindsMonitor : State → Owner → NameId → Option monitors.Monitor → Type 0
 FindsMonitor s owner name None = directory_gid s (Mon owner name) ≡ None
 FindsMonitor s owner name (Some found) = (owner ≡ found.owner) × (name ≡ found.name) × IsMonitor s found

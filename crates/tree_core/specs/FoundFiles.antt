@@ -1,4 +1,5 @@
 -- The directory and the file that a look-up by a path found.
+-- (For functions and proofs: no promise of the program stands on it.)
 use Rattle.std.specs.Prelude.{◌≡◌, true, false, Option, Some, None, Result, Ok, Err, find}
 use Rattle.path_names.specs.declared.dirs.DirRef.{DirRef}
 use Rattle.path_names.specs.declared.files.FileKind.{FileKind}
@@ -10,7 +11,7 @@ use Rattle.tree_law.specs.State.{State}
 use Rattle.tree_law.specs.commands.Write.{against, reasons}
 use Rattle.tree_core.specs.declared.found_dir.FoundDir.{FoundDir}
 
--- a directory that is there with its group, where it has one
+-- the directory that was found, with its group where it has one, and None where there is none
 abbrev pub FindsDir : State → DirRef → Option FoundDir → Type 0
 FindsDir s dir None = dir_exists s dir ≡ false
 FindsDir s dir (Some at) = (dir ≡ at.dir) × (dir_exists s at.dir ≡ true) × (at.gid ≡ directory_gid s at.dir)

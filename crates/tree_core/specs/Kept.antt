@@ -1,4 +1,5 @@
 -- What the type of the tree keeps.
+-- (For functions and proofs: no promise of the program stands on it.)
 use Rattle.std.specs.Prelude.{ℕ, ◌≤◌, length}
 use Rattle.machine.specs.declared.parameters.Parameters.{Parameters}
 use Rattle.script_ops.specs.declared.limits.TheConstants.{MOST_TASKS}

@@ -1,4 +1,5 @@
 -- What a written mode asks of a group.
+-- (For functions and proofs: no promise of the program stands on it.)
 use Rattle.std.specs.Prelude.{◌≡◌, ℕ, false, true, List, Option, Some, None, Result, Ok, Err}
 use Rattle.std.specs.Option.{option_or}
 use Rattle.group_tree.specs.declared.group.Group.{Group}
@@ -15,7 +16,7 @@ use Rattle.tree_law.specs.commands.Schemata.{is_locked}
 abbrev pub against_turn : Parameters → State → Group → Mode → Option Refusal
 against_turn m s g mode = option_or (against_entry s g mode) (option_or (against_leaving m s g) (against_exclusive m s g mode))
 
--- the text asks a group to turn to another mode, against which nothing is but for a lack of RMIDs
+-- the text asks a group to turn to another mode, and nothing but a lack of RMIDs can be against that
 pub record TurnsTo (m : Parameters) (s : State) (g : Group) (text : List ℕ) (mode : Mode) : Type 0 where
   pub other : is_present g.mode text ≡ false
   pub unlocked : is_locked g.mode ≡ false

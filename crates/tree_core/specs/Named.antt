@@ -33,7 +33,7 @@ pub record IsName (names : List (List ℕ)) (id : NameId) : Type 0 where
   pub known : id.0 < length names
   pub short : IsShortName names id.0
 
--- a group without a name, or with such a one
+-- a group that has no name, or such a name
 abbrev pub IsNamed : List (List ℕ) → Group → Type 0
 IsNamed names g = IfSome g.name (IsName names)
 

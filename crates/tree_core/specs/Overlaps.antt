@@ -1,4 +1,5 @@
 -- The replies to what is against the masks of a group.
+-- (For functions and proofs: no promise of the program stands on it.)
 use Rattle.rc_base.specs.Replies.{refused}
 use Rattle.rc_base.specs.declared.replies.Reply.{Reply}
 use Rattle.tree_law.specs.Refusals.{Refusal}

@@ -1,4 +1,5 @@
 -- Paths by what is made or written there, and what is against the place of a new group.
+-- (For functions and proofs: no promise of the program stands on it.)
 use Rattle.std.specs.Prelude.{Bool, true, false, List, [], ◌∷◌}
 use Rattle.path_names.specs.declared.dirs.DirRef.TheVariants.{MonDomain}
 use Rattle.path_names.specs.declared.files.FileKind.TheVariants.{Mode, Occupancy}

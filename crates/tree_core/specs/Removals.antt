@@ -1,4 +1,5 @@
 -- Groups that are taken out of the tree.
+-- (For functions and proofs: no promise of the program stands on it.)
 use Rattle.std.specs.Prelude.{ℕ, not, if◌then◌else◌, List, Option, Some, None, filter, slice_index_or}
 use Rattle.group_tree.specs.Lists.{without}
 use Rattle.group_tree.specs.Records.{blank, is_monitor_of}

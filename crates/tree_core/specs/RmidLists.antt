@@ -1,4 +1,5 @@
 -- Lists of RMIDs: those of monitor groups, and the counts and bytes of each.
+-- (For functions and proofs: no promise of the program stands on it.)
 use Rattle.std.specs.Prelude.{◌≡◌, ◌≢◌, ℕ, zero, suc, ◌*◌, ◌-◌, ◌^◌, min, true, not, ◌&&◌, if◌then◌else◌, List, [], ◌∷◌, AllPairs, drop, filter, map, take}
 use Rattle.std.specs.List.{All, flat_map, range_with_len}
 use Rattle.group_tree.specs.Records.{is_monitor_of}
@@ -21,7 +22,7 @@ monitor_rmids control groups = flat_map rmids_of (filter (λ (g : Group). is_mon
 abbrev pub counts_in : ℕ → ℕ → ℕ → List (ℕ × ℕ)
 counts_in first domains rmid = map (λ domain. (domain, rmid)) (range_with_len first domains)
 
--- the bytes of so many lines, as far as a number of 64 bits goes
+-- the bytes of the greatest of these counts, and 2 ^ 64 - 1 where they are more
 abbrev pub bytes_of : List ℕ → ℕ
 bytes_of looks = min (greatest looks * 64) (2 ^ 64 - 1)
 
@@ -30,7 +31,7 @@ abbrev pub bytes_each : ℕ → ℕ → List ℕ → List ℕ
 bytes_each domains zero looks = []
 bytes_each domains (suc n) looks = bytes_of (take domains looks) ∷ bytes_each domains n (drop domains looks)
 
--- RMIDs that may be freed where these are taken: all are, none is 0, and each stands once
+-- RMIDs that may be freed, where those in `had` are taken: each is taken, none is 0, and none stands there twice
 pub record MayFree (had rmids : List ℕ) : Type 0 where
   pub taken : All (λ id. contains id had ≡ true) rmids
   pub not_default : All (λ id. id ≢ 0) rmids

@@ -1,4 +1,5 @@
 -- The tables of the tree, and the state that they stand for.
+-- (For functions and proofs: no promise of the program stands on it.)
 use Rattle.std.specs.Prelude.{◌≡◌, ℕ, ◌+◌, ◌≤◌, List, take}
 use Rattle.std.specs.List.{list_any}
 use Rattle.cpu_binding.specs.declared.groups.CpuGroups.{CpuGroups}
@@ -23,7 +24,7 @@ pub record Tables : Type 0 where
   pub rmids : MonitoringIds
   pub regions : RegionTable
 
--- these six
+-- the tables, put together
 abbrev pub tables : GroupList → List Binding → List CpuGroups → Classes → MonitoringIds → RegionTable → Tables
 tables groups tasks cpus classes rmids regions = record { groups = groups; tasks = tasks; cpus = cpus; classes = classes; rmids = rmids; regions = regions }
 
@@ -48,8 +49,9 @@ pub record AreTaken (m : Parameters) (groups : List Group) (classes : Classes) (
   pub rmid_count : rmids.count ≡ m.rmids
   pub rmid_taken : (id : ℕ) → contains id rmids.taken ≡ list_any (λ (g : Group). is_id id g.rmid) groups
 
--- The tables stand for a state after so many commands: each part of the state is in its table, the groups' table has the machine's
--- shareable bits, the ids that are taken are the groups', and each command so far made one group and locked one region at most.
+-- The tables stand for a state after so many commands: each part of the state is in its table, the table of groups has the
+-- shareable bits of the machine, the ids that are taken are the groups', and each command so far made one group and locked one
+-- region at most.
 pub record Stands (m : Parameters) (t : Tables) (s : State) (epoch : ℕ) : Type 0 where
   pub groups : t.groups.groups ≡ s.groups
   pub tasks : t.tasks ≡ s.tasks

@@ -1,4 +1,5 @@
 -- Taking the ids of a new group.
+-- (For functions and proofs: no promise of the program stands on it.)
 use Rattle.std.specs.Prelude.{◌≡◌, ◌⊎◌, ℕ, ◌==◌, Bool, true, false, if◌then◌else◌, List, length, Result, Ok, Err}
 use Rattle.hw_ids.specs.Classes as classes
 use Rattle.hw_ids.specs.Classes.{Classes}
@@ -42,12 +43,12 @@ pub record ClassesStay (old new : Classes) : Type 0 where
   pub count : new.count ≡ old.count
   pub members : SameMembers old.taken new.taken
 
--- whether a class is free
+-- the answer whether a class is free
 abbrev pub HasClass : Classes → Bool → Type 0
 HasClass old true = (class : ℕ) × classes.IsLowestFree old class
 HasClass old false = classes.NoneFree old
 
--- why no ids are taken: no class is free, or one is and the RMID is lacking
+-- why no ids are taken: no class is free, or one is free and no RMID
 abbrev pub NoIds : Classes → MonitoringIds → Reply → Type 0
 NoIds old ids reply = (classes.NoneFree old × (reply ≡ refused OutOfClosids 0)) ⊎ (((class : ℕ) × classes.IsLowestFree old class) × NoneTaken ids reply)
 

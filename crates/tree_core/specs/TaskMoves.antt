@@ -1,4 +1,5 @@
 -- What is against moving a task.
+-- (For functions and proofs: no promise of the program stands on it.)
 use Rattle.std.specs.Prelude.{ℕ, Option, Some, None, Result, Ok, Err}
 use Rattle.rc_base.specs.declared.replies.Why.TheVariants as whys
 use Rattle.task_binding.specs.declared.binding.BindFault.{BindFault}

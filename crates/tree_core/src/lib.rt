@@ -21,8 +21,6 @@ mod rmid_list;
 mod schemata;
 mod taking;
 mod task_moves;
-#[cfg(test)]
-mod tests;
 pub mod tree;
 
 pub use counts::Counts;

@@ -62,7 +62,7 @@ pub(crate) fn overlap_refusal(domain: u8, overlap: Overlap) -> Reply
     }
 }
 
-/// Whether a group of this mode takes one domain, and more are named: so it is in pseudo-locksetup.
+/// Whether more than one domain is named for a group in pseudo-locksetup, which takes one.
 pub(crate) fn names_many(mode: Mode, all: &[Assignment]) -> bool
     ensures { result ≡ names_many mode all.now }
 {

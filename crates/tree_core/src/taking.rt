@@ -28,7 +28,7 @@ pub(crate) fn has_class(classes: &mut ClassIds) -> bool
     }
 }
 
-/// Takes the lowest free class and RMID, or says why there are none. Where something is lacking nothing is taken.
+/// Takes the lowest free class and RMID, or says which is lacking, and then takes neither.
 pub(crate) fn take_ids(classes: &mut ClassIds, rmids: &mut Rmids) -> Result<NewIds, Reply>
     requires default_class { IsTrue (contains 0 classes.old.taken) }
     ensures { TakesIds classes.old classes.new rmids.old rmids.new result }

@@ -12,7 +12,7 @@ use num_text::{cut, read_dec, trim};
 use rc_base::{Gid, Reply, Why};
 use task_binding::{BindFault, Tasks};
 
-/// Moves the tasks of a text to a group, up to the first element that cannot. An empty last element is none.
+/// Moves the tasks of a text to a group, up to the first element that cannot. An empty last element does not count.
 pub(crate) fn move_tasks(tasks: &mut Tasks, gid: Gid, kind: GroupKind, text: &[u8]) -> Reply
     ensures reply { result ≡ reply_of (moves gid kind (elements text.now) tasks.old).ended }
     ensures tasks { tasks.new ≡ (moves gid kind (elements text.now) tasks.old).tasks }
@@ -30,7 +30,7 @@ pub(crate) fn move_tasks(tasks: &mut Tasks, gid: Gid, kind: GroupKind, text: &[u
     }
 }
 
-// Moves the task of the last element, which is none where it is empty.
+// Moves the task of the last element, which does not count where it is empty.
 fn move_last(tasks: &mut Tasks, gid: Gid, kind: GroupKind, element: &[u8]) -> Reply
     ensures reply { result ≡ reply_of (moves gid kind (without_empty_last (element.now ∷ [])) tasks.old).ended }
     ensures tasks { tasks.new ≡ (moves gid kind (without_empty_last (element.now ∷ [])) tasks.old).tasks }

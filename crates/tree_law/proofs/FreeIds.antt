@@ -1,16 +1,16 @@
 -- The lowest free ids.
-use Rattle.std.proofs.Common.{◌≡◌, ℕ, ◌<◌, Bool, true, false, not, ◌&&◌, find, get_or, Option, None, Some, refl, sym, subst, ◌∙◌, arith, zero-add}
+use Rattle.std.proofs.Common.{◌≡◌, ℕ, ◌<◌, Bool, true, false, find, get_or, Option, None, Some, sym, subst, ◌∙◌, arith, zero-add}
 use Rattle.std.specs.List.{All, list_any, range_with_len}
-use Rattle.std.proofs.lemmas.Bool.{eqb-false}
+use Rattle.std.proofs.lemmas.Bool.{eqb-false, not-true}
 use Rattle.std.proofs.lemmas.List.FromFn.{get_or-range_with_len, length-range_with_len}
 use Rattle.group_tree.specs.declared.group.Group.{Group}
 use Rattle.hw_ids.specs.Ids.{contains}
-use Rattle.lists.proofs.Choices.{not-true}
 use Rattle.lists.proofs.Tests.{find-found, All-from_none}
 use Rattle.machine.specs.declared.parameters.Parameters.{Parameters}
 use Rattle.tree_law.specs.Sound.{Differ, IsUsed}
 use Rattle.tree_law.specs.Space.{class_is_free, free_class, free_rmid, is_id, rmid_is_free}
 use Rattle.tree_law.specs.State.{State}
+use Rattle.lists.proofs.Choices.{and-not_true}
 
 -- what is found in a range is below its end
 pub find-range : (p : ℕ → Bool) (n id : ℕ) → find p (range_with_len 0 n) ≡ Some id → (id < n) × (p id ≡ true)
@@ -28,12 +28,6 @@ All-range P n all k lt = subst P (get_or-range_with_len 0 n k 0 lt ∙ zero-add 
 pub Differ-is_id : (id : ℕ) (o : Option ℕ) → is_id id o ≡ false → Differ (Some id) o
 Differ-is_id id None e = tt
 Differ-is_id id (Some other) e = λ same. eqb-false other id e (sym same)
-
--- where neither of two tests passes, both are false
-and-not_true : (a b : Bool) → (not a && not b) ≡ true → (a ≡ false) × (b ≡ false)
-and-not_true false false e = (refl, refl)
-and-not_true false true e = absurd (let f : false ≡ true = e in cc)
-and-not_true true b e = absurd (let f : false ≡ true = e in cc)
 
 -- the lowest free RMID is the machine's, not in limbo, and no group has it
 pub free_rmid-some : (m : Parameters) (s : State) (id : ℕ) → free_rmid m s ≡ Some id → IsUsed m s.limbo id × All (λ (g : Group). Differ (Some id) g.rmid) s.groups

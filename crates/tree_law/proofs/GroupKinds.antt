@@ -1,7 +1,7 @@
 -- Kinds of groups, and the default group.
 use Rattle.std.proofs.Common.{◌≡◌, ◌≢◌, ℕ, ◌<◌, Bool, true, false, ◌&&◌, cond, List, [], ◌∷◌, length, get_or, IsSomeAnd, refl, sym, subst, ap, ◌∙◌, arith}
 use Rattle.std.specs.List.{slice_get}
-use Rattle.group_tree.specs.Records.{has_mode, is_control, is_mode, is_monitor_of}
+use Rattle.group_tree.specs.Records.{has_mode, is_control, is_mode}
 use Rattle.group_tree.specs.declared.group.Group.{Group}
 use Rattle.group_tree.specs.declared.group_kind.GroupKind.{GroupKind}
 use Rattle.group_tree.specs.declared.group_kind.GroupKind.TheVariants.{Control, Monitor}
@@ -28,11 +28,6 @@ is_control-locked x is = at x.kind is
     at : (kind : GroupKind) → (is_control kind && is_mode Locked x.mode) ≡ true → is_control kind ≡ true
     at Control e = refl
     at (Monitor p) e = absurd (let f : false ≡ true = e in cc)
-
--- a control group is no monitor group
-pub is_monitor_of-control : (gid : Gid) (kind : GroupKind) → is_control kind ≡ true → is_monitor_of gid kind ≡ false
-is_monitor_of-control gid Control e = refl
-is_monitor_of-control gid (Monitor p) e = absurd (let f : false ≡ true = e in cc)
 
 -- the default group stands at the first place
 IsDefault-first : (groups : List Group) (d : Group) → IsSomeAnd (slice_get groups 0) IsDefault → (0 < length groups) × IsDefault (get_or groups 0 d)

@@ -2,11 +2,11 @@
 use Rattle.std.proofs.Common.{◌≡◌, ◌≢◌, ℕ, ◌+◌, ◌<◌, ◌≤◌, Bool, true, false, not, ◌&&◌, cond, eqb, List, length, find, get_or, replicate, set, Option, None, Some, IfSome, IsNone, Result, Ok, Err, ◌⊎◌, inl, inr, refl, sym, subst, ap, ◌∙◌, arith, length-set}
 use Rattle.std.specs.List.{All, slice_get}
 use Rattle.std.specs.Option.{option_map_or}
-use Rattle.std.proofs.lemmas.Bool.{cases_lt, eqb-true, eqb-false, eq-eqb, ne_eqb, or_parts}
+use Rattle.std.proofs.lemmas.Bool.{cases_lt, eqb-true, eqb-false, eq-eqb, ne_eqb, or_parts, not-false}
 use Rattle.std.proofs.lemmas.List.{get_or-map, get_or-set_same, get_or-set_other, get_or-replicate, get_or_past, length-map, length-replicate}
 use Rattle.std.proofs.lemmas.List.Elements.{All-set}
 use Rattle.std.proofs.lemmas.List.Folds.{Any-from_list_any, list_any_at}
-use Rattle.std.proofs.lemmas.Option.{slice_get-get_or}
+use Rattle.std.proofs.lemmas.Option.{slice_get-get_or, same_Some}
 use Rattle.cbm.proofs.laws.Validity.{checked-zero}
 use Rattle.cbm.specs.Masks.{overlaps}
 use Rattle.cbm.specs.declared.fault.CbmFault.{CbmFault}
@@ -28,7 +28,7 @@ use Rattle.rc_base.specs.declared.names.Mode.TheVariants.{Shareable, Exclusive, 
 use Rattle.schemata_text.specs.declared.assignment.Assignment.{Assignment}
 use Rattle.tree_law.proofs.Groups.{has_gid-own, gid_number}
 use Rattle.tree_law.proofs.Masks.{cond-Ok}
-use Rattle.tree_law.proofs.ModeTests.{HasIds-control, not-false}
+use Rattle.tree_law.proofs.ModeTests.{HasIds-control}
 use Rattle.tree_law.proofs.NewRecords.{AreBound-replaced, HaveMasks-replaced, AreNamed-replaced, AreNumbered-replaced, AreServed-replaced}
 use Rattle.tree_law.proofs.Unions.{AreApart-each, has_mode-counted, is_other_in-mode}
 use Rattle.tree_law.specs.Counted.{is_counted, is_counted_mode}
@@ -216,18 +216,15 @@ module _ (m : Parameters) (s : State) (g : Group) (a : Assignment) (sound : IsSo
         (λ k d lt other is domain lt' r there none. others k d lt is domain (omega (arith, lt', length-set s.regions a.domain (Some (region_for s g a)))) r (eqb domain a.domain) refl there none);
   }
     where
-      same_some : {X : Type 0} (x y : X) → Some x ≡ Some y → x ≡ y
-      same_some x y e = cc
-
       lawful : (domain : ℕ) (r : Region) (b : Bool) → eqb domain a.domain ≡ b → slice_get regions' domain ≡ Some (Some r) → IsRegion m groups' domain r
       lawful domain r true is there =
           (let same : domain ≡ a.domain = eqb-true domain a.domain is in
-          let one : region_for s g a ≡ r = same_some (region_for s g a) r (same_some (Some (region_for s g a)) (Some r) (sym (slice_get-set_same s.regions a.domain (Some (region_for s g a)) domain-below) ∙ ap (slice_get regions') (sym same) ∙ there)) in
+          let one : region_for s g a ≡ r = same_Some (region_for s g a) r (same_Some (Some (region_for s g a)) (Some r) (sym (slice_get-set_same s.regions a.domain (Some (region_for s g a)) domain-below) ∙ ap (slice_get regions') (sym same) ∙ there)) in
           subst (λ (n : ℕ). IsRegion m groups' n r) (sym same) (subst (IsRegion m groups' a.domain) one IsRegion-new))
       lawful domain r false is there = IsRegion-old domain r (sym (slice_get-set_other s.regions a.domain domain (Some (region_for s g a)) (eqb-false domain a.domain is)) ∙ there)
 
       elsewhere : (r : Option Region) → ◌≡◌ {A = Option (Option Region)} (Some (Some (region_for s g a))) (Some r) → has_region_of g.gid r ≡ false → ⊥
-      elsewhere r e none = (let same : Some (region_for s g a) ≡ r = same_some (Some (region_for s g a)) r e in
+      elsewhere r e none = (let same : Some (region_for s g a) ≡ r = same_Some (Some (region_for s g a)) r e in
           let f : true ≡ false = sym (eq-eqb g.gid.0 g.gid.0 refl) ∙ ap (has_region_of g.gid) same ∙ none in cc)
 
       others : (k : ℕ) (d : Group) → k < length s.groups → has_mode Locked (get_or s.groups k d) ≡ true → (domain : ℕ) → domain < length s.regions → (r : Option Region) (b : Bool) → eqb domain a.domain ≡ b

@@ -6,7 +6,7 @@ use Rattle.std.proofs.lemmas.Bool.{eq-eqb}
 use Rattle.std.proofs.lemmas.List.{get_or_append_left, length-append, length-replicate}
 use Rattle.std.proofs.lemmas.List.FromFn.{get_or-map-range_with_len, length-map-range_with_len}
 use Rattle.std.proofs.lemmas.List.Folds.{list_any_at}
-use Rattle.std.proofs.lemmas.Option.{slice_get_within}
+use Rattle.std.proofs.lemmas.Option.{slice_get_within, same_Some}
 use Rattle.group_tree.specs.Records.{has_gid, has_name, is_control, is_control_named, is_monitor_named, is_monitor_of, mask_in}
 use Rattle.group_tree.specs.declared.group.Group.{Group}
 use Rattle.group_tree.specs.declared.group_kind.GroupKind.{GroupKind}
@@ -169,11 +169,8 @@ new_control-sound m s name range sound free =
 IsCounted-parent : (m : Parameters) (s : State) (owner : Owner) (parent : Gid) → IsSound m s → owner_gid s owner ≡ Some parent → is_closed s parent ≡ false → IsCounted s.groups parent
 IsCounted-parent m s TheDefault parent sound is opened = subst (IsCounted s.groups) same (IsCounted-default s.groups s.next_gid sound.named)
   where
-    same_some : (x y : Gid) → Some x ≡ Some y → x ≡ y
-    same_some x y e = cc
-
     same : record { 0 = 0 } ≡ parent
-    same = same_some (record { 0 = 0 }) parent is
+    same = same_Some (record { 0 = 0 }) parent is
 IsCounted-parent m s (Named name) parent sound is opened =
     let c = option_map-some (λ (g : Group). g.gid) (find (is_control_named name) s.groups) parent is in
     let f = find-found (is_control_named name) s.groups c.0 c.1 in

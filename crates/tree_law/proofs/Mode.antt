@@ -2,7 +2,7 @@
 use Rattle.std.proofs.Common.{◌≡◌, ◌≢◌, ℕ, ◌<◌, Bool, true, false, ◌||◌, cond, List, [], ◌∷◌, length, find, get_or, Option, None, Some, IfSome, IsSome, is_none, Ok, inl, inr, refl, sym, subst, ap, ◌∙◌, arith}
 use Rattle.std.specs.List.{All, list_any, range_with_len}
 use Rattle.std.specs.Option.{option_or, option_to_list}
-use Rattle.std.proofs.lemmas.Bool.{eqb-false, eq-eqb, ne_eqb}
+use Rattle.std.proofs.lemmas.Bool.{eqb-false, eq-eqb, ne_eqb, not-false}
 use Rattle.std.proofs.lemmas.List.Elements.{All-cons}
 use Rattle.group_tree.specs.Records.{has_gid, is_control, is_monitor_of, mask_in}
 use Rattle.group_tree.specs.declared.group.Group.{Group}
@@ -38,7 +38,7 @@ use Rattle.tree_law.specs.commands.Mode.{accepted, against_change, against_entry
 use Rattle.tree_law.specs.commands.Schemata.{against_overlap, is_locked}
 use Rattle.cpu_binding.specs.Groups as cpu_groups
 use Rattle.task_binding.specs.Bindings as bindings
-use Rattle.tree_law.proofs.ModeTests.{not-false, MayEnter, MayEnter-none, IsSome-class, is_locked-false, has_mode-unlocked, HasIds-control, HasIdsOf-counted, cond-counted, is_locked-counted}
+use Rattle.tree_law.proofs.ModeTests.{MayEnter, MayEnter-none, IsSome-class, is_locked-false, has_mode-unlocked, HasIds-control, HasIdsOf-counted, cond-counted, is_locked-counted}
 
 module _ (m : Parameters) (s : State) (g : Group) (sound : IsSound m s) (found : find (has_gid g.gid) s.groups ≡ Some g) (control : is_control g.kind ≡ true) (unlocked : is_locked g.mode ≡ false) where
   -- the group is found by its gid

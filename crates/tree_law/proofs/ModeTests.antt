@@ -1,5 +1,6 @@
 -- What the tests of a change of mode say of the group.
-use Rattle.std.proofs.Common.{◌≡◌, ◌≢◌, Bool, true, false, not, ◌&&◌, cond, eqb, List, [], ◌∷◌, None, Some, IsSome, Result, Ok, Err, refl, sym, subst, ap, ◌∙◌}
+use Rattle.std.proofs.Common.{◌≡◌, ◌≢◌, true, false, not, ◌&&◌, cond, eqb, List, [], ◌∷◌, None, Some, IsSome, Result, Ok, Err, refl, sym, subst, ap, ◌∙◌}
+use Rattle.std.proofs.lemmas.Bool.{not-false}
 use Rattle.group_tree.specs.Records.{is_control, is_mode}
 use Rattle.group_tree.specs.declared.group.Group.{Group}
 use Rattle.group_tree.specs.declared.group_kind.GroupKind.{GroupKind}
@@ -16,11 +17,6 @@ use Rattle.tree_law.specs.Refusals.{plain}
 use Rattle.tree_law.specs.Sound.{HasIds, HasIdsOf}
 use Rattle.tree_law.specs.commands.Mode.{reason_of}
 use Rattle.tree_law.specs.commands.Schemata.{is_locked}
-
--- what is not untrue is true
-pub not-false : (b : Bool) → not b ≡ false → b ≡ true
-not-false true e = refl
-not-false false e = absurd (let f : true ≡ false = e in cc)
 
 -- a group that nothing keeps out of pseudo-locksetup
 pub record MayEnter (h : Holdings) : Type 0 where

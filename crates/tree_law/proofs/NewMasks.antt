@@ -18,7 +18,7 @@ use Rattle.lists.proofs.Tests.{All-kept, All-from_mapped}
 use Rattle.lists.proofs.Options.{option_map-some}
 use Rattle.machine.specs.Ranges.{InRange}
 use Rattle.machine.specs.declared.parameters.Parameters.{Parameters}
-use Rattle.mode_rules.specs.Space.{initial_ways, may_start_with}
+use Rattle.mode_rules.specs.StartingWays.{initial_ways, may_start_with}
 use Rattle.mode_rules.specs.declared.domain_use.DomainUse.{DomainUse}
 use Rattle.rc_base.specs.declared.names.Mode.{Mode}
 use Rattle.rc_base.specs.declared.names.Mode.TheVariants.{Exclusive, Locked, Shareable, LockSetup}

@@ -31,8 +31,9 @@ use Rattle.pseudo_lock.specs.declared.region.Region.{Region}
 use Rattle.tree_law.specs.commands.Rmdir.{cpu_after, goes_with, region_after, staying, without_control}
 use Rattle.cpu_binding.specs.Groups as cpu_groups
 use Rattle.task_binding.specs.Bindings as bindings
-use Rattle.tree_law.proofs.GroupKinds.{is_control-counted, is_control-locked, is_monitor_of-control}
+use Rattle.tree_law.proofs.GroupKinds.{is_control-counted, is_control-locked}
 use Rattle.tree_law.proofs.TaskMoves.{AreRising-changed}
+use Rattle.group_tree.proofs.laws.Records.{is_monitor_of-control}
 
 -- ---- a control group
 

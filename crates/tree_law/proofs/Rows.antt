@@ -4,7 +4,7 @@ use Rattle.cbm.specs.Masks.{overlaps, ways_of}
 use Rattle.cbm.specs.Validity.{checked}
 use Rattle.mode_rules.specs.Overlaps.{is_apart, leaving_overlap, write_overlap}
 use Rattle.mode_rules.specs.Setup.{entry_refusal}
-use Rattle.mode_rules.specs.Space.{initial_ways, starting_ways}
+use Rattle.mode_rules.specs.StartingWays.{initial_ways, starting_ways}
 use Rattle.rc_base.specs.Texts.{is_text}
 use Rattle.schemata_text.specs.Reading.{entry_of, line_of, reading_from}
 use Rattle.tree_law.specs.Rows.{LimboRow, LockRow, LockState, RegionRow, SetupRow, SpaceRow, TasksRow}

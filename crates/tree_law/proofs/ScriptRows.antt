@@ -7,7 +7,7 @@ use Rattle.cpu_lists.specs.Masks.{mask_cpus}
 use Rattle.cpu_lists.specs.Sets.{answer_of, numbers_of}
 use Rattle.mode_rules.specs.Overlaps.{is_apart, leaving_overlap, write_overlap}
 use Rattle.mode_rules.specs.Setup.{entry_refusal}
-use Rattle.mode_rules.specs.Space.{initial_ways, starting_ways}
+use Rattle.mode_rules.specs.StartingWays.{initial_ways, starting_ways}
 use Rattle.rc_base.specs.Texts.{is_text}
 use Rattle.schemata_text.specs.Reading.{entry_of, line_of, reading_from}
 use Rattle.tree_law.specs.Resolving.{resolve}

@@ -14,7 +14,7 @@ use Rattle.cbm.specs.Validity.{checked, is_too_few}
 use Rattle.cbm.specs.declared.geometry.Geometry.{Geometry}
 use Rattle.mode_rules.proofs.laws.StartingMasks.{checked-all_ways, checked-run, may_start_with-all_ways, may_start_with-run}
 use Rattle.mode_rules.proofs.laws.StartingWays.{filter-starting_ways, union, ways_of-union}
-use Rattle.mode_rules.specs.Space.{granted_ways, has_no_space, initial_ways, may_start_with, starting_ways}
+use Rattle.mode_rules.specs.StartingWays.{granted_ways, has_no_space, initial_ways, may_start_with, starting_ways}
 use Rattle.mode_rules.specs.declared.domain_use.DomainUse.{DomainUse}
 use Rattle.tree_law.proofs.laws.WayMasks.{mask_of-ways_of}
 use Rattle.tree_law.specs.Space.{mask_of}

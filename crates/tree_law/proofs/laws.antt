@@ -9,5 +9,6 @@ pub mod Lines
 pub mod Opening
 pub mod Refusals
 pub mod Regions
+pub mod RisingGroups
 pub mod Steps
 pub mod WayMasks

@@ -24,7 +24,7 @@ abbrev pub owner_gid : State → Owner → Option Gid
 owner_gid s TheDefault = Some default_gid
 owner_gid s (Named name) = option_map (λ (g : Group). g.gid) (find (is_control_named name) s.groups)
 
--- the group that holds something, where it exists
+-- the group that a `Holder` names, where it exists
 abbrev pub holder_gid : State → Holder → Option Gid
 holder_gid s (Control owner) = owner_gid s owner
 holder_gid s (Monitor owner name) =
@@ -47,11 +47,12 @@ abbrev pub is_file : State → PathRef → Bool
 is_file s (File dir kind) = dir_exists s dir
 is_file s path = false
 
+-- whether a path is an existing directory
 abbrev pub is_directory : State → PathRef → Bool
 is_directory s (Dir dir) = dir_exists s dir
 is_directory s path = false
 
--- an existing file or directory
+-- whether a path is an existing file or directory
 abbrev pub path_exists : State → PathRef → Bool
 path_exists s (Dir dir) = dir_exists s dir
 path_exists s (File dir kind) = dir_exists s dir
@@ -60,10 +61,12 @@ path_exists s (Nowhere name) = false
 
 -- ---- where a path stands
 
+-- the directory of a control group, which for the default group is the root
 abbrev pub owner_dir : Owner → DirRef
 owner_dir TheDefault = Root
 owner_dir (Named name) = Ctrl name
 
+-- the directory of a group
 abbrev pub holder_dir : Holder → DirRef
 holder_dir (Control owner) = owner_dir owner
 holder_dir (Monitor owner name) = Mon owner name
@@ -83,21 +86,21 @@ holding (File dir kind) = Some dir
 holding (Free dir name) = Some dir
 holding (Nowhere name) = None
 
--- the directory that would hold it exists
+-- whether the directory that would hold a path exists
 abbrev pub is_held : State → PathRef → Bool
 is_held s path = option_map_or (dir_exists s) (holding path) false
 
--- a directory in which groups are made: the root, and each `mon_groups`
+-- whether groups are made in a directory: in the root, and in each `mon_groups`
 abbrev pub holds_groups : DirRef → Bool
 holds_groups Root = true
 holds_groups (MonGroups owner) = true
 holds_groups dir = false
 
--- it would stand in such a directory
+-- whether a path would stand in such a directory
 abbrev pub is_in_place : PathRef → Bool
 is_in_place path = option_map_or holds_groups (holding path) false
 
--- the directory of a group that may be removed: any but the root
+-- whether a path is the directory of a group that may be removed: any but the root
 abbrev pub is_group_directory : PathRef → Bool
 is_group_directory (Dir (Ctrl name)) = true
 is_group_directory (Dir (Mon owner name)) = true

@@ -1,4 +1,5 @@
 -- Laws of what an access has.
+-- (For functions and proofs: no promise of the program stands on it.)
 use Rattle.std.specs.Prelude.{◌≡◌, ℕ, ◌<◌, ◌^◌, Bool, true, false, ◌==◌, List, Option, Ok, option_map}
 use Rattle.std.specs.List.{list_any}
 use Rattle.cbm.specs.Validity.{checked}
@@ -22,13 +23,13 @@ use Rattle.tree_law.specs.Steps.{after, next}
 use Rattle.tree_law.specs.declared.follow.Follow.{Follow}
 use Rattle.tree_law.specs.declared.follow.Follow.TheVariants.{Raise, Flush, Lock, Touch, Drop}
 
--- whose class and RMID are the machine's, and whose mask is valid
+-- an access whose class and RMID are the machine's, and whose mask is valid
 pub record IsGood (m : Parameters) (o : Owned) : Type 0 where
   pub class : o.class < m.classes
   pub rmid : o.rmid < m.rmids
   pub mask : IsValid m o.mask
 
--- in a sound tree that holds of every access
+-- in a sound tree every access is such a one
 abbrev pub TagsAreGood : Type 0
 TagsAreGood = (m : Parameters) (s : State) (task cpu : ℕ) → IsSound m s → cpu < m.cpus → domain_of m cpu < m.domains → IsGood m (resolve m s task cpu)
 
@@ -74,8 +75,8 @@ moves op = false
 abbrev pub StandsStill : State → State → ℕ → ℕ → Type 0
 StandsStill s later task cpu = (binding_of task later.tasks ≡ binding_of task s.tasks) × (cpu_groups_of later cpu ≡ cpu_groups_of s cpu)
 
--- a command that does not raise, flush or lock the domain of an access, and does not move its task or its CPU, leaves what the
--- access has as it was
+-- a command that does not raise, flush or lock the domain of an access, and does not move its task or its CPU, leaves its owner,
+-- class and mask and the mode of its owner as they were
 abbrev pub ChangesAreFollowed : Type 0
 ChangesAreFollowed = (m : Parameters) (s : State) (k : ℕ) (op : Op) (looks : List ℕ) (task cpu : ℕ) → InRange m → IsSound m s → cpu < m.cpus
     → list_any (settles (domain_of m cpu)) (after m s k op) ≡ false → (moves op ≡ true → StandsStill s (next m s op looks).state task cpu) → IsSeenAs m s (next m s op looks).state task cpu

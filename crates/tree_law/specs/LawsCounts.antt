@@ -1,4 +1,5 @@
 -- Laws of the counts that a command needs.
+-- (For functions and proofs: no promise of the program stands on it.)
 use Rattle.std.specs.Prelude.{◌≢◌, ℕ, ◌<◌, All, AllPairs}
 use Rattle.machine.specs.declared.parameters.Parameters.{Parameters}
 use Rattle.path_names.specs.declared.dirs.DirRef.TheVariants.{MonDomain}
@@ -9,12 +10,12 @@ use Rattle.tree_law.specs.Sound.{IsSound}
 use Rattle.tree_law.specs.State.{State}
 use Rattle.tree_law.specs.Steps.{needs}
 
--- a read of a domain's directory is of a domain that exists; paths are read with the machine's domains
+-- a read of a file of a domain is of a domain that exists: paths are read with the machine's domains
 abbrev pub NamesDomain : Parameters → Op → Type 0
 NamesDomain m (ops.Read (File (MonDomain holder domain) kind)) = domain < m.domains
 NamesDomain m op = Unit {0}
 
--- a pair of `needs` that can be looked at
+-- a count that can be made: its domain and its RMID are the machine's
 abbrev pub CanLook : Parameters → ℕ × ℕ → Type 0
 CanLook m pair = (pair.0 < m.domains) × (pair.1 < m.rmids)
 

@@ -1,4 +1,5 @@
 -- Laws of what follows a command in the slices.
+-- (For functions and proofs: no promise of the program stands on it.)
 use Rattle.std.specs.Prelude.{◌≡◌, ℕ, ◌+◌, ◌*◌, ◌<◌, ◌≤◌, All, length, Some}
 use Rattle.cbm.specs.Masks.{ways_of}
 use Rattle.machine.specs.Ranges.{InRange}
@@ -35,6 +36,6 @@ IsLawful m s (Lock domain mask first_line) = IsValid m mask × (first_line ≡ n
 IsLawful m s (Touch tag line) = (r : Region) × (region_in s.regions tag.domain ≡ Some r) × IsLineOf m r line
 IsLawful m s (Drop domain line) = Unit {0}
 
--- that holds of all that follows a command
+-- all that follows a command is lawful
 abbrev pub FollowsAreLawful : Type 0
 FollowsAreLawful = (m : Parameters) (s : State) (k : ℕ) (op : Op) → InRange m → IsSound m s → Fits m (tasks_of s) op → All (IsLawful m s) (after m s k op)

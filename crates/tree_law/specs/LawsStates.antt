@@ -1,4 +1,5 @@
 -- Laws of the states that commands lead to.
+-- (For functions and proofs: no promise of the program stands on it.)
 use Rattle.std.specs.Prelude.{◌≡◌, ℕ, ◌≤◌, Bool, true, false, List, length, Some}
 use Rattle.std.specs.List.Sorted.{IsStrictlyIncreasing}
 use Rattle.machine.specs.Maps.{cache_bytes}
@@ -33,7 +34,7 @@ TasksAreKept = (m : Parameters) (s : State) (op : Op) (looks : List ℕ) → tas
 
 -- ---- refused commands
 
--- a refused command is answered with its reason, and leaves what `left` says, with this reply as the last status where it sets one
+-- a refused command is answered with its reason, and leaves what `left` says, with the reply as the last status if it sets one
 abbrev pub RefusedIsLeft : Type 0
 RefusedIsLeft = (m : Parameters) (s : State) (op : Op) (looks : List ℕ) (r : Refusal) → refusal m s op ≡ Some r
     → ((next m s op looks).reply ≡ reply_of (Some r)) × ((next m s op looks).state ≡ with_status op (reply_of (Some r)) (left s op))
@@ -47,7 +48,7 @@ writes_tasks op = false
 abbrev pub LeftIsSame : Type 0
 LeftIsSame = (s : State) (op : Op) → writes_tasks op ≡ false → left s op ≡ s
 
--- and a write to a `tasks` file changes the tasks alone
+-- and a refused write to a `tasks` file changes the tasks alone
 abbrev pub LeftHasTasks : Type 0
 LeftHasTasks = (s : State) (op : Op) → left s op ≡ record s { tasks = (left s op).tasks }
 

@@ -1,5 +1,6 @@
 -- Which masks groups may have beside each other.
 -- (Kernel documentation, "Schemata files - general concepts" and `mode`.)
+-- (For functions and proofs: no promise of the program stands on it.)
 use Rattle.std.specs.Prelude.{◌≡◌, ◌≢◌, ℕ, ◌<◌, ◌^◌, ◌⊎◌, true, false, AllPairs, All, List, length, Ok}
 use Rattle.cbm.specs.Masks.{overlaps}
 use Rattle.cbm.specs.Validity.{checked}
@@ -32,7 +33,7 @@ HasValid m domain g = is_control g.kind ≡ true → g.mode ≢ Locked → IsVal
 abbrev pub OffShareable : Parameters → ℕ → Group → Type 0
 OffShareable m domain g = is_counted g ≡ true → g.mode ≡ Exclusive → AreApart (mask_in domain g) m.shareable
 
--- each group has a mask in each domain, and those of counted groups keep to the modes
+-- each group has a mask in each domain, and those of counted groups are as the modes allow
 pub record HaveMasks (m : Parameters) (groups : List Group) : Type 0 where
   pub places : All (λ (g : Group). length g.masks ≡ 8) groups
   pub valid : (domain : ℕ) → domain < m.domains → All (HasValid m domain) groups

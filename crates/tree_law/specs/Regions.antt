@@ -1,5 +1,6 @@
 -- The regions of pseudo-locked groups.
 -- (Kernel documentation, "Cache Pseudo-Locking".)
+-- (For functions and proofs: no promise of the program stands on it.)
 use Rattle.std.specs.Prelude.{◌≡◌, ◌≢◌, ℕ, ◌<◌, Bool, true, false, ◌==◌, if◌then◌else◌, AllPairs, All, IfSome, List, length, filter, Option, Some, None, slice_get}
 use Rattle.std.specs.List.{list_any}
 use Rattle.group_tree.specs.Records.{has_gid, has_mode, mask_in}
@@ -27,8 +28,8 @@ OffCounted domain mask g = is_counted g ≡ true → AreApart mask (mask_in doma
 abbrev pub holds_region : ℕ → Region → Group → Bool
 holds_region domain r g = if has_gid r.gid g then (if has_mode Locked g then mask_in domain g == r.mask else false) else false
 
--- what a region of a domain keeps to: it is of that domain, has a valid mask, meets no shareable bit and no counted group's mask, and its group is
--- a pseudo-locked control group
+-- a lawful region of a domain: it is of that domain, has a valid mask, meets no shareable bit and no mask of a counted group,
+-- and its group is a pseudo-locked control group
 pub record IsRegion (m : Parameters) (groups : List Group) (domain : ℕ) (r : Region) : Type 0 where
   pub own : r.domain ≡ domain
   pub valid : IsValid m r.mask
@@ -44,6 +45,7 @@ HasOneRegion regions g = has_mode Locked g ≡ true → length (filter (has_regi
 abbrev pub HasNoOther : List (Option Region) → Group → Type 0
 HasNoOther regions g = has_mode Locked g ≡ true → (domain : ℕ) → domain < length regions → (r : Option Region) → slice_get regions domain ≡ Some r → has_region_of g.gid r ≡ false → mask_in domain g ≡ 0
 
+-- each domain has a place, each region there is lawful, and a pseudo-locked group has one region and no other ways
 pub record HaveRegions (m : Parameters) (groups : List Group) (regions : List (Option Region)) : Type 0 where
   pub each : length regions ≡ m.domains
   pub lawful : (domain : ℕ) (r : Region) → slice_get regions domain ≡ Some (Some r) → IsRegion m groups domain r

@@ -1,5 +1,6 @@
 -- Worked scripts: the counts, the reply and the follow-ups of each command, and the state at the end. An independent model of the
 -- rules gave them.
+-- (For functions and proofs: no promise of the program stands on it.)
 use Rattle.std.specs.Prelude.{◌≡◌, ℕ, ◌+◌, false, List, [], ◌∷◌, codes, Some, None}
 use Rattle.group_tree.specs.declared.group_kind.GroupKind.TheVariants.{Control}
 use Rattle.machine.specs.declared.parameters.Parameters.{Parameters}
@@ -33,17 +34,21 @@ answers_from m s k [] = []
 answers_from m s k (step ∷ steps) =
     record { counts = needs m s step.op; reply = (next m s step.op step.looks).reply; follows = after m s k step.op } ∷ answers_from m (next m s step.op step.looks).state (k + 1) steps
 
+-- the name of this number
 abbrev pub nid : ℕ → NameId
 nid n = record { 0 = n }
 
+-- the gid of this number
 abbrev pub gd : ℕ → Gid
 gd n = record { 0 = n }
 
 -- ---- two groups on two domains: overlaps, CPUs and pseudo-locksetup
 
+-- two caches of 2 sets and 8 ways, with 4 classes, 4 RMIDs and 2 CPUs
 abbrev pub first_machine : Parameters
 first_machine = record { domains = 2; sets = 2; ways = 8; classes = 4; rmids = 4; cpus = 2; min = 1; shareable = 0; threshold = 0; sparse = false; slices = 1 }
 
+-- two groups are made, and one gets a mask and enters pseudo-locksetup; six commands are refused
 abbrev pub first_script : List Step
 first_script =
     (record { op = ops.Mkdir (paths.Dir (dirs.Ctrl (nid 2))); looks = [] })
@@ -62,6 +67,7 @@ first_script =
     ∷ (record { op = ops.Write (paths.File (dirs.Ctrl (nid 1)) kinds.Schemata) (codes "L3: "); looks = [] })
     ∷ []
 
+-- what each of its commands needs, is answered, and makes in the slices
 abbrev pub first_answers : List Answer
 first_answers =
     (record { counts = []; reply = replies.Ok; follows = [] })
@@ -80,20 +86,25 @@ first_answers =
     ∷ (record { counts = []; reply = refused whys.NoValue 0; follows = [] })
     ∷ []
 
+-- the state at its end
 abbrev pub first_left : State
 first_left = record { groups = (record { gid = (gd 0); name = None; kind = Control; mode = Shareable; class = (Some 0); rmid = (Some 0); masks = 255 ∷ 255 ∷ 0 ∷ 0 ∷ 0 ∷ 0 ∷ 0 ∷ 0 ∷ [] }) ∷ (record { gid = (gd 1); name = (Some (nid 2)); kind = Control; mode = Shareable; class = (Some 1); rmid = (Some 1); masks = 255 ∷ 255 ∷ 0 ∷ 0 ∷ 0 ∷ 0 ∷ 0 ∷ 0 ∷ [] }) ∷ (record { gid = (gd 2); name = (Some (nid 1)); kind = Control; mode = LockSetup; class = (Some 2); rmid = None; masks = 1 ∷ 255 ∷ 0 ∷ 0 ∷ 0 ∷ 0 ∷ 0 ∷ 0 ∷ [] }) ∷ []; tasks = (record { task = 1; control = (gd 0); monitor = (gd 0) }) ∷ (record { task = 2; control = (gd 0); monitor = (gd 0) }) ∷ []; cpus = (record { control = (gd 0); monitor = None }) ∷ (record { control = (gd 0); monitor = None }) ∷ []; limbo = []; regions = None ∷ None ∷ []; locks = 0; threshold = 0; status = refused whys.NoValue 0; next_gid = 3 }
 
+-- the first script is answered so, from the opening state with tasks 1 and 2
 abbrev pub FirstAnswers : Type 0
 FirstAnswers = answers_from first_machine (opening first_machine (1 ∷ 2 ∷ [])) 0 first_script ≡ first_answers
 
+-- and it leaves that state
 abbrev pub FirstLeft : Type 0
 FirstLeft = at_end first_machine (opening first_machine (1 ∷ 2 ∷ [])) first_script ≡ first_left
 
--- ---- a region that is touched and removed
+-- ---- a region that is locked and touched, and a group that is removed
 
+-- one cache of 2 sets and 5 ways, with 5 classes, 4 RMIDs and 4 CPUs
 abbrev pub second_machine : Parameters
 second_machine = record { domains = 1; sets = 2; ways = 5; classes = 5; rmids = 4; cpus = 4; min = 1; shareable = 0; threshold = 0; sparse = false; slices = 1 }
 
+-- a group locks a region, which is touched, and another group is made and removed; five commands are refused
 abbrev pub second_script : List Step
 second_script =
     (record { op = ops.Write (paths.File dirs.Root kinds.Schemata) (codes "L3:0=3"); looks = [] })
@@ -112,6 +123,7 @@ second_script =
     ∷ (record { op = ops.Rmdir (paths.Dir (dirs.Ctrl (nid 1))); looks = 0 ∷ [] })
     ∷ []
 
+-- what each of its commands needs, is answered, and makes in the slices
 abbrev pub second_answers : List Answer
 second_answers =
     (record { counts = []; reply = replies.Ok; follows = follows.Raise 0 ∷ [] })
@@ -130,20 +142,25 @@ second_answers =
     ∷ (record { counts = (0, 2) ∷ []; reply = replies.Ok; follows = follows.Raise 0 ∷ [] })
     ∷ []
 
+-- the state at its end
 abbrev pub second_left : State
 second_left = record { groups = (record { gid = (gd 0); name = None; kind = Control; mode = Shareable; class = (Some 0); rmid = (Some 0); masks = 3 ∷ 0 ∷ 0 ∷ 0 ∷ 0 ∷ 0 ∷ 0 ∷ 0 ∷ [] }) ∷ (record { gid = (gd 1); name = (Some (nid 2)); kind = Control; mode = Locked; class = None; rmid = None; masks = 8 ∷ 0 ∷ 0 ∷ 0 ∷ 0 ∷ 0 ∷ 0 ∷ 0 ∷ [] }) ∷ []; tasks = (record { task = 1; control = (gd 0); monitor = (gd 0) }) ∷ (record { task = 2; control = (gd 0); monitor = (gd 0) }) ∷ []; cpus = (record { control = (gd 0); monitor = None }) ∷ (record { control = (gd 0); monitor = None }) ∷ (record { control = (gd 0); monitor = None }) ∷ (record { control = (gd 0); monitor = None }) ∷ []; limbo = 1 ∷ []; regions = (Some (record { gid = (gd 1); domain = 0; mask = 8; first_line = 4503599627370496 })) ∷ []; locks = 1; threshold = 0; status = replies.Ok; next_gid = 3 }
 
+-- the second script is answered so, from the opening state with tasks 1 and 2
 abbrev pub SecondAnswers : Type 0
 SecondAnswers = answers_from second_machine (opening second_machine (1 ∷ 2 ∷ [])) 0 second_script ≡ second_answers
 
+-- and it leaves that state
 abbrev pub SecondLeft : Type 0
 SecondLeft = at_end second_machine (opening second_machine (1 ∷ 2 ∷ [])) second_script ≡ second_left
 
--- ---- tasks that move, and groups that are removed
+-- ---- a task that moves, and a group that is removed
 
+-- two caches of 2 sets and 4 ways, masks of 2 ways at least, a threshold of 64 bytes, 5 classes, 4 RMIDs and 4 CPUs
 abbrev pub third_machine : Parameters
 third_machine = record { domains = 2; sets = 2; ways = 4; classes = 5; rmids = 4; cpus = 4; min = 2; shareable = 0; threshold = 64; sparse = false; slices = 1 }
 
+-- a group enters pseudo-locksetup, and another gets a task and is removed with one line left; six commands are refused
 abbrev pub third_script : List Step
 third_script =
     (record { op = ops.Write (paths.File dirs.Root kinds.Schemata) (codes "L3:0=3;1=3"); looks = [] })
@@ -162,6 +179,7 @@ third_script =
     ∷ (record { op = ops.Write (paths.File (dirs.Ctrl (nid 1)) kinds.Tasks) (codes " 2 , 1 "); looks = [] })
     ∷ []
 
+-- what each of its commands needs, is answered, and makes in the slices
 abbrev pub third_answers : List Answer
 third_answers =
     (record { counts = []; reply = replies.Ok; follows = follows.Raise 0 ∷ follows.Raise 1 ∷ [] })
@@ -180,11 +198,14 @@ third_answers =
     ∷ (record { counts = []; reply = refused whys.NoSuchPath 0; follows = [] })
     ∷ []
 
+-- the state at its end
 abbrev pub third_left : State
 third_left = record { groups = (record { gid = (gd 0); name = None; kind = Control; mode = Shareable; class = (Some 0); rmid = (Some 0); masks = 3 ∷ 3 ∷ 0 ∷ 0 ∷ 0 ∷ 0 ∷ 0 ∷ 0 ∷ [] }) ∷ (record { gid = (gd 1); name = (Some (nid 2)); kind = Control; mode = LockSetup; class = (Some 1); rmid = None; masks = 15 ∷ 15 ∷ 0 ∷ 0 ∷ 0 ∷ 0 ∷ 0 ∷ 0 ∷ [] }) ∷ []; tasks = (record { task = 1; control = (gd 0); monitor = (gd 0) }) ∷ (record { task = 2; control = (gd 0); monitor = (gd 0) }) ∷ []; cpus = (record { control = (gd 0); monitor = None }) ∷ (record { control = (gd 0); monitor = None }) ∷ (record { control = (gd 0); monitor = None }) ∷ (record { control = (gd 0); monitor = None }) ∷ []; limbo = []; regions = None ∷ None ∷ []; locks = 0; threshold = 64; status = refused whys.NoSuchPath 0; next_gid = 3 }
 
+-- the third script is answered so, from the opening state with tasks 1 and 2
 abbrev pub ThirdAnswers : Type 0
 ThirdAnswers = answers_from third_machine (opening third_machine (1 ∷ 2 ∷ [])) 0 third_script ≡ third_answers
 
+-- and it leaves that state
 abbrev pub ThirdLeft : Type 0
 ThirdLeft = at_end third_machine (opening third_machine (1 ∷ 2 ∷ [])) third_script ≡ third_left

@@ -1,4 +1,5 @@
--- Which states of the tree are sound. Each command keeps it.
+-- Which states of the tree are sound. Each command leaves a sound state sound.
+-- (For functions and proofs: no promise of the program stands on it.)
 use Rattle.std.specs.Prelude.{◌≡◌, ◌≢◌, ℕ, ◌<◌, ◌≤◌, ◌⊎◌, Bool, true, false, if◌then◌else◌, AllPairs, All, IsSome, IsNone, IfSome, IsSomeAnd, List, length, Option, Some, None, slice_get}
 use Rattle.std.specs.List.{list_any}
 use Rattle.cpu_binding.specs.declared.groups.CpuGroups.{CpuGroups}
@@ -20,7 +21,7 @@ use Rattle.tree_law.specs.Masks.{HaveMasks}
 use Rattle.tree_law.specs.Regions.{HaveLines, HaveRegions}
 use Rattle.tree_law.specs.State.{State}
 
--- ---- a record of its own
+-- ---- one record
 
 -- which ids a control group of this mode has: a shareable or exclusive one a class and an RMID, one in pseudo-locksetup a class
 -- alone, a pseudo-locked one neither
@@ -30,10 +31,11 @@ HasIdsOf Exclusive g = IsSome g.class × IsSome g.rmid
 HasIdsOf LockSetup g = IsSome g.class × IsNone g.rmid
 HasIdsOf Locked g = IsNone g.class × IsNone g.rmid
 
--- a group is a counted one
+-- whether a record is the counted group of this gid
 abbrev pub counts : Gid → Group → Bool
 counts gid g = if has_gid gid g then is_counted g else false
 
+-- there is a counted group of this gid
 abbrev pub IsCounted : List Group → Gid → Type 0
 IsCounted groups gid = list_any (counts gid) groups ≡ true
 
@@ -49,7 +51,7 @@ abbrev pub Differ : Option ℕ → Option ℕ → Type 0
 Differ (Some a) (Some b) = a ≢ b
 Differ a b = Unit {0}
 
--- two kinds of group that stand in the same directory
+-- groups of these kinds stand in the same directory
 abbrev pub StandTogether : GroupKind → GroupKind → Type 0
 StandTogether Control Control = Unit {0}
 StandTogether (Monitor p) (Monitor q) = p.0 ≡ q.0
@@ -59,6 +61,7 @@ StandTogether a b = ⊥
 abbrev pub NamesDiffer : Group → Group → Type 0
 NamesDiffer a b = StandTogether a.kind b.kind → a.name ≢ b.name
 
+-- two groups differ in class and in RMID, where both have one
 abbrev pub IdsDiffer : Group → Group → Type 0
 IdsDiffer a b = Differ a.class b.class × Differ a.rmid b.rmid
 
@@ -83,7 +86,8 @@ pub record AreNamed (groups : List Group) (next_gid : ℕ) : Type 0 where
   pub serial : All (λ (g : Group). g.gid.0 < next_gid) groups
   pub names : AllPairs NamesDiffer groups
 
--- Each group has the ids of its mode. All ids are the machine's, no two groups have the same, and the limbo rises and has none of theirs.
+-- Each group has the ids of its mode. All ids are the machine's, no two groups have the same, and the limbo rises and has none of
+-- theirs.
 pub record AreNumbered (m : Parameters) (groups : List Group) (limbo : List ℕ) : Type 0 where
   pub ids : All (λ (g : Group). HasIds groups g.kind g) groups
   pub classes : All (λ (g : Group). IfSome g.class (λ id. id < m.classes)) groups
@@ -102,24 +106,27 @@ monitors control gid g = if has_gid gid g then is_monitor_of control g.kind else
 abbrev pub IsOf : List Group → Gid → Gid → Type 0
 IsOf groups control gid = (gid.0 ≡ control.0) ⊎ (list_any (monitors control gid) groups ≡ true)
 
+-- the control group of a task is a counted one, and the task is counted there or in one of its monitor groups
 abbrev pub IsBound : List Group → Binding → Type 0
 IsBound groups b = IsCounted groups b.control × IsOf groups b.control b.monitor
 
+-- the control group of a CPU is a counted one, and its monitor group, where it has one, is of that group
 abbrev pub IsServed : List Group → CpuGroups → Type 0
 IsServed groups c = IsCounted groups c.control × IfSome c.monitor (IsOf groups c.control)
 
--- the tasks rise, and each has a counted control group; where it is counted elsewhere, that is a monitor group of it
+-- the tasks rise, and each has a counted control group, and is counted there or in one of its monitor groups
 pub record AreBound (groups : List Group) (tasks : List Binding) : Type 0 where
   pub rising : AreRising tasks
   pub each : All (IsBound groups) tasks
 
--- the same of the CPUs
+-- each CPU of the machine has a counted control group, and its monitor group, where it has one, is of that group
 pub record AreServed (m : Parameters) (groups : List Group) (cpus : List CpuGroups) : Type 0 where
   pub count : length cpus ≡ m.cpus
   pub each : All (IsServed groups) cpus
 
 -- ---- a sound tree
 
+-- the groups are sound by themselves, and the limbo, the regions, the tasks, the CPUs and the threshold beside them
 pub record IsSound (m : Parameters) (s : State) : Type 0 where
   pub named : AreNamed s.groups s.next_gid
   pub numbered : AreNumbered m s.groups s.limbo

@@ -7,7 +7,7 @@ use Rattle.group_tree.specs.Others.{masks_of_others}
 use Rattle.group_tree.specs.declared.group.Group.{Group}
 use Rattle.hw_ids.specs.Ids.{contains}
 use Rattle.machine.specs.declared.parameters.Parameters.{Parameters}
-use Rattle.mode_rules.specs.Space.{initial_ways}
+use Rattle.mode_rules.specs.StartingWays.{initial_ways}
 use Rattle.mode_rules.specs.declared.domain_use.DomainUse.{DomainUse}
 use Rattle.rc_base.specs.declared.names.Gid.{Gid}
 use Rattle.rc_base.specs.declared.names.Mode.TheVariants.{Exclusive, Shareable}
@@ -27,16 +27,17 @@ class_is_free s id = not (list_any (λ (g : Group). is_id id g.class) s.groups)
 abbrev pub rmid_is_free : State → ℕ → Bool
 rmid_is_free s id = not (list_any (λ (g : Group). is_id id g.rmid) s.groups) && not (contains id s.limbo)
 
--- the lowest free ids
+-- the lowest free class
 abbrev pub free_class : Parameters → State → Option ℕ
 free_class m s = find (class_is_free s) (range_with_len 0 m.classes)
 
+-- the lowest free RMID
 abbrev pub free_rmid : Parameters → State → Option ℕ
 free_rmid m s = find (rmid_is_free s) (range_with_len 0 m.rmids)
 
 -- ---- ways
 
--- the masks that are valid on a machine
+-- what masks may be on a machine: how many ways there are, how long a run has to be, and whether there may be gaps
 abbrev pub geometry_of : Parameters → Geometry
 geometry_of m = record { len = m.ways; min = m.min; sparse = m.sparse }
 
@@ -49,7 +50,7 @@ union_of (mask ∷ masks) = bit_or mask (union_of masks)
 abbrev pub region_in : List (Option Region) → ℕ → Option Region
 region_in regions domain = slice_index_or regions domain None
 
--- its ways, and none where there is no region
+-- the ways of the region of a domain, and none where there is no region
 abbrev pub region_mask : List (Option Region) → ℕ → ℕ
 region_mask regions domain = option_map_or (λ (r : Region). r.mask) (region_in regions domain) 0
 

@@ -62,6 +62,7 @@ with_status (ops.Mkdir path) reply s = record s { status = reply }
 with_status (ops.Write path text) reply s = record s { status = reply }
 with_status op reply s = s
 
+-- the state after a command that is refused for this, or accepted, but for the last status
 abbrev pub next_if : Parameters → State → Op → List ℕ → Option Refusal → State
 next_if m s op looks None = accepted m s op looks
 next_if m s op looks (Some r) = left s op
@@ -83,10 +84,11 @@ after_accepted m s k (ops.DropLine addr) = drop.after_line m addr
 after_accepted m s k (ops.DropRegion path offset) = drop.after_region s path offset
 after_accepted m s k op = []
 
+-- what follows a command at this position; nothing follows a refused one
 unfoldable pub after : Parameters → State → ℕ → Op → List Follow
 after m s k op = if is_some (refusal m s op) then [] else after_accepted m s k op
 
--- where a follow-up goes: to each slice of a domain, or to the slice of one line there
+-- where a follow-up goes: to each slice of a domain, or to the slice that has one line there
 pub data Target : Type 0 where
   EachSlice : ℕ → Target
   SliceOf : ℕ → ℕ → Target

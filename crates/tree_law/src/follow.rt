@@ -2,7 +2,7 @@
 
 use rc_base::Tag;
 
-/// What an accepted command does next in each slice of a domain, or in the slice of one line there.
+/// What an accepted command does next in each slice of a domain, or in the slice that has one line there.
 #[derive(Clone, Copy, Debug, PartialEq, Eq)]
 pub enum Follow {
     /// Tags that are older become stale.

@@ -42,7 +42,8 @@ pub fn tags_are_good()
     ensures { TagsAreGood }
 {}
 
-/// A command changes what an access has only where it raises, flushes or locks its domain, or moves its task or CPU.
+/// A command changes the owner, the class or the mask of an access, or the mode of its owner, only where it raises, flushes or
+/// locks the domain of the access, or moves its task or its CPU.
 pub fn changes_are_followed()
     ensures { ChangesAreFollowed }
 {}
@@ -73,7 +74,7 @@ pub fn lines_are_lawful()
     ensures bounded { LinesAreBounded }
 {}
 
-/// The records of pseudo-locked groups tell the regions.
+/// The masks of pseudo-locked groups are those of the regions.
 pub fn regions_agree()
     ensures { RegionsAgree }
 {}

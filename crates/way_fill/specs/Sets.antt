@@ -1,5 +1,7 @@
 -- One set of a cache by its ways: a list of lines, a list of stamps, and a word with a bit for each way that holds a line.
--- (Intel SDM volume 3, cache allocation: a mask bounds where a line may be filled. The order of choice is this project's profile.)
+-- (Intel SDM volume 3, cache allocation: a mask bounds where a line may be filled. The order of choice is this project's
+-- profile.)
+-- (For functions and proofs: no promise of the program stands on it.)
 use Rattle.std.specs.Prelude.{◌≡◌, ℕ, ◌<◌, ◌≤◌, List, length, IsTrue, false, slice_index}
 use Rattle.cbm.specs.Masks.{has_way}
 

@@ -1,29 +1,12 @@
 -- How many places of a slice pass a test, by what each holds.
-use Rattle.std.proofs.Common.{◌≡◌, ℕ, zero, suc, ◌+◌, ◌*◌, ◌%◌, ◌<◌, ◌≤◌, Bool, true, cond, Option, refl, ap, arith, inl, inr}
+use Rattle.std.proofs.Common.{◌≡◌, ℕ, ◌+◌, ◌*◌, ◌%◌, ◌<◌, ◌≤◌, Bool, true, cond, Option, refl, ap, arith, inl, inr}
 use Rattle.std.specs.Prelude.{if◌then◌else◌}
-use Rattle.std.proofs.lemmas.Bool.{cases_Bool, eq-eqb, eqb-true, cases_lt}
+use Rattle.std.proofs.lemmas.Bool.{cases_Bool, eq-eqb, eqb-true}
 use Rattle.cache_core.specs.Filled.{AreAlike, places_with}
 use Rattle.cache_core.specs.Fills.{Resident}
 use Rattle.cache_core.specs.History.{Shape, IsOwn, is_own}
 use Rattle.lists.specs.Sums.{one_if, sum_below}
-use Rattle.lists.proofs.Sums.{cond-le, one_if-le, sum_below-le, sum_below-same}
-
--- ---- sums
-
--- a sum of which one number is greater
-pub sum_below-greater : (n k more : ℕ) (f g : ℕ → ℕ) → k < n → ((i : ℕ) → i < n → (i ≡ k → ⊥) → g i ≡ f i) → g k ≡ f k + more → sum_below n g ≡ sum_below n f + more
-sum_below-greater zero k more f g within same here = absurd (omega arith)
-sum_below-greater (suc n) k more f g within same here = elim (cases_lt k n) [
-  | inl less ↦
-      let rest : sum_below n g ≡ sum_below n f + more = sum_below-greater n k more f g less (λ i h apart. same i (omega arith) apart) here in
-      let last : g n ≡ f n = same n (omega arith) (λ e. omega arith) in
-      omega arith
-  | inr more_or_same ↦
-      let is : n ≡ k = omega arith in
-      let rest : sum_below n g ≡ sum_below n f = sum_below-same n g f (λ i h. same i (omega arith) (λ e. omega arith)) in
-      let last : g n ≡ f n + more = rw is here in
-      omega arith
-]
+use Rattle.lists.proofs.Sums.{cond-le, one_if-le, sum_below-le, sum_below-same, sum_below-greater}
 
 -- ---- counts of places
 

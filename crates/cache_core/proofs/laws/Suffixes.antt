@@ -8,6 +8,7 @@ use Rattle.cache_core.specs.declared.entry.What.TheVariants.{Access, Raise, Flus
 use Rattle.cache_core.specs.Filled.{empties}
 use Rattle.cache_core.specs.Fills.{Resident}
 use Rattle.cache_core.specs.History.{Shape, decided, decides, held, last_such, left_by}
+use Rattle.lists.proofs.Options.{option_or-assoc}
 
 -- ---- choices
 
@@ -15,11 +16,6 @@ use Rattle.cache_core.specs.History.{Shape, decided, decides, held, last_such, l
 option_or-none : {X : Type 0} (o : Option X) → option_or o None ≡ o
 option_or-none None = refl
 option_or-none (Some x) = refl
-
--- of three options the first that is there, in either grouping
-option_or-assoc : {X : Type 0} (a b c : Option X) → option_or (option_or a b) c ≡ option_or a (option_or b c)
-option_or-assoc None b c = refl
-option_or-assoc (Some x) b c = refl
 
 -- ---- the last entry that passes a test
 

@@ -1,10 +1,10 @@
 -- Overlaps of masks: way by way, in either order, and with a union.
-use Rattle.std.proofs.Common.{◌≡◌, ℕ, ◌<◌, Bool, true, false, ◌||◌, bit_or, List, [], ◌∷◌, refl, sym, ap, ap₂, ◌∙◌, arith}
+use Rattle.std.proofs.Common.{◌≡◌, ℕ, ◌<◌, Bool, true, false, ◌||◌, List, [], ◌∷◌, refl, sym, ap, ◌∙◌, arith}
 use Rattle.std.specs.List.{list_any}
-use Rattle.std.proofs.lemmas.Nat.Bits.{bit_at-zero}
+use Rattle.std.proofs.lemmas.Bool.{false≢true}
 use Rattle.lists.proofs.Filters.{list_any-filter, list_any-filter_none, list_any-filter_true}
 use Rattle.cbm.specs.Masks.{IsUnion, has_way, overlaps, ways_of}
-use Rattle.cbm.proofs.laws.Ways.{has_way-bit_or, has_way-zero}
+use Rattle.lists.proofs.Tests.{list_any-same}
 
 -- ---- way by way
 
@@ -22,12 +22,9 @@ overlaps-apart a b apart = list_any-filter_none (has_way a) (has_way b) 0 64 (λ
 pub has_way-apart : (a b way : ℕ) → overlaps a b ≡ false → way < 64 → has_way a way ≡ true → has_way b way ≡ false
 has_way-apart a b way none small in_a = tell (has_way b way) refl
   where
-    false_true : false ≡ true → ⊥
-    false_true e = cc
-
     tell : (there : Bool) → there ≡ has_way b way → there ≡ false
     tell false e = refl
-    tell true e = absurd (false_true (sym none ∙ overlaps-way a b way small in_a (sym e)))
+    tell true e = absurd (false≢true (sym none ∙ overlaps-way a b way small in_a (sym e)))
 
 -- masks that overlap share a way
 pub overlaps-true : (a b : ℕ) → overlaps a b ≡ true → (way : ℕ) × (way < 64) × (has_way a way ≡ true) × (has_way b way ≡ true)
@@ -51,11 +48,6 @@ overlaps-comm a b = eq-iff_true (overlaps a b) (overlaps b a) (turned a b) (turn
 
 -- ---- with a union
 
--- tests that pass for the same numbers
-list_any-same : (p q : ℕ → Bool) (xs : List ℕ) → ((k : ℕ) → p k ≡ q k) → list_any p xs ≡ list_any q xs
-list_any-same p q [] same = refl
-list_any-same p q (x ∷ xs) same = ap₂ (λ (a b : Bool). a || b) (same x) (list_any-same p q xs same)
-
 -- one passes either of two tests where one passes the first or one the second
 list_any-or : (p q : ℕ → Bool) (xs : List ℕ) → list_any (λ k. p k || q k) xs ≡ (list_any p xs || list_any q xs)
 list_any-or p q [] = refl
@@ -73,13 +65,6 @@ list_any-false : (xs : List ℕ) → list_any (λ k. false) xs ≡ false
 list_any-false [] = refl
 list_any-false (x ∷ xs) = list_any-false xs
 
--- a mask overlaps the union of two where it overlaps one of them
-pub overlaps-bit_or : (mask a b : ℕ) → overlaps mask (bit_or a b) ≡ (overlaps mask a || overlaps mask b)
-unfolding overlaps
-overlaps-bit_or mask a b =
-    list_any-same (has_way (bit_or a b)) (λ k. has_way a k || has_way b k) (ways_of mask) (λ k. has_way-bit_or a b k)
-    ∙ list_any-or (has_way a) (has_way b) (ways_of mask)
-
 -- some way is in some mask, seen from the ways and from the masks
 list_any-swap : (masks ways : List ℕ) → list_any (λ w. list_any (λ m. has_way m w) masks) ways ≡ list_any (λ m. list_any (has_way m) ways) masks
 list_any-swap [] ways = list_any-false ways
@@ -91,11 +76,3 @@ pub overlaps-union : (mask union : ℕ) (masks : List ℕ) → IsUnion union mas
 unfolding overlaps
 overlaps-union mask union masks is_union =
     list_any-same (has_way union) (λ w. list_any (λ m. has_way m w) masks) (ways_of mask) is_union ∙ list_any-swap masks (ways_of mask)
-
--- the union of no masks is 0
-pub IsUnion-nil : IsUnion 0 []
-IsUnion-nil = λ way. has_way-zero 0 way (bit_at-zero way)
-
--- one more mask is joined to a union by `|`
-pub IsUnion-cons : (union : ℕ) (masks : List ℕ) (mask : ℕ) → IsUnion union masks → IsUnion (bit_or mask union) (mask ∷ masks)
-IsUnion-cons union masks mask is_union = λ way. has_way-bit_or mask union way ∙ ap (λ (b : Bool). has_way mask way || b) (is_union way)

@@ -1,9 +1,11 @@
 -- The ways of a mask.
-use Rattle.std.proofs.Common.{◌≡◌, ◌≢◌, ℕ, zero, suc, ◌+◌, ◌/◌, ◌^◌, ◌<◌, ◌≤◌, Bool, true, false, ◌&&◌, ◌||◌, eqb, max, min, bit_and, bit_or, [], filter, inl, inr, refl, sym, ap, ◌∙◌, arith, div-le_self, w64}
+use Rattle.std.proofs.Common.{◌≡◌, ◌≢◌, ℕ, zero, suc, ◌+◌, ◌/◌, ◌^◌, ◌<◌, ◌≤◌, Bool, true, false, ◌&&◌, ◌||◌, eqb, max, min, bit_and, bit_or, [], filter, inl, inr, refl, sym, ap, ◌∙◌, arith, div-le_self, w64, length}
 use Rattle.std.specs.Int.{bit_at, trailing_zeros}
 use Rattle.std.specs.List.{list_any, range_with_len}
-use Rattle.std.proofs.lemmas.Bool.{eq-eqb, ne_eqb, cases_lt}
+use Rattle.std.proofs.lemmas.Bool.{eq-eqb, ne_eqb, cases_lt, false≢true}
 use Rattle.std.proofs.lemmas.Nat.Bits.{bit_at-trailing_zeros, bit_at_above, bit_at-zero, bit_at-lt, bit_at_and, bit_at_or, same_from_bits_below}
+use Rattle.std.proofs.lemmas.List.FromFn.{length-range_with_len}
+use Rattle.std.proofs.lemmas.List.Sums.{count_by-le-length, length-filter}
 use Rattle.lists.proofs.Bits.{bit_at-div_pow}
 use Rattle.lists.proofs.Filters.{filter-none, list_any-filter, list_any-filter_none}
 use Rattle.cbm.specs.Masks.{has_way, ways_of}
@@ -69,10 +71,7 @@ unfolding ways_of
 list_any-ways_of mask k small = tell (has_way mask k) refl
   where
     differs : (w : ℕ) → has_way mask k ≡ false → has_way mask w ≡ true → eqb k w ≡ false
-    differs w lacks_k yes_w = ne_eqb k w (λ e. false_true (sym lacks_k ∙ ap (has_way mask) e ∙ yes_w))
-      where
-        false_true : false ≡ true → ⊥
-        false_true e = cc
+    differs w lacks_k yes_w = ne_eqb k w (λ e. false≢true (sym lacks_k ∙ ap (has_way mask) e ∙ yes_w))
 
     tell : (b : Bool) → b ≡ has_way mask k → list_any (eqb k) (filter (has_way mask) (range_with_len 0 64)) ≡ b
     tell true e = list_any-filter (has_way mask) (eqb k) 0 64 k (omega arith) (omega arith) (sym e) (eq-eqb k k refl)
@@ -89,3 +88,8 @@ ways_of-injective a b small_a small_b e = same_from_bits_below 64 a b small_a sm
     bits (suc zero) zero l r e = absurd cc
     bits (suc (suc m)) n l r e = absurd (omega arith)
     bits m (suc (suc n)) l r e = absurd (omega arith)
+
+-- a mask has at most 64 ways
+pub length-ways_of : (mask : ℕ) → length (ways_of mask) ≤ 64
+unfolding ways_of
+length-ways_of mask = (let most = count_by-le-length (has_way mask) (range_with_len 0 64) in omega (arith, length-filter (has_way mask) (range_with_len 0 64), length-range_with_len 0 64))

@@ -5,9 +5,10 @@ use Rattle.run_law.specs.Quotas.{quota}
 use Rattle.run_law.specs.TreeHistory.{IsLegalTree, TreeEntryValue}
 use Rattle.run_law.proofs.laws.JobLists.{owed_are}
 use Rattle.run_law.proofs.laws.OpQuotas.{owed_by_command-few}
-use Rattle.run_law.proofs.laws.SoundHistories.{Fits-op_at, IsSound-take, NamesDomain-fits}
+use Rattle.run_law.proofs.laws.SoundHistories.{Fits-op_at, IsSound-take}
 use Rattle.script_ops.specs.Values.{IsLawful, ScriptValue, op_at}
 use Rattle.script_ops.specs.declared.op.Op.{Op}
+use Rattle.tree_law.proofs.laws.Counts.{NamesDomain-fits}
 
 -- at a position of a legal history, where the tree is sound
 pub in_slice-few : (script : ScriptValue) (tree : List TreeEntryValue) (t n i k : ℕ) (c : Op)

@@ -3,14 +3,15 @@ use Rattle.std.proofs.Common.{◌≡◌, ℕ, ◌+◌, ◌^◌, ◌<◌, ◌≤�
 use Rattle.std.specs.Int.{bit_at}
 use Rattle.std.specs.List.{list_any}
 use Rattle.std.proofs.lemmas.Nat.Bits.{bit_at_above}
-use Rattle.std.proofs.lemmas.Bool.{cases_lt, eqb-true, le-ltb, lt-leb, ne_eqb}
+use Rattle.std.proofs.lemmas.Bool.{cases_lt, eqb-true, le-ltb, lt-leb, ne_eqb, true≢false}
+use Rattle.std.proofs.Math.Bool.{and-false}
 use Rattle.cbm.specs.declared.geometry.Geometry.{Geometry}
 use Rattle.cbm.specs.Masks.{has_way, lowest_run, ways_of}
 use Rattle.cbm.specs.Validity.{checked, checked_ways, has_gaps}
 use Rattle.lists.proofs.Filters.{list_any-filter_none, list_any-filter_true}
 use Rattle.cbm.proofs.laws.Ways.{list_any-ways_of}
 use Rattle.mode_rules.specs.declared.domain_use.DomainUse.{DomainUse}
-use Rattle.mode_rules.specs.Space.{may_start_with, starting_ways}
+use Rattle.mode_rules.specs.StartingWays.{may_start_with, starting_ways}
 
 -- ---- validity
 
@@ -20,10 +21,6 @@ list_any-lowest_run p [] h = refl
 list_any-lowest_run p (w ∷ []) h = h
 list_any-lowest_run p (v ∷ w ∷ ways) h = at (eqb w (v + 1)) (p v) h (list_any-lowest_run p (w ∷ ways))
   where
-    or_false : (b : Bool) → (b || false) ≡ b
-    or_false true = refl
-    or_false false = refl
-
     at : (b first : Bool) → (first || list_any p (w ∷ ways)) ≡ false → (list_any p (w ∷ ways) ≡ false → list_any p (lowest_run (w ∷ ways)) ≡ false) → (first || list_any p (cond b (lowest_run (w ∷ ways)) [])) ≡ false
     at true true e more = absurd cc
     at true false e more = more e
@@ -70,11 +67,7 @@ checked-run g others mask run ways run_is some enough =
     let within : list_any (leb g.len) (ways_of run) ≡ false = ap (list_any (leb g.len)) run_is ∙ list_any-lowest_run (leb g.len) (ways_of mask) (ap (list_any (leb g.len)) ways ∙ list_any-starting_ways others g.len) in
     let same : lowest_run (ways_of run) ≡ ways_of run = ap lowest_run run_is ∙ lowest_run-lowest_run (ways_of mask) ∙ sym run_is in
     let whole : has_gaps (ways_of run) ≡ false = le-ltb (length (lowest_run (ways_of run))) (length (ways_of run)) (omega (arith, ap length same)) in
-    checked_ways-valid g run (ways_of run) some within (ap (λ (b : Bool). not g.sparse && b) whole ∙ and_false (not g.sparse)) (omega (arith, ap length same))
-  where
-    and_false : (b : Bool) → (b && false) ≡ false
-    and_false true = refl
-    and_false false = refl
+    checked_ways-valid g run (ways_of run) some within (ap (λ (b : Bool). not g.sparse && b) whole ∙ and-false (not g.sparse)) (omega (arith, ap length same))
 
 -- ---- whose ways they are
 
@@ -82,12 +75,9 @@ checked-run g others mask run ways run_is some enough =
 list_any-lowest_run_true : (p : ℕ → Bool) (ways : List ℕ) → list_any p (lowest_run ways) ≡ true → list_any p ways ≡ true
 list_any-lowest_run_true p ways h = tell (list_any p ways) refl
   where
-    true_false : true ≡ false → ⊥
-    true_false e = cc
-
     tell : (b : Bool) → b ≡ list_any p ways → b ≡ true
     tell true e = refl
-    tell false e = absurd (true_false (sym h ∙ list_any-lowest_run p ways (sym e)))
+    tell false e = absurd (true≢false (sym h ∙ list_any-lowest_run p ways (sym e)))
 
 -- a way of those that a new group may start with is such a way
 may_start_with-starting_ways : (others : DomainUse) (len way : ℕ) → list_any (eqb way) (starting_ways len others) ≡ true → may_start_with others way ≡ true

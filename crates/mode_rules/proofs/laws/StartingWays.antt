@@ -3,11 +3,12 @@ use Rattle.std.proofs.Common.{◌≡◌, ℕ, zero, suc, ◌+◌, ◌-◌, ◌^�
 use Rattle.std.specs.Int.{bit_at, bit_not}
 use Rattle.std.specs.List.{range_with_len}
 use Rattle.std.proofs.lemmas.Nat.Bits.{bit_at-lt, bit_at_not, bit_at_ones, bit_at_ones_above}
+use Rattle.std.proofs.Math.Bool.{and-false, and-true}
 use Rattle.cbm.specs.Masks.{has_way, ways_of}
 use Rattle.lists.proofs.Filters.{filter-none, filter-same}
 use Rattle.cbm.proofs.laws.Ways.{has_way-one, has_way-bit_and, has_way-bit_or, has_way-zero}
 use Rattle.mode_rules.specs.declared.domain_use.DomainUse.{DomainUse}
-use Rattle.mode_rules.specs.Space.{may_start_with, starting_ways}
+use Rattle.mode_rules.specs.StartingWays.{may_start_with, starting_ways}
 
 -- the ways that a mask of 32 bits has_way-zero
 has_way-bit_not : (mask k : ℕ) → mask < 2 ^ 32 → k < 32 → has_way (bit_not w32 mask) k ≡ not (has_way mask k)
@@ -48,22 +49,14 @@ has_way-union : (given taken len k : ℕ) → len ≤ 32 → taken < 2 ^ 32 → 
 has_way-union given taken len k le small lt =
     has_way-bit_and (bit_or given (bit_not w32 taken)) (2 ^ len - 1) k
     ∙ ap₂ (λ (a b : Bool). a && b) (has_way-bit_or given (bit_not w32 taken) k ∙ ap (λ (b : Bool). has_way given k || b) (has_way-bit_not taken k small (omega arith))) (has_way-one (2 ^ len - 1) k (bit_at_ones len k lt))
-    ∙ and_true (has_way given k || not (has_way taken k))
-  where
-    and_true : (b : Bool) → (b && true) ≡ b
-    and_true true = refl
-    and_true false = refl
+    ∙ and-true (has_way given k || not (has_way taken k))
 
 -- and none from its length on
 has_way-past_union : (given taken len k : ℕ) → len ≤ k → has_way (union given taken len) k ≡ false
 has_way-past_union given taken len k le =
     has_way-bit_and (bit_or given (bit_not w32 taken)) (2 ^ len - 1) k
     ∙ ap (λ (b : Bool). has_way (bit_or given (bit_not w32 taken)) k && b) (has_way-zero (2 ^ len - 1) k (bit_at_ones_above len k le))
-    ∙ and_false (has_way (bit_or given (bit_not w32 taken)) k)
-  where
-    and_false : (b : Bool) → (b && false) ≡ false
-    and_false true = refl
-    and_false false = refl
+    ∙ and-false (has_way (bit_or given (bit_not w32 taken)) k)
 
 -- so these are its ways
 pub ways_of-union : (given taken len : ℕ) → len ≤ 32 → taken < 2 ^ 32 → ways_of (union given taken len) ≡ filter (λ way. has_way given way || not (has_way taken way)) (range_with_len 0 len)

@@ -9,6 +9,7 @@ use Rattle.std.proofs.lemmas.Fmt.{digits_is_IsNumeral, decimal_is_IsNumeral}
 use Rattle.std.proofs.lemmas.List.{take_all, get_or-reverse, length-reverse}
 use Rattle.std.proofs.lemmas.List.Folds.{list_any_at}
 use Rattle.std.proofs.lemmas.List.Sums.{prefix_len_passes, prefix_len-le-length}
+use Rattle.std.proofs.lemmas.Str.Parse.{digit_from_value}
 use Rattle.num_text.specs.Numbers.{number_of, without_prefix, has_prefix}
 use Rattle.num_text.specs.Printed.{filled, hexadecimal}
 use Rattle.num_text.specs.Blanks.{is_blank, trim}
@@ -120,3 +121,18 @@ suffix_len-none p xs h = elim (cases_lt 0 (suffix_len p xs)) [
 -- so nothing is taken off
 pub trim-none : (xs : List ℕ) → list_any is_blank xs ≡ false → trim xs ≡ xs
 trim-none xs h = rw (prefix_len-none is_blank xs h, suffix_len-none is_blank xs h) (take_all (length xs - 0) xs (omega arith))
+
+-- ---- decimal digits
+
+-- no decimal digit is a byte below them
+pub eqb-decimal : (c k : ℕ) → k < 48 → digit_value c < 10 → eqb c k ≡ false
+eqb-decimal c k low digit = ne_eqb c k (λ e. omega (arith, e, low, (digit_from_value c digit).0))
+
+-- none is a blank
+pub is_blank-decimal : (c : ℕ) → digit_value c < 10 → is_blank c ≡ false
+is_blank-decimal c digit = rw (eqb-decimal c 32 (omega arith) digit, eqb-decimal c 9 (omega arith) digit) refl
+
+-- a test that no decimal digit passes, none of a text of decimal digits passes
+pub list_any-decimal : (p : ℕ → Bool) → ((c : ℕ) → digit_value c < 10 → p c ≡ false) → (cs : List ℕ) → AllDigits 10 cs → list_any p cs ≡ false
+list_any-decimal p h [] all = refl
+list_any-decimal p h (c ∷ cs) all = rw (h c all.0) (list_any-decimal p h cs all.1)

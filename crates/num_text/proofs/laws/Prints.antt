@@ -3,7 +3,7 @@ use Rattle.std.proofs.Common.{◌≡◌, ℕ, zero, suc, ◌+◌, ◌-◌, ◌*�
 use Rattle.std.proofs.Math.Nat.{div-lt_iff_lt-mul, div-eq_of_lt, div-le_self, mod-eq_of_lt, one-le-pow, pow-le-pow_left, pow-suc, pow-zero}
 use Rattle.std.specs.Fmt.{digits, digits_onto, digit_glyph, decimal}
 use Rattle.std.proofs.lemmas.Bool.{ne_eqb, eq-eqb, cases_lt}
-use Rattle.std.proofs.lemmas.Fmt.{decimal_is_IsNumeral, length-decimal-le}
+use Rattle.std.proofs.lemmas.Fmt.{decimal_is_IsNumeral, length-decimal-le, decimal_digit}
 use Rattle.std.proofs.lemmas.Grind.{replicate_next}
 use Rattle.num_text.specs.Numbers.{number_of}
 use Rattle.num_text.specs.Printed.{filled, hexadecimal, DecimalReadsBack, HexadecimalReadsBack}
@@ -155,3 +155,11 @@ filled-no_width base n = ap (λ (k : ℕ). replicate {A = ℕ} k 48 ++ digits ba
   where
     none : (k : ℕ) → 0 - k ≡ 0
     none k = omega arith
+
+-- a number of 64 bits has at most 20
+pub length-decimal : (n : ℕ) → n < 2 ^ 64 → length (decimal n) ≤ 20
+length-decimal n small = length-decimal-le 20 n (omega arith) (omega arith) small
+
+-- a number below ten has one
+pub length-decimal_digit : (n : ℕ) → n < 10 → length (decimal n) ≡ 1
+length-decimal_digit n few = ap length (decimal_digit n few)

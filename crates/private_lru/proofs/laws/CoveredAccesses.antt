@@ -10,10 +10,10 @@ use Rattle.cache_core.specs.declared.entry.What.{What}
 use Rattle.cache_core.specs.declared.entry.What.TheVariants.{Access, Raise, Flush, Lock, Look, Drop}
 use Rattle.cache_core.specs.declared.entry.SliceEntry.{SliceEntry}
 use Rattle.lists.specs.Sums.{one_if}
-use Rattle.private_lru.specs.Counted.{hits_of_group, is_own_hit, is_private_hit, private_hits_after, private_hits_of}
+use Rattle.private_lru.specs.GroupCounts.{hits_of_group, is_own_hit, is_private_hit, private_hits_after, private_hits_of}
 use Rattle.private_lru.specs.Covered.{covered, covered_after, covered_front, covered_front_after, hit_of, hits_in, is_covered, is_loaded_use, is_other_use, is_own, item_of, items, uses_line, with_front}
 use Rattle.private_lru.specs.Isolation.{HitsAsPrivate, IsIsolated}
-use Rattle.private_lru.specs.Laws.{CoveredHits, CoveredHitsAreCounted, TwoWorlds}
+use Rattle.private_lru.specs.SliceLaws.{CoveredHits, CoveredHitsAreCounted, TwoWorlds}
 use Rattle.private_lru.specs.Private.{hits_after, hits_of, private_hit}
 use Rattle.private_lru.specs.declared.item.Item.{Item}
 use Rattle.private_lru.specs.declared.item.Item.TheVariants.{Use, Drop as Dropped}

@@ -5,6 +5,7 @@ use Rattle.std.proofs.lemmas.Bool.{and_parts, cases_Bool, cond-false, eqb-false,
 use Rattle.std.proofs.lemmas.List.{append_assoc, append-nil, take-append-drop, take_more}
 use Rattle.std.proofs.lemmas.List.Folds.{list_any-append}
 use Rattle.std.proofs.lemmas.Nat.{div-add-mod', mod-mul-add}
+use Rattle.std.proofs.lemmas.Option.{same_Some}
 use Rattle.rc_base.proofs.laws.Histories.{GoesOn-front}
 use Rattle.rc_base.specs.Follows.{GoesOn}
 use Rattle.cbm.specs.Masks.{has_way}
@@ -15,10 +16,10 @@ use Rattle.cache_core.specs.declared.entry.SliceEntry.{SliceEntry}
 use Rattle.cache_core.specs.History.{Shape, ways_below, held, decides, left_by, EntryMayFollow, MayHappen}
 use Rattle.cache_core.specs.Stands.{entry}
 use Rattle.cache_core.proofs.laws.Histories.{held-push}
-use Rattle.private_lru.specs.Laws.{SliceHolds}
+use Rattle.private_lru.specs.SliceLaws.{SliceHolds}
 use Rattle.private_lru.specs.Locked.{HitsLoaded, Spares, drops_line, is_drop}
 use Rattle.private_lru.proofs.OtherUsers.{place-loads}
-use Rattle.private_lru.proofs.WayLines.{Some-same, line_in}
+use Rattle.private_lru.proofs.WayLines.{line_in}
 use Rattle.private_lru.proofs.KeptAfter.{and-third_false}
 use Rattle.private_lru.proofs.laws.SliceWindows.{GoesOn-rest}
 
@@ -68,7 +69,7 @@ KeepsLoaded-push m narrow mask first_line since history thread op epoch (Drop li
       | inl there ↦
           let parts = and_parts (line % m.sets == set) (at == v) there in
           let holds : line_in (held m history set v) ≡ Some line = ap (λ s. line_in (held m history s v)) (sym (eqb-true (line % m.sets) set parts.0)) ∙ (ap (λ w. line_in (held m history (line % m.sets) w)) (sym (eqb-true at v parts.1)) ∙ may.1.1) in
-          let same : line ≡ line_at m mask first_line set v = Some-same (sym holds ∙ ap line_in (keeps set v within has old)) in
+          let same : line ≡ line_at m mask first_line set v = same_Some _ _ (sym holds ∙ ap line_in (keeps set v within has old)) in
           absurd (eqb-false line (line_at m mask first_line set v) new same)
     ]) keeps
 

@@ -13,7 +13,7 @@ use Rattle.cache_core.specs.Fills.{IsOutcome}
 use Rattle.cache_core.specs.History.{Shape, ways_below, held, used, EntryMayFollow, MayHappen}
 use Rattle.private_lru.specs.Covered.{is_use, items, uses_line}
 use Rattle.private_lru.specs.Isolation.{HitsAsPrivate, IsIsolated, Opens, Respects}
-use Rattle.private_lru.specs.Laws.{SliceIsolation}
+use Rattle.private_lru.specs.SliceLaws.{SliceIsolation}
 use Rattle.private_lru.proofs.OtherUsers.{IsCovered, IsCovered-is_covered, is_use_of_other, loads-place}
 use Rattle.private_lru.proofs.Ways.{ways_below-all}
 use Rattle.private_lru.proofs.Recency.{private_hit-kept}

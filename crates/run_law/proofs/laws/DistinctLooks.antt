@@ -1,12 +1,11 @@
 -- No count is needed twice: rows of pairs, each row of one of distinct things.
-use Rattle.std.proofs.Common.{◌≡◌, ℕ, zero, suc, ◌+◌, ◌-◌, ◌*◌, ◌<◌, inl, inr, List, [], ◌∷◌, length, map, refl, sym, ap, ◌∙◌, subst, arith}
+use Rattle.std.proofs.Common.{◌≡◌, ℕ, suc, ◌+◌, ◌-◌, ◌*◌, ◌<◌, inl, inr, List, [], ◌∷◌, length, map, refl, sym, ap, ◌∙◌, subst, arith}
 use Rattle.std.specs.List.{flat_map, range_with_len}
-use Rattle.std.proofs.lemmas.Option.{slice_get_within}
+use Rattle.std.proofs.lemmas.Option.{slice_get_within, same_Some}
 use Rattle.machine.specs.declared.parameters.Parameters.{Parameters}
 use Rattle.run_law.specs.Journals.{At}
 use Rattle.machine.specs.Slices.{domain_in, slice_number}
-use Rattle.tree_law.specs.Freeing.{counts_of}
-use Rattle.run_law.proofs.laws.FoundLooks.{at_mapped, length_mapped, the_same}
+use Rattle.run_law.proofs.laws.FoundLooks.{at_mapped, length_mapped}
 use Rattle.run_law.proofs.laws.SliceDomains.{of_domain}
 use Rattle.run_law.proofs.laws.Positions.{At-append}
 use Rattle.run_law.specs.FoundLooks.{AreDistinct, look_pairs}
@@ -19,7 +18,7 @@ row_at f n (first ∷ xs) r pair at =
     elim (At-append (map (f first) (range_with_len 0 n)) (flat_map (λ a. map (f a) (range_with_len 0 n)) xs) r pair at) [
       | inl front ↦
           let within : r < n = omega (arith, slice_get_within (map (f first) (range_with_len 0 n)) r pair front, length_mapped (f first) n) in
-          (0, r, first, refl, within, omega arith, the_same pair (f first r) (sym front ∙ at_mapped (f first) n r within))
+          (0, r, first, refl, within, omega arith, same_Some pair (f first r) (sym front ∙ at_mapped (f first) n r within))
       | inr back ↦
           let (q, x, a, there, below, is, same) = row_at f n xs (r - length (map (f first) (range_with_len 0 n))) pair back.1 in
           let product : suc q * n ≡ q * n + n = omega arith in
@@ -35,21 +34,6 @@ distinct_rows f n xs apart distinct r s pair at there =
     let same = apart a b x y below within (sym here ∙ also) in
     let row : q ≡ o = distinct q o a is_a (subst (λ z. At xs o z) (sym same.0) is_b) in
     omega (arith, r_is, s_is, same.1, ap (λ z. z * n) row)
-
--- the counts of distinct RMIDs are distinct
-pub distinct_counts : (m : Parameters) (rmids : List ℕ) → AreDistinct rmids → AreDistinct (counts_of m rmids)
-distinct_counts m rmids distinct =
-    distinct_rows (λ rmid domain. (domain, rmid)) m.domains rmids
-    (λ a b x y below within same. (ap (λ (p : ℕ × ℕ). p.1) same, ap (λ (p : ℕ × ℕ). p.0) same)) distinct
-
--- so are those of one
-pub distinct_one : (m : Parameters) (rmid : ℕ) → AreDistinct (counts_of m (rmid ∷ []))
-distinct_one m rmid = distinct_counts m (rmid ∷ []) (λ q r x at there. only_place q r x at there)
-  where
-    only_place : (q r x : ℕ) → At (rmid ∷ []) q x → At (rmid ∷ []) r x → q ≡ r
-    only_place zero zero x at there = refl
-    only_place zero (suc r) x at there = absurd cc
-    only_place (suc q) r x at there = absurd cc
 
 -- where no (domain, RMID) is needed twice, no pair is looked at twice
 pub distinct_pairs : (m : Parameters) (needs : List (ℕ × ℕ)) → AreDistinct needs → AreDistinct (look_pairs m needs)

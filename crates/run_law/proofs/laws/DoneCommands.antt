@@ -16,7 +16,7 @@ use Rattle.script_ops.specs.declared.op.Op.{Op}
 use Rattle.script_ops.specs.declared.op.Op.TheVariants.{Access}
 use Rattle.run_law.proofs.laws.OpKinds.{of_command}
 use Rattle.run_law.proofs.laws.JobLists.{owed_are}
-use Rattle.run_law.proofs.laws.MovedThreads.{before, phase_moved, still, where_moved}
+use Rattle.run_law.proofs.laws.MovedThreads.{moved-held, phase_moved, moved-holds, where_moved}
 use Rattle.run_law.proofs.laws.NotedTruth.{holding, none_tag, one_op, some_is}
 use Rattle.run_law.proofs.laws.OpMarks.{not_some}
 use Rattle.run_law.proofs.laws.TakenCommands.{idle}
@@ -78,7 +78,7 @@ let_go_order script j at phase t n made k c go alone order =
     record {
       commands_once = λ u o d is_d command_d has.
           order.commands_once u o d is_d command_d
-          (before (λ u x. HasBegun x o) at t p (λ h. subst (λ x. HasBegun x o) (sym go.place) (begun_back n made o h)) u has);
+          (moved-held (λ u x. HasBegun x o) at t p (λ h. subst (λ x. HasBegun x o) (sym go.place) (begun_back n made o h)) u has);
       entries_once = λ i u o d within is_d less.
           elim (where_moved at t p u) [
             | inr away ↦ order.entries_once i u o d within is_d (subst (λ (x : Progress). o < x.next) away.1 less)
@@ -111,7 +111,7 @@ let_go_keeps script j at phase t n made k c go kept =
     let p : Progress = idle (n + 1) in
     let none : (u : ℕ) → IsSome (moved at t p u).made → ⊥ = λ u some. nobody j at t n made u go.place kept.alone some in
     let keep : (u o : ℕ) → HasBegun (at u) o → HasBegun (moved at t p u) o = λ u o had.
-    still (λ u x. HasBegun x o) at t p (λ h. begun_on n made o (subst (λ x. HasBegun x o) go.place h)) u had in
+    moved-holds (λ u x. HasBegun x o) at t p (λ h. begun_on n made o (subst (λ x. HasBegun x o) go.place h)) u had in
     record {
       in_phase = phase_moved script at phase t p go.here kept.in_phase;
       alone = record {

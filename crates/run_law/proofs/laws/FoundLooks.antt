@@ -5,7 +5,7 @@ use Rattle.std.specs.List.{range_with_len}
 use Rattle.std.proofs.lemmas.Bool.{cases_Bool, cases_lt, eq-eqb, eqb-true, ne_eqb, eqb-false}
 use Rattle.std.proofs.lemmas.List.{append-nil, length_push}
 use Rattle.std.proofs.lemmas.List.FromFn.{map-range_with_len_more}
-use Rattle.std.proofs.lemmas.Option.{slice_get-get_or, slice_get_past, slice_get_within}
+use Rattle.std.proofs.lemmas.Option.{slice_get-get_or, slice_get_past, slice_get_within, same_Some}
 use Rattle.std.proofs.lemmas.Nat.{mul-add-lt}
 use Rattle.lists.specs.Sums.{sum_below}
 use Rattle.cache_core.specs.declared.entry.SliceEntry.{SliceEntry}
@@ -21,10 +21,7 @@ use Rattle.run_law.proofs.laws.MatchedLooks.{NoLook, first_look_push, first_look
 use Rattle.run_law.proofs.laws.Positions.{At-last, At-append_front}
 use Rattle.run_law.proofs.laws.GrownLists.{Adds, only, with_slices}
 use Rattle.run_law.specs.FoundLooks.{AreDistinct, HasFound, look_pairs, pairs_of}
-
--- equal options have equal values
-pub the_same : (a b : ℕ × ℕ) → Some a ≡ Some b → a ≡ b
-the_same a b h = cc
+use Rattle.run_law.proofs.laws.Pairs.{pair-same}
 
 -- ---- a list with one more at its end
 
@@ -75,7 +72,7 @@ other_pair : (j : JournalsValue) (slices : List (List SliceEntry)) (e : SliceEnt
 other_pair j slices e t n lines pair other adds is apart = elim (cases_Bool (other.0 == pair.0)) [
   | inr away ↦ ap (first_look t n other.1) (elsewhere j slices pair.0 e other.0 adds (eqb-false other.0 pair.0 away))
   | inl here ↦ elim (cases_Bool (pair.1 == other.1)) [
-    | inl same ↦ absurd (apart (both_same other pair (eqb-true other.0 pair.0 here) (sym (eqb-true pair.1 other.1 same))))
+    | inl same ↦ absurd (apart (pair-same other pair (eqb-true other.0 pair.0 here) (sym (eqb-true pair.1 other.1 same))))
     | inr differs ↦
         let slice : other.0 ≡ pair.0 = eqb-true other.0 pair.0 here in
         let none : (if is_made_by t n e then look_number other.1 e.what else None) ≡ None = told t n pair lines other.1 e is ∙ (rw differs refl) in
@@ -87,9 +84,6 @@ other_pair j slices e t n lines pair other adds is apart = elim (cases_Bool (oth
   ]
 ]
   where
-    both_same : (a b : ℕ × ℕ) → a.0 ≡ b.0 → a.1 ≡ b.1 → a ≡ b
-    both_same a b h k = ap (λ x. (x, a.1)) h ∙ ap (λ y. (b.0, y)) k
-
     first_none : (o : Option ℕ) → first_of o None ≡ o
     first_none None = refl
     first_none (Some x) = refl
@@ -121,7 +115,7 @@ found_more j slices e t n lines pair pairs found adds mine what distinct here ha
 ]
   where
     at_same : (pairs : List (ℕ × ℕ)) (k : ℕ) (a b : ℕ × ℕ) → At pairs k a → At pairs k b → a ≡ b
-    at_same pairs k a b h i = the_same a b (sym h ∙ i)
+    at_same pairs k a b h i = same_Some a b (sym h ∙ i)
 
     same_get : (found : List ℕ) (lines r : ℕ) → r ≢ length found → slice_get (found ++ lines ∷ []) r ≡ slice_get found r
     same_get found lines r apart = elim (cases_lt r (length found)) [
@@ -162,7 +156,7 @@ pair_behind (x ∷ xs) ys k pair at = let same : suc (length xs + k) ≡ length 
 pub pair_at : (m : Parameters) (needs : List (ℕ × ℕ)) (q x : ℕ) (need : ℕ × ℕ) → At needs q need → x < m.slices → At (look_pairs m needs) (q * m.slices + x) (slice_number m need.0 x, need.1)
 pair_at m [] q x need at below = absurd cc
 pair_at m (first ∷ needs) zero x need at below =
-    let same : first ≡ need = the_same first need at in
+    let same : first ≡ need = same_Some first need at in
     let f : ℕ → ℕ × ℕ = λ y. (slice_number m first.0 y, first.1) in
     let here : x ≡ zero * m.slices + x = omega arith in
     subst (λ (y : ℕ × ℕ). At (look_pairs m (first ∷ needs)) (zero * m.slices + x) (slice_number m y.0 x, y.1)) same

@@ -22,15 +22,15 @@ use Rattle.run_law.specs.Jobs.{Job, at_target, follow_jobs, follows_of, jobs_of,
 -- ---- epochs of jobs
 
 -- what holds of each holds of those of a mapped list
-pub each_such : (P : Job → Type 0) (f : ℕ → Job) → ((x : ℕ) → P (f x)) → (xs : List ℕ) (k : ℕ) (job : Job) → At (map f xs) k job → P job
-each_such P f each [] k job at = absurd cc
-each_such P f each (x ∷ xs) zero job at = let same : f x ≡ job = cc in subst P same (each x)
-each_such P f each (x ∷ xs) (suc k) job at = each_such P f each xs k job at
+pub At-map_each : (P : Job → Type 0) (f : ℕ → Job) → ((x : ℕ) → P (f x)) → (xs : List ℕ) (k : ℕ) (job : Job) → At (map f xs) k job → P job
+At-map_each P f each [] k job at = absurd cc
+At-map_each P f each (x ∷ xs) zero job at = let same : f x ≡ job = cc in subst P same (each x)
+At-map_each P f each (x ∷ xs) (suc k) job at = At-map_each P f each xs k job at
 
 -- what is said of the same in each slice
 target_such : (m : Parameters) (owed : Owed) (P : Job → Type 0) (t : Target) → ((s : ℕ) → P (record { slice = s; owed = owed })) → (k : ℕ) (job : Job) → At (at_target m t owed) k job → P job
-target_such m owed P (EachSlice domain) each k job at = each_such P (λ x. record { slice = slice_number m domain x; owed = owed }) (λ x. each (slice_number m domain x)) (range_with_len 0 m.slices) k job at
-target_such m owed P (SliceOf domain line) each k job at = each_such P (λ x. record { slice = slice_of_line m domain line; owed = owed }) (λ x. each (slice_of_line m domain line)) (0 ∷ []) k job at
+target_such m owed P (EachSlice domain) each k job at = At-map_each P (λ x. record { slice = slice_number m domain x; owed = owed }) (λ x. each (slice_number m domain x)) (range_with_len 0 m.slices) k job at
+target_such m owed P (SliceOf domain line) each k job at = At-map_each P (λ x. record { slice = slice_of_line m domain line; owed = owed }) (λ x. each (slice_of_line m domain line)) (0 ∷ []) k job at
 
 -- what is said of each job of a follow-up, whatever its slice
 pub follow_jobs_such : (m : Parameters) (epoch : ℕ) (P : Job → Type 0) (f : Follow) → ((s : ℕ) → P (record { slice = s; owed = record { epoch = epoch; what = what_of f } })) → (k : ℕ) (job : Job) → At (follow_jobs m epoch f) k job → P job

@@ -68,30 +68,30 @@ one_more_of_domain m domain owed n =
     ap (first_of_domain m domain owed) next ∙ map-range_with_len_more job 0 n n (omega arith)
 
 -- a slice of none of these
-pub none_of : (m : Parameters) (domain : ℕ) (owed : Owed) (i n : ℕ) → ((x : ℕ) → x < n → slice_number m domain x ≢ i) → in_slice i (first_of_domain m domain owed n) ≡ []
-none_of m domain owed i zero none = refl
-none_of m domain owed i (suc n) none =
+pub in_slice-none_of_domain : (m : Parameters) (domain : ℕ) (owed : Owed) (i n : ℕ) → ((x : ℕ) → x < n → slice_number m domain x ≢ i) → in_slice i (first_of_domain m domain owed n) ≡ []
+in_slice-none_of_domain m domain owed i zero none = refl
+in_slice-none_of_domain m domain owed i (suc n) none =
     let job : Job = record { slice = slice_number m domain n; owed = owed } in
     let last : in_slice i (job ∷ []) ≡ [] = rw (ne_eqb (slice_number m domain n) i (none n (omega arith))) refl in
     ap (in_slice i) (one_more_of_domain m domain owed n)
     ∙ (in_slice_append i (first_of_domain m domain owed n) (job ∷ [])
-    ∙ (ap (λ os. os ++ in_slice i (job ∷ [])) (none_of m domain owed i n (λ x below. none x (omega (arith, below)))) ∙ last))
+    ∙ (ap (λ os. os ++ in_slice i (job ∷ [])) (in_slice-none_of_domain m domain owed i n (λ x below. none x (omega (arith, below)))) ∙ last))
 
 -- a slice of one of these
-pub one_of : (m : Parameters) (domain : ℕ) (owed : Owed) (i r n : ℕ) → r < n → slice_number m domain r ≡ i → in_slice i (first_of_domain m domain owed n) ≡ owed ∷ []
-one_of m domain owed i r zero below is = absurd (omega arith)
-one_of m domain owed i r (suc n) below is =
+pub in_slice-one_of_domain : (m : Parameters) (domain : ℕ) (owed : Owed) (i r n : ℕ) → r < n → slice_number m domain r ≡ i → in_slice i (first_of_domain m domain owed n) ≡ owed ∷ []
+in_slice-one_of_domain m domain owed i r zero below is = absurd (omega arith)
+in_slice-one_of_domain m domain owed i r (suc n) below is =
     let job : Job = record { slice = slice_number m domain n; owed = owed } in
     ap (in_slice i) (one_more_of_domain m domain owed n)
     ∙ (in_slice_append i (first_of_domain m domain owed n) (job ∷ [])
     ∙ elim (cases_lt r n) [
       | inl before ↦
           let last : in_slice i (job ∷ []) ≡ [] = rw (ne_eqb (slice_number m domain n) i (λ same. omega (arith, same, is, before))) refl in
-          ap (λ os. os ++ in_slice i (job ∷ [])) (one_of m domain owed i r n before is) ∙ ap (λ os. owed ∷ os) last
+          ap (λ os. os ++ in_slice i (job ∷ [])) (in_slice-one_of_domain m domain owed i r n before is) ∙ ap (λ os. owed ∷ os) last
       | inr after ↦
           let here : r ≡ n = omega (arith, below, after) in
           let last : in_slice i (job ∷ []) ≡ owed ∷ [] = rw (eq-eqb (slice_number m domain n) i (ap (slice_number m domain) (sym here) ∙ is)) refl in
-          ap (λ os. os ++ in_slice i (job ∷ [])) (none_of m domain owed i n (λ x less same. omega (arith, same, is, less, here))) ∙ last
+          ap (λ os. os ++ in_slice i (job ∷ [])) (in_slice-none_of_domain m domain owed i n (λ x less same. omega (arith, same, is, less, here))) ∙ last
     ])
 
 -- a domain has each of its slices once
@@ -100,19 +100,19 @@ in_domain_in m domain owed i some = elim (cases_Bool (domain == domain_in m i)) 
   | inl here ↦
       let is : domain ≡ i / m.slices = eqb-true domain (domain_in m i) here in
       let product : domain * m.slices ≡ i / m.slices * m.slices = ap (λ d. d * m.slices) is in
-      rw here (one_of m domain owed i (i % m.slices) m.slices (mod_below i m.slices some) (omega (arith, product, div-add-mod' i m.slices)))
+      rw here (in_slice-one_of_domain m domain owed i (i % m.slices) m.slices (mod_below i m.slices some) (omega (arith, product, div-add-mod' i m.slices)))
   | inr away ↦
-      rw away (none_of m domain owed i m.slices
+      rw away (in_slice-none_of_domain m domain owed i m.slices
       (λ x below same. eqb-false domain (domain_in m i) away (sym (of_domain m domain i some (omega (arith, same)) (omega (arith, same, below))))))
 ]
 
 -- ---- a command
 
 -- part by part
-pub all_in : {A : Type 0} (i : ℕ) (jobs : A → List Job) (owed : A → List Owed) → ((x : A) → in_slice i (jobs x) ≡ owed x) → (xs : List A) → in_slice i (flat_map jobs xs) ≡ flat_map owed xs
-all_in i jobs owed each [] = refl
-all_in i jobs owed each (x ∷ xs) =
-    in_slice_append i (jobs x) (flat_map jobs xs) ∙ (ap (λ os. os ++ in_slice i (flat_map jobs xs)) (each x) ∙ ap (λ os. owed x ++ os) (all_in i jobs owed each xs))
+pub in_slice-flat_map : {A : Type 0} (i : ℕ) (jobs : A → List Job) (owed : A → List Owed) → ((x : A) → in_slice i (jobs x) ≡ owed x) → (xs : List A) → in_slice i (flat_map jobs xs) ≡ flat_map owed xs
+in_slice-flat_map i jobs owed each [] = refl
+in_slice-flat_map i jobs owed each (x ∷ xs) =
+    in_slice_append i (jobs x) (flat_map jobs xs) ∙ (ap (λ os. os ++ in_slice i (flat_map jobs xs)) (each x) ∙ ap (λ os. owed x ++ os) (in_slice-flat_map i jobs owed each xs))
 
 -- the looks for one (domain, RMID)
 pub look_in_slice : (m : Parameters) (i epoch : ℕ) (need : ℕ × ℕ) → 0 < m.slices → in_slice i (look_jobs m epoch need) ≡ look_in m i epoch need
@@ -133,8 +133,8 @@ unfolding looks_of follows_of owed_by_command
 owed_are script tree i k op some =
     let m : Parameters = script.machine in
     let s = tree_after script (take k tree) in
-    let looks : in_slice i (flat_map (look_jobs m k) (needs m s op)) ≡ flat_map (look_in m i k) (needs m s op) = all_in i (look_jobs m k) (look_in m i k) (λ need. look_in_slice m i k need some) (needs m s op) in
+    let looks : in_slice i (flat_map (look_jobs m k) (needs m s op)) ≡ flat_map (look_in m i k) (needs m s op) = in_slice-flat_map i (look_jobs m k) (look_in m i k) (λ need. look_in_slice m i k need some) (needs m s op) in
     let follows : in_slice i (flat_map (follow_jobs m (k + 1)) (after m s k op)) ≡ flat_map (follow_in m i (k + 1)) (after m s k op) =
-    all_in i (follow_jobs m (k + 1)) (follow_in m i (k + 1)) (λ f. follow_in_slice m i (k + 1) f some) (after m s k op) in
+    in_slice-flat_map i (follow_jobs m (k + 1)) (follow_in m i (k + 1)) (λ f. follow_in_slice m i (k + 1) f some) (after m s k op) in
     in_slice_append i (flat_map (look_jobs m k) (needs m s op)) (flat_map (follow_jobs m (k + 1)) (after m s k op))
     ∙ (ap (λ os. os ++ in_slice i (flat_map (follow_jobs m (k + 1)) (after m s k op))) looks ∙ ap (λ os. flat_map (look_in m i k) (needs m s op) ++ os) follows)

@@ -1,13 +1,10 @@
 -- How many elements lists have that tests pass.
-use Rattle.std.proofs.Common.{◌≡◌, ◌≢◌, ℕ, zero, suc, ◌+◌, ◌<◌, ◌≤◌, Bool, true, false, eqb, inl, inr, List, [], ◌∷◌, length, map, filter, get_or, refl, ap, ◌∙◌, subst, arith}
+use Rattle.std.proofs.Common.{◌≡◌, ℕ, zero, suc, ◌+◌, ◌<◌, ◌≤◌, Bool, true, false, inl, inr, List, [], ◌∷◌, length, map, filter, refl, ap, ◌∙◌, subst, arith}
 use Rattle.std.specs.Prelude.{◌==◌, if◌then◌else◌}
-use Rattle.std.specs.List.{All, AllPairs, flat_map, list_any, range_with_len}
+use Rattle.std.specs.List.{All, flat_map, range_with_len}
 use Rattle.std.proofs.lemmas.Bool.{cases_Bool, eqb-true, ne_eqb}
 use Rattle.std.proofs.lemmas.List.{length-append}
 use Rattle.std.proofs.lemmas.List.Elements.{All-cons}
-use Rattle.std.proofs.lemmas.List.Folds.{Any-from_list_any}
-use Rattle.std.proofs.lemmas.Map.Keys.{IsDistinct-from_apart}
-use Rattle.std.proofs.lemmas.Map.Steps.{length-le_from_distinct_below}
 
 -- the same, whichever of two is there
 pub same_length : {A : Type 0} (b : Bool) (x : A) (d : ℕ) → length (if b then x ∷ [] else []) ≡ length (if b then d ∷ [] else [])
@@ -23,16 +20,6 @@ All-filtered p (x ∷ xs) = elim (cases_Bool (p x)) [
 ]
 
 -- ---- lists
-
--- numbers below n of which no two are equal are at most n
-pub length-distinct : (n : ℕ) (ids : List ℕ) → AllPairs (λ (a b : ℕ). a ≢ b) ids → All (λ id. id < n) ids → length ids ≤ n
-length-distinct n ids differ below = length-le_from_distinct_below ids n (IsDistinct-from_apart eqb ids (λ i j d lt within. ne_eqb (get_or ids i d) (get_or ids j d) (differ i j d lt within))) each
-  where
-    each : (q : ℕ) → list_any (eqb q) ids ≡ true → q < n
-    each q there = (let some = Any-from_list_any (eqb q) ids there in
-        let is : q ≡ some.1 = eqb-true q some.1 some.4 in
-        let least = below some.0 q some.2 in
-        omega (arith, is, least, some.3))
 
 -- one element or none
 pub length-if : {A : Type 0} (b : Bool) (x : A) → length (if b then x ∷ [] else []) ≤ 1

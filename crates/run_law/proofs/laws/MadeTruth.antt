@@ -17,7 +17,7 @@ use Rattle.run_law.specs.TreeHistory.{TreeEntryValue}
 use Rattle.script_ops.specs.Values.{ScriptValue, op_at}
 use Rattle.script_ops.specs.declared.op.Op.TheVariants.{Access}
 use Rattle.run_law.proofs.laws.LaterEntries.{behind_entry, fresh_comes_late}
-use Rattle.run_law.proofs.laws.MovedThreads.{here_moved, still, where_moved}
+use Rattle.run_law.proofs.laws.MovedThreads.{moved-own, moved-holds, where_moved}
 use Rattle.run_law.proofs.laws.OpMarks.{not_some}
 use Rattle.run_law.proofs.laws.Pairs.{both_eqb-true, both_eqb-same}
 use Rattle.run_law.proofs.laws.Positions.{filter-none_at}
@@ -76,12 +76,12 @@ touch_begun script j at phase t n task cpu addr tag e slices touch free begun =
     let p : Progress = idle (n + 1) in
     let slice : ℕ = slice_of_line script.machine (domain_of script.machine cpu) (line_of addr) in
     let keep : (u o : ℕ) → HasBegun (at u) o → HasBegun (moved at t p u) o = λ u o had.
-    still (λ u x. HasBegun x o) at t p (λ h. outside_begun n o (Some tag) (subst (λ x. HasBegun x o) touch.place h)) u had in
+    moved-holds (λ u x. HasBegun x o) at t p (λ h. outside_begun n o (Some tag) (subst (λ x. HasBegun x o) touch.place h)) u had in
     let under : (u o : ℕ) → IsUnderWay (at u) o → IsUnderWay (moved at t p u) o = λ u o had.
-    still (λ u x. IsUnderWay x o) at t p (λ h. absurd (outside_under n o (Some tag) (subst (λ x. IsUnderWay x o) touch.place h))) u had in
+    moved-holds (λ u x. IsUnderWay x o) at t p (λ h. absurd (outside_under n o (Some tag) (subst (λ x. IsUnderWay x o) touch.place h))) u had in
     let still_free : (epoch : ℕ) → IsFree at j.tree epoch → IsFree (moved at t p) j.tree epoch = λ epoch f. record { within = f.within; before = λ u some. f.before u (touch_holds at t n u some).1 } in
     let mine : HasBegun (moved at t p e.thread) e.op =
-    subst (λ u. HasBegun (moved at t p u) e.op) (sym touch.pays.thread) (subst (λ x. HasBegun x e.op) (sym (here_moved at t p)) (inl (omega (arith, touch.pays.op)))) in
+    subst (λ u. HasBegun (moved at t p u) e.op) (sym touch.pays.thread) (subst (λ x. HasBegun x e.op) (sym (moved-own at t p)) (inl (omega (arith, touch.pays.op)))) in
     record {
       commands = λ q h there. keep h.thread h.op (begun.commands q h there);
       entries = λ i q x there. elim (stood j slices slice e touch.adds i q x there) [

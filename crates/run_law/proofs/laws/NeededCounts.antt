@@ -9,7 +9,7 @@ use Rattle.std.proofs.lemmas.List.Elements.{All-map}
 use Rattle.std.proofs.lemmas.List.FromFn.{length-map-range_with_len}
 use Rattle.group_tree.specs.declared.group.Group.{Group}
 use Rattle.lists.proofs.Choices.{cond-both}
-use Rattle.lists.proofs.Pairs.{AllPairs-map}
+use Rattle.lists.proofs.Pairs.{AllPairs-map, length-distinct}
 use Rattle.machine.specs.declared.parameters.Parameters.{Parameters}
 use Rattle.path_names.specs.declared.files.FileKind.TheVariants as kinds
 use Rattle.path_names.specs.declared.path_ref.PathRef.{PathRef}
@@ -18,7 +18,6 @@ use Rattle.path_names.specs.declared.path_ref.PathRef.TheVariants.{File}
 use Rattle.rc_base.specs.declared.names.Mode.{Mode}
 use Rattle.script_ops.specs.declared.op.Op.{Op}
 use Rattle.script_ops.specs.declared.op.Op.TheVariants as ops
-use Rattle.run_law.proofs.laws.ListCounts.{length-distinct}
 use Rattle.run_law.specs.Quotas.{most_counts, most_read, most_written}
 use Rattle.tree_law.proofs.laws.Counts.{needs-exist}
 use Rattle.tree_law.proofs.laws.DistinctCounts.{needs-distinct}

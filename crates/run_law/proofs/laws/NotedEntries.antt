@@ -10,7 +10,7 @@ use Rattle.run_law.specs.Order.{Makes}
 use Rattle.script_ops.specs.Values.{ScriptValue, op_at}
 use Rattle.script_ops.specs.declared.op.Op.{Op}
 use Rattle.script_ops.specs.declared.op.Op.TheVariants.{Access}
-use Rattle.run_law.proofs.laws.MovedThreads.{before, here_moved, phase_moved, still}
+use Rattle.run_law.proofs.laws.MovedThreads.{moved-held, moved-own, phase_moved, moved-holds}
 use Rattle.run_law.proofs.laws.OpMarks.{entries_entry, marks_of_command, nothing_later}
 use Rattle.run_law.proofs.laws.GrownLists.{made_as_before, stood, with_slices}
 use Rattle.run_law.specs.Jobs.{Job}
@@ -27,18 +27,18 @@ note_order script j at phase t n made k c job e slices note command phases alone
     let number : (at t).next ≡ n = ap (λ (x : Progress). x.next) note.place in
     let holds : IsSome (at t).made = subst (λ (x : Progress). IsSome x.made) (sym note.place) refl in
     let is_op : op_at script e.thread e.op ≡ Some c = rw (note.pays.thread, note.pays.op) note.is_op in
-    let back : (u : ℕ) → IsSome (moved at t p u).made → IsSome (at u).made = λ u h. before (λ u x. IsSome x.made) at t p (λ _. holds) u h in
+    let back : (u : ℕ) → IsSome (moved at t p u).made → IsSome (at u).made = λ u h. moved-held (λ u x. IsSome x.made) at t p (λ _. holds) u h in
     record {
       commands_once = λ u o d is_d command_d has. order.commands_once u o d is_d command_d
-          (before (λ u x. HasBegun x o) at t p
+          (moved-held (λ u x. HasBegun x o) at t p
           (λ h. subst (λ x. HasBegun x o) (sym note.place) (elim h [ inl less ↦ inl less | inr under ↦ inr (under.0, refl) ])) u has);
       entries_once = λ i u o d within is_d less.
-          let early : o < (at u).next = before (λ u x. o < x.next) at t p (λ h. omega (arith, h, number)) u less in
+          let early : o < (at u).next = moved-held (λ u x. o < x.next) at t p (λ h. omega (arith, h, number)) u less in
           let other : is_made_by u o e ≡ false = other_op u t o n e note.pays.thread note.pays.op (λ same. omega (arith, early, ap (λ v. (at v).next) same.0, number, same.1)) in
           subst (λ made. Makes script j i u o d made) (made_as_before j slices job.slice e note.adds i u o other) (order.entries_once i u o d within is_d early);
       under_way = λ i u q made_now d within is_d has last.
           let same : u ≡ t = alone.one u t (back u (some_is (moved at t p u).made made_now has)) holds in
-          let now : moved at t p u ≡ p = subst (λ v. moved at t p v ≡ p) (sym same) (here_moved at t p) in
+          let now : moved at t p u ≡ p = subst (λ v. moved at t p v ≡ p) (sym same) (moved-own at t p) in
           let count : made_now ≡ made + 1 = same_made (moved at t p u).made (made + 1) made_now (ap (λ (x : Progress). x.made) now) has in
           let next : (moved at t p u).next ≡ n = ap (λ (x : Progress). x.next) now in
           let position : q ≡ k = omega (arith, last, note.last) in
@@ -53,8 +53,8 @@ note_order script j at phase t n made k c job e slices note command phases alone
           (subst (λ y. HasMade script (with_slices j slices) i t n k c y) (sym count)
           (note_made script j at phase t n made k c job e slices i note had)))));
       commands_hold = λ u d is_d has. order.commands_hold u d
-          (before (λ u x. op_at script u x.next ≡ Some d) at t p (λ h. subst (λ o. op_at script t o ≡ Some d) (sym number) h) u is_d) (back u has);
-      holds_op = λ u has. still (λ u x. IsSome (op_at script u x.next)) at t p (λ h. subst (λ o. IsSome (op_at script t o)) number h) u (order.holds_op u (back u has));
+          (moved-held (λ u x. op_at script u x.next ≡ Some d) at t p (λ h. subst (λ o. op_at script t o ≡ Some d) (sym number) h) u is_d) (back u has);
+      holds_op = λ u has. moved-holds (λ u x. IsSome (op_at script u x.next)) at t p (λ h. subst (λ o. IsSome (op_at script t o)) number h) u (order.holds_op u (back u has));
       no_others = λ i q x there. elim (stood j slices job.slice e note.adds i q x there) [
         | inl old ↦ order.no_others i q x old
         | inr new ↦ subst (λ (y : SliceEntry). IsSome (op_at script y.thread y.op)) (sym new.2) (subst (λ o. IsSome o) (sym is_op) refl)
@@ -79,10 +79,10 @@ note_tags script j at phase t n made k c job e slices note command u task cpu ta
     let is_op : op_at script e.thread e.op ≡ Some c = rw (note.pays.thread, note.pays.op) note.is_op in
     record {
       is = had.is;
-      free = record { within = had.free.within; before = λ v h. had.free.before v (before (λ v x. IsSome x.made) at t p (λ _. holds) v h) };
+      free = record { within = had.free.within; before = λ v h. had.free.before v (moved-held (λ v x. IsSome x.made) at t p (λ _. holds) v h) };
       behind = λ v o start stop d is_d comes marks.
           had.behind v o start stop d is_d
-          (before (λ w x. Precedes script v o w x.next) at t p (λ h. subst (λ (x : Progress). Precedes script v o t x.next) (sym note.place) h) u comes)
+          (moved-held (λ w x. Precedes script v o w x.next) at t p (λ h. subst (λ (x : Progress). Precedes script v o t x.next) (sym note.place) h) u comes)
           (marks_of_command script j slices job.slice e c note.adds is_op command v o start stop d is_d marks);
     }
 
@@ -101,8 +101,8 @@ note_keeps script j at phase t n made k c job e slices note kept =
       tags = λ u task cpu addr tag is_u has.
           note_tags script j at phase t n made k c job e slices note command u task cpu tag
           (kept.tags u task cpu addr tag
-          (before (λ u x. op_at script u x.next ≡ Some (Access task cpu addr)) at t p (λ h. subst (λ o. op_at script t o ≡ Some (Access task cpu addr)) (sym number) h) u is_u)
-          (before (λ u (x : Progress). x.tag ≡ Some tag) at t p (λ h. absurd (none_tag p.tag tag refl h)) u has));
+          (moved-held (λ u x. op_at script u x.next ≡ Some (Access task cpu addr)) at t p (λ h. subst (λ o. op_at script t o ≡ Some (Access task cpu addr)) (sym number) h) u is_u)
+          (moved-held (λ u (x : Progress). x.tag ≡ Some tag) at t p (λ h. absurd (none_tag p.tag tag refl h)) u has));
       entries_true = note_true script j at phase t n made k c job e slices note command kept.alone kept.of_begun kept.entries_true;
       in_order = note_order script j at phase t n made k c job e slices note command kept.in_phase kept.alone kept.of_begun kept.in_order;
     }

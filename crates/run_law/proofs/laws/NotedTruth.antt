@@ -17,7 +17,7 @@ use Rattle.run_law.proofs.laws.LaterEntries.{behind_entry, holder_comes_late}
 use Rattle.run_law.proofs.laws.OpKinds.{of_command}
 use Rattle.run_law.proofs.laws.JobLists.{in_slice_more, job_owed, owed_are}
 use Rattle.run_law.proofs.laws.JobKinds.{job_epoch}
-use Rattle.run_law.proofs.laws.MovedThreads.{before, here_moved, still}
+use Rattle.run_law.proofs.laws.MovedThreads.{moved-held, moved-own, moved-holds}
 use Rattle.run_law.proofs.laws.Pairs.{both_eqb-true, both_eqb-same}
 use Rattle.run_law.proofs.laws.GrownLists.{Adds, made_one_more, only, stood, with_slices}
 use Rattle.run_law.specs.Jobs.{Job, in_slice, jobs_of}
@@ -60,15 +60,15 @@ pub note_alone : (j : JournalsValue) (at : ℕ → Progress) (slices : List (Lis
 note_alone j at slices t n made place alone =
     let p : Progress = holding n (made + 1) in
     let holds : IsSome (at t).made = subst (λ (x : Progress). IsSome x.made) (sym place) refl in
-    let back : (u : ℕ) → IsSome (moved at t p u).made → IsSome (at u).made = λ u h. before (λ u x. IsSome x.made) at t p (λ _. holds) u h in
+    let back : (u : ℕ) → IsSome (moved at t p u).made → IsSome (at u).made = λ u h. moved-held (λ u x. IsSome x.made) at t p (λ _. holds) u h in
     record {
       one = λ u v a b. alone.one u v (back u a) (back v b);
       some = λ u a. alone.some u (back u a);
       there = λ u k a last.
-          still (λ u x. (h : TreeEntryValue) × At j.tree k h × IsTrue (is_taken_from u x.next h)) at t p
+          moved-holds (λ u x. (h : TreeEntryValue) × At j.tree k h × IsTrue (is_taken_from u x.next h)) at t p
           (λ had. subst (λ (x : Progress). (h : TreeEntryValue) × At j.tree k h × IsTrue (is_taken_from t x.next h)) place had) u (alone.there u k (back u a) last);
       last = λ u k h a there taken. alone.last u k h (back u a) there
-          (before (λ u x. IsTrue (is_taken_from u x.next h)) at t p (λ mine. subst (λ (x : Progress). IsTrue (is_taken_from t x.next h)) (sym place) mine) u taken);
+          (moved-held (λ u x. IsTrue (is_taken_from u x.next h)) at t p (λ mine. subst (λ (x : Progress). IsTrue (is_taken_from t x.next h)) (sym place) mine) u taken);
     }
 
 -- entries are of ops that have begun
@@ -77,16 +77,16 @@ pub note_begun : (script : ScriptValue) (j : JournalsValue) (at : ℕ → Progre
 note_begun script j at phase t n made k c job e slices note begun =
     let p : Progress = holding n (made + 1) in
     let go : (o : ℕ) → HasBegun (at t) o → HasBegun p o = λ o h. (let it : HasBegun (holding n made) o = subst (λ x. HasBegun x o) note.place h in elim it [ inl less ↦ inl less | inr under ↦ inr (under.0, refl) ]) in
-    let keep : (u o : ℕ) → HasBegun (at u) o → HasBegun (moved at t p u) o = λ u o h. still (λ u x. HasBegun x o) at t p (go o) u h in
+    let keep : (u o : ℕ) → HasBegun (at u) o → HasBegun (moved at t p u) o = λ u o h. moved-holds (λ u x. HasBegun x o) at t p (go o) u h in
     let holds : IsSome (at t).made = subst (λ (x : Progress). IsSome x.made) (sym note.place) refl in
     let under : (u o : ℕ) → IsUnderWay (at u) o → IsUnderWay (moved at t p u) o = λ u o h.
-    still (λ u x. IsUnderWay x o) at t p (λ had. (let it : IsUnderWay (holding n made) o = subst (λ x. IsUnderWay x o) note.place had in (it.0, refl))) u h in
+    moved-holds (λ u x. IsUnderWay x o) at t p (λ had. (let it : IsUnderWay (holding n made) o = subst (λ x. IsUnderWay x o) note.place had in (it.0, refl))) u h in
     let free : (epoch : ℕ) → IsFree at j.tree epoch → IsFree (moved at t p) j.tree epoch = λ epoch f. record {
       within = f.within;
-      before = λ u h. f.before u (before (λ u x. IsSome x.made) at t p (λ _. holds) u h);
+      before = λ u h. f.before u (moved-held (λ u x. IsSome x.made) at t p (λ _. holds) u h);
     } in
     let mine : IsUnderWay (moved at t p e.thread) e.op =
-    subst (λ u. IsUnderWay (moved at t p u) e.op) (sym note.pays.thread) (subst (λ x. IsUnderWay x e.op) (sym (here_moved at t p)) (note.pays.op, refl)) in
+    subst (λ u. IsUnderWay (moved at t p u) e.op) (sym note.pays.thread) (subst (λ x. IsUnderWay x e.op) (sym (moved-own at t p)) (note.pays.op, refl)) in
     record {
       commands = λ q h there. keep h.thread h.op (begun.commands q h there);
       entries = λ i q x there. elim (stood j slices job.slice e note.adds i q x there) [

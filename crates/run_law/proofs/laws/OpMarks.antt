@@ -1,9 +1,9 @@
 -- Ops that come before others happened before them, also with one entry more.
 use Rattle.std.proofs.Common.{◌≡◌, ℕ, ◌+◌, ◌<◌, ◌≤◌, ◌⊎◌, inl, inr, List, [], ◌∷◌, ◌++◌, length, Option, Some, None, sym, ap, ◌∙◌, subst, arith}
 use Rattle.std.specs.Prelude.{IsTrue, IsSome}
-use Rattle.std.proofs.lemmas.Option.{slice_get_within}
+use Rattle.std.proofs.lemmas.Option.{slice_get_within, same_Some}
 use Rattle.cache_core.specs.declared.entry.SliceEntry.{SliceEntry}
-use Rattle.run_law.specs.Ops.{ByKind, Precedes, is_command, phase_in}
+use Rattle.run_law.specs.Ops.{Precedes, is_command, phase_in}
 use Rattle.run_law.specs.Journals.{At, JournalsValue, slice_at}
 use Rattle.run_law.specs.Order.{HasMarks, IsMadeAt, IsTakenAt}
 use Rattle.run_law.specs.Truth.{is_made_by}
@@ -161,15 +161,6 @@ made_of_command j slices i e u o start stop adds other (k, p, x, there, mine, ep
       | inr new ↦ absurd (other (subst (λ (y : SliceEntry). IsTrue (is_made_by u o y)) new.2 mine))
     ]
 
--- a command is no access
-no_access : (A : ℕ → ℕ → ℕ → Type 0) (C : Type 0) (c : Op) → IsTrue (is_command c) → ByKind A C c → C
-no_access A C (Access task cpu addr) command h = absurd cc
-no_access A C c command h = h
-
--- an op by its number is one op
-one_op : (script : ScriptValue) (t n : ℕ) (c d : Op) → op_at script t n ≡ Some c → op_at script t n ≡ Some d → c ≡ d
-one_op script t n c d h k = cc
-
 -- an entry of a command: all marks were there before
 pub marks_of_command : (script : ScriptValue) (j : JournalsValue) (slices : List (List SliceEntry)) (i : ℕ) (e : SliceEntry) (c : Op) → Adds j slices i e
     → op_at script e.thread e.op ≡ Some c → IsTrue (is_command c)
@@ -179,7 +170,7 @@ marks_of_command script j slices i e c adds is command u o start stop (Access ta
     (λ mine.
     let its = both_eqb-true e.thread u e.op o mine in
     let there : op_at script e.thread e.op ≡ Some (Access task cpu addr) = subst (λ x. op_at script x e.op ≡ Some (Access task cpu addr)) (sym its.0) (subst (λ x. op_at script u x ≡ Some (Access task cpu addr)) (sym its.1) is_d) in
-    let access : IsTrue (is_command (Access task cpu addr)) = subst (λ x. IsTrue (is_command x)) (one_op script e.thread e.op c (Access task cpu addr) is there) command in
+    let access : IsTrue (is_command (Access task cpu addr)) = subst (λ x. IsTrue (is_command x)) (same_Some c (Access task cpu addr) (sym is ∙ there)) command in
     absurd cc)
     marks
 marks_of_command script j slices i e c adds is command u o start stop d is_d marks = marks

@@ -5,7 +5,7 @@ use Rattle.std.specs.List.{All, AllPairs, flat_map, range_with_len}
 use Rattle.std.specs.Option.{option_map_or, option_to_list}
 use Rattle.std.proofs.lemmas.Bool.{cases_Bool, eq-eqb, eqb-true}
 use Rattle.std.proofs.Math.Nat.{mul-add-mod_self_right}
-use Rattle.std.proofs.lemmas.Nat.{div-add-mod', div-mul-add, mod_below}
+use Rattle.std.proofs.lemmas.Nat.{div-add-mod'}
 use Rattle.std.proofs.lemmas.Grind.{flat_map-append}
 use Rattle.std.proofs.lemmas.List.{length-append, length-map}
 use Rattle.std.proofs.lemmas.List.Elements.{All-filter, All-map}
@@ -13,9 +13,9 @@ use Rattle.std.proofs.lemmas.List.Kept.{AllPairs-filter}
 use Rattle.cache_core.specs.declared.entry.What.TheVariants as whats
 use Rattle.group_tree.specs.declared.group.Group.{Group}
 use Rattle.lists.proofs.Choices.{cond-both}
-use Rattle.lists.proofs.Pairs.{AllPairs-map}
+use Rattle.lists.proofs.Pairs.{AllPairs-map, length-distinct}
 use Rattle.lists.specs.Sums.{one_if}
-use Rattle.machine.specs.Maps.{domain_of, line_of, set_of, slice_of}
+use Rattle.machine.specs.Maps.{domain_of, line_of, slice_of}
 use Rattle.machine.specs.Ranges.{InRange}
 use Rattle.machine.specs.Slices.{domain_in, slice_number, slice_of_line}
 use Rattle.machine.specs.declared.parameters.Parameters.{Parameters}
@@ -54,7 +54,9 @@ use Rattle.tree_law.specs.commands.Reads as read
 use Rattle.tree_law.specs.commands.Schemata as schemata
 use Rattle.tree_law.specs.commands.Touch as touch
 use Rattle.tree_law.specs.commands.Write as write
-use Rattle.run_law.proofs.laws.ListCounts.{same_length, All-filtered, length-distinct, length-if, length-flat_map_if, length-flat_map_map, range-once, filter-all, range-once_of_all}
+use Rattle.run_law.proofs.laws.ListCounts.{same_length, All-filtered, length-if, length-flat_map_if, length-flat_map_map, range-once, filter-all, range-once_of_all}
+use Rattle.machine.proofs.laws.Slices.{domain_in-slice_of_line}
+use Rattle.run_law.proofs.laws.Pairs.{pair-same}
 
 -- ---- looks
 
@@ -69,13 +71,10 @@ looks-few m i k needs exist distinct =
     let apart : AllPairs (λ (a b : ℕ × ℕ). a ≢ b) kept = AllPairs-filter (λ (a b : ℕ × ℕ). a ≢ b) here needs distinct in
     let rmids : AllPairs (λ (a b : ℕ). a ≢ b) (map (λ (need : ℕ × ℕ). need.1) kept) = AllPairs-map (λ (a b : ℕ). a ≢ b) (λ (need : ℕ × ℕ). need.1) kept
     (λ p q d less within same. apart p q d less within
-    (both_same (get_or kept p d) (get_or kept q d) (eqb-true (get_or kept p d).0 (domain_in m i) (passes p d (omega (arith, less, within))) ∙ sym (eqb-true (get_or kept q d).0 (domain_in m i) (passes q d within))) same)) in
+    (pair-same (get_or kept p d) (get_or kept q d) (eqb-true (get_or kept p d).0 (domain_in m i) (passes p d (omega (arith, less, within))) ∙ sym (eqb-true (get_or kept q d).0 (domain_in m i) (passes q d within))) same)) in
     let below : All (λ id. id < m.rmids) (map (λ (need : ℕ × ℕ). need.1) kept) = All-map (λ id. id < m.rmids) (λ (need : ℕ × ℕ). need.1) kept (λ p d within. (inside p d within).1) in
     let few : length (map (λ (need : ℕ × ℕ). need.1) kept) ≤ m.rmids = length-distinct m.rmids (map (λ (need : ℕ × ℕ). need.1) kept) rmids below in
     omega (arith, count, few, length-map kept (λ (need : ℕ × ℕ). need.1))
-  where
-    both_same : (a b : ℕ × ℕ) → a.0 ≡ b.0 → a.1 ≡ b.1 → a ≡ b
-    both_same a b h k = ap (λ x. (x, a.1)) h ∙ ap (λ y. (b.0, y)) k
 
 -- those of each RMID in each domain need one for each RMID at most
 pub looks-counts_of : (m : Parameters) (i k : ℕ) (rmids : List ℕ) → length (flat_map (look_in m i k) (counts_of m rmids)) ≤ length rmids
@@ -93,10 +92,6 @@ looks-counts_of m i k (r ∷ rs) =
     omega (arith, count, first, rest)
 
 -- ---- follow-ups
-
--- the domain of a slice of a domain
-domain_in-slice_of_line : (m : Parameters) (domain line : ℕ) → 0 < m.slices → domain_in m (slice_of_line m domain line) ≡ domain
-domain_in-slice_of_line m domain line some = div-mul-add domain m.slices (slice_of m (set_of m line)) (mod_below (set_of m line) m.slices some)
 
 -- after a line of set 0 the slices of lines are those of the lines after line 0
 slice_of_line-whole : (m : Parameters) (domain first line : ℕ) → first % m.sets ≡ 0 → slice_of_line m domain (first + line) ≡ slice_of_line m domain line

@@ -1,5 +1,5 @@
--- Tests of two numbers at once, as of a thread and the number of an op.
-use Rattle.std.proofs.Common.{◌≡◌, ◌≢◌, ℕ, false, ◌==◌, ◌&&◌, inl, inr, refl}
+-- Pairs of numbers, as a thread and the number of an op: tests of both, and when two pairs are the same.
+use Rattle.std.proofs.Common.{◌≡◌, ℕ, false, ◌==◌, ◌&&◌, inl, inr, refl}
 use Rattle.std.specs.Prelude.{IsTrue}
 use Rattle.std.proofs.lemmas.Bool.{cases_Bool, eqb-true, eq-eqb}
 
@@ -17,9 +17,6 @@ both_eqb-true a b c d h = elim (cases_Bool (a == b)) [
 pub both_eqb-same : (a b c d : ℕ) → a ≡ b → c ≡ d → IsTrue ((a == b) && (c == d))
 both_eqb-same a b c d h k = rw (eq-eqb a b h, eq-eqb c d k) refl
 
--- where the second numbers differ
-pub both_eqb-false : (a b c d : ℕ) → c ≢ d → ((a == b) && (c == d)) ≡ false
-both_eqb-false a b c d apart = elim (cases_Bool (c == d)) [
-  | inl f ↦ absurd (apart (eqb-true c d f))
-  | inr f ↦ elim (cases_Bool (a == b)) [ inl e ↦ rw (e, f) refl | inr e ↦ rw e refl ]
-]
+-- pairs with the same parts are the same
+pub pair-same : (a b : ℕ × ℕ) → a.0 ≡ b.0 → a.1 ≡ b.1 → a ≡ b
+pair-same (x, y) (z, w) first second = cc

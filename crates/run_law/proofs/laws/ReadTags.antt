@@ -2,6 +2,7 @@
 use Rattle.std.proofs.Common.{◌≡◌, ℕ, inl, inr, length, Option, Some, None, refl, sym, ap, ◌∙◌, subst, arith}
 use Rattle.std.specs.Prelude.{IsSome, IsTrue}
 use Rattle.std.proofs.Math.Seq.{take-length}
+use Rattle.std.proofs.lemmas.Option.{same_Some}
 use Rattle.rc_base.specs.declared.names.Tag.{Tag}
 use Rattle.run_law.specs.Ops.{phase_in}
 use Rattle.run_law.specs.Journals.{At, JournalsValue}
@@ -9,7 +10,7 @@ use Rattle.run_law.specs.Truth.{is_taken_from}
 use Rattle.run_law.specs.TreeHistory.{TreeEntryValue, tree_after}
 use Rattle.script_ops.specs.Values.{ScriptValue, op_at}
 use Rattle.script_ops.specs.declared.op.Op.TheVariants.{Access}
-use Rattle.run_law.proofs.laws.MovedThreads.{before, phase_moved, still, where_moved}
+use Rattle.run_law.proofs.laws.MovedThreads.{moved-held, phase_moved, moved-holds, where_moved}
 use Rattle.run_law.proofs.laws.NotedTruth.{none_tag}
 use Rattle.run_law.proofs.laws.OpMarks.{all_behind, not_some}
 use Rattle.run_law.proofs.laws.TakenCommands.{idle}
@@ -27,13 +28,13 @@ pub retag_keeps : (script : ScriptValue) (j : JournalsValue) (at : ℕ → Progr
 retag_keeps script j at phase t n old new here place tags kept =
     let p : Progress = outside n new in
     let number : (at t).next ≡ n = ap (λ (x : Progress). x.next) place in
-    let back : (u : ℕ) → IsSome (moved at t p u).made → IsSome (at u).made = λ u some. before (λ u x. IsSome x.made) at t p (λ wrong. absurd (not_some p.made refl wrong)) u some in
-    let next : (u : ℕ) → (moved at t p u).next ≡ (at u).next = λ u. still (λ u (x : Progress). x.next ≡ (at u).next) at t p (λ _. sym number) u refl in
-    let made : (u : ℕ) → (moved at t p u).made ≡ (at u).made = λ u. still (λ u (x : Progress). x.made ≡ (at u).made) at t p (λ _. sym (ap (λ (x : Progress). x.made) place)) u refl in
+    let back : (u : ℕ) → IsSome (moved at t p u).made → IsSome (at u).made = λ u some. moved-held (λ u x. IsSome x.made) at t p (λ wrong. absurd (not_some p.made refl wrong)) u some in
+    let next : (u : ℕ) → (moved at t p u).next ≡ (at u).next = λ u. moved-holds (λ u (x : Progress). x.next ≡ (at u).next) at t p (λ _. sym number) u refl in
+    let made : (u : ℕ) → (moved at t p u).made ≡ (at u).made = λ u. moved-holds (λ u (x : Progress). x.made ≡ (at u).made) at t p (λ _. sym (ap (λ (x : Progress). x.made) place)) u refl in
     let keep : (u o : ℕ) → HasBegun (at u) o → HasBegun (moved at t p u) o = λ u o had.
-    still (λ u x. HasBegun x o) at t p (λ h. (let it : HasBegun (outside n old) o = subst (λ x. HasBegun x o) place h in it)) u had in
+    moved-holds (λ u x. HasBegun x o) at t p (λ h. (let it : HasBegun (outside n old) o = subst (λ x. HasBegun x o) place h in it)) u had in
     let lose : (u o : ℕ) → HasBegun (moved at t p u) o → HasBegun (at u) o = λ u o had.
-    before (λ u x. HasBegun x o) at t p (λ h. (let it : HasBegun (outside n old) o = h in subst (λ x. HasBegun x o) (sym place) it)) u had in
+    moved-held (λ u x. HasBegun x o) at t p (λ h. (let it : HasBegun (outside n old) o = h in subst (λ x. HasBegun x o) (sym place) it)) u had in
     let under : (u o : ℕ) → IsUnderWay (at u) o → IsUnderWay (moved at t p u) o = λ u o had. (had.0 ∙ sym (next u), subst (λ x. IsSome x) (sym (made u)) had.1) in
     let free : (epoch : ℕ) → IsFree at j.tree epoch → IsFree (moved at t p) j.tree epoch = λ epoch f. record { within = f.within; before = λ u some. f.before u (back u some) } in
     let still_tag : (u task cpu : ℕ) (tag : Tag) → IsTagOf script j at u task cpu tag → IsTagOf script j (moved at t p) u task cpu tag = λ u task cpu tag had.
@@ -84,10 +85,6 @@ retag_keeps script j at phase t n old new here place tags kept =
 same_access : (script : ScriptValue) (t n task cpu addr a b d : ℕ) → op_at script t n ≡ Some (Access task cpu addr) → op_at script t n ≡ Some (Access a b d) → (a ≡ task) × (b ≡ cpu)
 same_access script t n task cpu addr a b d h k = (cc, cc)
 
--- the tag that is there
-the_tag : (a b : Tag) → Some a ≡ Some b → a ≡ b
-the_tag a b h = cc
-
 -- an access learns its tag while nobody holds the tree
 pub tag_keeps : (script : ScriptValue) (j : JournalsValue) (at : ℕ → Progress) (phase t n task cpu addr : ℕ) → phase_in script.phases t ≡ phase → at t ≡ idle n
     → op_at script t n ≡ Some (Access task cpu addr) → ((u : ℕ) → IsSome (at u).made → ⊥)
@@ -98,7 +95,7 @@ tag_keeps script j at phase t n task cpu addr here place is nobody kept =
     retag_keeps script j at phase t n None (Some mine) here place
     (λ a b d tag is_a has.
     let same = same_access script t n task cpu addr a b d is is_a in
-    let tag_is : mine ≡ tag = the_tag mine tag has in
+    let tag_is : mine ≡ tag = same_Some mine tag has in
     let made : IsTagOf script j at t task cpu mine = record {
       is = ap (λ tree. tag_of m (tree_after script tree) (length j.tree) task cpu) (sym (take-length j.tree));
       free = record { within = omega arith; before = λ u some. absurd (nobody u some) };

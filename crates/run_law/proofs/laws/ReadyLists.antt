@@ -40,7 +40,7 @@ spare_in-last (l ∷ []) last = refl
 spare_in-last (l ∷ k ∷ front) last = spare_in-last (k ∷ front) last
 
 -- one op back: a command has a list more
-pub AreReady-command : (m : Parameters) (ops : List Op) (k : ℕ) (op : Op) (lists : List Looks) (l : Looks) → At ops k op → is_command op ≡ true → l.numbers ≡ [] → most_counts m op ≤ l.spare
+pub AreReady-command : (m : Parameters) (ops : List Op) (k : ℕ) (op : Op) (lists : List Looks) (l : Looks) → At ops k op → is_command op ≡ true → l.numbers ≡ [] → l.spare ≡ most_counts m op
     → AreReady (rooms_of m (drop (k + 1) ops)) lists → AreReady (rooms_of m (drop k ops)) (lists ++ l ∷ [])
 AreReady-command m ops k op lists l at command empty room ready =
     subst (λ rs. AreReady rs (lists ++ l ∷ [])) (sym (rooms_of-command m ops k op at command)) (lists, l, refl, empty, room, ready)
@@ -59,7 +59,7 @@ AreReady-access_back m ops k op lists below is access ready =
     subst (λ n. AreReady (rooms_of m (drop n ops)) lists) place (AreReady-access m ops (length ops - 1 - k) op lists there access (subst (λ n. AreReady (rooms_of m (drop n ops)) lists) next ready))
 
 -- or a command
-pub AreReady-command_back : (m : Parameters) (ops : List Op) (k : ℕ) (op : Op) (lists : List Looks) (l : Looks) → k < length ops → op ≡ get_or ops (length ops - 1 - k) op → is_command op ≡ true → l.numbers ≡ [] → most_counts m op ≤ l.spare
+pub AreReady-command_back : (m : Parameters) (ops : List Op) (k : ℕ) (op : Op) (lists : List Looks) (l : Looks) → k < length ops → op ≡ get_or ops (length ops - 1 - k) op → is_command op ≡ true → l.numbers ≡ [] → l.spare ≡ most_counts m op
     → AreReady (rooms_of m (drop (length ops - k) ops)) lists → AreReady (rooms_of m (drop (length ops - (k + 1)) ops)) (lists ++ l ∷ [])
 AreReady-command_back m ops k op lists l below is command empty room ready =
     let there : At ops (length ops - 1 - k) op = slice_get-get_or ops (length ops - 1 - k) op (omega (arith, below)) ∙ ap (λ x. Some x) (sym is) in

@@ -4,9 +4,6 @@ use Rattle.std.specs.Prelude.{IsTrue}
 use Rattle.std.proofs.lemmas.List.{take_more}
 use Rattle.std.proofs.lemmas.List.Elements.{All-head, All-nil, All-tail}
 use Rattle.std.proofs.lemmas.Option.{get_or_from_slice_get, slice_get_within}
-use Rattle.machine.specs.declared.parameters.Parameters.{Parameters}
-use Rattle.path_names.specs.declared.dirs.DirRef.TheVariants.{MonDomain}
-use Rattle.path_names.specs.declared.path_ref.PathRef.TheVariants.{File}
 use Rattle.rc_base.proofs.laws.Histories.{EachFollows-at}
 use Rattle.rc_base.specs.declared.replies.Reply.TheVariants as replies
 use Rattle.run_law.proofs.laws.Tasks.{tasks_of-tree_after}
@@ -20,7 +17,6 @@ use Rattle.script_ops.specs.declared.op.Op.{Op}
 use Rattle.script_ops.specs.declared.op.Op.TheVariants as ops
 use Rattle.tree_law.proofs.laws.Opening.{opening-sound}
 use Rattle.tree_law.proofs.laws.Steps.{next-sound}
-use Rattle.tree_law.specs.LawsCounts.{NamesDomain}
 use Rattle.tree_law.specs.Sound.{IsSound}
 use Rattle.tree_law.specs.State.{tasks_of}
 use Rattle.tree_law.specs.Steps.{needs, next}
@@ -28,7 +24,7 @@ use Rattle.tree_law.specs.Steps.{needs, next}
 -- ---- ops that fit
 
 -- what holds of all holds of what stands somewhere
-All-at : {X : Type 0} (P : X → Type 0) (xs : List X) (k : ℕ) (x : X) → All P xs → At xs k x → P x
+pub All-at : {X : Type 0} (P : X → Type 0) (xs : List X) (k : ℕ) (x : X) → All P xs → At xs k x → P x
 All-at P xs k x all there = subst P (get_or_from_slice_get xs k x x there) (all k x (slice_get_within xs k x there))
 
 -- what is true of all ops of all threads is true of those of one
@@ -45,11 +41,6 @@ Fits-op_at script thread op c lawful is = All-at (Fits script.machine script.tas
 pub Fits-tree_after : (script : ScriptValue) (tree : List TreeEntryValue) (thread op : ℕ) (c : Op) → IsLawful script → op_at script thread op ≡ Some c → Fits script.machine (tasks_of (tree_after script tree)) c
 Fits-tree_after script tree thread op c lawful is = subst (λ ts. Fits script.machine ts c) (sym (tasks_of-tree_after script tree)) (Fits-op_at script thread op c lawful is)
 
--- a command that fits names a domain that exists
-pub NamesDomain-fits : (m : Parameters) (tasks : List ℕ) (op : Op) → Fits m tasks op → NamesDomain m op
-NamesDomain-fits m tasks (ops.Read (File (MonDomain holder domain) kind)) fits = fits
-NamesDomain-fits m tasks op fits = tt
-
 -- ---- states
 
 -- a command that may follow is one of the script that was given as many counts as it needs
@@ -60,13 +51,20 @@ pub record IsTaken (script : ScriptValue) (before : List TreeEntryValue) (h : Tr
   pub looks : length h.looks ≡ length (needs script.machine (tree_after script before) op)
 
 -- by what it may follow
-pub taken : (script : ScriptValue) (before : List TreeEntryValue) (h : TreeEntryValue) → CommandMayFollow script before h → IsTaken script before h
-taken script before h may = of (op_at script h.thread h.op) refl may
+pub IsTaken-follows : (script : ScriptValue) (before : List TreeEntryValue) (h : TreeEntryValue) → CommandMayFollow script before h → IsTaken script before h
+IsTaken-follows script before h may = of (op_at script h.thread h.op) refl may
   where
     of : (o : Option Op) → op_at script h.thread h.op ≡ o
         → IsCommandThat (λ op. (length h.looks ≡ length (needs script.machine (tree_after script before) op)) × (h.reply ≡ (next script.machine (tree_after script before) op h.looks).reply)) o → IsTaken script before h
     of None is ok = absurd ok
     of (Some op) is ok = record { op = op; is = is; command = ok.0; looks = ok.1.0 }
+
+-- by its position in a legal history
+pub IsTaken-at : (script : ScriptValue) (tree : List TreeEntryValue) (k : ℕ) (h : TreeEntryValue) → IsLegalTree script tree → At tree k h → IsTaken script (take k tree) h
+IsTaken-at script tree k h legal there = IsTaken-follows script (take k tree) h may
+  where
+    may : CommandMayFollow script (take k tree) h
+    may = subst (CommandMayFollow script (take k tree)) (get_or_from_slice_get tree k h h there) (EachFollows-at (CommandMayFollow script) tree k h legal (slice_get_within tree k h there))
 
 -- each state of a legal history is sound
 pub IsSound-take : (script : ScriptValue) (tree : List TreeEntryValue) → IsLawful script → IsLegalTree script tree → (k : ℕ) → k ≤ length tree → IsSound script.machine (tree_after script (take k tree))
@@ -75,7 +73,7 @@ IsSound-take script tree lawful legal zero known = opening-sound script.machine 
 IsSound-take script tree lawful legal (suc k) known =
     let h : TreeEntryValue = get_or tree k blank in
     let may : CommandMayFollow script (take k tree) h = EachFollows-at (CommandMayFollow script) tree k blank legal (omega arith) in
-    let its = taken script (take k tree) h may in
+    let its = IsTaken-follows script (take k tree) h may in
     let before : IsSound script.machine (tree_after script (take k tree)) = IsSound-take script tree lawful legal k (omega arith) in
     let one : suc k ≡ k + 1 = omega arith in
     let first : take (suc k) tree ≡ take k tree ++ h ∷ [] = ap (λ n. take n tree) one ∙ take_more tree k blank (omega arith) in

@@ -14,7 +14,7 @@ use Rattle.script_ops.specs.Values.{ScriptValue, op_at}
 use Rattle.script_ops.specs.declared.op.Op.{Op}
 use Rattle.script_ops.specs.declared.op.Op.TheVariants.{Access}
 use Rattle.run_law.proofs.laws.LongerHistories.{makes_command, true_command}
-use Rattle.run_law.proofs.laws.MovedThreads.{before, here_moved, phase_moved, still, where_moved}
+use Rattle.run_law.proofs.laws.MovedThreads.{moved-held, moved-own, phase_moved, moved-holds, where_moved}
 use Rattle.run_law.proofs.laws.NotedTruth.{holding, none_tag, one_op, same_made, some_is}
 use Rattle.run_law.proofs.laws.OpMarks.{NoMarksLater, all_behind, marks_more, marks_of_taken, no_marks_later, not_some, still_behind}
 use Rattle.run_law.proofs.laws.Pairs.{both_eqb-true, both_eqb-same}
@@ -83,7 +83,7 @@ take_alone : (script : ScriptValue) (j : JournalsValue) (at : ℕ → Progress) 
 take_alone script j at phase t n c h taken begun =
     let p : Progress = holding n 0 in
     let only : (u : ℕ) → IsSome (moved at t p u).made → u ≡ t = λ u some. only_one script at phase t n c h u taken some in
-    let next : (u : ℕ) → u ≡ t → (moved at t p u).next ≡ n = λ u same. ap (λ v. (moved at t p v).next) same ∙ ap (λ (x : Progress). x.next) (here_moved at t p) in
+    let next : (u : ℕ) → u ≡ t → (moved at t p u).next ≡ n = λ u same. ap (λ v. (moved at t p v).next) same ∙ ap (λ (x : Progress). x.next) (moved-own at t p) in
     let mine : IsTrue (is_taken_from t n h) = both_eqb-same h.thread t h.op n taken.thread taken.number in
     record {
       one = λ u v a b. only u a ∙ sym (only v b);
@@ -107,9 +107,9 @@ take_begun : (script : ScriptValue) (j : JournalsValue) (at : ℕ → Progress) 
 take_begun script j at phase t n c h taken begun =
     let p : Progress = holding n 0 in
     let go : (o : ℕ) → HasBegun (at t) o → HasBegun p o = λ o had. (let it : HasBegun (idle n) o = subst (λ x. HasBegun x o) taken.place had in elim it [ inl less ↦ inl less | inr under ↦ absurd (not_some (idle n).made refl under.1) ]) in
-    let keep : (u o : ℕ) → HasBegun (at u) o → HasBegun (moved at t p u) o = λ u o had. still (λ u x. HasBegun x o) at t p (go o) u had in
+    let keep : (u o : ℕ) → HasBegun (at u) o → HasBegun (moved at t p u) o = λ u o had. moved-holds (λ u x. HasBegun x o) at t p (go o) u had in
     let mine : HasBegun (moved at t p h.thread) h.op =
-    subst (λ u. HasBegun (moved at t p u) h.op) (sym taken.thread) (subst (λ x. HasBegun x h.op) (sym (here_moved at t p)) (inr (taken.number, refl))) in
+    subst (λ u. HasBegun (moved at t p u) h.op) (sym taken.thread) (subst (λ x. HasBegun x h.op) (sym (moved-own at t p)) (inr (taken.number, refl))) in
     record {
       commands = λ k x there. elim (at_push j.tree h k x there) [
         | inl old ↦ keep x.thread x.op (begun.commands k x old)
@@ -138,7 +138,7 @@ take_tags script j at phase t n c h taken phases u task cpu tag has had =
     record {
       is = subst (λ tree. tag ≡ tag_of script.machine (tree_after script tree) tag.epoch task cpu) (sym same) had.is;
       free = record { within = omega (arith, early, length_push j.tree h); before = λ v some. omega (arith, early, length_push j.tree h) };
-      behind = subst (λ o. IsBehindAll script (with_tree j (j.tree ++ h ∷ [])) u o tag.epoch) (sym (still (λ v (x : Progress). x.next ≡ (at v).next) at t p (λ _. number) u refl)) behind;
+      behind = subst (λ o. IsBehindAll script (with_tree j (j.tree ++ h ∷ [])) u o tag.epoch) (sym (moved-holds (λ v (x : Progress). x.next ≡ (at v).next) at t p (λ _. number) u refl)) behind;
     }
 
 -- each command is there once
@@ -174,17 +174,17 @@ take_order script j at phase t n c h taken phases begun order =
     let now : JournalsValue = with_tree j (j.tree ++ h ∷ []) in
     let number : n ≡ (at t).next = sym (ap (λ (y : Progress). y.next) taken.place) in
     let only : (u : ℕ) → IsSome (moved at t p u).made → u ≡ t = λ u some. only_one script at phase t n c h u taken some in
-    let next : (u : ℕ) → u ≡ t → (moved at t p u).next ≡ n = λ u same. ap (λ v. (moved at t p v).next) same ∙ ap (λ (x : Progress). x.next) (here_moved at t p) in
+    let next : (u : ℕ) → u ≡ t → (moved at t p u).next ≡ n = λ u same. ap (λ v. (moved at t p v).next) same ∙ ap (λ (x : Progress). x.next) (moved-own at t p) in
     record {
       commands_once = λ u o d is_d command has. take_once script j at phase t n c h u o d taken begun order is_d command has;
       entries_once = λ i u o d within is_d less.
-          let early : o < (at u).next = before (λ u (x : Progress). o < x.next) at t p (λ small. omega (arith, small, number)) u less in
+          let early : o < (at u).next = moved-held (λ u (x : Progress). o < x.next) at t p (λ small. omega (arith, small, number)) u less in
           makes_command script j h i u o d (filter (is_made_by u o) (slice_at j i))
           (λ mine. let is = both_eqb-true h.thread u h.op o mine in omega (arith, early, number, ap (λ v. (at v).next) (sym is.0 ∙ taken.thread), sym is.1 ∙ taken.number))
           (order.entries_once i u o d within is_d early);
       under_way = λ i u k made d within is_d has last.
           let same : u ≡ t = only u (some_is (moved at t p u).made made has) in
-          let zero_made : made ≡ 0 = same_made (moved at t p u).made 0 made (ap (λ v. (moved at t p v).made) same ∙ ap (λ (x : Progress). x.made) (here_moved at t p)) has in
+          let zero_made : made ≡ 0 = same_made (moved at t p u).made 0 made (ap (λ v. (moved at t p v).made) same ∙ ap (λ (x : Progress). x.made) (moved-own at t p)) has in
           let none : filter (is_made_by t n) (slice_at j i) ≡ [] = filter-none_at (is_made_by t n) (slice_at j i)
           (λ q x there. fails (is_made_by t n x) (λ its. none_made script j at phase t n c h taken begun i q x there its)) in
           subst (λ v. HasMade script now i v (moved at t p u).next k d made) (sym same)
@@ -214,10 +214,10 @@ take_keeps script j at phase t n c h taken kept =
       alone = take_alone script j at phase t n c h taken kept.of_begun;
       of_begun = take_begun script j at phase t n c h taken kept.of_begun;
       tags = λ u task cpu addr tag is_u has.
-          let old : (at u).tag ≡ Some tag = before (λ u (x : Progress). x.tag ≡ Some tag) at t p (λ got. absurd (none_tag p.tag tag refl got)) u has in
+          let old : (at u).tag ≡ Some tag = moved-held (λ u (x : Progress). x.tag ≡ Some tag) at t p (λ got. absurd (none_tag p.tag tag refl got)) u has in
           take_tags script j at phase t n c h taken kept.in_phase u task cpu tag old
           (kept.tags u task cpu addr tag
-          (before (λ u x. op_at script u x.next ≡ Some (Access task cpu addr)) at t p (λ got. subst (λ o. op_at script t o ≡ Some (Access task cpu addr)) number got) u is_u)
+          (moved-held (λ u x. op_at script u x.next ≡ Some (Access task cpu addr)) at t p (λ got. subst (λ o. op_at script t o ≡ Some (Access task cpu addr)) number got) u is_u)
           old);
       entries_true = true_command script j h kept.of_begun.epochs kept.entries_true;
       in_order = take_order script j at phase t n c h taken kept.in_phase kept.of_begun kept.in_order;

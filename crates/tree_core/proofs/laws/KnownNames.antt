@@ -1,14 +1,15 @@
 -- The names of groups are known and short ones, and stay so after a command whose names are known and short.
-use Rattle.std.proofs.Common.{◌≡◌, ℕ, zero, suc, ◌<◌, Bool, true, false, List, [], ◌∷◌, ◌++◌, length, get_or, cond, not, refl, Option, Some, None, Result, Ok, Err, subst, arith, length-append}
+use Rattle.std.proofs.Common.{◌≡◌, ℕ, zero, suc, Bool, true, false, List, [], ◌∷◌, ◌++◌, length, get_or, cond, not, refl, Option, Some, None, Result, Ok, Err, subst, arith, length-append}
 use Rattle.std.specs.Option.{option_map_or}
 use Rattle.std.proofs.lemmas.List.Elements.{All-filter, All-map, All-push}
 use Rattle.std.proofs.Math.Seq.{get_or-append_seam}
+use Rattle.std.proofs.lemmas.Option.{same_Some}
 use Rattle.group_tree.specs.Lists.{exchanged, replaced}
 use Rattle.group_tree.specs.Records.{has_gid, is_control}
 use Rattle.group_tree.specs.declared.group.Group.{Group}
 use Rattle.cpu_lists.specs.declared.fault.CpuFault.{CpuFault}
 use Rattle.lists.proofs.Choices.{cond-both}
-use Rattle.lists.proofs.Tests.{All-one, IsFound-all, find-found}
+use Rattle.lists.proofs.Tests.{IsFound-all, find-found}
 use Rattle.machine.specs.declared.parameters.Parameters.{Parameters}
 use Rattle.path_names.proofs.laws.KnownIds.{AreKnown-last}
 use Rattle.path_names.specs.NamesIn.{owner_ids, path_ids, AreKnown}
@@ -76,10 +77,7 @@ module _ (names : List (List ℕ)) where
       either at.0 (is_control at.0.kind) (IsNamed-group_at s dir at.0 named at.1) at.2
     where
       either : (x : Group) (b : Bool) → IsNamed names x → cond b (Some x) None ≡ Some g → IsNamed names g
-      either x true known e = subst (IsNamed names) (let some : Some x ≡ Some g = e in same x g some) known
-        where
-          same : (a b : Group) → Some a ≡ Some b → a ≡ b
-          same a b e = cc
+      either x true known e = subst (IsNamed names) (let some : Some x ≡ Some g = e in same_Some x g some) known
       either x false known e = absurd (let none : None ≡ Some g = e in cc)
 
   -- ---- the commands
@@ -202,11 +200,3 @@ named_next names m s op looks known short named = AreNamed-with_status names (ne
     at : (against : Option Refusal) → AreNamed names (next_if m s op looks against).groups
     at None = AreNamed-accepted names m s op looks known short named
     at (Some r) = AreNamed-left names s op named
-
--- the only name of an op is known
-pub known_only : (n : ℕ) (id : ℕ) → id < n → AreKnown n (id ∷ [])
-known_only n id within = All-one (λ k. k < n) id within
-
--- the only name of an op is short
-pub short_only : (names : List (List ℕ)) (id : ℕ) → IsShortName names id → AreShort names (id ∷ [])
-short_only names id short = All-one (IsShortName names) id short

@@ -18,10 +18,10 @@ use rc_base::{Reply, Why};
 use script_ops::Op;
 
 impl Tree {
-    /// Takes a command that fits, with the counts of lines that it needs: its reply, and what follows it in the
-    /// slices. A refused command leaves the tree as it was but for the last status, which mkdir and write set; only a refused write
-    /// of `tasks` keeps the tasks that it had moved (kernel documentation, "Resource alloc and monitor groups"; this project's
-    /// profile says which error answers which case).
+    /// Takes a command that fits, with the counts of lines that it needs: its reply, and what follows it in the slices. A refused
+    /// command leaves the tree as it was but for the last status, which mkdir and write set; only a refused write of `tasks`
+    /// keeps the tasks that it had moved (kernel documentation, "Resource alloc and monitor groups"; this project's profile says
+    /// which error answers which case).
     pub fn apply(&mut self, op: &Op, looks: &[u64]) -> (Reply, After)
         requires fits { Fits self.old.machine (tasks_of self.old.state) op.now }
         requires looks { length looks.now ≡ length (needs self.old.machine self.old.state op.now) }
@@ -86,7 +86,7 @@ impl Tree {
         }
     }
 
-    // Counts a command. The next group's number is at most that of the commands so far, and fewer locks were accepted.
+    // Counts a command. Then the number of the next group is at most that of the commands, and that of the locks is less.
     fn count(&mut self)
         requires epoch { self.old.epoch < MOST_WEIGHT }
         ensures machine { self.new.machine ≡ self.old.machine }

@@ -14,7 +14,7 @@ use mode_rules::may_enter_setup;
 use rc_base::{Gid, Mode, Reply};
 
 impl Tree {
-    /// What keeps a group out of pseudo-locksetup, where it is to turn to that mode.
+    /// What keeps a group out of pseudo-locksetup, where that is the mode it is to turn to.
     pub(crate) fn against_entry(&self, group: &Group, mode: Mode) -> Option<Reply>
         ensures { result ≡ option_map reply_to (against_entry self.now.state group.now mode) }
     {

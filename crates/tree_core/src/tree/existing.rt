@@ -20,7 +20,7 @@ impl Tree {
         }
     }
 
-    /// The group that holds something, and None where there is no such group.
+    /// The group that a `Holder` names, and None where there is no such group.
     pub fn holder_gid(&self, holder: Holder) -> Option<Gid>
         ensures { result ≡ holder_gid self.now.state holder }
     {

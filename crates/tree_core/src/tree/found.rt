@@ -14,7 +14,7 @@ use path_names::{NameId, Owner, PathRef};
 use rc_base::Why;
 
 impl Tree {
-    /// The group that may be removed at this path, and where there is none, what is against removing what is there.
+    /// The group that may be removed at this path, and where there is none, the reason against it.
     pub(crate) fn found_at(&self, path: PathRef) -> Result<FoundGroup, Why>
         ensures { FindsGroup self.now.state path result }
     {
@@ -40,7 +40,7 @@ impl Tree {
         }
     }
 
-    // What is against removing what is no group's directory.
+    // The reason against removing anything but a group's directory.
     fn against_other(&self, path: PathRef) -> Why
         requires other { is_group_directory path ≡ false }
         ensures { find (against self.now.state path) reasons ≡ Some result }

@@ -21,7 +21,7 @@ use path_names::{FileKind, Holder, PathRef};
 use rc_base::{Gid, Mode};
 
 impl Tree {
-    /// Lists the RMIDs that are freed where what is at this path is removed, and none where it may not be.
+    /// Lists the RMIDs that removing the group at this path frees, and none where that is refused.
     pub(crate) fn push_freed_at(&self, path: PathRef, rmids: &mut RmidList)
         requires { rmids.old.items ≡ [] }
         ensures { needs self.now.machine self.now.state (Rmdir path) ≡ counts_of self.now.machine rmids.new.items }
@@ -32,7 +32,7 @@ impl Tree {
         }
     }
 
-    /// The RMID that is freed where a text is written, and none where it is refused: that of a group that enters
+    /// The RMID that writing a text frees, and none where the write is refused: that of a group that enters
     /// pseudo-locksetup.
     pub(crate) fn freed_by_write(&self, path: PathRef, text: &[u8]) -> Option<u16>
         ensures { needs self.now.machine self.now.state (Write path text.now)
@@ -44,7 +44,7 @@ impl Tree {
         }
     }
 
-    // The RMID that is freed where a text is written to a file that can be written.
+    // The RMID that writing a text to this file frees. The file can be written.
     fn freed_by_file(&self, at: FoundDir, kind: FileKind, text: &[u8]) -> Option<u16>
         requires writable { find (write.against self.now.state (File at.dir kind)) write.reasons ≡ None }
         requires found { at.gid ≡ directory_gid self.now.state at.dir }
@@ -57,7 +57,7 @@ impl Tree {
         }
     }
 
-    // The RMID that is freed where a text is written to the `mode` of a directory, which is there.
+    // The RMID that writing a text to the `mode` of a directory frees. The directory has that file.
     fn freed_by_mode(&self, at: FoundDir, text: &[u8]) -> Option<u16>
         requires writable { find (write.against self.now.state (File at.dir files.Mode)) write.reasons ≡ None }
         requires found { at.gid ≡ directory_gid self.now.state at.dir }
@@ -86,7 +86,7 @@ impl Tree {
         }
     }
 
-    /// Lists the RMIDs of what holds something, and of its monitor groups.
+    /// Lists the RMIDs of the group that a `Holder` names, and of its monitor groups.
     pub(crate) fn push_held(&self, holder: Holder, rmids: &mut RmidList)
         requires { rmids.old.items ≡ [] }
         ensures { rmids.new.items ≡ option_map_or (rmids_with self.now.state) (holder_gid self.now.state holder) [] }

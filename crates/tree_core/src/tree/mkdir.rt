@@ -53,7 +53,7 @@ impl Tree {
         }
     }
 
-    // Makes no group at a path that names no group's directory, but stands in a place for one; no text reads to such a path.
+    // Makes no group: a path where groups go that cannot be a group's directory. No script reads to one.
     fn make_nothing(&mut self, path: PathRef) -> Reply
         requires place { find (against self.old.machine self.old.state path) place_reasons ≡ None }
         requires nameless { is_group_directory path ≡ false }
@@ -73,7 +73,7 @@ impl Tree {
         }
     }
 
-    // Makes a group with this directory, against whose place nothing is.
+    // Makes a group with this directory, where nothing is against its place.
     fn make_group(&mut self, dir: GroupDir) -> Reply
         requires place { find (against self.old.machine self.old.state (path_of dir)) place_reasons ≡ None }
         requires gids { self.old.state.next_gid ≤ self.old.epoch }

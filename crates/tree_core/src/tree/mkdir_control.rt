@@ -16,7 +16,7 @@ use path_names::NameId;
 use rc_base::{Gid, Mode, Reply, Why};
 
 impl Tree {
-    /// Makes a control group, against whose place nothing is. The masks of a new group are looked for only where a class is free.
+    /// Makes a control group, where nothing is against its place. Its masks are looked for only where a class is free.
     pub(crate) fn make_control(&mut self, name: NameId) -> Reply
         requires place { find (against self.old.machine self.old.state (Dir (Ctrl name))) place_reasons ≡ None }
         requires gids { self.old.state.next_gid ≤ self.old.epoch }

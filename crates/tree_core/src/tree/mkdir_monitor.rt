@@ -15,7 +15,7 @@ use path_names::{NameId, Owner};
 use rc_base::{Gid, Mode, Reply, Why};
 
 impl Tree {
-    /// Makes a monitor group, against whose place nothing is.
+    /// Makes a monitor group, where nothing is against its place.
     pub(crate) fn make_monitor(&mut self, owner: Owner, name: NameId) -> Reply
         requires place { find (against self.old.machine self.old.state (Dir (Mon owner name))) place_reasons ≡ None }
         requires gids { self.old.state.next_gid ≤ self.old.epoch }

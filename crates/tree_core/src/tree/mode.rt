@@ -94,7 +94,8 @@ impl Tree {
         }
     }
 
-    /// What a text asks of a group: to turn to another mode, or to stay as it is. A lack of RMIDs is not tried.
+    /// What a text asks of a group: to turn to another mode, or to stay as it is. An error is why it is refused; a lack of RMIDs
+    /// is not looked for here.
     pub(crate) fn asked_mode(&self, group: &Group, text: &[u8]) -> Result<Option<Mode>, Reply>
         ensures { AsksMode self.now.machine self.now.state group.now text.now result }
     {
@@ -139,7 +140,7 @@ impl Tree {
         }
     }
 
-    // Whether a group may not turn to this mode, since it would be exclusive and overlaps what others use.
+    // Whether a group may not turn to this mode, since it would be exclusive and overlap what others use.
     fn is_barred(&self, group: &Group, mode: Mode) -> bool
         ensures { result ≡ (is_mode modes.Exclusive mode
             && list_any (overlaps_some self.now.machine self.now.state group.now) (range_with_len 0 self.now.machine.domains)) }

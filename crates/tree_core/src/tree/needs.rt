@@ -1,5 +1,5 @@
 //! The counts of lines that a command needs.
-ghost use Rattle.std.specs.Prelude.{◌≡◌, ◌+◌, ◌<◌, ◌≤◌, ◌^◌, [], All, Some, false, length, slice_get};
+ghost use Rattle.std.specs.Prelude.{◌≡◌, ◌+◌, ◌<◌, ◌≤◌, ◌^◌, [], All, false};
 ghost use Rattle.std.specs.List.{flat_map};
 ghost use Rattle.machine.specs.declared.parameters.Parameters.{Parameters};
 ghost use Rattle.script_ops.specs.Fits.{Fits};
@@ -17,25 +17,6 @@ use path_names::PathRef;
 use script_ops::Op;
 
 impl Tree {
-    /// How many counts a command needs.
-    pub fn needs(&self, op: &Op) -> u32
-        requires fits { Fits self.now.machine (tasks_of self.now.state) op.now }
-        ensures { result ≡ length (needs self.now.machine self.now.state op.now) }
-    {
-        self.counts(op).len()
-    }
-
-    /// The domain and the RMID of the i-th count that a command needs, from 0.
-    pub fn need(&self, op: &Op, i: u32) -> (u8, u16)
-        requires fits { Fits self.now.machine (tasks_of self.now.state) op.now }
-        requires within { i < length (needs self.now.machine self.now.state op.now) }
-        ensures need { slice_get (needs self.now.machine self.now.state op.now) i ≡ Some result }
-        ensures domain { result.0 < self.now.machine.domains }
-        ensures rmid { result.1 < self.now.machine.rmids }
-    {
-        self.counts(op).at(i)
-    }
-
     /// The counts that a command needs, in order: where it frees RMIDs or tests those in limbo, each of them in each domain; where
     /// it reads `llc_occupancy`, those of a group and of its monitor groups in one domain (this project's profile).
     pub fn counts(&self, op: &Op) -> Counts

@@ -16,7 +16,7 @@ use rc_base::Reply;
 use schemata_text::Assignment;
 
 impl Tree {
-    /// The refusal of the first of these assignments to a group, which is not pseudo-locked, against which something stands.
+    /// The refusal of the first of these assignments that something stands against. The group is not pseudo-locked.
     pub(crate) fn against_masks(&self, group: &Group, all: &[Assignment]) -> Option<Reply>
         requires unlocked { is_locked group.now.mode ≡ false }
         requires exist { All (λ (a : Assignment). a.domain < self.now.machine.domains) all.now }
@@ -57,7 +57,7 @@ impl Tree {
         false
     }
 
-    // Whether it does in one domain.
+    // Whether it overlaps so in one domain.
     fn overlaps_in(&self, group: &Group, domain: u8) -> bool
         requires { domain < self.now.machine.domains }
         ensures { result ≡ overlaps_some self.now.machine self.now.state group.now domain }

@@ -133,7 +133,7 @@ impl Tree {
         }
     }
 
-    // Takes assignments against which nothing is: the masks change, or the first locks a region.
+    // Takes assignments that nothing stands against: the masks change, or the first locks a region.
     fn put_masks(&mut self, group: &Group, all: &[Assignment], follows: &mut After)
         requires there { find (has_gid group.now.gid) self.old.state.groups ≡ Some group.now }
         requires lawful { AreLawful (geometry_of self.old.machine) self.old.machine.domains all.now }

@@ -16,7 +16,7 @@ impl Tree {
         initial_mask(&used, &self.machine.geometry())
     }
 
-    /// A new group's mask in each domain, and 0 where there is no such domain, or the least domain without space for it.
+    /// A new group's mask in each domain, and 0 where there is no such domain; an error is the least domain without space for it.
     pub(crate) fn new_masks(&self) -> Result<[u32; 8], u8>
         ensures space { OnOk result (full_domain self.now.machine self.now.state ≡ None) }
         ensures masks { IfOk result (λ masks. masks ≡ initial_masks self.now.machine self.now.state) }

@@ -16,7 +16,7 @@ use path_names::DirRef;
 use rc_base::{Reply, Why};
 
 impl Tree {
-    /// Writes `max_threshold_occupancy`: the bytes of its lines that each cache may hold of an RMID that is freed (kernel
+    /// Writes `max_threshold_occupancy`: how many bytes of its lines each cache may still hold for an RMID to be free (kernel
     /// documentation, "max_threshold_occupancy").
     pub(crate) fn write_threshold(&mut self, dir: DirRef, text: &[u8]) -> Reply
         requires writable { find (against self.old.state (File dir MaxThreshold)) reasons ≡ None }

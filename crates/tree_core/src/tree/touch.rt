@@ -57,7 +57,7 @@ impl Tree {
         Reply::Ok
     }
 
-    // Whether a CPU is at a domain.
+    // Whether a CPU is of a domain.
     fn is_at(&self, cpu: u8, domain: u8) -> bool
         requires { cpu < self.now.machine.cpus }
         ensures { result ≡ (domain_of self.now.machine cpu == domain) }

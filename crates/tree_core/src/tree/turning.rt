@@ -24,8 +24,8 @@ use group_tree::Group;
 use rc_base::{Mode, Reply};
 
 impl Tree {
-    /// Turns a group to another mode, which leaves a sound tree, and raises every domain, where no RMID is lacking for a group
-    /// that leaves pseudo-locksetup.
+    /// Turns a group to another mode, which leaves a sound tree, and raises every domain. It is refused only where a group leaves
+    /// pseudo-locksetup and no RMID is free.
     pub(crate) fn turn(
         &mut self,
         group: &Group,

@@ -87,8 +87,8 @@ impl Tree {
         }
     }
 
-    /// The file that can be written at this path, with the directory that holds it, and what is against writing to the path
-    /// where it can not, whatever the text.
+    /// The file that can be written at this path, with the directory that holds it; where there is none, the reason against
+    /// writing to the path, whatever the text.
     pub(crate) fn writable_at(&self, path: PathRef) -> Result<(FoundDir, FileKind), Why>
         ensures { FindsFile self.now.state path result }
     {

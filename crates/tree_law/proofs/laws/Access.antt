@@ -45,7 +45,7 @@ module _ (m : Parameters) (s : State) (sound : IsSound m s) where
       (y.0, y.1, f, ap p same ∙ two.1)
 
   -- the ids of a counted group
-  IsSome-counted : (g : Group) → is_counted g ≡ true → HasIds s.groups g.kind g → IsSome g.class × IsSome g.rmid
+  pub IsSome-counted : (g : Group) → is_counted g ≡ true → HasIds s.groups g.kind g → IsSome g.class × IsSome g.rmid
   IsSome-counted g counted has = by_kind g.kind has counted
     where
       by_mode : (mode : Mode) → is_counted_mode mode ≡ true → HasIdsOf mode g → IsSome g.class × IsSome g.rmid
@@ -59,7 +59,7 @@ module _ (m : Parameters) (s : State) (sound : IsSound m s) where
       by_kind (Monitor p) h c = absurd (let f : false ≡ true = c in cc)
 
   -- the ids of a monitor group
-  IsSome-monitor : (control : Gid) (g : Group) → is_monitor_of control g.kind ≡ true → HasIds s.groups g.kind g → IsSome g.rmid
+  pub IsSome-monitor : (control : Gid) (g : Group) → is_monitor_of control g.kind ≡ true → HasIds s.groups g.kind g → IsSome g.rmid
   IsSome-monitor control g monitor has = at g.kind monitor has
     where
       at : (kind : GroupKind) → is_monitor_of control kind ≡ true → HasIds s.groups kind g → IsSome g.rmid

@@ -31,6 +31,7 @@ use Rattle.tree_law.specs.commands.Rmdir as rmdir
 use Rattle.tree_law.specs.commands.Tick as tick
 use Rattle.tree_law.specs.commands.Write as write
 use Rattle.tree_law.specs.commands.Mode as mode
+use Rattle.script_ops.specs.Fits.{Fits}
 
 module _ (m : Parameters) (s : State) (sound : IsSound m s) where
   -- an RMID of the machine
@@ -121,3 +122,8 @@ module _ (m : Parameters) (s : State) (sound : IsSound m s) where
 pub needs-exist : (m : Parameters) (s : State) (op : Op) → IsSound m s → NamesDomain m op → All (CanLook m) (needs m s op)
 unfolding needs
 needs-exist m s op sound exists = cond-both (All (CanLook m)) (is_some (refusal m s op)) [] (needs_accepted m s op) (λ k d within. absurd (omega arith)) (accepted-exist m s sound op exists)
+
+-- a read that fits is of a domain that exists
+pub NamesDomain-fits : (m : Parameters) (tasks : List ℕ) (op : Op) → Fits m tasks op → NamesDomain m op
+NamesDomain-fits m tasks (ops.Read (File (MonDomain holder domain) kind)) fits = fits
+NamesDomain-fits m tasks op fits = tt

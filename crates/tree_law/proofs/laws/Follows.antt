@@ -8,6 +8,7 @@ use Rattle.std.proofs.Math.ListN.{get_or-eq_default}
 use Rattle.std.proofs.lemmas.List.{get_or_default}
 use Rattle.std.proofs.lemmas.List.Elements.{All-filter, All-map}
 use Rattle.std.proofs.lemmas.List.FromFn.{get_or-enumerate_from, get_or-range_with_len, length-enumerate_from, length-range_with_len}
+use Rattle.std.proofs.lemmas.Option.{same_Some}
 use Rattle.cbm.specs.Masks.{ways_of}
 use Rattle.group_tree.specs.Records.{has_mode}
 use Rattle.group_tree.specs.declared.group.Group.{Group}
@@ -60,10 +61,6 @@ All-nil P = λ k d within. absurd (omega arith)
 
 -- ---- the region that is touched
 
--- equal options have equal values
-Some-same : {X : Type 0} (x y : X) → Some x ≡ Some y → x ≡ y
-Some-same x y e = cc
-
 -- the region of a group stands at its domain
 region_in-region_of : (s : State) (gid : Gid) (domain : ℕ) (r : Region) → touch.region_of s gid ≡ Some (domain, r) → region_in s.regions domain ≡ Some r
 region_in-region_of s gid domain r is =
@@ -78,7 +75,7 @@ region_in-region_of s gid domain r is =
   where
     parts : (p : ℕ × Option Region) → touch.with_domain p ≡ Some (domain, r) → (p.0 ≡ domain) × (p.1 ≡ Some r)
     parts (d, None) e = absurd (let f : ◌≡◌ {A = Option (ℕ × Region)} None (Some (domain, r)) = e in cc)
-    parts (d, Some q) e = let same = Some-same (d, q) (domain, r) e in (ap (λ (p : ℕ × Region). p.0) same, ap (λ (p : ℕ × Region). Some p.1) same)
+    parts (d, Some q) e = let same = same_Some (d, q) (domain, r) e in (ap (λ (p : ℕ × Region). p.0) same, ap (λ (p : ℕ × Region). Some p.1) same)
 
 -- the region that a path touches stands at its domain
 pub region_in-touched : (s : State) (path : PathRef) (domain : ℕ) (r : Region) → touch.touched s path ≡ Some (domain, r) → region_in s.regions domain ≡ Some r

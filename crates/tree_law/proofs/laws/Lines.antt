@@ -1,12 +1,9 @@
 -- The first lines of regions.
 use Rattle.std.proofs.Common.{◌≡◌, ◌≢◌, ℕ, ◌+◌, ◌-◌, ◌*◌, ◌%◌, ◌^◌, ◌<◌, ◌≤◌, List, length, Option, None, Some, IfSome, inl, inr, sym, subst, ap, ◌∙◌, arith}
-use Rattle.std.specs.List.{range_with_len}
 use Rattle.std.proofs.Math.Nat.{mul-le-mul_right, mul-mod_left, mul_assoc}
 use Rattle.std.proofs.lemmas.Bool.{cases_lt, cases_order, eqb-true}
 use Rattle.std.proofs.lemmas.List.{get_or_past}
-use Rattle.std.proofs.lemmas.List.FromFn.{length-range_with_len}
-use Rattle.std.proofs.lemmas.List.Sums.{count_by-le-length, length-filter}
-use Rattle.cbm.specs.Masks.{has_way, ways_of}
+use Rattle.cbm.specs.Masks.{ways_of}
 use Rattle.lists.proofs.Powers.{count_ones-one, pow-divides}
 use Rattle.machine.specs.Ranges.{InRange}
 use Rattle.machine.specs.declared.parameters.Parameters.{Parameters}
@@ -16,11 +13,7 @@ use Rattle.tree_law.specs.Regions.{HaveLines, IsPlaced, LinesDiffer}
 use Rattle.tree_law.specs.Space.{region_in}
 use Rattle.pseudo_lock.specs.declared.region.Region.{Region}
 use Rattle.pseudo_lock.specs.Regions.{first_line_of}
-
--- a mask has at most 64 ways
-length-ways_of : (mask : ℕ) → length (ways_of mask) ≤ 64
-unfolding ways_of
-length-ways_of mask = (let most = count_by-le-length (has_way mask) (range_with_len 0 64) in omega (arith, length-filter (has_way mask) (range_with_len 0 64), length-range_with_len 0 64))
+use Rattle.cbm.proofs.laws.Ways.{length-ways_of}
 
 module _ (regions : List (Option Region)) (locks : ℕ) (have : HaveLines regions locks) where
   -- a region stands at a place

@@ -22,10 +22,11 @@ use Rattle.tree_law.specs.Places.{controlling, is_closed}
 use Rattle.tree_law.specs.Refusals.{Refusal, plain}
 use Rattle.tree_law.specs.State.{State}
 
--- the CPUs that a text names, as a mask or as a list
+-- the CPUs that a text names as a mask
 unfoldable pub mask_read : Parameters → List ℕ → Result (List ℕ) CpuFault
 mask_read m text = answer_of m.cpus (mask_cpus (trim text))
 
+-- the CPUs that a text names as a list
 unfoldable pub list_read : Parameters → List ℕ → Result (List ℕ) CpuFault
 list_read m text = answer_of m.cpus (list_cpus (trim text))
 
@@ -34,10 +35,11 @@ abbrev pub set_of : List ℕ → ℕ
 set_of [] = 0
 set_of (n ∷ ns) = bit_or (2 ^ n) (set_of ns)
 
--- a CPU of the default group that is not in a set, and one in a set that is not a group's
+-- whether a CPU is the default group's and not in a set
 abbrev pub is_dropped : ℕ → ℕ × CpuGroups → Bool
 is_dropped set (cpu, c) = has_control default_gid c && not (has_cpu set cpu)
 
+-- whether a CPU is in a set and not this group's
 abbrev pub is_strange : Gid → ℕ → ℕ × CpuGroups → Bool
 is_strange parent set (cpu, c) = has_cpu set cpu && not (has_control parent c)
 
@@ -46,12 +48,14 @@ abbrev pub against_set : Gid → GroupKind → List CpuGroups → ℕ → Option
 against_set gid Control cpus set = if is_default gid && list_any (is_dropped set) (enumerate_from 0 cpus) then Some (plain DropsDefault) else None
 against_set gid (Monitor parent) cpus set = if list_any (is_strange parent set) (enumerate_from 0 cpus) then Some (plain NotParents) else None
 
+-- what is against a text: its fault, or what is against its set
 abbrev pub against_read : Gid → GroupKind → List CpuGroups → Result (List ℕ) CpuFault → Option Refusal
 against_read gid kind cpus (Err faults.Bad) = Some (plain BadCpus)
 against_read gid kind cpus (Err (faults.NotACpu cpu)) = Some (record { why = NotACpu; arg = cpu })
 against_read gid kind cpus (Ok numbers) = against_set gid kind cpus (set_of numbers)
 
--- the control group is in pseudo-locksetup or pseudo-locked, the text has no reading or names what is no CPU, or it is against the set
+-- refused if the control group is being locked or is locked, the text cannot be read, it names a CPU that does not exist, or the
+-- set may not be written
 unfoldable pub refusal : State → Group → Result (List ℕ) CpuFault → Option Refusal
 refusal s g read = if is_closed s (controlling g.gid g.kind) then Some (plain Locking) else against_read g.gid g.kind s.cpus read
 
@@ -60,9 +64,11 @@ abbrev pub cpu_after : Gid → GroupKind → ℕ → ℕ × CpuGroups → CpuGro
 cpu_after gid Control set (cpu, c) = after_control gid set cpu c
 cpu_after gid (Monitor parent) set (cpu, c) = after_monitor gid set cpu c
 
+-- the groups of all CPUs after a set was written to a group
 abbrev pub cpus_after : Gid → GroupKind → ℕ → List CpuGroups → List CpuGroups
 cpus_after gid kind set cpus = map (cpu_after gid kind set) (enumerate_from 0 cpus)
 
+-- the state after an accepted write
 unfoldable pub accepted : State → Group → Result (List ℕ) CpuFault → State
 accepted s g (Ok numbers) = record s { cpus = cpus_after g.gid g.kind (set_of numbers) s.cpus }
 accepted s g (Err fault) = s

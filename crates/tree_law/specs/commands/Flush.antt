@@ -1,4 +1,4 @@
--- flush: every way of a domain's cache is emptied, or of each.
+-- flush: every way is emptied, in the cache of one domain or of each.
 -- (This project's profile.)
 use Rattle.std.specs.Prelude.{ℕ, List, [], ◌∷◌, map, Option, Some, None}
 use Rattle.std.specs.List.{range_with_len}

@@ -38,6 +38,7 @@ mode_name Locked = codes "pseudo-locked"
 abbrev pub writable_modes : List Mode
 writable_modes = Shareable ∷ Exclusive ∷ LockSetup ∷ []
 
+-- whether a text is the name of a mode
 abbrev pub is_named : List ℕ → Mode → Bool
 is_named text mode = is_text text (mode_name mode)
 
@@ -51,6 +52,7 @@ is_present mode text = is_named (trim text) mode
 
 -- ---- what is against a change of mode
 
+-- whether a mode is pseudo-locksetup
 abbrev pub is_setup : Mode → Bool
 is_setup mode = is_mode LockSetup mode
 
@@ -63,10 +65,12 @@ holdings s g = record {
   cpus = length (filter (cpu_groups.has_control g.gid) s.cpus);
 }
 
+-- the refusal of a test that found a reason
 abbrev pub reason_of : Result (Unit {0}) Why → Option Refusal
 reason_of (Ok u) = None
 reason_of (Err why) = Some (plain why)
 
+-- what keeps a group out of pseudo-locksetup, where it is to enter it
 abbrev pub against_entry : State → Group → Mode → Option Refusal
 against_entry s g mode = if is_setup mode then reason_of (entry_refusal (holdings s g)) else None
 
@@ -76,6 +80,7 @@ against_masks m s g [] = None
 against_masks m s g (domain ∷ domains) =
     option_or (against_overlap domain (leaving_overlap (mask_in domain g) (used_in m s (Some g.gid) domain))) (against_masks m s g domains)
 
+-- what is against the masks that a group kept, where it leaves pseudo-locksetup
 abbrev pub against_leaving : Parameters → State → Group → Option Refusal
 against_leaving m s g = if is_setup g.mode then against_masks m s g (range_with_len 0 m.domains) else None
 
@@ -83,26 +88,30 @@ against_leaving m s g = if is_setup g.mode then against_masks m s g (range_with_
 abbrev pub overlaps_some : Parameters → State → Group → ℕ → Bool
 overlaps_some m s g domain = not (is_apart (mask_in domain g) (used_in m s (Some g.gid) domain))
 
+-- an overlap in some domain, where a group is to be exclusive
 abbrev pub against_exclusive : Parameters → State → Group → Mode → Option Refusal
 against_exclusive m s g mode =
     if is_mode Exclusive mode && list_any (overlaps_some m s g) (range_with_len 0 m.domains) then Some (plain SchemataOverlap) else None
 
--- no RMID is free
+-- the refusal where no RMID is free
 abbrev pub rmid_refusal : Parameters → State → Option Refusal
 rmid_refusal m s = if is_none (free_rmid m s) then Some (plain (if none_in_limbo s then OutOfRmids else RmidsBusy)) else None
 
+-- a lack of RMIDs, where a group leaves pseudo-locksetup
 abbrev pub against_rmid : Parameters → State → Group → Option Refusal
 against_rmid m s g = if is_setup g.mode then rmid_refusal m s else None
 
+-- the first that is against a change of mode
 abbrev pub against_change : Parameters → State → Group → Mode → Option Refusal
 against_change m s g mode = option_or (against_entry s g mode) (option_or (against_leaving m s g) (option_or (against_exclusive m s g mode) (against_rmid m s g)))
 
+-- what is against the mode that a text asks for, or that it asks for none
 abbrev pub against_mode : Parameters → State → Group → Option Mode → Option Refusal
 against_mode m s g None = Some (plain UnknownMode)
 against_mode m s g (Some mode) = against_change m s g mode
 
--- nothing is against the present mode; else the group is pseudo-locked, the text names no mode that may be written, or something is
--- against the change
+-- refused if the text is not the present mode and the group is pseudo-locked, the text names no mode that may be written, or
+-- something is against the change
 unfoldable pub refusal : Parameters → State → Group → List ℕ → Option Refusal
 refusal m s g text = if is_present g.mode text then None else if is_locked g.mode then Some (plain GroupLocked) else against_mode m s g (mode_in text)
 
@@ -113,20 +122,25 @@ abbrev pub freed_by : Group → Option Mode → List ℕ
 freed_by g None = []
 freed_by g (Some mode) = if is_setup mode then rmids_of g else []
 
+-- the RMID that a write frees, where it frees one
 unfoldable pub freed : Group → List ℕ → List ℕ
 freed g text = if is_present g.mode text then [] else freed_by g (mode_in text)
 
--- the RMID of a group that changes from one mode to another: none in pseudo-locksetup, the lowest free one when it leaves that, and else its own
+-- the RMID of a group that changes from one mode to another: none in pseudo-locksetup, the lowest free one when it leaves that,
+-- and else its own
 abbrev pub rmid_after : Parameters → State → Group → Mode → Option ℕ
 rmid_after m s g mode = if is_setup mode then None else if is_setup g.mode then free_rmid m s else g.rmid
 
+-- the record of a group after its change to this mode
 abbrev pub changed : Parameters → State → Group → Mode → Group
 changed m s g mode = record g { mode = mode; rmid = rmid_after m s g mode }
 
+-- the state after the change to the mode that a text asks for, with the counts of the RMIDs that it frees
 abbrev pub with_mode : Parameters → State → Group → List ℕ → List ℕ → Option Mode → State
 with_mode m s g freed looks None = s
 with_mode m s g freed looks (Some mode) = record (with_record s (changed m s g mode)) { limbo = limbo_after m s.threshold s.limbo freed looks }
 
+-- the state after an accepted write
 unfoldable pub accepted : Parameters → State → Group → List ℕ → List ℕ → State
 accepted m s g text looks = if is_present g.mode text then s else with_mode m s g (freed g text) looks (mode_in text)
 

@@ -23,14 +23,17 @@ use Rattle.tree_law.specs.Refusals.{Refusal, first_of}
 use Rattle.tree_law.specs.State.{State}
 use Rattle.pseudo_lock.specs.declared.region.Region.{Region}
 
+-- the reasons, in the order in which they are tried
 abbrev pub reasons : List Why
 reasons = NoSuchPath ∷ NotAPlace ∷ []
 
+-- whether this is against removing what is at a path
 abbrev pub against : State → PathRef → Why → Bool
 against s path NoSuchPath = not (path_exists s path)
 against s path NotAPlace = not (is_group_directory path)
 against s path why = false
 
+-- why an rmdir is refused, where it is
 unfoldable pub refusal : State → PathRef → Option Refusal
 refusal s path = first_of (against s path) reasons
 
@@ -60,7 +63,8 @@ abbrev pub region_after : Gid → Option Region → Option Region
 region_after gid None = None
 region_after gid (Some r) = if r.gid.0 == gid.0 then None else Some r
 
--- the state without a control group and its monitor groups, after these RMIDs were freed: its tasks and CPUs go to the default group
+-- the state without a control group and its monitor groups, after these RMIDs were freed; its tasks and CPUs are the default
+-- group's
 abbrev pub without_control : Parameters → State → Gid → List ℕ → List ℕ → State
 without_control m s gid freed looks = record s {
   groups = staying gid s.groups;
@@ -72,10 +76,11 @@ without_control m s gid freed looks = record s {
 
 -- ---- a monitor group
 
--- a task or a CPU of the group counts at its control group
+-- a task that was counted in the group is counted in its control group
 abbrev pub uncounted : Binding → Binding
 uncounted b = bindings.counted b.control b
 
+-- a CPU that was counted in the group is counted in its control group
 abbrev pub cpu_uncounted : Gid → CpuGroups → CpuGroups
 cpu_uncounted gid c = if cpu_groups.has_monitor gid c then cpu_groups.joined c.control else c
 
@@ -90,6 +95,7 @@ without_monitor m s gid freed looks = record s {
 
 -- ---- the next state
 
+-- the state after an accepted rmdir, with the counts of the RMIDs that it frees
 unfoldable pub accepted : Parameters → State → PathRef → List ℕ → State
 accepted m s (Dir (Ctrl name)) looks = option_map_or (λ gid. without_control m s gid (freed s (Dir (Ctrl name))) looks) (directory_gid s (Ctrl name)) s
 accepted m s (Dir (Mon owner name)) looks = option_map_or (λ gid. without_monitor m s gid (freed s (Dir (Mon owner name))) looks) (directory_gid s (Mon owner name)) s

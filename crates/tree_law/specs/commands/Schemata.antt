@@ -1,5 +1,6 @@
 -- A write of `schemata`: the masks of a counted group, or the region of a group in pseudo-locksetup.
--- (Kernel documentation, "Schemata files - general concepts" and "Cache Pseudo-Locking"; the order of the reasons is this project's profile.)
+-- (Kernel documentation, "Schemata files - general concepts" and "Cache Pseudo-Locking"; the order of the reasons is this
+-- project's profile.)
 use Rattle.std.specs.Prelude.{ℕ, ◌+◌, set, Bool, true, false, nat_lt, if◌then◌else◌, List, [], ◌∷◌, length, map, filter, replicate, slice_set, Option, Some, None, Result, Ok, Err}
 use Rattle.std.specs.List.{list_any, range_with_len}
 use Rattle.std.specs.Option.{option_or}
@@ -45,7 +46,7 @@ text_refusal (texts.Twice domain) = record { why = whys.DomainTwice; arg = domai
 text_refusal texts.NotHex = plain whys.NotHex
 text_refusal (texts.Mask bits fault) = record { why = mask_reason fault; arg = bits }
 
--- the reading of a written text, whose blanks at both ends are dropped
+-- the reading of a written text, without the blanks at its ends
 unfoldable pub schemata_read : Parameters → List ℕ → Result (List Assignment) TextFault
 schemata_read m text = reading (geometry_of m) m.domains (trim text)
 
@@ -57,6 +58,7 @@ overlap_refusal domain overlaps.Other = plain whys.OverlapOther
 overlap_refusal domain overlaps.Hardware = plain whys.OverlapShareable
 overlap_refusal domain overlaps.HasRegion = record { why = whys.HasRegion; arg = domain }
 
+-- the refusal of a mask in a domain, where something stands against it
 abbrev pub against_overlap : ℕ → Result (Unit {0}) Overlap → Option Refusal
 against_overlap domain (Ok u) = None
 against_overlap domain (Err overlap) = Some (overlap_refusal domain overlap)
@@ -70,22 +72,25 @@ abbrev pub against_entries : Parameters → State → Group → List Assignment 
 against_entries m s g [] = None
 against_entries m s g (a ∷ all) = option_or (against_entry m s g a) (against_entries m s g all)
 
--- a group in pseudo-locksetup takes one domain
+-- whether more than one domain is named for a group in pseudo-locksetup, which takes one
 abbrev pub names_many : Mode → List Assignment → Bool
 names_many LockSetup all = nat_lt 1 (length all)
 names_many mode all = false
 
+-- what is against a text: its fault, a second domain in pseudo-locksetup, or what stands against a mask
 abbrev pub against_read : Parameters → State → Group → Result (List Assignment) TextFault → Option Refusal
 against_read m s g (Err fault) = Some (text_refusal fault)
 against_read m s g (Ok all) = if names_many g.mode all then Some (plain whys.OneDomain) else against_entries m s g all
 
+-- whether a mode is pseudo-locked
 abbrev pub is_locked : Mode → Bool
 is_locked Shareable = false
 is_locked Exclusive = false
 is_locked LockSetup = false
 is_locked Locked = true
 
--- the group is pseudo-locked, the text has a fault, it names more than one domain in pseudo-locksetup, or something stands against a mask
+-- refused if the group is pseudo-locked, the text has a fault, it names more than one domain in pseudo-locksetup, or something
+-- stands against a mask
 unfoldable pub refusal : Parameters → State → Group → Result (List Assignment) TextFault → Option Refusal
 refusal m s g read = if is_locked g.mode then Some (plain whys.GroupLocked) else against_read m s g read
 
@@ -104,24 +109,27 @@ next_first_line s = first_line_of s.locks
 abbrev pub locked : Group → Assignment → Group
 locked g a = record g { mode = Locked; class = None; masks = slice_set (replicate 8 0) a.domain a.mask }
 
--- its region
+-- the region that a group locks by this assignment
 abbrev pub region_for : State → Group → Assignment → Region
 region_for s g a = record { gid = g.gid; domain = a.domain; mask = a.mask; first_line = next_first_line s }
 
+-- the state after a group has locked its region
 abbrev pub with_region : State → Group → Assignment → State
 with_region s g a = record (with_record s (locked g a)) { regions = set s.regions a.domain (Some (region_for s g a)); locks = s.locks + 1 }
 
+-- the same by the first of these assignments
 abbrev pub with_first : State → Group → List Assignment → State
 with_first s g [] = s
 with_first s g (a ∷ all) = with_region s g a
 
--- by the mode of the group: masks change, or it is locked
+-- the state after these assignments, by the mode of the group: its masks change, or it locks a region
 abbrev pub with_masks : State → Group → Mode → List Assignment → State
 with_masks s g Shareable all = with_record s (record g { masks = assigned g.masks all })
 with_masks s g Exclusive all = with_record s (record g { masks = assigned g.masks all })
 with_masks s g LockSetup all = with_first s g all
 with_masks s g Locked all = s
 
+-- the state after an accepted write
 unfoldable pub accepted : State → Group → Result (List Assignment) TextFault → State
 accepted s g (Err fault) = s
 accepted s g (Ok all) = with_masks s g g.mode all
@@ -141,12 +149,14 @@ abbrev pub lock : State → List Assignment → List Follow
 lock s [] = []
 lock s (a ∷ all) = follows.Lock a.domain a.mask (next_first_line s) ∷ []
 
+-- what follows these assignments, by the mode of the group: raises, or one lock
 abbrev pub follow : Parameters → State → Mode → List Assignment → List Follow
 follow m s Shareable all = raises m all
 follow m s Exclusive all = raises m all
 follow m s LockSetup all = lock s all
 follow m s Locked all = []
 
+-- what follows an accepted write
 unfoldable pub after : Parameters → State → Group → Result (List Assignment) TextFault → List Follow
 after m s g (Err fault) = []
 after m s g (Ok all) = follow m s g.mode all

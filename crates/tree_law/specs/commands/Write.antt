@@ -29,13 +29,16 @@ is_written Mode = true
 is_written MaxThreshold = true
 is_written kind = false
 
+-- whether a path is a file that cannot be written
 abbrev pub is_only_read : PathRef → Bool
 is_only_read (File dir kind) = not (is_written kind)
 is_only_read path = false
 
+-- the reasons against a path, in the order in which they are tried
 abbrev pub reasons : List Why
 reasons = NoSuchPath ∷ OnlyRead ∷ []
 
+-- whether this is against writing to a path
 abbrev pub against : State → PathRef → Why → Bool
 against s path NoSuchPath = not (is_file s path)
 against s path OnlyRead = is_only_read path
@@ -55,7 +58,7 @@ text_refusal m s path text = None
 unfoldable pub refusal : Parameters → State → PathRef → List ℕ → Option Refusal
 refusal m s path text = option_or (first_of (against s path) reasons) (text_refusal m s path text)
 
--- the RMIDs that are freed
+-- the RMIDs that an accepted write frees
 unfoldable pub freed : State → PathRef → List ℕ → List ℕ
 freed s (File dir Mode) text = option_map_or (λ g. mode.freed g text) (control_at s dir) []
 freed s path text = []
@@ -75,6 +78,7 @@ unfoldable pub refused : State → PathRef → List ℕ → State
 refused s (File dir Tasks) text = option_map_or (λ g. tasks.kept s g text) (group_at s dir) s
 refused s path text = s
 
+-- what follows an accepted write
 unfoldable pub after : Parameters → State → PathRef → List ℕ → List Follow
 after m s (File dir Schemata) text = option_map_or (λ g. schemata.after m s g (schemata.schemata_read m text)) (control_at s dir) []
 after m s (File dir Mode) text = option_map_or (λ g. mode.after m g text) (control_at s dir) []

@@ -1,6 +1,7 @@
 use Rattle.std.proofs.Common.{arith}
-use Rattle.bit_usage.proofs.Lengths.{length-decimal_digit, length-domain_text}
+use Rattle.bit_usage.proofs.Lengths.{length-domain_text}
 use Rattle.bit_usage.proofs.printing.print_domain.Goals as goal
+use Rattle.num_text.proofs.laws.Prints.{length-decimal_digit}
 
 pub returns-clause-spare : goal.returns-clause-spare
 returns-clause-spare c =

@@ -1,7 +1,7 @@
 use Rattle.std.proofs.Common.{◌++◌, ap, ◌∙◌}
 use Rattle.file_view.proofs.Shorts.{length-digits, hexadecimal-zero_width}
-use Rattle.file_view.proofs.Sizes.{length-decimal}
 use Rattle.file_view.proofs.reasons.push_argument.Goals as goal
+use Rattle.num_text.proofs.laws.Prints.{length-decimal}
 
 pub returns-in-Decimal-clause-short : goal.returns-in-Decimal-clause-short
 returns-in-Decimal-clause-short c = rw c.in-Decimal.is (length-decimal c.args.arg c.ranges.arg.fits)

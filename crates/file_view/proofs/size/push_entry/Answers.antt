@@ -1,8 +1,7 @@
 use Rattle.std.proofs.Common.{ℕ, ◌≤◌, ◌∷◌, subst, length, decimal, arith, length-append}
 use Rattle.machine.specs.Maps.{bytes_of, parameters_of}
 use Rattle.cbm.specs.Masks.{ways_of}
-use Rattle.file_view.proofs.Sizes.{length-decimal}
-use Rattle.num_text.proofs.laws.Prints.{length-decimal_byte}
+use Rattle.num_text.proofs.laws.Prints.{length-decimal_byte, length-decimal}
 use Rattle.file_view.proofs.size.push_entry.Goals as goal
 
 pub push-requires : goal.push-requires

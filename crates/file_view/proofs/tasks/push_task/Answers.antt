@@ -1,6 +1,6 @@
 use Rattle.std.proofs.Common.{[], ◌∷◌, decimal, sym, arith, length-append}
-use Rattle.file_view.proofs.Sizes.{length-decimal}
 use Rattle.file_view.proofs.tasks.push_task.Goals as goal
+use Rattle.num_text.proofs.laws.Prints.{length-decimal}
 
 pub returns-then-is_task_of-clause-short : goal.returns-then-is_task_of-clause-short
 returns-then-is_task_of-clause-short c =

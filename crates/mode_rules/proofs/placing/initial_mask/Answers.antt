@@ -1,7 +1,7 @@
 use Rattle.std.proofs.Common.{◌≡◌, ◌<◌, ◌≤◌, length, Some, refl, sym, ap, ◌∙◌, arith}
 use Rattle.cbm.specs.Masks.{lowest_run, ways_of}
 use Rattle.cbm.proofs.laws.Ways.{ways_of-zero}
-use Rattle.mode_rules.specs.Space.{granted_ways, initial_ways, space_in}
+use Rattle.mode_rules.specs.StartingWays.{granted_ways, initial_ways, space_in}
 use Rattle.mode_rules.proofs.Space.{length-ways_of, space_in-none, space_in-few, space_in-some}
 use Rattle.mode_rules.proofs.laws.StartingMasks.{checked-all_ways, checked-run, may_start_with-all_ways, may_start_with-run}
 use Rattle.mode_rules.proofs.placing.initial_mask.Goals as goal

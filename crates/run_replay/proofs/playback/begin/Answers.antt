@@ -1,6 +1,6 @@
 use Rattle.std.proofs.Common.{arith}
 use Rattle.run_replay.proofs.Entries.{HasFewLooks-run}
-use Rattle.run_replay.proofs.FewCommands.{length-commands}
+use Rattle.run_law.proofs.laws.RunSizes.{length-commands}
 use Rattle.run_replay.proofs.Replays.{IsReplay-opening}
 use Rattle.run_replay.proofs.playback.begin.Goals as goal
 
@@ -10,7 +10,7 @@ returns c =
     let epoch = first.epoch in
     record {
       legal = c.requires.tree_legal;
-      few = length-commands c.args.script.now c.args.journals.now c.requires c.threads-threads.ensures.lawful;
+      few = length-commands c.args.script.now c.args.journals.now c.threads-threads.ensures.lawful c.requires;
       counts = HasFewLooks-run c.args.script.now c.args.journals.now c.threads-threads.ensures.lawful.in_range c.requires;
       replay = IsReplay-opening c.args.script.now c.in_ok-replay.replay first.machine first.state first.made;
       state = first.state;

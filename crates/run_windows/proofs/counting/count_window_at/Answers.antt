@@ -6,7 +6,7 @@ use Rattle.cache_core.specs.declared.entry.SliceEntry.{SliceEntry}
 use Rattle.cache_core.specs.declared.entry.What.{What}
 use Rattle.machine.specs.Slices.{slice_number}
 use Rattle.machine.specs.declared.parameters.Parameters.{Parameters}
-use Rattle.private_lru.specs.Counted.{hits_of_group}
+use Rattle.private_lru.specs.GroupCounts.{hits_of_group}
 use Rattle.private_lru.specs.Covered.{covered}
 use Rattle.run_law.specs.Journals.{JournalsValue, slice_at}
 use Rattle.run_windows.specs.Windows.{StaysExclusive, ends_window}

@@ -5,7 +5,7 @@ use Rattle.machine.proofs.laws.Slices.{slice_number-lt}
 use Rattle.machine.specs.Slices.{slice_number}
 use Rattle.machine.specs.declared.parameters.Parameters.{Parameters}
 use Rattle.run_law.specs.Journals.{At, slice_at}
-use Rattle.run_windows.proofs.RunSizes.{length-slice}
+use Rattle.run_law.proofs.laws.RunSizes.{length-slice}
 use Rattle.run_windows.proofs.WindowSteps.{AreWindowsBefore-slice, no_entry}
 use Rattle.run_windows.proofs.listing.push_slice.Goals as goal
 

@@ -1,8 +1,8 @@
 use Rattle.std.proofs.Common.{length, ap, ◌∙◌, arith}
+use Rattle.std.proofs.lemmas.Option.{slice_get_within}
 use Rattle.run_law.specs.Entries.{entry_value}
-use Rattle.run_windows.proofs.Epochs.{At-within}
 use Rattle.run_windows.proofs.Replays.{Fits-taken, IsReplayed-next, length-looks_taken, op_at-none}
-use Rattle.run_windows.proofs.RunSizes.{length-commands}
+use Rattle.run_law.proofs.laws.RunSizes.{length-commands}
 use Rattle.tree_law.specs.Steps.{next}
 use Rattle.run_windows.proofs.timeline.take.Goals as goal
 
@@ -17,7 +17,7 @@ apply-requires-clause-looks c =
 pub apply-requires-clause-epoch : goal.apply-requires-clause-epoch
 apply-requires-clause-epoch c =
     let few = length-commands c.args.script.now c.args.journals.now c.requires.lawful c.requires.run in
-    let within = At-within c.args.journals.now.tree c.args.tree.now.epoch (entry_value c.args.entry.now) c.requires.next in
+    let within = slice_get_within c.args.journals.now.tree c.args.tree.now.epoch (entry_value c.args.entry.now) c.requires.next in
     omega (arith, few, within)
 
 pub unreachable-requires : goal.unreachable-requires

@@ -1,8 +1,9 @@
 use Rattle.std.proofs.Common.{◌+◌, ◌/◌, ◌%◌, [], ◌∷◌, arith, append_assoc}
 use Rattle.std.specs.Fmt.{decimal}
 use Rattle.std.proofs.lemmas.Fmt.{decimal_digit, decimal_step}
-use Rattle.script_ops.proofs.Decimals.{length-decimal_digit, length-decimal_step}
+use Rattle.script_ops.proofs.Decimals.{length-decimal_step}
 use Rattle.script_ops.proofs.growing_text.+push_digits.Goals as goal
+use Rattle.num_text.proofs.laws.Prints.{length-decimal_digit}
 
 pub push_reserved-requires : goal.push_reserved-requires
 push_reserved-requires t c = let one = length-decimal_digit c.args.n c.if-n-lt10.true in omega arith

@@ -6,7 +6,7 @@ use Rattle.std.proofs.lemmas.Option.{slice_get_within}
 use Rattle.script_ops.specs.Values.{ScriptValue, op_at, ops_of}
 use Rattle.script_ops.specs.declared.op.Op.{Op}
 use Rattle.script_ops.specs.declared.op.Op.TheVariants as ops
-use Rattle.step_world.proofs.FreeSteps.{onward}
+use Rattle.step_world.proofs.FreeSteps.{turns_left-further}
 use Rattle.step_world.proofs.PassedWorlds.{resolved-same}
 use Rattle.step_world.proofs.PhaseSteps.{StepsOf-more}
 use Rattle.step_world.proofs.RoomLeft.{op-few}
@@ -89,7 +89,7 @@ returns-clause-turn c =
     record {
       count = inv.steps.0;
       steps = inv.steps.1;
-      nearer = onward script t c.loop-addr.n old (machine_of c.loop-addr.world) before.place (slice_get_within (ops_of script t) first op before.next.is) further inv.there;
+      nearer = turns_left-further script t c.loop-addr.n old (machine_of c.loop-addr.world) before.place (slice_get_within (ops_of script t) first op before.next.is) further inv.there;
       free = inv.free;
       phase = inv.phase;
     }

@@ -1,6 +1,7 @@
 use Rattle.std.proofs.Common.{◌≡◌, Some, ap, sym, ◌∙◌}
 use Rattle.std.specs.Prelude.{is_some}
 use Rattle.std.proofs.lemmas.List.{get_or_default}
+use Rattle.step_world.proofs.GivenAnswers.{answers-steps}
 use Rattle.step_world.proofs.Plays.{step_phase}
 use Rattle.step_world.proofs.TakenWorlds.{within-next}
 use Rattle.step_world.proofs.Turns.{turn}
@@ -27,10 +28,11 @@ returns-in_default c =
     let t = c.args.t in
     let r = c.requires in
     let now = machine_of c.args.world.now in
-    let mid = machine_of c.step.new.self in
+    let mid = machine_of c.act.new.self in
     let last = machine_of c.let_go.new.world in
-    let its = turn script t now mid last r.world.so_far r.world.within r.free r.next.present (ap is_some r.next.is) c.step.ensures.steps c.let_go.ensures.lets_go in
+    let stepped = answers-steps script t now mid c.act.result c.act.ensures.answers in
+    let its = turn script t now mid last r.world.so_far r.world.within r.free r.next.present (ap is_some r.next.is) stepped c.let_go.ensures.lets_go in
     record {
       world = c.let_go.ensures.world;
-      turn = record { count = its.1.0; steps = its.1.1; nearer = its.0; free = c.let_go.ensures.free; phase = c.let_go.ensures.phase ∙ step_phase script t now mid c.step.ensures.steps };
+      turn = record { count = its.1.0; steps = its.1.1; nearer = its.0; free = c.let_go.ensures.free; phase = c.let_go.ensures.phase ∙ step_phase script t now mid stepped };
     }

@@ -2,7 +2,7 @@ use Rattle.std.proofs.Common.{ap, length, map, refl, sym, subst, Some, ◌∙◌
 use Rattle.run_law.specs.Entries.{entry_value}
 use Rattle.script_ops.specs.Fits.{Fits}
 use Rattle.run_law.proofs.laws.SoundHistories.{Fits-tree_after}
-use Rattle.step_world.proofs.TakenWorlds.{took}
+use Rattle.step_world.proofs.TakenWorlds.{IsWorldOf-taken}
 use Rattle.step_world.proofs.steps.take.Goals as goal
 use Rattle.step_world.specs.Machine.{thread_at}
 use Rattle.step_world.specs.Worlds.{machine_of}
@@ -21,7 +21,7 @@ counts-counts-requires c =
 pub returns-clause-world : goal.returns-clause-world
 returns-clause-world c =
     let told = c.look_for.ensures in
-    (took c.args.script.now c.args.t c.args.n c.args.op.now c.args.world.now _ c.requires.world c.requires.next c.requires.number c.requires.place c.requires.free c.requires.command
+    (IsWorldOf-taken c.args.script.now c.args.t c.args.n c.args.op.now c.args.world.now _ c.requires.world c.requires.next c.requires.number c.requires.place c.requires.free c.requires.command
     (record { tree = refl; commands = refl; lists = refl; closing = refl; phase = refl; threads = c.move_to.ensures }) refl refl
     (record {
       counts = λ some. told.counts some ∙ ap (λ x. Some x) c.counts-counts.ensures.needs;

@@ -5,7 +5,7 @@ use Rattle.top_parts.proofs.Others.{filter-none, filter-one, command_of-filter}
 use Rattle.top_parts.proofs.words.command_of.Goals as goal
 
 pub returns-in-None-clause-command : goal.returns-in-None-clause-command
-returns-in-None-clause-command c = c.step_of.ensures.command ∙ sym (ap (command_of c.args.first.now) (filter-none (λ (w : String Global). not (is_flag w)) c.args.words.now (sym c.in-None.ensures)))
+returns-in-None-clause-command c = c.bare_command.ensures.command ∙ sym (ap (command_of c.args.first.now) (filter-none (λ (w : String Global). not (is_flag w)) c.args.words.now (sym c.in-None.ensures)))
 
 pub returns-in-Some-clause-command : goal.returns-in-Some-clause-command
 returns-in-Some-clause-command c =

@@ -2,7 +2,7 @@ use Rattle.std.proofs.Common.{◌≡◌, ◌+◌, ◌/◌, ◌%◌, ◌^◌, ◌
 use Rattle.std.specs.Prelude.{IfSome}
 use Rattle.machine.specs.Maps.{parameters_of}
 use Rattle.cache_core.specs.declared.place.Place.{Place}
-use Rattle.cache_core.specs.Counted.{IsCounted, Recounts}
+use Rattle.cache_core.specs.RmidCounts.{IsCounted, Recounts}
 use Rattle.cache_core.specs.History.{IsOwn, Shape, shape_of}
 use Rattle.cache_core.specs.Kept.{spread}
 use Rattle.cache_core.specs.Places.{place_in, set_in, CacheValue}

@@ -3,7 +3,7 @@ use Rattle.std.specs.Prelude.{IfSome}
 use Rattle.machine.specs.Maps.{parameters_of}
 use Rattle.cache_core.specs.declared.entry.What.TheVariants.{Drop}
 use Rattle.cache_core.specs.declared.place.Place.{Place}
-use Rattle.cache_core.specs.Counted.{IsCounted, Uncounts}
+use Rattle.cache_core.specs.RmidCounts.{IsCounted, Uncounts}
 use Rattle.cache_core.specs.History.{IsOwn, Shape, shape_of}
 use Rattle.cache_core.specs.Kept.{spread}
 use Rattle.cache_core.specs.Places.{CacheValue, place_in, set_in}

@@ -1,7 +1,7 @@
 use Rattle.std.proofs.Common.{◌≡◌, ◌<◌, ◌%◌, ◌^◌, List, Option, length, slice_set, subst, sym, ◌∙◌, ap, arith}
 use Rattle.std.specs.Prelude.{IfSome}
 use Rattle.cache_core.specs.declared.place.Place.{Place}
-use Rattle.cache_core.specs.Counted.{IsCounted, Recounts}
+use Rattle.cache_core.specs.RmidCounts.{IsCounted, Recounts}
 use Rattle.cache_core.specs.Lazy.{LazyValue, lazy_sets}
 use Rattle.cache_core.specs.Places.{place_in, set_in}
 use Rattle.cache_core.specs.Stands.{Touches}

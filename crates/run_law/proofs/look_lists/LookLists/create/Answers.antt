@@ -23,4 +23,4 @@ loop-k-preserved c =
 
 pub returns-then-commands-eq0 : goal.returns-then-commands-eq0
 returns-then-commands-eq0 c =
-    subst (λ rooms. AreReady rooms c.new-lists.result.items) (sym (rooms_of-accesses (parameters_of c.args.m.now) c.args.ops.now (omega (arith, c.requires, c.if-commands-eq0.true)))) tt
+    subst (λ rooms. AreReady rooms c.new-lists.result.items) (sym (rooms_of-accesses (parameters_of c.args.m.now) c.args.ops.now (omega (arith, c.requires, c.if-commands-eq0.true)))) c.new-lists.ensures.items

@@ -17,7 +17,7 @@ returns-clause-world c = IsWorldOf-made c.args.script.now _ (record {
   phase = refl;
   holder = refl;
   closing = c.in_ok-closing.ensures.items;
-  closing_room = omega (arith, c.in_ok-closing.ensures.capacity, c.len.ensures);
+  closing_room = omega (arith, c.in_ok-closing.ensures.exact, c.len.ensures);
 })
 
 pub returns-clause-opening : goal.returns-clause-opening
@@ -34,7 +34,7 @@ returns-clause-opening c = IsOpening-made c.args.script.now (record { tree = c.i
   phase = refl;
   holder = refl;
   closing = c.in_ok-closing.ensures.items;
-  closing_room = omega (arith, c.in_ok-closing.ensures.capacity, c.len.ensures);
+  closing_room = omega (arith, c.in_ok-closing.ensures.exact, c.len.ensures);
 })
 
 pub returns-clause-rooms : goal.returns-clause-rooms
@@ -51,5 +51,5 @@ returns-clause-rooms c = HasRooms-made c.args.script.now (record { tree = c.in_o
   phase = refl;
   holder = refl;
   closing = c.in_ok-closing.ensures.items;
-  closing_room = omega (arith, c.in_ok-closing.ensures.capacity, c.len.ensures);
+  closing_room = omega (arith, c.in_ok-closing.ensures.exact, c.len.ensures);
 })

@@ -1,9 +1,8 @@
 use Rattle.std.proofs.Common.{ℕ, List, sym, subst, ◌∙◌}
 use Rattle.std.specs.List.{All}
 use Rattle.tree_core.proofs.KeptTables.{Keeps-of}
-use Rattle.tree_core.proofs.ReadCounts.{NamesDomain-fits}
 use Rattle.tree_core.specs.Tables.{tables}
-use Rattle.tree_law.proofs.laws.Counts.{needs-exist}
+use Rattle.tree_law.proofs.laws.Counts.{needs-exist, NamesDomain-fits}
 use Rattle.tree_law.specs.LawsCounts.{CanLook}
 use Rattle.tree_law.specs.State.{tasks_of}
 use Rattle.tree_core.proofs.tree.Tree.counts.Goals as goal

@@ -1,0 +1,100 @@
+-- What the tree's cell keeps, step by step.
+use Rattle.std.proofs.Common.{◌≡◌, ℕ, zero, suc, List, [], ◌∷◌, length, map, get_or, refl, sym, ap, ◌∙◌, subst, arith}
+use Rattle.cache_core.specs.declared.entry.SliceEntry.{SliceEntry}
+use Rattle.live_law.specs.Cells.{AreMade}
+use Rattle.seen_journal.specs.Prefixes.{IsPrefix}
+use Rattle.live_law.proofs.laws.AccessStages.{HoldsTag-tag}
+use Rattle.seen_journal.proofs.laws.Prefixes.{IsPrefix-self}
+use Rattle.live_law.proofs.laws.TreeCells.{TreeKeeps-grown}
+use Rattle.live_law.specs.Stages.{HoldsTag}
+use Rattle.live_run.proofs.Bridges.{history_length}
+use Rattle.seen_journal.proofs.laws.Entries.{IsPrefix-list_of}
+use Rattle.live_run.specs.Cells.{ArePasses, TreeCellValue, TreeIsKept, pass_in, seen_in}
+use Rattle.live_run.specs.Names.{SeenValue, history_of, seen_by}
+use Rattle.live_run.specs.Steps.{HaveGrown, HaveSeenSame}
+use Rattle.machine.specs.Maps.{domain_of}
+use Rattle.machine.specs.declared.parameters.Parameters.{Parameters}
+use Rattle.rc_base.specs.declared.names.Tag.{Tag}
+use Rattle.run_law.specs.Growth.{tag_of}
+use Rattle.run_law.specs.TreeHistory.{tree_after}
+use Rattle.run_law.proofs.laws.Tasks.{tasks_of-tree_after}
+use Rattle.script_ops.specs.Values.{ScriptValue}
+use Rattle.seen_journal.specs.Entries.{list_of}
+use Rattle.seen_journal.specs.Journals.{JournalName}
+use Rattle.seen_journal.specs.Passes.{PassValue}
+use Rattle.tree_law.specs.Resolving.{Owned, resolve}
+use Rattle.tree_law.specs.State.{State, tasks_of}
+
+-- the lists that passes have seen
+abbrev pub lists_of : List (PassValue SliceEntry) → List (List SliceEntry)
+lists_of passes = map (λ (p : PassValue SliceEntry). list_of p.seen) passes
+
+pub lists_at : (ps : List (PassValue SliceEntry)) (i : ℕ) → get_or (lists_of ps) i [] ≡ list_of (pass_in ps i).seen
+lists_at [] i = refl
+lists_at (p ∷ ps) zero = refl
+lists_at (p ∷ ps) (suc i) = lists_at ps i
+
+pub lists_same : (ps qs : List (PassValue SliceEntry)) → HaveSeenSame ps qs → lists_of ps ≡ lists_of qs
+lists_same ps qs same = of ps qs same.count same.same
+  where
+    of : (ps qs : List (PassValue SliceEntry)) → length ps ≡ length qs → ((i : ℕ) → (pass_in ps i).seen ≡ (pass_in qs i).seen) → lists_of ps ≡ lists_of qs
+    of [] [] count same = refl
+    of [] (q ∷ qs) count same = absurd (omega (arith, count))
+    of (p ∷ ps) [] count same = absurd (omega (arith, count))
+    of (p ∷ ps) (q ∷ qs) count same = rw (same 0) (ap (λ (ls : List (List SliceEntry)). list_of q.seen ∷ ls) (of ps qs (omega (arith, count)) (λ i. same (suc i))))
+
+-- a tag is what its parts are
+same_tag : (a b : Tag) → a.epoch ≡ b.epoch → a.owner ≡ b.owner → a.class ≡ b.class → a.rmid ≡ b.rmid → a.mask ≡ b.mask → a.domain ≡ b.domain → a ≡ b
+same_tag a b e o c r m d =
+    ap (λ x. record { epoch = x; owner = a.owner; class = a.class; rmid = a.rmid; mask = a.mask; domain = a.domain }) e
+    ∙ (ap (λ x. record { epoch = b.epoch; owner = x; class = a.class; rmid = a.rmid; mask = a.mask; domain = a.domain }) o
+    ∙ (ap (λ x. record { epoch = b.epoch; owner = b.owner; class = x; rmid = a.rmid; mask = a.mask; domain = a.domain }) c
+    ∙ (ap (λ x. record { epoch = b.epoch; owner = b.owner; class = b.class; rmid = x; mask = a.mask; domain = a.domain }) r
+    ∙ (ap (λ x. record { epoch = b.epoch; owner = b.owner; class = b.class; rmid = b.rmid; mask = x; domain = a.domain }) m
+    ∙ ap (λ x. record { epoch = b.epoch; owner = b.owner; class = b.class; rmid = b.rmid; mask = b.mask; domain = x }) d))))
+
+module _ (script : ScriptValue) (tree : JournalName) (slices : List JournalName) (c : TreeCellValue) (kept : TreeIsKept script tree slices c) where
+  -- the tasks of the tree are the script's
+  pub tree_tasks : tasks_of c.tree.state ≡ script.tasks
+  tree_tasks = ap tasks_of kept.keeps.state_is ∙ tasks_of-tree_after script (history_of c.journal.entries)
+
+  module _ (now : List (PassValue SliceEntry)) (passes : ArePasses script slices now) (grown : HaveGrown c.slices now) where
+    -- its passes have met those of a thread
+    pub tree_meets : TreeIsKept script tree slices (record { tree = c.tree; journal = c.journal; slices = now })
+    tree_meets = record {
+      lawful = kept.lawful;
+      journal_is = kept.journal_is;
+      machine = kept.machine;
+      epoch = kept.epoch;
+      passes = passes;
+      threads = kept.threads;
+      keeps = TreeKeeps-grown script c.tree.state (seen_in c) (lists_of now)
+          (record {
+            tree = IsPrefix-self (history_of c.journal.entries);
+            slices = λ i. subst (λ xs. IsPrefix xs (get_or (lists_of now) i [])) (sym (lists_at c.slices i)) (subst (λ xs. IsPrefix (list_of (pass_in c.slices i).seen) xs) (sym (lists_at now i)) (IsPrefix-list_of (pass_in c.slices i).seen (pass_in now i).seen (grown i)));
+          })
+          kept.keeps;
+      named = kept.named;
+    }
+
+    -- who has seen the same has seen what all commands have made
+    pub tree_shows : (s : SeenValue) → s.tree.seen ≡ c.journal.entries → HaveSeenSame now s.slices → AreMade script (seen_by s) (length (history_of s.tree.seen))
+    tree_shows s seen same =
+        let had : AreMade script (record { tree = history_of c.journal.entries; slices = lists_of now }) (length (history_of c.journal.entries)) = tree_meets.keeps.made in
+        subst (λ ls. AreMade script (record { tree = history_of s.tree.seen; slices = ls }) (length (history_of s.tree.seen))) (lists_same now s.slices same)
+        (subst (λ xs. AreMade script (record { tree = history_of xs; slices = lists_of now }) (length (history_of xs))) (sym seen) had)
+
+    -- the tag that the tree gives
+    pub tree_tags : (s : SeenValue) (task cpu : ℕ) (tag : Tag) → s.tree.seen ≡ c.journal.entries → HaveSeenSame now s.slices → tag.epoch ≡ c.tree.epoch → tag.owner ≡ (resolve c.tree.machine c.tree.state task cpu).owner
+        → tag.class ≡ (resolve c.tree.machine c.tree.state task cpu).class → tag.rmid ≡ (resolve c.tree.machine c.tree.state task cpu).rmid → tag.mask ≡ (resolve c.tree.machine c.tree.state task cpu).mask
+        → tag.domain ≡ domain_of c.tree.machine cpu → HoldsTag script (seen_by s) task cpu tag
+    tree_tags s task cpu tag seen same epoch owner class rmid mask domain =
+        let history = history_of s.tree.seen in
+        let state : c.tree.state ≡ tree_after script history = kept.keeps.state_is ∙ ap (λ xs. tree_after script (history_of xs)) (sym seen) in
+        let owned : resolve c.tree.machine c.tree.state task cpu ≡ resolve script.machine (tree_after script history) task cpu =
+        ap (λ (m : Parameters). resolve m c.tree.state task cpu) kept.machine ∙ ap (λ (x : State). resolve script.machine x task cpu) state in
+        let is_epoch : tag.epoch ≡ length history = epoch ∙ (kept.epoch ∙ (ap length (sym seen) ∙ sym (history_length s.tree.seen))) in
+        let is : tag ≡ tag_of script.machine (tree_after script history) (length history) task cpu =
+        same_tag tag (tag_of script.machine (tree_after script history) (length history) task cpu) is_epoch (owner ∙ ap (λ (o : Owned). o.owner) owned) (class ∙ ap (λ (o : Owned). o.class) owned)
+        (rmid ∙ ap (λ (o : Owned). o.rmid) owned) (mask ∙ ap (λ (o : Owned). o.mask) owned) (domain ∙ ap (λ (m : Parameters). domain_of m cpu) kept.machine) in
+        subst (HoldsTag script (seen_by s) task cpu) (sym is) (HoldsTag-tag script (seen_by s) task cpu (tree_shows s seen same))

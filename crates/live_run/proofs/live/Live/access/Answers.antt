@@ -1,0 +1,38 @@
+use Rattle.std.proofs.Common.{◌≡◌, ℕ, ◌+◌, Some, drop, ap, ◌∙◌, sym, subst, arith}
+use Rattle.live_law.proofs.laws.OwnRoom.{access-room}
+use Rattle.live_law.specs.DoneOps.{AreEnded}
+use Rattle.live_run.proofs.Openings.{lists_after_access, next_few}
+use Rattle.live_run.proofs.Turns.{passes_access, still_ended}
+use Rattle.live_run.proofs.live.Live.access.Goals as goal
+use Rattle.live_run.specs.Names.{PassesValue, seen_by}
+use Rattle.run_law.specs.LookLists.{AreReady, rooms_of}
+use Rattle.script_ops.specs.Values.{op_at, ops_of}
+use Rattle.script_ops.specs.declared.op.Op.TheVariants.{Access}
+
+pub reach-reached-requires-clause-room : goal.reach-reached-requires-clause-room
+reach-reached-requires-clause-room g c =
+    let script = g.N.Named.script in
+    let is : op_at script c.p.inside.seen.thread c.p.inside.next ≡ Some (Access c.in-Access.task c.in-Access.cpu c.in-Access.addr) =
+    subst (λ (p : PassesValue). op_at script p.seen.thread p.next ≡ Some c.args.op.now) (sym c.p.view_is) c.requires.op ∙ ap (λ o. Some o) c.in-Access.is in
+    access-room script c.p.inside.seen.thread c.p.inside.next c.in-Access.task c.in-Access.cpu c.in-Access.addr (seen_by c.p.inside.seen) c.self.invariant.lawful is c.p.invariant.keep
+
+pub overflow_add-p : goal.overflow_add-p
+overflow_add-p g c =
+    let is : op_at g.N.Named.script c.p.inside.seen.thread c.p.inside.next ≡ Some c.args.op.now = subst (λ (p : PassesValue). op_at g.N.Named.script p.seen.thread p.next ≡ Some c.args.op.now) (sym c.p.view_is) c.requires.op in
+    omega (arith, next_few g.N.Named.script c.p.inside.seen.thread c.p.inside.next c.args.op.now c.self.invariant.lawful is)
+
+pub invariant_of-p : goal.invariant_of-p
+invariant_of-p g c =
+    let script = g.N.Named.script in
+    let t : ℕ = c.p.inside.seen.thread in
+    let n : ℕ = c.p.inside.next in
+    let ended : AreEnded script (seen_by c.p.inside.seen) t =
+    still_ended script t n (seen_by c.p.inside.seen) c.p.invariant.keep (subst (λ (p : PassesValue). p.next ≡ 0 → AreEnded script (seen_by p.seen) p.seen.thread) (sym c.p.view_is) c.requires.ended) in
+    let its : op_at script t n ≡ Some c.args.op.now = subst (λ (p : PassesValue). op_at script p.seen.thread p.next ≡ Some c.args.op.now) (sym c.p.view_is) c.requires.op in
+    let is : op_at script t n ≡ Some (Access c.in-Access.task c.in-Access.cpu c.in-Access.addr) = its ∙ ap (λ o. Some o) c.in-Access.is in
+    record {
+      keep = passes_access script n c.in-Access.task c.in-Access.cpu c.in-Access.addr c.reach-reached.result c.p.inside.seen c.reach-reached.new.s ended is c.reach-reached.ensures c.p.invariant.keep;
+      lists_are = subst (λ u. AreReady (rooms_of script.machine (drop (n + 1) (ops_of script u))) c.p.inside.looks) (sym c.reach-reached.ensures.thread)
+          (lists_after_access script t n c.args.op.now c.p.inside.looks its c.requires.access c.p.invariant.lists_are);
+      room = c.p.invariant.room;
+    }

@@ -1,0 +1,54 @@
+use Rattle.std.proofs.Common.{◌≡◌, ℕ, ◌+◌, drop, Some, sym, subst, arith}
+use Rattle.live_law.proofs.laws.Passes.{IsReady-begin, PassesKeep-end}
+use Rattle.live_law.specs.DoneOps.{AreEnded}
+use Rattle.live_law.specs.Passes.{PassesKeep}
+use Rattle.live_law.specs.Stages.{IsReady}
+use Rattle.live_run.proofs.Openings.{IsListFor, list_for, next_few, some_list}
+use Rattle.live_run.proofs.Turns.{still_ended}
+use Rattle.live_run.proofs.live.Live.command.Goals as goal
+use Rattle.live_run.proofs.live.Live.command.Goals.{After-take-looks}
+use Rattle.live_run.proofs.live.Live.command.Given.{Over}
+use Rattle.live_run.specs.Names.{PassesValue, seen_by}
+use Rattle.run_law.specs.LookLists.{AreReady, rooms_of}
+use Rattle.script_ops.specs.Values.{op_at, ops_of}
+
+-- the next op of what lies inside
+op_is : (g : Over) (c : After-take-looks g) → op_at g.N.Named.script c.p.inside.seen.thread c.p.inside.next ≡ Some c.args.op.now
+op_is g c = subst (λ (p : PassesValue). op_at g.N.Named.script p.seen.thread p.next ≡ Some c.args.op.now) (sym c.p.view_is) c.requires.op
+
+pub take-looks-requires : goal.take-looks-requires
+take-looks-requires g c =
+    let is : op_at g.N.Named.script c.p.inside.seen.thread c.p.inside.next ≡ Some c.args.op.now = subst (λ (p : PassesValue). op_at g.N.Named.script p.seen.thread p.next ≡ Some c.args.op.now) (sym c.p.view_is) c.requires.op in
+    some_list g.N.Named.script c.p.inside.seen.thread c.p.inside.next c.args.op.now c.p.inside.looks is c.requires.command c.p.invariant.lists_are
+
+-- the list that was taken
+list_is : (g : Over) (c : After-take-looks g) → IsListFor g.N.Named.script c.p.inside.seen.thread c.p.inside.next c.args.op.now c.take-looks.new.self c.take-looks.result
+list_is g c = list_for g.N.Named.script c.p.inside.seen.thread c.p.inside.next c.args.op.now c.p.inside.looks (op_is g c) c.requires.command c.p.invariant.lists_are c.take-looks.new.self c.take-looks.result c.take-looks.ensures
+
+pub command-reply-requires-clause-looks : goal.command-reply-requires-clause-looks
+command-reply-requires-clause-looks g c = (list_is g (goal.at.command-reply-requires-clause-looks g c).After-take-looks).empty
+
+pub command-reply-requires-clause-list : goal.command-reply-requires-clause-list
+command-reply-requires-clause-list g c = (list_is g (goal.at.command-reply-requires-clause-list g c).After-take-looks).room
+
+pub command-reply-requires-clause-ready : goal.command-reply-requires-clause-ready
+command-reply-requires-clause-ready g c =
+    let script = g.N.Named.script in
+    let ended : AreEnded script (seen_by c.p.inside.seen) c.p.inside.seen.thread =
+    still_ended script c.p.inside.seen.thread c.p.inside.next (seen_by c.p.inside.seen) c.p.invariant.keep (subst (λ (p : PassesValue). p.next ≡ 0 → AreEnded script (seen_by p.seen) p.seen.thread) (sym c.p.view_is) c.requires.ended) in
+    IsReady-begin script c.p.inside.seen.thread c.p.inside.next (seen_by c.p.inside.seen) ended c.p.invariant.keep
+
+pub overflow_add-p : goal.overflow_add-p
+overflow_add-p g c = omega (arith, next_few g.N.Named.script c.p.inside.seen.thread c.p.inside.next c.args.op.now c.self.invariant.lawful (op_is g (goal.at.overflow_add-p g c).After-take-looks))
+
+pub invariant_of-p : goal.invariant_of-p
+invariant_of-p g c =
+    let script = g.N.Named.script in
+    let t : ℕ = c.p.inside.seen.thread in
+    let n : ℕ = c.p.inside.next in
+    let ready : IsReady script t (n + 1) (seen_by c.command-reply.new.s) = c.command-reply.ensures.ready in
+    record {
+      keep = subst (λ u. PassesKeep script u (n + 1) (seen_by c.command-reply.new.s)) (sym c.command-reply.ensures.thread) (PassesKeep-end script ready.start t n (seen_by c.command-reply.new.s) ready.ended ready.keeps);
+      lists_are = subst (λ u. AreReady (rooms_of script.machine (drop (n + 1) (ops_of script u))) c.take-looks.new.self) (sym c.command-reply.ensures.thread) (list_is g (goal.at.invariant_of-p g c).After-take-looks).rest;
+      room = omega (arith, c.p.invariant.room, c.command-reply.ensures.room);
+    }

@@ -1,0 +1,35 @@
+use Rattle.std.proofs.Common.{◌≡◌, ◌∙◌, ap, arith}
+use Rattle.live_run.proofs.Turns.{access_fits, tag_domain, turn_can, turn_none, turn_some}
+use Rattle.live_run.proofs.live.Live.turn.Goals as goal
+use Rattle.machine.proofs.laws.Domains.{domain_of-lt}
+use Rattle.machine.specs.Maps.{line_of}
+use Rattle.machine.specs.Slices.{slice_of_line}
+use Rattle.machine.specs.declared.parameters.Parameters.{Parameters}
+
+pub tag-tag-requires-clause-task : goal.tag-tag-requires-clause-task
+tag-tag-requires-clause-task g c = (access_fits g.N.Named.script c.args.s.now.thread c.args.op c.args.task c.args.cpu c.args.addr c.self.invariant.lawful c.requires.op).0
+
+pub tag-tag-requires-clause-cpu : goal.tag-tag-requires-clause-cpu
+tag-tag-requires-clause-cpu g c = (access_fits g.N.Named.script c.args.s.now.thread c.args.op c.args.task c.args.cpu c.args.addr c.self.invariant.lawful c.requires.op).1
+
+pub line_slice-slice-requires : goal.line_slice-slice-requires
+line_slice-slice-requires g c =
+    let fits = access_fits g.N.Named.script c.args.s.now.thread c.args.op c.args.task c.args.cpu c.args.addr c.self.invariant.lawful c.requires.op in
+    let domain = tag_domain g.N.Named.script c.tag-tag.new.s c.args.task c.args.cpu c.tag-tag.result c.tag-tag.ensures.tag in
+    let there = domain_of-lt g.N.Named.script.machine c.args.cpu c.self.invariant.lawful.in_range fits.1 in
+    omega (arith, domain, there, ap (λ (m : Parameters). m.domains) c.self.invariant.machine)
+
+pub touch-requires-clause-may : goal.touch-requires-clause-may
+touch-requires-clause-may g c =
+    let number : c.line_slice-slice.result ≡ slice_of_line g.N.Named.script.machine c.tag-tag.result.domain (line_of c.args.addr) = c.line_slice-slice.ensures.number ∙ ap (λ (m : Parameters). slice_of_line m c.tag-tag.result.domain (line_of c.args.addr)) c.self.invariant.machine in
+    turn_can g.N.Named.script c.args.op c.args.task c.args.cpu c.args.addr c.line_slice-slice.result c.tag-tag.result c.args.s.now c.tag-tag.new.s c.self.invariant.lawful c.requires.op c.tag-tag.ensures.taken c.tag-tag.ensures.tag
+    c.tag-tag.ensures.known c.tag-tag.ensures.valid number c.requires.room
+
+pub returns-in-Some : goal.returns-in-Some
+returns-in-Some g c =
+    let number : c.line_slice-slice.result ≡ slice_of_line g.N.Named.script.machine c.tag-tag.result.domain (line_of c.args.addr) = c.line_slice-slice.ensures.number ∙ ap (λ (m : Parameters). slice_of_line m c.tag-tag.result.domain (line_of c.args.addr)) c.self.invariant.machine in
+    turn_some g.N.Named.script c.args.op c.args.task c.args.cpu c.args.addr c.line_slice-slice.result c.tag-tag.result c.in-Some.reached c.args.s.now c.tag-tag.new.s c.touch.new.s c.tag-tag.ensures.taken c.tag-tag.ensures.tag c.tag-tag.ensures.fresh number c.in-Some.ensures
+
+pub returns-in-None : goal.returns-in-None
+returns-in-None g c =
+    turn_none g.N.Named.script c.args.op c.args.task c.args.cpu c.args.addr c.line_slice-slice.result (line_of c.args.addr) c.tag-tag.result c.args.s.now c.tag-tag.new.s c.touch.new.s c.tag-tag.ensures.taken c.tag-tag.ensures.fresh c.tag-tag.ensures.most c.in-None.ensures

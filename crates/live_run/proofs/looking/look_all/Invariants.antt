@@ -1,0 +1,20 @@
+use Rattle.std.proofs.Common.{◌≡◌, ◌+◌, ◌≤◌, length}
+use Rattle.live_run.proofs.looking.look_all.Given as goal
+use Rattle.live_run.specs.Commands.{LooksAt}
+
+abbrev pub invariant-loop-q : goal.invariant-loop-q
+invariant-loop-q g l = record {
+  history : l.history ≡ l.fn.history;
+  tree : l.s.tree ≡ l.fn.s.tree;
+  thread : l.s.thread ≡ l.fn.s.thread;
+  room : length l.counts ≤ l.looks.spare + l.q;
+  at : LooksAt g.N.Named.script l.number l.op l.q 0 0 l.looks.numbers l.s;
+}
+
+abbrev pub invariant-loop-x : goal.invariant-loop-x
+invariant-loop-x g l = record {
+  history : l.history ≡ l.fn.history;
+  tree : l.s.tree ≡ l.fn.s.tree;
+  thread : l.s.thread ≡ l.fn.s.thread;
+  at : LooksAt g.N.Named.script l.number l.op l.q l.x l.lines l.looks.numbers l.s;
+}

@@ -1,0 +1,16 @@
+use Rattle.std.proofs.Common.{◌≡◌, ◌≤◌, length}
+use Rattle.live_run.proofs.parts.fresh_parts.Given as goal
+use Rattle.live_run.specs.Openings.{AreOfSlices, AreParts}
+use Rattle.machine.specs.Slices.{slice_count}
+
+abbrev pub invariant-loop-alloc : goal.invariant-loop-alloc
+invariant-loop-alloc g l = record {
+  name : l.tree.name ≡ l.fn.tree.name;
+  left : length l.logs.items ≤ l.tree.left;
+  few : length l.logs.items ≤ slice_count g.N.Named.script.machine;
+  logs : AreOfSlices g.N.Named.slices (length l.logs.items) l.logs.items;
+  parts : AreParts g.N.Named.script g.N.Named.tree g.N.Named.slices (length l.logs.items) l.parts.items;
+}
+
+abbrev pub decreases-loop-alloc : goal.decreases-loop-alloc
+decreases-loop-alloc g l = length l.logs.items

@@ -1,0 +1,33 @@
+use Rattle.std.proofs.Common.{ℕ, ◌-◌, length, sym, ap, ◌∙◌, subst, arith}
+use Rattle.cache_core.specs.Stands.{entry}
+use Rattle.seen_journal.proofs.laws.Prefixes.{length-prefix}
+use Rattle.live_run.proofs.Cells.{cell_clock, cell_floor, cell_notes}
+use Rattle.live_run.proofs.slice.SliceCell.follow.Goals as goal
+use Rattle.live_run.specs.Cells.{SliceCellValue}
+use Rattle.live_run.specs.Names.{history_of, name_at}
+use Rattle.run_law.specs.Journals.{At}
+use Rattle.seen_journal.specs.Passes.{HasSeen}
+
+pub enact-what-requires-clause-floor : goal.enact-what-requires-clause-floor
+enact-what-requires-clause-floor g c =
+    let old : SliceCellValue = record { cache = c.self.inside.cache; journal = c.self.inside.journal; tree = c.self.inside.tree } in
+    let floor = cell_floor g.N.Named.script g.N.Named.tree (name_at g.N.Named.slices g.row.I) g.row.I old c.self.invariant in
+    let longer = length-prefix c.self.inside.tree.seen c.show.new.pass.seen c.show.ensures.seen.prefix in
+    omega (arith, floor, longer, ap length c.show.ensures.seen.seen_are, c.requires.may.is_epoch)
+
+pub enact-what-requires-clause-clock : goal.enact-what-requires-clause-clock
+enact-what-requires-clause-clock g c =
+    let old : SliceCellValue = record { cache = c.self.inside.cache; journal = c.self.inside.journal; tree = c.self.inside.tree } in
+    cell_clock g.N.Named.script g.N.Named.tree (name_at g.N.Named.slices g.row.I) g.row.I old c.self.invariant
+
+pub invariant_of-self : goal.invariant_of-self
+invariant_of-self g c =
+    let i : ℕ = g.row.I in
+    let s = c.args.s.now in
+    let what = c.enact-what.result in
+    let old : SliceCellValue = record { cache = c.self.inside.cache; journal = c.self.inside.journal; tree = c.self.inside.tree } in
+    cell_notes g.N.Named.script g.N.Named.tree (name_at g.N.Named.slices i) i old c.show.new.pass s c.enact-what.new.cache c.note.new.journal c.args.op c.args.epoch (c.args.epoch - 1) what c.entry-entry.result c.self.invariant
+    (subst (λ l. HasSeen c.self.inside.tree c.show.new.pass l) (sym c.requires.may.whole) c.show.ensures.seen) c.thread.ensures.threads (c.requires.may.is_epoch ∙ ap length (sym c.requires.may.whole)) (omega arith) c.requires.may.known c.requires.may.made
+    (λ k h from less at. c.requires.may.last k h (omega (arith, from, less, c.requires.may.is_epoch)) (subst (λ xs. At (history_of xs) k h) c.requires.may.whole at))
+    c.enact-what.ensures.shape c.enact-what.ensures.rmids c.enact-what.ensures.adds (c.entry-entry.ensures ∙ ap (λ t. entry t c.args.op c.args.epoch what) c.thread.ensures.thread)
+    c.note.ensures.name c.note.ensures.list c.note.ensures.few c.note.ensures.prefix

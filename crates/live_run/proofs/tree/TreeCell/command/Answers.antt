@@ -1,0 +1,238 @@
+use Rattle.std.proofs.Common.{◌≡◌, ℕ, ◌+◌, ◌-◌, ◌<◌, List, [], ◌∷◌, ◌++◌, All, length, take, ap, refl, sym, ◌∙◌, subst, arith}
+use Rattle.std.specs.Prelude.{◌≤◌, None}
+use Rattle.std.proofs.Math.Seq.{take-append_seam}
+use Rattle.std.proofs.lemmas.List.{length_push}
+use Rattle.live_law.proofs.laws.OwnRoom.{command-room}
+use Rattle.live_law.proofs.laws.Prefixes.{IsPrefix-no_more}
+use Rattle.seen_journal.proofs.laws.Prefixes.{length-prefix}
+use Rattle.live_law.specs.SeenJournals.{is_from}
+use Rattle.live_run.proofs.Bridges.{history_length}
+use Rattle.live_run.proofs.Commands.{IsDecided, command_follows, command_kept, command_ready, command_replied}
+use Rattle.live_run.proofs.TakenTrees.{command_looks, counts_few, history_push, named-next, ready-room, state_sound}
+use Rattle.live_run.proofs.Readings.{next-reading, refusal-ok}
+use Rattle.live_run.proofs.Trees.{tree_tasks}
+use Rattle.live_run.proofs.tree.TreeCell.command.Goals as goal
+use Rattle.live_run.proofs.tree.TreeCell.command.Goals.{After-counts-counts, After-decide, After-take}
+use Rattle.live_run.proofs.tree.TreeCell.command.Given.{Over}
+use Rattle.live_run.specs.Cells.{AreOfThreads, TreeCellValue, TreeIsKept, taken_from}
+use Rattle.live_run.specs.Names.{history_of, seen_by}
+use Rattle.live_run.specs.Commands.{FollowsAt, LooksAt, shown_after}
+use Rattle.machine.specs.declared.parameters.Parameters.{Parameters}
+use Rattle.run_law.specs.Entries.{entry_value}
+use Rattle.run_law.specs.Jobs.{jobs_of, looks_of}
+use Rattle.run_law.specs.TreeHistory.{tree_after}
+use Rattle.run_law.specs.declared.journals.TreeEntry.{TreeEntry}
+use Rattle.run_law.proofs.laws.SoundHistories.{Fits-op_at}
+use Rattle.run_law.proofs.laws.LightRooms.{commands-light}
+use Rattle.script_ops.specs.Fits.{Fits}
+use Rattle.script_ops.specs.Values.{ScriptValue}
+use Rattle.tree_core.specs.Named.{AreNamed}
+use Rattle.seen_journal.specs.Journals.{JournalValue}
+use Rattle.seen_journal.specs.Passes.{PassValue}
+use Rattle.run_law.specs.FoundLooks.{AreDistinct}
+use Rattle.live_run.proofs.FoundSums.{AreDistinct-pairs}
+use Rattle.tree_law.proofs.laws.DistinctCounts.{needs-distinct}
+use Rattle.tree_law.specs.LawsCounts.{CanLook}
+use Rattle.tree_core.specs.Follows.{IsReady}
+use Rattle.tree_law.specs.State.{State, tasks_of}
+use Rattle.tree_law.specs.Steps.{after, follow_domain, needs, next, refusal}
+use Rattle.tree_law.specs.declared.follow.Follow.{Follow}
+
+-- the cell's state fits the op
+op_fits_now : (g : Over) (c : After-take g) → Fits c.self.inside.tree.machine (tasks_of c.self.inside.tree.state) c.args.op.now
+op_fits_now g c =
+    let old : TreeCellValue = record { tree = c.self.inside.tree; journal = c.self.inside.journal; slices = c.self.inside.slices.items } in
+    let fits : Fits g.N.Named.script.machine g.N.Named.script.tasks c.args.op.now = Fits-op_at g.N.Named.script c.args.s.now.thread c.args.number c.args.op.now c.self.invariant.lawful c.requires.op in
+    subst (λ (m : Parameters). Fits m (tasks_of c.self.inside.tree.state) c.args.op.now) (sym c.self.invariant.machine)
+    (subst (λ (ts : List ℕ). Fits g.N.Named.script.machine ts c.args.op.now) (sym (tree_tasks g.N.Named.script g.N.Named.tree g.N.Named.slices old c.self.invariant)) fits)
+
+pub counts-counts-requires : goal.counts-counts-requires
+counts-counts-requires g c = record { fits = op_fits_now g (goal.at.counts-counts-requires g c).After-take }
+
+-- the counts that the command needs
+counts_are : (g : Over) (c : After-counts-counts g) → c.counts-counts.result ≡ needs g.N.Named.script.machine (tree_after g.N.Named.script (history_of c.self.inside.journal.entries)) c.args.op.now
+counts_are g c =
+    c.counts-counts.ensures.needs
+    ∙ (ap (λ (m : Parameters). needs m c.self.inside.tree.state c.args.op.now) c.self.invariant.machine
+    ∙ ap (λ (x : State). needs g.N.Named.script.machine x c.args.op.now) c.self.invariant.keeps.state_is)
+
+pub look_all-requires : goal.look_all-requires
+look_all-requires g c =
+    let script = g.N.Named.script in
+    let old : TreeCellValue = record { tree = c.self.inside.tree; journal = c.self.inside.journal; slices = c.self.inside.slices.items } in
+    let counts = counts_are g (goal.at.look_all-requires g c).After-counts-counts in
+    let entries : c.take.new.journal.entries ≡ old.journal.entries = ap (λ (j : JournalValue TreeEntry). j.entries) c.take.ensures.journal in
+    let sound = state_sound script g.N.Named.tree g.N.Named.slices old c.self.invariant in
+    let few = counts_few script g.N.Named.tree g.N.Named.slices old c.self.invariant c.take.new.slices.items c.take.ensures.passes c.take.ensures.grown c.args.s.now c.take.new.s c.args.number c.args.op.now
+    c.requires.op c.requires.command c.take.ensures.taken c.take.ensures.tree c.take.ensures.same c.requires.ready in
+    record {
+      machine = c.machine-m.ensures ∙ ap (λ (x : ScriptValue). x.machine) c.requires.script;
+      range = c.self.invariant.lawful.in_range;
+      name = ap (λ (j : JournalValue TreeEntry). j.name) c.take.ensures.journal ∙ c.self.invariant.journal_is;
+      whole = c.take.ensures.tree ∙ sym entries;
+      epoch = c.epoch-before.ensures ∙ (c.self.invariant.epoch ∙ ap length (sym entries));
+      counts = counts ∙ ap (λ xs. needs script.machine (tree_after script (history_of xs)) c.args.op.now) (sym c.take.ensures.tree);
+      distinct = subst (λ (xs : List (ℕ × ℕ)). AreDistinct xs) (sym counts)
+          (AreDistinct-pairs (needs script.machine (tree_after script (history_of old.journal.entries)) c.args.op.now) (needs-distinct script.machine (tree_after script (history_of old.journal.entries)) c.args.op.now sound));
+      exist = subst (λ (m : Parameters). All (CanLook m) c.counts-counts.result) c.self.invariant.machine c.counts-counts.ensures.exist;
+      room = omega (arith, few, ap length counts, c.requires.list);
+      at = subst (λ (ns : List ℕ). LooksAt script c.args.number c.args.op.now 0 0 0 ns c.take.new.s) (sym c.requires.looks)
+          (command_looks script g.N.Named.tree g.N.Named.slices old c.self.invariant c.take.new.slices.items c.take.ensures.passes c.take.ensures.grown c.args.s.now c.take.new.s c.args.number c.args.op.now
+          c.requires.op c.requires.command c.take.ensures.taken c.take.ensures.tree c.take.ensures.same c.requires.ready);
+    }
+
+-- what is known when the command is decided
+is_decided : (g : Over) (c : After-decide g) → c.counts-counts.result ≡ needs g.N.Named.script.machine (tree_after g.N.Named.script (history_of c.self.inside.journal.entries)) c.args.op.now
+    → IsDecided g.N.Named.script (record { tree = c.self.inside.tree; journal = c.self.inside.journal; slices = c.self.inside.slices.items }) c.args.s.now c.look_all.new.s c.decide.new.s c.args.number c.args.op.now c.apply-reply.new.self c.decide.new.journal
+    (record { thread = c.thread.result; op = c.args.number; reply = c.apply-reply.result.0; looks = c.look_all.new.looks })
+is_decided g c counts =
+    let items : c.items.result.now ≡ c.look_all.new.looks.numbers = c.items.ensures in
+    let entry : TreeEntry = record { thread = c.thread.result; op = c.args.number; reply = c.apply-reply.result.0; looks = c.look_all.new.looks } in
+    let journal : c.look_all.new.history ≡ c.self.inside.journal = c.look_all.ensures.history ∙ c.take.ensures.journal in
+    let thread : c.look_all.new.s.thread ≡ c.args.s.now.thread = c.look_all.ensures.thread ∙ c.take.ensures.taken.thread in
+    record {
+      same_thread = thread;
+      whole = ap (λ (p : PassValue TreeEntry). p.seen) c.look_all.ensures.tree ∙ c.take.ensures.tree;
+      at = subst (λ (xs : List (ℕ × ℕ)). LooksAt g.N.Named.script c.args.number c.args.op.now (length xs) 0 0 c.look_all.new.looks.numbers c.look_all.new.s) counts c.look_all.ensures.done;
+      thread = c.thread.ensures.thread ∙ thread;
+      number = refl;
+      reply = c.apply-reply.ensures.reply ∙ ap (λ (ns : List ℕ). (next c.self.inside.tree.machine c.self.inside.tree.state c.args.op.now ns).reply) items;
+      machine = c.apply-reply.ensures.machine;
+      state = c.apply-reply.ensures.state ∙ ap (λ (ns : List ℕ). (next c.self.inside.tree.machine c.self.inside.tree.state c.args.op.now ns).state) items;
+      epoch = c.apply-reply.ensures.epoch;
+      name = c.decide.ensures.name ∙ ap (λ (j : JournalValue TreeEntry). j.name) journal;
+      list = c.decide.ensures.list ∙ ap (λ (j : JournalValue TreeEntry). j.entries ++ (c.look_all.new.s.thread, entry) ∷ []) journal;
+      threads = c.decide.ensures.threads;
+      new_thread = c.decide.ensures.thread;
+      seen = c.decide.ensures.seen;
+      slices = c.decide.ensures.slices;
+    }
+
+pub apply-reply-requires-clause-looks : goal.apply-reply-requires-clause-looks
+apply-reply-requires-clause-looks g c =
+    ap length c.items.ensures ∙ (c.look_all.ensures.done.count ∙ ap length c.counts-counts.ensures.needs)
+
+pub decide-requires : goal.decide-requires
+decide-requires g c =
+    let at = c.look_all.ensures.done in
+    let journal : c.look_all.new.history ≡ c.self.inside.journal = c.look_all.ensures.history ∙ c.take.ensures.journal in
+    record {
+      name = ap (λ (j : JournalValue TreeEntry). j.name) journal ∙ c.self.invariant.journal_is;
+      threads = subst (λ (j : JournalValue TreeEntry). AreOfThreads taken_from j.entries) (sym journal) c.self.invariant.threads;
+      thread = c.thread.ensures.thread;
+      room = command-room g.N.Named.script at.start c.look_all.new.s.thread c.args.number c.args.op.now at.found (seen_by c.look_all.new.s) at.is;
+    }
+
+pub apply-reply-requires-clause-fits : goal.apply-reply-requires-clause-fits
+apply-reply-requires-clause-fits g c = op_fits_now g (goal.at.apply-reply-requires-clause-fits g c).After-take
+
+pub follow_all-requires : goal.follow_all-requires
+follow_all-requires g c =
+    let script = g.N.Named.script in
+    let old : TreeCellValue = record { tree = c.self.inside.tree; journal = c.self.inside.journal; slices = c.self.inside.slices.items } in
+    let entry : TreeEntry = record { thread = c.thread.result; op = c.args.number; reply = c.apply-reply.result.0; looks = c.look_all.new.looks } in
+    let its = is_decided g (goal.at.follow_all-requires g c).After-decide (counts_are g (goal.at.follow_all-requires g c).After-counts-counts) in
+    let k : ℕ = length (history_of old.journal.entries) in
+    let many : length c.decide.new.journal.entries ≡ length old.journal.entries + 1 = ap length its.list ∙ length_push old.journal.entries (c.look_all.new.s.thread, entry) in
+    let epoch : c.epoch-epoch.result ≡ length old.journal.entries + 1 = c.epoch-epoch.ensures ∙ (its.epoch ∙ ap (λ x. x + 1) c.self.invariant.epoch) in
+    let position : k ≡ c.epoch-epoch.result - 1 = omega (arith, epoch, history_length old.journal.entries) in
+    let history : history_of c.decide.new.s.tree.seen ≡ history_of old.journal.entries ++ entry_value entry ∷ [] = ap history_of (its.seen ∙ its.list) ∙ history_push old.journal.entries c.look_all.new.s.thread entry in
+    let front : take k (history_of c.decide.new.s.tree.seen) ≡ history_of old.journal.entries = ap (take k) history ∙ take-append_seam (history_of old.journal.entries) (entry_value entry ∷ []) in
+    let place : c.self.inside.tree.epoch ≡ k = c.self.invariant.epoch ∙ sym (history_length old.journal.entries) in
+    let follows : c.apply-reply.result.1.items ≡ after script.machine (tree_after script (take k (history_of c.decide.new.s.tree.seen))) k c.args.op.now =
+    c.apply-reply.ensures.after
+    ∙ (ap (λ (m : Parameters). after m c.self.inside.tree.state c.self.inside.tree.epoch c.args.op.now) c.self.invariant.machine
+    ∙ (ap (λ (x : State). after script.machine x c.self.inside.tree.epoch c.args.op.now) (c.self.invariant.keeps.state_is ∙ ap (tree_after script) (sym front))
+    ∙ ap (λ x. after script.machine (tree_after script (take k (history_of c.decide.new.s.tree.seen))) x c.args.op.now) place)) in
+    let all : c.as_slice.result.now ≡ c.apply-reply.result.1.items = c.as_slice.ensures.value in
+    record {
+      machine = c.machine-m.ensures ∙ ap (λ (x : ScriptValue). x.machine) c.requires.script;
+      range = c.self.invariant.lawful.in_range;
+      name = its.name ∙ c.self.invariant.journal_is;
+      whole = its.seen;
+      epoch = (omega (arith, epoch), omega (arith, epoch, many));
+      follows = subst (λ q. c.as_slice.result.now ≡ after script.machine (tree_after script (take q (history_of c.decide.new.s.tree.seen))) q c.args.op.now) position (all ∙ follows);
+      domains = subst (λ (fs : List Follow). All (λ f. follow_domain f < script.machine.domains) fs) (sym all) (subst (λ (m : Parameters). All (λ f. follow_domain f < m.domains) c.apply-reply.result.1.items) c.self.invariant.machine c.apply-reply.ensures.domains);
+      ready = subst (λ (fs : List Follow). All (IsReady script.machine) fs) (sym all) (subst (λ (m : Parameters). All (IsReady m) c.apply-reply.result.1.items) c.self.invariant.machine c.apply-reply.ensures.ready);
+      at = subst (λ q. FollowsAt script c.args.number q c.args.op.now (length (looks_of script (history_of c.decide.new.s.tree.seen) q c.args.op.now)) c.decide.new.s) position
+          (command_follows script g.N.Named.tree g.N.Named.slices old c.self.invariant c.take.new.slices.items c.take.ensures.passes c.take.ensures.grown c.args.s.now c.look_all.new.s c.decide.new.s c.args.number c.args.op.now c.apply-reply.new.self c.decide.new.journal entry
+          c.requires.op c.requires.command its);
+    }
+
+pub invariant_of-self : goal.invariant_of-self
+invariant_of-self g c =
+    let script = g.N.Named.script in
+    let old : TreeCellValue = record { tree = c.self.inside.tree; journal = c.self.inside.journal; slices = c.self.inside.slices.items } in
+    let entry : TreeEntry = record { thread = c.thread.result; op = c.args.number; reply = c.apply-reply.result.0; looks = c.look_all.new.looks } in
+    let its = is_decided g (goal.at.invariant_of-self g c).After-decide (counts_are g (goal.at.invariant_of-self g c).After-counts-counts) in
+    let k : ℕ = length (history_of old.journal.entries) in
+    let epoch : c.epoch-epoch.result ≡ length old.journal.entries + 1 = c.epoch-epoch.ensures ∙ (its.epoch ∙ ap (λ x. x + 1) c.self.invariant.epoch) in
+    let position : c.epoch-epoch.result - 1 ≡ k = omega (arith, epoch, history_length old.journal.entries) in
+    let done : FollowsAt script c.args.number k c.args.op.now (length (jobs_of script (history_of c.decide.new.s.tree.seen) k c.args.op.now)) c.follow_all.new.s =
+    subst (λ q. FollowsAt script c.args.number q c.args.op.now (length (jobs_of script (history_of c.decide.new.s.tree.seen) q c.args.op.now)) c.follow_all.new.s) position c.follow_all.ensures.done in
+    subst (λ (j : JournalValue TreeEntry). TreeIsKept script g.N.Named.tree g.N.Named.slices (record { tree = c.apply-reply.new.self; journal = j; slices = c.release.new.slices.items })) (sym c.follow_all.ensures.history)
+    (command_kept script g.N.Named.tree g.N.Named.slices old c.self.invariant c.take.new.slices.items c.take.ensures.passes c.take.ensures.grown c.args.s.now c.look_all.new.s c.decide.new.s c.args.number c.args.op.now c.apply-reply.new.self c.decide.new.journal entry
+    c.requires.op c.requires.command its c.release.new.slices.items c.release.ensures.passes c.release.ensures.grown c.follow_all.new.s c.release.new.s done c.follow_all.ensures.tree c.follow_all.ensures.thread c.release.ensures.taken c.release.ensures.tree c.release.ensures.same)
+
+pub returns-clause-ready : goal.returns-clause-ready
+returns-clause-ready g c =
+    let script = g.N.Named.script in
+    let old : TreeCellValue = record { tree = c.self.inside.tree; journal = c.self.inside.journal; slices = c.self.inside.slices.items } in
+    let entry : TreeEntry = record { thread = c.thread.result; op = c.args.number; reply = c.apply-reply.result.0; looks = c.look_all.new.looks } in
+    let its = is_decided g (goal.at.returns-clause-ready g c).After-decide (counts_are g (goal.at.returns-clause-ready g c).After-counts-counts) in
+    let k : ℕ = length (history_of old.journal.entries) in
+    let epoch : c.epoch-epoch.result ≡ length old.journal.entries + 1 = c.epoch-epoch.ensures ∙ (its.epoch ∙ ap (λ x. x + 1) c.self.invariant.epoch) in
+    let position : c.epoch-epoch.result - 1 ≡ k = omega (arith, epoch, history_length old.journal.entries) in
+    let done : FollowsAt script c.args.number k c.args.op.now (length (jobs_of script (history_of c.decide.new.s.tree.seen) k c.args.op.now)) c.follow_all.new.s =
+    subst (λ q. FollowsAt script c.args.number q c.args.op.now (length (jobs_of script (history_of c.decide.new.s.tree.seen) q c.args.op.now)) c.follow_all.new.s) position c.follow_all.ensures.done in
+    command_ready script g.N.Named.tree g.N.Named.slices old c.self.invariant c.take.new.slices.items c.take.ensures.passes c.take.ensures.grown c.args.s.now c.look_all.new.s c.decide.new.s c.args.number c.args.op.now c.apply-reply.new.self c.decide.new.journal entry
+    c.requires.op c.requires.command its c.release.new.slices.items c.release.ensures.passes c.release.ensures.grown c.follow_all.new.s c.release.new.s done c.follow_all.ensures.tree c.follow_all.ensures.thread c.release.ensures.taken c.release.ensures.tree c.release.ensures.same
+
+pub returns-clause-reply : goal.returns-clause-reply
+returns-clause-reply g c =
+    let script = g.N.Named.script in
+    let old : TreeCellValue = record { tree = c.self.inside.tree; journal = c.self.inside.journal; slices = c.self.inside.slices.items } in
+    let entry : TreeEntry = record { thread = c.thread.result; op = c.args.number; reply = c.apply-reply.result.0; looks = c.look_all.new.looks } in
+    let its = is_decided g (goal.at.returns-clause-reply g c).After-decide (counts_are g (goal.at.returns-clause-reply g c).After-counts-counts) in
+    let before = c.args.s.now.tree.seen in
+    let longer = length-prefix (history_of before) (history_of c.take.new.s.tree.seen) (IsPrefix-no_more (is_from c.args.s.now.thread) (history_of before) (history_of c.take.new.s.tree.seen) c.take.ensures.taken.sees.tree) in
+    let late : length (history_of before) ≤ length (history_of old.journal.entries) = omega (arith, longer, ap (λ xs. length (history_of xs)) c.take.ensures.tree) in
+    let text : c.show.new.shown.bytes ≡ shown_after script c.apply-reply.new.self.state c.args.op.now entry.looks.numbers entry.reply c.args.shown.now.bytes =
+    c.show.ensures.bytes
+    ∙ (ap (λ (x : ScriptValue). shown_after x c.apply-reply.new.self.state c.args.op.now c.items-2.result.now entry.reply c.args.shown.now.bytes) c.requires.script
+    ∙ ap (λ ns. shown_after script c.apply-reply.new.self.state c.args.op.now ns entry.reply c.args.shown.now.bytes) c.items-2.ensures) in
+    command_replied script g.N.Named.tree g.N.Named.slices old c.self.invariant c.take.new.slices.items c.take.ensures.passes c.take.ensures.grown c.args.s.now c.look_all.new.s c.decide.new.s c.args.number c.args.op.now c.apply-reply.new.self c.decide.new.journal entry
+    c.requires.op c.requires.command its c.args.s.now c.release.new.s c.args.shown.now.bytes c.show.new.shown.bytes refl late (c.release.ensures.tree ∙ c.follow_all.ensures.tree) text
+
+pub apply-reply-requires-clause-epoch : goal.apply-reply-requires-clause-epoch
+apply-reply-requires-clause-epoch g c =
+    let script = g.N.Named.script in
+    let room = c.take.ensures.room (ready-room script c.args.s.now.thread c.args.number c.args.op.now (seen_by c.args.s.now) c.requires.op c.requires.command c.requires.ready) in
+    omega (arith, room, c.self.invariant.epoch, commands-light script c.self.invariant.lawful)
+
+pub show-requires-clause-accepted : goal.show-requires-clause-accepted
+show-requires-clause-accepted g c reads ok =
+    let m = c.self.inside.tree.machine in
+    let s = c.self.inside.tree.state in
+    let op = c.args.op.now in
+    let looks = c.items.result.now in
+    let none : refusal m s op ≡ None = refusal-ok m s op looks (sym c.apply-reply.ensures.reply ∙ ok) in
+    let same : c.apply-reply.new.self.state ≡ s = c.apply-reply.ensures.state ∙ next-reading m s op looks reads in
+    ap (λ (x : Parameters). refusal x c.apply-reply.new.self.state op) (ap (λ (x : ScriptValue). x.machine) c.requires.script ∙ sym c.self.invariant.machine) ∙ (ap (λ (x : State). refusal m x op) same ∙ none)
+
+pub show-requires-clause-looks : goal.show-requires-clause-looks
+show-requires-clause-looks g c reads =
+    let m = c.self.inside.tree.machine in
+    let s = c.self.inside.tree.state in
+    let op = c.args.op.now in
+    let same : c.apply-reply.new.self.state ≡ s = c.apply-reply.ensures.state ∙ next-reading m s op c.items.result.now reads in
+    let given : length c.items-2.result.now ≡ length (needs m s op) = ap length c.items-2.ensures ∙ (c.look_all.ensures.done.count ∙ ap length c.counts-counts.ensures.needs) in
+    given
+    ∙ (ap (λ (x : State). length (needs m x op)) (sym same)
+    ∙ ap (λ (x : Parameters). length (needs x c.apply-reply.new.self.state op)) (sym (ap (λ (x : ScriptValue). x.machine) c.requires.script ∙ sym c.self.invariant.machine)))
+
+pub show-requires-clause-named : goal.show-requires-clause-named
+show-requires-clause-named g c =
+    let script = g.N.Named.script in
+    subst (λ (x : ScriptValue). AreNamed x.names c.apply-reply.new.self.state.groups) (sym c.requires.script)
+    (named-next script c.self.inside.tree.machine c.self.inside.tree.state c.apply-reply.new.self.state c.args.s.now.thread c.args.number c.args.op.now c.items.result.now c.self.invariant.lawful c.requires.op c.apply-reply.ensures.state c.self.invariant.named)

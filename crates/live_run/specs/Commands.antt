@@ -1,0 +1,59 @@
+-- A command, step by step.
+use Rattle.std.specs.Prelude.{◌≡◌, ℕ, ◌+◌, ◌*◌, ◌<◌, ◌≤◌, ◌^◌, All, slice_get, slice_index_or, if◌then◌else◌, List, length, take, Some}
+use Rattle.file_view.specs.Texts.{is_reading, text_of}
+use Rattle.lists.specs.Sums.{sum_below}
+use Rattle.live_law.specs.DoneOps.{AreEnded}
+use Rattle.live_law.specs.Stages.{IsFollowing, IsLooking}
+use Rattle.live_run.specs.Names.{PassesValue, SeenValue, history_of, seen_by}
+use Rattle.rc_base.specs.declared.replies.Reply.{Reply}
+use Rattle.rc_base.specs.declared.replies.Reply.TheVariants as replies
+use Rattle.run_law.specs.Journals.{At, JournalsValue}
+use Rattle.run_law.specs.TreeHistory.{TreeEntryValue, tree_after}
+use Rattle.script_ops.specs.Values.{ScriptValue}
+use Rattle.script_ops.specs.declared.op.Op.{Op}
+use Rattle.tree_law.specs.State.{State}
+use Rattle.tree_law.specs.Steps.{next}
+
+-- the sum of the first numbers found for a count: one for each slice of its domain
+abbrev pub found_at : ℕ → List ℕ → ℕ → ℕ → ℕ
+found_at slices found q number = sum_below number (λ x. slice_index_or found (q * slices + x) 0)
+
+-- A thread looks for its command c, op n, which is not decided yet: it has q counts whole, and of the next the lines of x slices.
+pub record LooksAt (script : ScriptValue) (n : ℕ) (c : Op) (q x lines : ℕ) (numbers : List ℕ) (s : SeenValue) : Type 0 where
+  pub start : JournalsValue
+  pub ended : AreEnded script start s.thread
+  pub found : List ℕ
+  pub is : IsLooking script start s.thread n c found (seen_by s)
+  pub made : length found ≡ q * script.machine.slices + x
+  pub count : length numbers ≡ q
+  pub each : (p : ℕ) → p < q → slice_get numbers p ≡ Some (found_at script.machine.slices found p script.machine.slices)
+  pub few : All (λ n. n ≤ 2 ^ 32) numbers
+  pub lines_are : lines ≡ found_at script.machine.slices found q x
+  pub bound : lines ≤ x * 2097152
+
+-- A thread follows its command c, op n, which stands last in the tree's history, at position k: it has made so many entries.
+pub record FollowsAt (script : ScriptValue) (n k : ℕ) (c : Op) (made : ℕ) (s : SeenValue) : Type 0 where
+  pub start : JournalsValue
+  pub ended : AreEnded script start s.thread
+  pub h : TreeEntryValue
+  pub is : IsFollowing script start s.thread n k c h made (seen_by s)
+  pub last : k + 1 ≡ length s.tree.seen
+
+-- the text that is shown after a command with this reply: that of an accepted read or list, in the state before it and by the
+-- counts that it was given, and else the one that was shown before
+abbrev pub shown_after : ScriptValue → State → Op → List ℕ → Reply → List ℕ → List ℕ
+shown_after script state c looks replies.Ok before = if is_reading c then text_of script.machine state script.names c looks else before
+shown_after script state c looks reply before = before
+
+-- A command's answer: its entry stands in the tree's history behind all that its thread had seen, which has now seen it; and after the
+-- history in front of it the tree's law gives this reply, and the files show this text.
+pub record HasReplied (script : ScriptValue) (c : Op) (reply : Reply) (old new : PassesValue) : Type 0 where
+  pub k : ℕ
+  pub h : TreeEntryValue
+  pub there : At (history_of new.seen.tree.seen) k h
+  pub thread : h.thread ≡ old.seen.thread
+  pub number : h.op ≡ old.next
+  pub noted : h.reply ≡ reply
+  pub late : length (history_of old.seen.tree.seen) ≤ k
+  pub reply_is : reply ≡ (next script.machine (tree_after script (take k (history_of new.seen.tree.seen))) c h.looks).reply
+  pub shown_is : new.shown ≡ shown_after script (tree_after script (take k (history_of new.seen.tree.seen))) c h.looks reply old.shown

@@ -1,0 +1,13 @@
+pub mod Accesses
+pub mod Cells
+pub mod Closings
+pub mod Commands
+pub mod Ends
+pub mod Logs
+pub mod Names
+pub mod Openings
+pub mod Passes
+pub mod Phases
+pub mod Quotas
+pub mod Steps
+pub mod Visits

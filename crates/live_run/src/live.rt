@@ -1,0 +1,113 @@
+//! The shared tree and slices.
+ghost use Rattle.std.specs.Prelude.{◌≡◌, ◌+◌, IsTrue, Some, false};
+ghost use Rattle.live_law.specs.DoneOps.{AreEnded, HasEnded};
+ghost use Rattle.live_run.specs.Accesses.{HasAccessed};
+ghost use Rattle.live_run.specs.Commands.{HasReplied};
+ghost use Rattle.live_run.specs.Names.{seen_by};
+ghost use Rattle.live_run.specs.Phases.{IsAtEnd};
+ghost use Rattle.live_run.specs.Steps.{HasTaken};
+ghost use Rattle.run_law.specs.Ops.{ByKind, is_command};
+ghost use Rattle.script_ops.specs.Values.{op_at};
+
+use crate::closing::Closing;
+use crate::holding::SliceGate;
+use crate::named::Named;
+use crate::passes::Passes;
+use crate::slices::Slices;
+use crate::taking::hand;
+use crate::tree::TreeCell;
+use cache_steps::Reached;
+use machine::Machine;
+use rc_base::Reply;
+use rc_stream::Gate;
+use script_ops::{Op, Script};
+use std::marker::Model;
+use std::sync::{Mutex, Wait};
+
+/// The tree and the slices, each under a lock of its own.
+#[derive(Drop)]
+pub struct Live<N: Named> {
+    pub(crate) machine: Machine,
+    pub(crate) tree: Mutex<TreeCell<N>>,
+    pub(crate) slices: Slices<N>,
+    // No one else takes this lock: it is there since threads may not share a pass.
+    pub(crate) closing: Mutex<Closing<N>>,
+}
+
+impl<N: Named> Model for Live<N> {
+    ghost use Rattle.live_run.specs.Cells.{LiveIsKept};
+    ghost use Rattle.machine.specs.Maps.{parameters_of};
+    ghost use Rattle.machine.specs.declared.parameters.Parameters.{Parameters};
+
+    ghost Value = { Parameters };
+
+    ghost view = { λ l. parameters_of l.machine };
+
+    ghost invariant = { λ l. LiveIsKept N.script N.tree N.slices (parameters_of l.machine) };
+}
+
+impl<N: Named> Live<N> {
+    /// Takes a thread's next op, a command: its reply, at its place in the one history of the tree. The tree's lock is held until all
+    /// that follows the command is entered.
+    pub fn command<R: Wait>(&self, rt: &R, script: &Script, p: &mut Passes<N>, op: &Op) -> Reply
+        requires script { script.now ≡ N.script }
+        requires op { op_at N.script p.old.seen.thread p.old.next ≡ Some op.now }
+        requires command { IsTrue (is_command op.now) }
+
+        // The threads of earlier phases have ended, as far as this one has seen. Once it has begun this is known.
+        requires ended { p.old.next ≡ 0 → AreEnded N.script (seen_by p.old.seen) p.old.seen.thread }
+        ensures reply { HasReplied N.script op.now result p.old p.new }
+        ensures thread { p.new.seen.thread ≡ p.old.seen.thread }
+        ensures next { p.new.next ≡ p.old.next + 1 }
+    {
+        let looks = p.looks.take();
+        let reply = self.tree.lock(rt).command(
+            rt,
+            &self.slices,
+            script,
+            &mut p.seen,
+            p.next,
+            op,
+            looks,
+            &mut p.shown,
+        );
+        p.next += 1;
+        reply
+    }
+
+    /// Makes a thread's next op, an access: it tags and touches, and tags again while its tag is stale. No lock is held between, and
+    /// the gate is called with the lock of the slice held.
+    pub fn access<R: Wait, G: Gate>(&self, rt: &R, p: &mut Passes<N>, op: &Op, gate: &G) -> Reached
+        requires op { op_at N.script p.old.seen.thread p.old.next ≡ Some op.now }
+        requires access { is_command op.now ≡ false }
+        requires ended { p.old.next ≡ 0 → AreEnded N.script (seen_by p.old.seen) p.old.seen.thread }
+        ensures accessed { ByKind (λ task cpu addr. HasAccessed N.script p.old.next task cpu addr result p.old.seen p.new.seen) (Unit {0}) op.now }
+        ensures shown { p.new.shown ≡ p.old.shown }
+        ensures thread { p.new.seen.thread ≡ p.old.seen.thread }
+        ensures next { p.new.next ≡ p.old.next + 1 }
+    {
+        // What the type keeps says that the script is lawful, so that there is room.
+        let _ = &self.machine;
+        let Op::Access { task, cpu, addr } = op else {
+            unreachable!()
+        };
+        let hold = SliceGate { gate };
+        let reached = self.reach(rt, &hold, &mut p.seen, p.next, *task, *cpu, *addr);
+        p.next += 1;
+        reached
+    }
+
+    /// The later thread has seen what the earlier one has, and the earlier one what the later one has. Where one is at its end, the
+    /// other has seen that it has ended.
+    pub fn hand_on(&self, earlier: &mut Passes<N>, later: &mut Passes<N>)
+        ensures earlier { HasTaken earlier.old.seen earlier.new.seen }
+        ensures later { HasTaken later.old.seen later.new.seen }
+        ensures same { seen_by earlier.new.seen ≡ seen_by later.new.seen }
+        ensures next { (earlier.new.next ≡ earlier.old.next) × (later.new.next ≡ later.old.next) }
+        ensures shown { (earlier.new.shown ≡ earlier.old.shown) × (later.new.shown ≡ later.old.shown) }
+        ensures ended { IsAtEnd N.script earlier.old → HasEnded N.script (seen_by later.new.seen) earlier.old.seen.thread }
+        ensures later_ended { IsAtEnd N.script later.old → HasEnded N.script (seen_by earlier.new.seen) later.old.seen.thread }
+    {
+        hand(&mut earlier.seen, &mut later.seen);
+    }
+}

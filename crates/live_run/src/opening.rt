@@ -1,0 +1,54 @@
+//! A run before its first op.
+ghost use Rattle.std.specs.Prelude.{◌≡◌, IfOk};
+ghost use Rattle.live_run.specs.Phases.{AreBefore};
+ghost use Rattle.live_run.specs.Quotas.{HaveQuotas};
+
+use crate::closing::Closing;
+use crate::live::Live;
+use crate::logs::Logs;
+use crate::named::Named;
+use crate::parts::fresh_parts;
+use crate::passes::Passes;
+use crate::slices::Slices;
+use crate::starting::{all_first, take_each};
+use crate::tree::TreeCell;
+use rc_base::NoMemory;
+use run_law::command_counts;
+use script_ops::Script;
+use std::alloc::Global;
+use std::sync::Mutex;
+
+impl<N: Named> Live<N> {
+    /// The shared tree and slices before the first op of a script, and the passes of each thread. All that the run needs is taken
+    /// here: nothing after this takes memory. NoMemory where there is no room for it.
+    pub fn create(
+        alloc: Global,
+        script: &Script,
+        logs: Logs,
+    ) -> Result<(Live<N>, Vec<Passes<N>>), NoMemory>
+        requires script { script.now ≡ N.script }
+        requires tree { logs.tree ≡ N.tree }
+        requires slices { logs.slices ≡ N.slices }
+        requires quotas { HaveQuotas N.script N.tree N.slices }
+        ensures { IfOk result (λ r. AreBefore N.script 0 r.1.items) }
+    {
+        let Logs {
+            mut tree,
+            mut slices,
+        } = logs;
+        let counts = command_counts(alloc, script)?;
+        let passes = all_first(alloc, script, &counts, &mut tree, &mut slices)?;
+        let own = take_each(alloc, &mut slices)?;
+        let m = script.machine();
+        let mut parts = fresh_parts::<N>(alloc, m, &mut tree, slices)?;
+        let cell = TreeCell::open(alloc, script, tree.into_journal(), own)?;
+        let closing = Closing::create(alloc, script)?;
+        let live = Live {
+            machine: *m,
+            tree: Mutex::new(cell),
+            slices: Slices::open(&mut parts),
+            closing: Mutex::new(closing),
+        };
+        Ok((live, passes))
+    }
+}

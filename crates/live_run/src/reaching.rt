@@ -1,0 +1,66 @@
+//! The turns of an access.
+ghost use Rattle.std.specs.Prelude.{◌≡◌, Some};
+ghost use Rattle.live_law.specs.Stages.{slice_reached};
+ghost use Rattle.live_run.specs.Accesses.{HasAccessed, HasTurned};
+ghost use Rattle.live_run.specs.Visits.{HasRoomIn};
+ghost use Rattle.machine.specs.Maps.{domain_of, line_of};
+ghost use Rattle.machine.specs.Slices.{slice_of_line};
+ghost use Rattle.script_ops.specs.Values.{op_at};
+ghost use Rattle.script_ops.specs.declared.op.Op.TheVariants.{Access};
+
+use crate::holding::Hold;
+use crate::live::Live;
+use crate::named::Named;
+use crate::seen::Seen;
+use cache_steps::Reached;
+use std::sync::Wait;
+
+impl<N: Named> Live<N> {
+    // One turn: it tags and touches. The epoch of its tag, where that was stale.
+    fn turn(
+        &self,
+        rt: &impl Wait,
+        hold: &impl Hold,
+        s: &mut Seen<N>,
+        op: u32,
+        task: u32,
+        cpu: u8,
+        addr: u64,
+    ) -> Result<Reached, u64>
+        requires op { op_at N.script s.old.thread op ≡ Some (Access task cpu addr) }
+        requires room { HasRoomIn N.script (slice_reached N.script.machine cpu addr) s.old }
+        ensures { HasTurned N.script op task cpu addr s.old s.new result }
+    {
+        let tag = self.tree.lock(rt).tag(s, task, cpu);
+        let line = addr / 64;
+        let slice = self.machine.line_slice(tag.domain, line);
+        match self.slices.touch(rt, hold, slice, s, op, &tag, line) {
+            Some(reached) => Ok(reached),
+            None => Err(tag.epoch),
+        }
+    }
+
+    /// Turns until the tag is not stale. Each has a greater epoch than the last.
+    pub(crate) fn reach(
+        &self,
+        rt: &impl Wait,
+        hold: &impl Hold,
+        s: &mut Seen<N>,
+        op: u32,
+        task: u32,
+        cpu: u8,
+        addr: u64,
+    ) -> Reached
+        requires op { op_at N.script s.old.thread op ≡ Some (Access task cpu addr) }
+        requires room { HasRoomIn N.script (slice_reached N.script.machine cpu addr) s.old }
+        ensures { HasAccessed N.script op task cpu addr result s.old s.new }
+    {
+        let mut turn = self.turn(rt, hold, s, op, task, cpu, addr);
+        loop {
+            match turn {
+                Ok(reached) => return reached,
+                Err(_) => turn = self.turn(rt, hold, s, op, task, cpu, addr),
+            }
+        }
+    }
+}

@@ -1,0 +1,148 @@
+//! A slice's cell.
+ghost use Rattle.std.specs.Prelude.{◌≡◌, ◌≤◌};
+ghost use Rattle.cache_core.specs.Stands.{entry as entry_of};
+ghost use Rattle.cache_core.specs.declared.entry.What.TheVariants.{Look};
+ghost use Rattle.live_run.specs.Cells.{AreOfThreads, SliceIsKept, taken_from};
+ghost use Rattle.live_run.specs.Names.{name_at};
+ghost use Rattle.live_run.specs.Steps.{HasAdded, HasFollowed, HasTouched};
+ghost use Rattle.live_run.specs.Visits.{MayFollow, MayLook, MayTouch};
+
+use crate::holding::Hold;
+use crate::named::Named;
+use crate::noting::note;
+use crate::parts::Part;
+use crate::seen::{Seen, meet};
+use cache_core::{Cache, SliceEntry, What};
+use cache_steps::{Reached, access_of, enact, entry, reach};
+use rc_base::Tag;
+use run_law::TreeEntry;
+use seen_journal::{Journal, Pass};
+use std::marker::{Model, PhantomData};
+use tree_law::Follow;
+
+/// What lies under the lock of slice I: its cache, its journal, and a pass of the tree's journal.
+#[derive(Drop)]
+pub struct SliceCell<N: Named, const I: usize> {
+    pub(crate) cache: Cache,
+    pub(crate) journal: Journal<SliceEntry>,
+    pub(crate) tree: Pass<TreeEntry>,
+    pub(crate) of: PhantomData<N>,
+}
+
+impl<N: Named, const I: usize> Model for SliceCell<N, I> {
+    ghost use Rattle.live_run.specs.Names.{name_at};
+    ghost use Rattle.live_run.specs.Cells.{SliceCellValue, SliceIsKept};
+
+    ghost Value = { SliceCellValue };
+
+    ghost view = { λ c. record { cache = c.cache; journal = c.journal; tree = c.tree } };
+
+    ghost invariant = { λ c. SliceIsKept N.script N.tree (name_at N.slices I) I (record { cache = c.cache; journal = c.journal; tree = c.tree }) };
+}
+
+impl<N: Named, const I: usize> SliceCell<N, I> {
+    /// The cell of what goes into it.
+    pub(crate) fn open(part: Part) -> SliceCell<N, I>
+        requires { SliceIsKept N.script N.tree (name_at N.slices I) I part }
+    {
+        let Part {
+            cache,
+            journal,
+            tree,
+        } = part;
+        SliceCell {
+            cache,
+            journal,
+            tree,
+            of: PhantomData,
+        }
+    }
+
+    /// What was in the cell, which has now seen the tree's whole history.
+    pub(crate) fn settle(self, history: &mut Journal<TreeEntry>) -> Part
+        requires name { history.old.name ≡ N.tree }
+        requires threads { AreOfThreads taken_from history.old.entries }
+        ensures history { history.new ≡ history.old }
+        ensures kept { SliceIsKept N.script N.tree (name_at N.slices I) I result }
+        ensures seen { result.tree.seen ≡ history.old.entries }
+    {
+        let SliceCell {
+            cache,
+            journal,
+            mut tree,
+            of: _,
+        } = self;
+        history.show(&mut tree);
+        Part {
+            cache,
+            journal,
+            tree,
+        }
+    }
+
+    /// Counts the lines of an RMID for the command that holds the tree, and notes the look.
+    pub(crate) fn look(
+        &mut self,
+        history: &mut Journal<TreeEntry>,
+        s: &mut Seen<N>,
+        op: u32,
+        epoch: u64,
+        rmid: u16,
+    ) -> u64
+        requires may { MayLook N.script N.tree I op epoch rmid history.old s.old }
+        ensures few { result ≤ 2097152 }
+        ensures history { history.new ≡ history.old }
+        ensures tree { s.new.tree ≡ s.old.tree }
+        ensures added { HasAdded I (entry_of s.old.thread op epoch (Look rmid result)) s.old s.new }
+    {
+        history.show(&mut self.tree);
+        let lines = self.cache.look(rmid);
+        let what = What::Look { rmid, lines };
+        let entry = entry(s.thread(), op, epoch, what);
+        note::<N, I>(&mut self.journal, s, entry);
+        lines
+    }
+
+    /// Does what follows the command that holds the tree, and notes it.
+    pub(crate) fn follow(
+        &mut self,
+        history: &mut Journal<TreeEntry>,
+        s: &mut Seen<N>,
+        op: u32,
+        epoch: u64,
+        follow: Follow,
+    )
+        requires may { MayFollow N.script N.tree I op epoch follow history.old s.old }
+        ensures history { history.new ≡ history.old }
+        ensures tree { s.new.tree ≡ s.old.tree }
+        ensures followed { HasFollowed I op epoch follow s.old s.new }
+    {
+        history.show(&mut self.tree);
+        let what = enact(&mut self.cache, epoch, follow);
+        let entry = entry(s.thread(), op, epoch, what);
+        note::<N, I>(&mut self.journal, s, entry);
+    }
+
+    /// Makes the access of a tag, and notes it, unless the tag is stale; then the thread has seen a longer history of the tree.
+    pub(crate) fn touch<H: Hold>(
+        &mut self,
+        hold: &H,
+        s: &mut Seen<N>,
+        op: u32,
+        tag: &Tag,
+        line: u64,
+    ) -> Option<Reached>
+        requires may { MayTouch N.script I op tag.now line s.old }
+        ensures { HasTouched I op tag.now line s.old s.new result }
+    {
+        meet(&mut self.tree, s);
+        if tag.epoch < self.cache.floor() {
+            return None;
+        }
+        hold.hold(s.thread());
+        let reached = reach(&mut self.cache, tag, line);
+        let entry = entry(s.thread(), op, tag.epoch, access_of(tag, line, reached));
+        note::<N, I>(&mut self.journal, s, entry);
+        Some(reached)
+    }
+}

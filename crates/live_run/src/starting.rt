@@ -1,0 +1,94 @@
+//! The threads before their first ops.
+ghost use Rattle.std.specs.Prelude.{◌≡◌, ℕ, ◌<◌, IfOk, length};
+ghost use Rattle.live_run.specs.Logs.{log_at};
+ghost use Rattle.live_run.specs.Openings.{AreFirst, AreGivenTo, AreNew, HaveGiven, IsFirst};
+ghost use Rattle.live_run.specs.Quotas.{HaveQuotas};
+ghost use Rattle.machine.specs.Slices.{slice_count};
+ghost use Rattle.run_law.specs.Quotas.{AreCounted, commands_of};
+ghost use Rattle.script_ops.specs.Values.{IsLawful, ops_of, threads_of};
+ghost use Rattle.seen_journal.specs.Passes.{new_pass};
+
+use crate::log::Log;
+use crate::named::Named;
+use crate::passes::Passes;
+use crate::seen::Seen;
+use cache_core::SliceEntry;
+use rc_base::{NoMemory, TEXT_MAX, TextBuf};
+use run_law::{LookLists, TreeEntry};
+use script_ops::Script;
+use seen_journal::Pass;
+use std::alloc::Global;
+use std::marker::PhantomData;
+
+/// The next pass of each journal. NoMemory where there is no room for them.
+pub(crate) fn take_each(
+    alloc: Global,
+    logs: &mut Vec<Log<SliceEntry>>,
+) -> Result<Vec<Pass<SliceEntry>>, NoMemory>
+    requires { (i : ℕ) → i < length logs.old.items → 0 < (log_at logs.old.items i).left }
+    ensures { IfOk result (λ passes. HaveGiven (length logs.old.items) logs.old.items logs.new.items passes.items) }
+{
+    let mut passes = Vec::new(alloc);
+    for i in 0..logs.len() {
+        passes.push(logs[i].take())?;
+    }
+    Ok(passes)
+}
+
+// A thread before its first op, which has so many commands.
+fn first<N: Named>(
+    alloc: Global,
+    script: &Script,
+    thread: u32,
+    commands: u64,
+    tree: Pass<TreeEntry>,
+    slices: Vec<Pass<SliceEntry>>,
+) -> Result<Passes<N>, NoMemory>
+    requires script { script.now ≡ N.script }
+    requires quotas { HaveQuotas N.script N.tree N.slices }
+    requires thread { thread < length (threads_of N.script) }
+    requires commands { commands ≡ commands_of (ops_of N.script thread) }
+    requires tree { tree ≡ new_pass N.tree thread }
+    requires slices { AreNew N.slices (slice_count N.script.machine) thread slices.items }
+    ensures { IfOk result (λ p. IsFirst thread p) }
+{
+    let looks = LookLists::create(alloc, script.machine(), script.ops(thread), commands)?;
+    let shown = TextBuf::with_room(alloc, TEXT_MAX)?;
+    let seen = Seen {
+        thread,
+        tree,
+        slices,
+        of: PhantomData,
+    };
+    Ok(Passes {
+        seen,
+        next: 0,
+        looks,
+        shown,
+    })
+}
+
+/// All threads before their first ops. `counts` says how many commands each has. NoMemory where there is no room for their lists
+/// and texts.
+pub(crate) fn all_first<N: Named>(
+    alloc: Global,
+    script: &Script,
+    counts: &[u64],
+    tree: &mut Log<TreeEntry>,
+    slices: &mut Vec<Log<SliceEntry>>,
+) -> Result<Vec<Passes<N>>, NoMemory>
+    requires script { script.now ≡ N.script }
+    requires counts { AreCounted script.now (length (threads_of script.now)) counts.now }
+    requires quotas { HaveQuotas N.script N.tree N.slices }
+    requires given { AreGivenTo N.script N.tree N.slices (length (threads_of N.script)) 0 tree.old slices.old.items }
+    ensures given { IfOk result (λ p. AreGivenTo N.script N.tree N.slices (length (threads_of N.script)) (length (threads_of N.script)) tree.new slices.new.items) }
+    ensures first { IfOk result (λ p. AreFirst (length (threads_of N.script)) p.items) }
+    ensures lawful { IsLawful N.script }
+{
+    let mut all = Vec::new(alloc);
+    for t in 0..script.threads() {
+        let own = take_each(alloc, slices)?;
+        all.push(first(alloc, script, t, counts[t as usize], tree.take(), own)?)?;
+    }
+    Ok(all)
+}
