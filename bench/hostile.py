@@ -104,6 +104,37 @@ def orders(script, count):
     script.write("\n" + f"thread\nsweep 1 0 0 {count // 16} 64\n" * 16)
 
 
+TENANTS = 31
+
+
+def tenants(script, machine, domains):
+    """Groups that are exclusive on one way each of every cache, each with a task of its own."""
+    tasks = " ".join(str(tenant) for tenant in range(1, TENANTS + 1))
+    script.write(f"{machine} ways=32 classes=32 rmids=32\ntasks {tasks}\nphase\nthread\n")
+
+    def mask(way):
+        return "L3:" + ";".join(f"{domain}={1 << way:x}" for domain in range(domains))
+
+    script.write(f"write /schemata {mask(TENANTS)}\n")
+    for tenant in range(TENANTS):
+        group = f"/tenant{tenant}"
+        script.write(f"mkdir {group}\nwrite {group}/schemata {mask(tenant)}\nwrite {group}/mode exclusive\n")
+        script.write(f"write {group}/tasks {tenant + 1}\n")
+
+
+def reads_of_mode(script, count):
+    """Commands that change nothing, beside 31 exclusive groups in eight caches."""
+    tenants(script, "machine domains=8 sets=1 cpus=8", 8)
+    script.write("flush\n" + "read /mode\n" * count)
+
+
+def window_of_many(script, count):
+    """One window of each of 31 exclusive groups, whose tasks go over a thousand lines of their own in turn."""
+    tenants(script, "machine sets=1024", 1)
+    sweeps = "".join(f"sweep {tenant + 1} 0 {tenant << 20} 1000 64\n" for tenant in range(TENANTS))
+    script.write("flush\n" + sweeps * (count // (TENANTS * 1000)))
+
+
 ROWS = (
     ("flushes", MOST_WEIGHT // 2, flushes),
     ("flushes of eight", MOST_WEIGHT // 9, flushes_of_eight),
@@ -119,6 +150,8 @@ ROWS = (
     ("names alike", 240_000, names_alike),
     ("scattered", MOST_WEIGHT, scattered),
     ("orders", MOST_WEIGHT, orders),
+    ("reads of mode", MOST_WEIGHT - 20_000, reads_of_mode, "--windows"),
+    ("window of many", MOST_WEIGHT - 100_000, window_of_many, "--windows"),
 )
 
 # A script is played, or told to be too large once it was read.

@@ -13,9 +13,9 @@ Measured = namedtuple("Measured", "user system memory faults instructions status
 HEAD = "script              count     bytes   user  system   MB   faults  M instructions  status"
 
 
-def count_instructions(program, path):
+def count_instructions(program, path, flags):
     """Millions of instructions of one play of a script, by `perf stat`, and None where that is not there or does not count them."""
-    words = ["perf", "stat", "-x", ",", "-e", "instructions:u", program, "step"]
+    words = ["perf", "stat", "-x", ",", "-e", "instructions:u", program, "step", *flags]
     try:
         with open(path) as script:
             told = subprocess.run(words, stdin=script, stdout=subprocess.DEVNULL, stderr=subprocess.PIPE, text=True).stderr
@@ -25,17 +25,17 @@ def count_instructions(program, path):
     return int(found[1]) / 1e6 if found else None
 
 
-def measure(program, path):
-    """One play of a script, and a second one that counts instructions."""
+def measure(program, path, flags=()):
+    """One play of a script with these flags, and a second one that counts instructions."""
     with open(path) as script:
-        child = subprocess.Popen([program, "step"], stdin=script, stdout=subprocess.DEVNULL)
+        child = subprocess.Popen([program, "step", *flags], stdin=script, stdout=subprocess.DEVNULL)
         _, status, used = os.wait4(child.pid, 0)
     return Measured(
         used.ru_utime,
         used.ru_stime,
         used.ru_maxrss / 1024,
         used.ru_minflt,
-        count_instructions(program, path),
+        count_instructions(program, path, flags),
         os.waitstatus_to_exitcode(status),
     )
 
@@ -50,18 +50,18 @@ def row(name, count, size, it):
 
 
 def table(usage, rows, statuses=(0,)):
-    """Plays each script and prints its row. A row is a name, how many things are played, and what writes so many to a file. A play
-    that ends with another status than these ends the benchmark.
+    """Plays each script and prints its row. A row is a name, how many things are played, what writes so many to a file, and the flags
+    of the play, if any. A play that ends with another status than these ends the benchmark.
     """
     if len(sys.argv) != 2:
         sys.exit(usage)
     print(HEAD)
     with tempfile.TemporaryDirectory() as folder:
         path = os.path.join(folder, "script")
-        for name, count, write in rows:
+        for name, count, write, *flags in rows:
             with open(path, "w") as script:
                 write(script, count)
-            it = measure(sys.argv[1], path)
+            it = measure(sys.argv[1], path, flags)
             print(row(name, count, os.path.getsize(path), it), flush=True)
             if it.status not in statuses:
                 sys.exit(f"{sys.argv[1]} ended with {it.status}")

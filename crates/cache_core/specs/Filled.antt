@@ -6,11 +6,11 @@ use Rattle.cache_core.specs.Fills.{Resident}
 use Rattle.cache_core.specs.History.{Shape, IsOwn, is_own}
 use Rattle.lists.specs.Sums.{one_if, sum_below}
 
--- how many places of the slice's sets pass the test with what they hold
+-- (For proofs.) how many places of the slice's sets pass the test with what they hold
 abbrev pub places_with : Shape → (Option Resident → Bool) → (ℕ → ℕ → Option Resident) → ℕ
 places_with m p holds = sum_below m.sets (λ set. if is_own m set then sum_below m.ways (λ way. one_if (p (holds set way))) else 0)
 
--- each place of the slice holds the same
+-- (For proofs.) each place of the slice holds the same
 abbrev pub AreAlike : Shape → (ℕ → ℕ → Option Resident) → (ℕ → ℕ → Option Resident) → Type 0
 AreAlike m holds other = (set way : ℕ) → IsOwn m set → way < m.ways → holds set way ≡ other set way
 

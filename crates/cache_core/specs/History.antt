@@ -26,7 +26,7 @@ shape_of p slice = record { sets = p.sets; ways = p.ways; slices = p.slices; sli
 abbrev pub is_own : Shape → ℕ → Bool
 is_own m set = set % m.slices == m.slice
 
--- a set of this slice
+-- (For proofs.) a set of this slice
 abbrev pub IsOwn : Shape → ℕ → Type 0
 IsOwn m set = (set < m.sets) × (set % m.slices ≡ m.slice)
 
@@ -69,7 +69,7 @@ left_by m set way (Drop line at) = None
 abbrev pub held : Shape → List SliceEntry → ℕ → ℕ → Option Resident
 held m entries set way = option_and_then (λ (e : SliceEntry). left_by m set way e.what) (last_such (λ (e : SliceEntry). decides m set way e.what) entries)
 
--- what the last of these entries that decides a place leaves there, where one does
+-- (For proofs.) what the last of these entries that decides a place leaves there, where one does
 abbrev pub decided : Shape → List SliceEntry → ℕ → ℕ → Option (Option Resident)
 decided m entries set way = option_map (λ (e : SliceEntry). left_by m set way e.what) (last_such (λ (e : SliceEntry). decides m set way e.what) entries)
 

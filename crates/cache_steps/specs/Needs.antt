@@ -1,4 +1,5 @@
 -- What a slice needs for a step.
+-- (For functions and proofs: no promise of the program stands on it.)
 use Rattle.std.specs.Prelude.{ℕ, ◌%◌, ◌^◌, ◌<◌}
 use Rattle.cache_core.specs.History.{IsOwn, Shape}
 use Rattle.rc_base.specs.declared.names.Tag.{Tag}

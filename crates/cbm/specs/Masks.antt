@@ -21,6 +21,6 @@ lowest_run [] = []
 lowest_run (w ∷ []) = w ∷ []
 lowest_run (v ∷ w ∷ ways) = v ∷ (if w == v + 1 then lowest_run (w ∷ ways) else [])
 
--- the ways of a mask are just those that are in some of these masks
+-- (For proofs.) the ways of a mask are just those that are in some of these masks
 abbrev pub IsUnion : ℕ → List ℕ → Type 0
 IsUnion union masks = (way : ℕ) → has_way union way ≡ list_any (λ mask. has_way mask way) masks

@@ -37,20 +37,20 @@ after_monitor group set cpu g =
     if has_cpu set cpu then record { control = g.control; monitor = Some group } else
     if has_monitor group g then joined g.control else g
 
--- each CPU's groups after a change, by its number and its groups before
+-- (For proofs.) each CPU's groups after a change, by its number and its groups before
 pub record Changes (how : ℕ → CpuGroups → CpuGroups) (before after : List CpuGroups) : Type 0 where
   pub count : length after ≡ length before
   pub each : (cpu : ℕ) (d : CpuGroups) → cpu < length before → slice_index_or after cpu d ≡ how cpu (slice_index_or before cpu d)
 
--- some CPU of the default group is not in the set
+-- (For proofs.) some CPU of the default group is not in the set
 abbrev pub DropsSome : ℕ → List CpuGroups → Type 0
 DropsSome set groups = (cpu : ℕ) × (cpu < length groups) × (has_control default_gid (slice_index_or groups cpu opening_cpu) ≡ true) × (has_cpu set cpu ≡ false)
 
--- some CPU of the set is not the parent's
+-- (For proofs.) some CPU of the set is not the parent's
 abbrev pub HasOthers : Gid → ℕ → List CpuGroups → Type 0
 HasOthers parent set groups = (cpu : ℕ) × (cpu < length groups) × (has_control parent (slice_index_or groups cpu opening_cpu) ≡ false) × (has_cpu set cpu ≡ true)
 
--- the CPUs of the set are those that pass the test
+-- (For proofs.) the CPUs of the set are those that pass the test
 pub record IsSetOf (test : CpuGroups → Bool) (groups : List CpuGroups) (set : ℕ) : Type 0 where
   pub each : (cpu : ℕ) (d : CpuGroups) → cpu < length groups → has_cpu set cpu ≡ test (slice_index_or groups cpu d)
   pub no_more : (cpu : ℕ) → length groups ≤ cpu → has_cpu set cpu ≡ false

@@ -1,5 +1,5 @@
 -- What is kept of the numbers, one piece more.
-use Rattle.std.proofs.Common.{◌≡◌, ◌≢◌, ℕ, ◌+◌, ◌-◌, ◌^◌, ◌<◌, ◌≤◌, min, max, Bool, true, false, ◌&&◌, ◌||◌, leb, inl, inr, Option, Some, None, refl, sym, ap, ◌∙◌, arith, w64}
+use Rattle.std.proofs.Common.{◌≡◌, ◌≢◌, ℕ, ◌+◌, ◌-◌, ◌^◌, ◌<◌, ◌≤◌, min, max, Bool, true, false, ◌||◌, leb, inl, inr, Option, Some, None, refl, sym, ap, ◌∙◌, arith, w64}
 use Rattle.std.proofs.Math.Bool.{and-false, or-false}
 use Rattle.std.specs.Prelude.{nat_le}
 use Rattle.std.specs.Int.{trailing_zeros}

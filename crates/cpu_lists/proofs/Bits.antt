@@ -1,9 +1,8 @@
 -- The numbers of a set, against shifts, sums of bits and parts of the set.
-use Rattle.std.proofs.Common.{◌≡◌, ℕ, ◌+◌, ◌-◌, ◌*◌, ◌/◌, ◌%◌, ◌^◌, ◌<◌, ◌≤◌, true, false, ◌||◌, eqb, max, bit_or, inl, inr, refl, sym, ap, ◌∙◌, arith, w64}
-use Rattle.std.proofs.Math.Bool.{or-false, or-true}
+use Rattle.std.proofs.Common.{◌≡◌, ℕ, ◌+◌, ◌-◌, ◌*◌, ◌/◌, ◌%◌, ◌^◌, ◌<◌, ◌≤◌, true, false, eqb, max, bit_or, inl, inr, refl, sym, ap, ◌∙◌, arith}
 use Rattle.std.specs.Int.{bit_at}
 use Rattle.std.proofs.lemmas.Bool.{eq-eqb, eqb-true, eqb-false, cases_lt, cases_Bool}
-use Rattle.std.proofs.lemmas.Nat.Bits.{bit_at_above, bit_at-zero, bit_at-lt, bit_at_or, bit_at_cat_low, bit_at_cat_high, bit_at_set_same, bit_at_set_other, same_from_bits}
+use Rattle.std.proofs.lemmas.Nat.Bits.{bit_at_above, bit_at-zero, bit_at-lt, bit_at_or, bit_at_cat_low, bit_at_cat_high, same_from_bits}
 use Rattle.lists.proofs.Bits.{bit_at-div_pow, bit_at-mod_pow, div_pow-zero}
 use Rattle.cpu_lists.specs.Sets.{has}
 
@@ -32,16 +31,6 @@ pub lt-pow_from_bits : (set m : ℕ) → ((k : ℕ) → m ≤ k → has set k �
 lt-pow_from_bits set m h =
     let none : set / 2 ^ m ≡ 0 = same_from_bits (set / 2 ^ m) 0 (λ i. bit_at-div_pow set m i ∙ bit_at-has_false set (m + i) (h (m + i) (omega arith)) ∙ sym (bit_at-zero i)) in
     div_pow-zero set m none
-
--- ---- a number put in
-
--- one number more
-pub has-bit_or_shifted : (set n k : ℕ) → n < 64 → has (bit_or set (1 * 2 ^ n % 2 ^ 64)) k ≡ (has set k || eqb k n)
-has-bit_or_shifted set n k within = elim (cases_Bool (eqb k n)) [
-  | inl yes_same ↦ (let here : k ≡ n = eqb-true k n yes_same in
-      rw (yes_same, here) (has-one (bit_or set (1 * 2 ^ n % 2 ^ 64)) n (bit_at_set_same w64 set n within) ∙ sym (or-true (has set n))))
-  | inr no_same ↦ rw no_same (has-same (bit_or set (1 * 2 ^ n % 2 ^ 64)) set k k (bit_at_set_other w64 set n within k (eqb-false k n no_same)) ∙ sym (or-false (has set k)))
-]
 
 -- ---- a group after others: `(low << 32) | group`
 

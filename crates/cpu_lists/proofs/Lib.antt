@@ -2,6 +2,8 @@ pub mod Additions
 pub mod Bits
 pub mod KeptNumbers
 pub mod LeastNumbers
+pub mod LowParts
+pub mod LowestNumbers
 pub mod MaskTexts
 pub mod Members
 pub mod Pieces

@@ -8,6 +8,7 @@ use Rattle.std.proofs.Math.Nat.{pow-le-pow_right}
 use Rattle.std.proofs.lemmas.Bool.{eqb-true, ne_eqb, cases_lt, le-leb, lt-ltb}
 use Rattle.std.proofs.lemmas.Fmt.{decimal_nonempty}
 use Rattle.std.proofs.lemmas.List.Folds.{list_any-append}
+use Rattle.num_text.specs.Signs.{dash}
 use Rattle.num_text.specs.Numbers.{has_prefix, without_prefix}
 use Rattle.num_text.specs.Printed.{hexadecimal}
 use Rattle.num_text.proofs.laws.Digits.{eqb-digit, list_any-digits, AllDigits-hexadecimal_digits, AllDigits-decimal, AllDigits-hexadecimal, digits_value-hexadecimal, length-hexadecimal_some, number_of-digits}
@@ -17,7 +18,7 @@ use Rattle.num_text.proofs.laws.Prints.{decimal_reads_back, length-filled}
 use Rattle.cpu_lists.specs.declared.runs.Run.{Run}
 use Rattle.cpu_lists.specs.Sets.{has, numbers_of, answer_of, Says}
 use Rattle.cpu_lists.specs.Masks.{comma, each, group_of, value_of, cpus_in, mask_cpus}
-use Rattle.cpu_lists.specs.Lists.{dash, number, run_of, numbers_in, list_cpus}
+use Rattle.cpu_lists.specs.Lists.{number, run_of, numbers_in, list_cpus}
 use Rattle.cpu_lists.specs.Printed.{digits_for, mask_text, joined, runs_of, run_text, list_text, MaskReadsBack, ListReadsBack}
 use Rattle.cpu_lists.proofs.Bits.{has-above}
 use Rattle.cpu_lists.proofs.LeastNumbers.{answer_of-all}

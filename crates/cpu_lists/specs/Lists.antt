@@ -2,13 +2,10 @@
 use Rattle.std.specs.Prelude.{ℕ, ◌+◌, ◌-◌, ◌^◌, Bool, ◌==◌, ◌&&◌, nat_le, List, [], ◌∷◌, Option, Some, None, if◌then◌else◌}
 use Rattle.std.specs.Option.{option_and_then, option_map}
 use Rattle.std.specs.List.{list_any, slice_split, before_first, after_first, range_with_len, flat_map}
+use Rattle.num_text.specs.Signs.{dash}
 use Rattle.num_text.specs.Numbers.{dec_of, below}
 use Rattle.cpu_lists.specs.declared.runs.Run.{Run}
 use Rattle.cpu_lists.specs.Masks.{comma, each}
-
--- the sign between the ends of a range
-abbrev pub dash : ℕ → Bool
-dash b = b == 45
 
 -- a decimal number of 64 bits
 abbrev pub number : List ℕ → Option ℕ
@@ -24,7 +21,7 @@ run_of piece =
     if list_any dash piece then option_and_then (λ a. option_and_then (run_between a) (number (after_first dash piece))) (number (before_first dash piece))
     else option_map (λ a. record { first = a; last = a }) (number piece)
 
--- whether a number is from the first to the last
+-- (For proofs.) whether a number is from the first to the last
 abbrev pub is_within : Run → ℕ → Bool
 is_within run n = nat_le run.first n && nat_le n run.last
 

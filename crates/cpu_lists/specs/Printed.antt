@@ -32,7 +32,7 @@ runs_of (n ∷ ns) = joined n (runs_of ns)
 abbrev pub run_text : Run → List ℕ
 run_text run = if run.first == run.last then decimal run.first else decimal run.first ++ 45 ∷ decimal run.last
 
--- a run, after a comma where it is not the first
+-- (For proofs.) a run, after a comma where it is not the first
 abbrev pub element_text : Bool → Run → List ℕ
 element_text is_first run = if is_first then run_text run else 44 ∷ run_text run
 
@@ -40,10 +40,10 @@ element_text is_first run = if is_first then run_text run else 44 ∷ run_text r
 unfoldable pub list_text : ℕ → List ℕ
 list_text set = join_with_byte 44 (map run_text (runs_of (numbers_of 64 set)))
 
--- reading the mask text of a set of CPUs that exist gives the set
+-- (For proofs.) reading the mask text of a set of CPUs that exist gives the set
 abbrev pub MaskReadsBack : Type 0
 MaskReadsBack = (cpus set : ℕ) → cpus ≤ 64 → set < 2 ^ cpus → Says (Ok set) (answer_of cpus (mask_cpus (mask_text cpus set)))
 
--- reading the list text of a set of CPUs that exist gives the set
+-- (For proofs.) reading the list text of a set of CPUs that exist gives the set
 abbrev pub ListReadsBack : Type 0
 ListReadsBack = (cpus set : ℕ) → cpus ≤ 64 → set < 2 ^ cpus → Says (Ok set) (answer_of cpus (list_cpus (list_text set)))

@@ -5,7 +5,7 @@ use Rattle.std.specs.List.{list_any, range_with_len}
 use Rattle.cpu_lists.specs.declared.fault.CpuFault.{CpuFault}
 use Rattle.cpu_lists.specs.declared.fault.CpuFault.TheVariants.{Bad, NotACpu}
 
--- whether a number is one of these
+-- (For proofs.) whether a number is one of these
 abbrev pub is_among : List ℕ → ℕ → Bool
 is_among numbers n = list_any (nat_eq n) numbers
 
@@ -17,11 +17,11 @@ has set n = bit_at set n == 1
 unfoldable pub numbers_of : ℕ → ℕ → List ℕ
 numbers_of len set = filter (has set) (range_with_len 0 len)
 
--- those of a set of 64 that stand from here on
+-- (For proofs.) those of a set of 64 that stand from here on
 unfoldable pub numbers_from : ℕ → ℕ → List ℕ
 numbers_from set from = filter (has set) (range_with_len from (64 - from))
 
--- a set has exactly these numbers
+-- (For proofs.) a set has exactly these numbers
 abbrev pub IsSetOf : List ℕ → ℕ → Type 0
 IsSetOf numbers set = (n : ℕ) → has set n ≡ is_among numbers n
 
@@ -45,7 +45,7 @@ unfoldable pub answer_of : ℕ → Option (List ℕ) → Result (List ℕ) CpuFa
 answer_of cpus None = Err Bad
 answer_of cpus (Some numbers) = judged numbers (least (filter (nat_le cpus) numbers))
 
--- a reader answers a set of these numbers, or this fault
+-- (For proofs.) a reader answers a set of these numbers, or this fault
 abbrev pub Says : Result ℕ CpuFault → Result (List ℕ) CpuFault → Type 0
 Says (Ok set) answer = IsOkAnd answer (λ numbers. IsSetOf numbers set)
 Says (Err fault) answer = answer ≡ Err fault

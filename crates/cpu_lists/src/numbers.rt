@@ -32,30 +32,23 @@ fn raised(moved: u64, high: Option<u64>) -> Option<u64>
     }
 }
 
-// Whether a number is from the first to the last.
-fn is_in(run: Run, n: u64) -> bool
-    ensures { result ≡ is_within run n }
+// The numbers of a run that are below 64, as a set.
+fn low_part(run: Run) -> u64
+    ensures { (k : ℕ) → k < 64 → has_number result k ≡ is_within run k }
 {
-    run.first <= n && n <= run.last
-}
-
-// A set, with this number where it is wanted.
-fn put(set: u64, n: u32, wanted: bool) -> u64
-    requires { n < 64 }
-    ensures { (k : ℕ) → has_number result k ≡ (has_number set k || wanted && (k == n)) }
-{
-    if wanted { set | (1 << n) } else { set }
+    if run.first >= 64 {
+        return 0;
+    }
+    let from_first = u64::MAX << run.first;
+    let to_last = u64::MAX >> (63 - run.last.min(63));
+    from_first & to_last
 }
 
 // A set, with the numbers of a run that are below 64.
 fn with_low(set: u64, run: Run) -> u64
     ensures { (k : ℕ) → k < 64 → has_number result k ≡ (has_number set k || is_within run k) }
 {
-    let mut all = set;
-    for n in 0..64u32 {
-        all = put(all, n, is_in(run, u64::from(n)));
-    }
-    all
+    set | low_part(run)
 }
 
 // The least number from 64 on, of a run and of others.

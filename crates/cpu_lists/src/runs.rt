@@ -10,12 +10,30 @@ pub struct Run {
     pub last: u64,
 }
 
-/// Whether a set has a number.
-pub fn has(set: u64, n: u32) -> bool
-    requires { n < 64 }
-    ensures { result ≡ has_number set n }
+// The least number of a set; 64 where it has none.
+fn lowest(set: u64) -> u32
+    ensures limit { result ≤ 64 }
+    ensures found { result < 64 → has_number set result ≡ true }
+    ensures passed { (k : ℕ) → k < result → has_number set k ≡ false }
 {
-    (set >> n) & 1 == 1
+    set.trailing_zeros()
+}
+
+// The numbers of a set from here on.
+fn rest(set: u64, from: u32) -> u64
+    requires { from < 64 }
+    ensures below { (k : ℕ) → k < from → has_number result k ≡ false }
+    ensures above { (k : ℕ) → from ≤ k → k < 64 → has_number result k ≡ has_number set k }
+{
+    set & (u64::MAX << from)
+}
+
+// The numbers below 64 that a set has, or has not, as is wanted.
+fn chosen(set: u64, wanted: bool) -> u64
+    ensures chosen { (k : ℕ) → k < 64 → has_number result k ≡ true → has_number set k ≡ wanted }
+    ensures others { (k : ℕ) → k < 64 → has_number result k ≡ false → has_number set k ≡ not wanted }
+{
+    if wanted { set } else { !set }
 }
 
 /// The least number from here on that a set has, or has not, as is wanted; 64 where there is
@@ -27,10 +45,8 @@ pub fn next(set: u64, from: u32, wanted: bool) -> u32
     ensures found { result < 64 → has_number set result ≡ wanted }
     ensures passed { (k : ℕ) → from ≤ k → k < result → has_number set k ≡ not wanted }
 {
-    for n in from..64 {
-        if has(set, n) == wanted {
-            return n;
-        }
+    if from == 64 {
+        return 64;
     }
-    64
+    lowest(rest(chosen(set, wanted), from))
 }

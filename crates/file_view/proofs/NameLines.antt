@@ -7,7 +7,6 @@ use Rattle.std.proofs.lemmas.Grind.{flat_map-append}
 use Rattle.std.proofs.lemmas.Option.{get_or_from_slice_get, slice_get_within}
 use Rattle.std.proofs.lemmas.List.Folds.{flat_map-map}
 use Rattle.std.proofs.lemmas.Simd.{map-map}
-use Rattle.tree_core.specs.Named.{Group}
 use Rattle.machine.specs.declared.parameters.Parameters.{Parameters}
 use Rattle.path_names.specs.PathTable.{Entry, domain_entry, domain_name, fixed_in, fixed_name}
 use Rattle.path_names.specs.declared.dirs.DirRef.{DirRef}
@@ -16,6 +15,7 @@ use Rattle.path_names.specs.declared.dirs.Holder.{Holder}
 use Rattle.rc_base.specs.declared.names.Gid.{Gid}
 use Rattle.file_view.specs.Lines.{on_line, on_lines}
 use Rattle.file_view.specs.Listings.{fixed_names, group_line, group_name, is_listed, names_in}
+use Rattle.group_tree.specs.declared.group.Group.{Group}
 
 -- no place below the length is empty
 pub slice_get-none : {X : Type 0} (xs : List X) (k : ℕ) → None ≡ slice_get xs k → k < length xs → ⊥

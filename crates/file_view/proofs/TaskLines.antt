@@ -3,9 +3,10 @@ use Rattle.std.proofs.Common.{◌≡◌, ℕ, Bool, true, false, cond, List, [],
 use Rattle.std.specs.List.{flat_map}
 use Rattle.file_view.specs.GroupFiles.{task_line, tasks_text}
 use Rattle.file_view.specs.Lines.{on_line, on_lines}
+use Rattle.group_tree.specs.Records.{is_control}
+use Rattle.group_tree.specs.declared.group.Group.{Group}
 use Rattle.task_binding.specs.Bindings.{control_members, has_control, has_monitor, monitor_members}
 use Rattle.task_binding.specs.declared.binding.Binding.{Binding}
-use Rattle.tree_core.specs.Named.{Group, is_control}
 use Rattle.tree_law.specs.State.{State}
 
 -- the lines of the tasks that pass a test are those of all, where the others have none

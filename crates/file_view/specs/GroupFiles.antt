@@ -8,6 +8,8 @@ use Rattle.cpu_binding.specs.Groups as cpu_groups
 use Rattle.cpu_binding.specs.declared.groups.CpuGroups.{CpuGroups}
 use Rattle.cpu_lists.specs.Printed as cpu_texts
 use Rattle.file_view.specs.Lines.{on_line, on_lines}
+use Rattle.group_tree.specs.Records.{is_control, mask_in}
+use Rattle.group_tree.specs.declared.group.Group.{Group}
 use Rattle.machine.specs.Maps.{bytes_of, domain_of}
 use Rattle.machine.specs.declared.parameters.Parameters.{Parameters}
 use Rattle.pseudo_lock.specs.declared.region.Region.{Region}
@@ -16,7 +18,6 @@ use Rattle.schemata_text.specs.Printed.{printed}
 use Rattle.schemata_text.specs.declared.assignment.Assignment.{Assignment}
 use Rattle.task_binding.specs.Bindings.{control_members, has_control, has_monitor, monitor_members}
 use Rattle.task_binding.specs.declared.binding.Binding.{Binding}
-use Rattle.tree_core.specs.Named.{Group, is_control, mask_in}
 use Rattle.tree_law.specs.Space.{mask_of, region_in}
 use Rattle.tree_law.specs.State.{State}
 use Rattle.tree_law.specs.commands.Mode.{mode_name}
@@ -64,11 +65,11 @@ cpus_list_text m s g = on_line (cpu_texts.list_text (cpu_set m s g))
 abbrev pub tasks_in : State → Group → List ℕ
 tasks_in s g = if is_control g.kind then control_members g.gid s.tasks else monitor_members g.gid s.tasks
 
--- whether a task is one of them
+-- (For proofs.) whether a task is one of them
 abbrev pub is_task_of : Group → Binding → Bool
 is_task_of g b = if is_control g.kind then has_control g.gid b else has_monitor g.gid b
 
--- the line of a task, and nothing where it is not the group's
+-- (For proofs.) the line of a task, and nothing where it is not the group's
 abbrev pub task_line : Group → Binding → List ℕ
 task_line g b = if is_task_of g b then on_line (decimal b.task) else []
 

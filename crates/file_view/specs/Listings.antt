@@ -3,13 +3,14 @@
 use Rattle.std.specs.Prelude.{ℕ, Bool, ◌&&◌, List, [], ◌++◌, map, filter, is_some, Option, Some, None, if◌then◌else◌}
 use Rattle.std.specs.Option.{option_map_or}
 use Rattle.file_view.specs.Lines.{on_line, on_lines}
+use Rattle.group_tree.specs.Records.{is_control, is_monitor_of}
+use Rattle.group_tree.specs.declared.group.Group.{Group}
 use Rattle.machine.specs.declared.parameters.Parameters.{Parameters}
 use Rattle.path_names.specs.PathTable.{Entry, fixed_entries}
 use Rattle.path_names.specs.PathTexts.{name_in}
 use Rattle.path_names.specs.declared.dirs.DirRef.{DirRef}
 use Rattle.path_names.specs.declared.dirs.DirRef.TheVariants.{MonGroups, Root}
 use Rattle.rc_base.specs.declared.names.Gid.{Gid}
-use Rattle.tree_core.specs.Named.{Group, is_control, is_monitor_of}
 use Rattle.tree_law.specs.Existing.{owner_gid}
 use Rattle.tree_law.specs.State.{State}
 
@@ -27,7 +28,7 @@ is_listed (Some gid) g = is_monitor_of gid g.kind
 abbrev pub group_name : List (List ℕ) → Group → List ℕ
 group_name names g = option_map_or (name_in names) g.name []
 
--- the line of a group, and nothing where it does not stand in the directory
+-- (For proofs.) the line of a group, and nothing where it does not stand in the directory
 abbrev pub group_line : List (List ℕ) → Option Gid → Group → List ℕ
 group_line names parent g = if is_listed parent g then on_line (group_name names g) else []
 

@@ -4,6 +4,7 @@ use Rattle.std.specs.Option.{option_map_or}
 use Rattle.file_view.specs.GroupFiles.{cpus_list_text, cpus_text, mode_text, schemata_text, size_text, tasks_text}
 use Rattle.file_view.specs.Listings.{list_text}
 use Rattle.file_view.specs.MachineFiles.{bit_usage_text, cbm_mask_text, flag_line, mask_line, mon_features_text, number_line, occupancy_text, status_text}
+use Rattle.group_tree.specs.declared.group.Group.{Group}
 use Rattle.machine.specs.declared.parameters.Parameters.{Parameters}
 use Rattle.path_names.specs.declared.dirs.DirRef.{DirRef}
 use Rattle.path_names.specs.declared.files.FileKind.{FileKind}
@@ -12,7 +13,6 @@ use Rattle.path_names.specs.declared.path_ref.PathRef.{PathRef}
 use Rattle.path_names.specs.declared.path_ref.PathRef.TheVariants.{Dir, File}
 use Rattle.script_ops.specs.declared.op.Op.{Op}
 use Rattle.script_ops.specs.declared.op.Op.TheVariants as ops
-use Rattle.tree_core.specs.Named.{Group}
 use Rattle.tree_law.specs.Places.{group_at}
 use Rattle.tree_law.specs.State.{State}
 

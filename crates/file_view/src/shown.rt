@@ -1,9 +1,9 @@
 //! The masks that the files of a group show.
 ghost use Rattle.std.specs.Prelude.{◌≡◌, ◌<◌, ◌≤◌, ◌^◌, ◌++◌, length};
 ghost use Rattle.std.specs.List.{All};
-ghost use Rattle.tree_core.specs.Named.{mask_in};
 ghost use Rattle.schemata_text.specs.declared.assignment.Assignment.{Assignment};
 ghost use Rattle.file_view.specs.GroupFiles.{has_region, is_shown, schemata_of, shown_mask};
+ghost use Rattle.group_tree.specs.Records.{mask_in};
 
 use rc_base::{Gid, Mode};
 use schemata_text::{Assignment, Assignments};

@@ -6,12 +6,12 @@ use Rattle.rc_base.specs.declared.names.Gid.{Gid}
 use Rattle.group_tree.specs.declared.group.Group.{Group}
 use Rattle.group_tree.specs.Records.{has_gid}
 
--- the groups in order of creation, and the ways that other hardware uses too, as a mask
+-- (For proofs.) the groups in order of creation, and the ways that other hardware uses too, as a mask
 pub record GroupList : Type 0 where
   pub groups : List Group
   pub shareable : ℕ
 
--- whether some group has this gid
+-- (For proofs.) whether some group has this gid
 abbrev pub has_group : Gid → List Group → Bool
 has_group gid groups = list_any (has_gid gid) groups
 
@@ -27,19 +27,19 @@ replaced new groups = map (exchanged new) groups
 abbrev pub without : Gid → List Group → List Group
 without gid groups = filter (λ g. not (has_gid gid g)) groups
 
--- no two groups have the same gid
+-- (For proofs.) no two groups have the same gid
 abbrev pub GidsDiffer : List Group → Type 0
 GidsDiffer groups = AllPairs (λ one later. one.gid.0 ≢ later.gid.0) groups
 
--- the first group is the default group, which has gid 0
+-- (For proofs.) the first group is the default group, which has gid 0
 abbrev pub BeginsWithDefault : List Group → Type 0
 BeginsWithDefault groups = option_map (λ g. g.gid.0) (slice_get groups 0) ≡ Some 0
 
--- how many groups there are at most
+-- (For proofs.) how many groups there are at most
 abbrev pub places : ℕ
 places = 328
 
--- the groups of a tree: the default group first, each with a gid and a place of its own
+-- (For proofs.) the groups of a tree: the default group first, each with a gid and a place of its own
 pub record IsTree (groups : List Group) : Type 0 where
   pub fits : length groups ≤ places
   pub default_first : BeginsWithDefault groups

@@ -19,6 +19,6 @@ full_mask p = 2 ^ p.ways - 1
 abbrev pub default_group : Parameters → Group
 default_group p = record { gid = default_gid; name = None; kind = Control; mode = Shareable; class = Some 0; rmid = Some 0; masks = in_each_domain p (full_mask p) }
 
--- the default group alone, on a machine with these shareable bits
+-- (For proofs.) the default group alone, on a machine with these shareable bits
 abbrev pub opening_groups : Parameters → GroupList
 opening_groups p = record { groups = default_group p ∷ []; shareable = p.shareable }

@@ -9,7 +9,7 @@ use Rattle.group_tree.specs.declared.group.Group.{Group}
 use Rattle.group_tree.specs.declared.group_kind.GroupKind.{GroupKind}
 use Rattle.group_tree.specs.declared.group_kind.GroupKind.TheVariants.{Control, Monitor}
 
--- the record that stands in a free place
+-- (For proofs.) the record that stands in a free place
 abbrev pub blank : Group
 blank = record { gid = default_gid; name = None; kind = Control; mode = Shareable; class = None; rmid = None; masks = replicate 8 0 }
 
@@ -56,10 +56,6 @@ has_mode mode g = is_control g.kind && is_mode mode g.mode
 abbrev pub is_other : Option Gid → Group → Bool
 is_other None g = true
 is_other (Some gid) g = not (has_gid gid g)
-
--- whether a group is another control group than this one
-abbrev pub is_other_control : Option Gid → Group → Bool
-is_other_control gid g = is_other gid g && is_control g.kind
 
 -- whether a group is another control group than this one, and in this mode
 abbrev pub is_other_in : Option Gid → Mode → Group → Bool

@@ -1,6 +1,6 @@
 //! The record of one group.
 ghost use Rattle.std.specs.Prelude.{◌≡◌, ◌<◌};
-ghost use Rattle.group_tree.specs.Records.{blank, has_gid, has_name, is_control_named, is_monitor_named, is_other, is_other_control, mask_in};
+ghost use Rattle.group_tree.specs.Records.{blank, has_gid, has_name, is_control_named, is_monitor_named, mask_in};
 
 use crate::group_kind::GroupKind;
 use path_names::NameId;
@@ -73,23 +73,6 @@ impl Group {
         match self.name {
             Some(own) => name.0 == own.0,
             None => false,
-        }
-    }
-
-    /// Whether it is another control group than this one.
-    pub(crate) fn is_other_control(&self, gid: Option<Gid>) -> bool
-        ensures { result ≡ is_other_control gid self.now }
-    {
-        self.is_other(gid) && self.kind.is_control()
-    }
-
-    // Whether it is another group than this one, as every group is where none is named.
-    fn is_other(&self, gid: Option<Gid>) -> bool
-        ensures { result ≡ is_other gid self.now }
-    {
-        match gid {
-            Some(gid) => !self.has_gid(gid),
-            None => true,
         }
     }
 

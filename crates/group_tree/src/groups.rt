@@ -1,5 +1,5 @@
 //! All groups of the tree.
-ghost use Rattle.std.specs.Prelude.{◌≡◌, ◌<◌, ◌≤◌, ◌≢◌, ◌↔◌, ◌∷◌, [], ◌++◌, length, find, is_some, nat_lt, IsTrue, Ok, slice_get, false, true};
+ghost use Rattle.std.specs.Prelude.{◌≡◌, ◌<◌, ◌≤◌, ◌≢◌, ◌↔◌, ◌∷◌, [], ◌++◌, length, find, is_some, nat_lt, IfOk, IsTrue, slice_get, false, true};
 ghost use Rattle.std.specs.List.{list_any};
 ghost use Rattle.std.specs.Option.{option_copied, option_map};
 ghost use Rattle.group_tree.specs.Lists.{IsTree, has_group, replaced, without};
@@ -10,47 +10,54 @@ ghost use Rattle.group_tree.specs.Records.{has_gid, is_control_named, is_monitor
 
 use crate::edit::{put, take_out};
 use crate::group::Group;
-use crate::lookup::{find_control, find_gid, find_monitor};
+use crate::group_counts::GroupCounts;
+use crate::lookup::{find_control, find_gid, find_monitor, find_own};
 use crate::opening::default_group;
-use crate::union::use_by_others;
 use arrayvec::ArrayVec;
 use machine::Machine;
 use mode_rules::DomainUse;
 use path_names::NameId;
 use rc_base::{Gid, NoMemory};
+use std::alloc::Global;
 use std::marker::Model;
 
 /// How many groups there are at most: 64 with a class, 8 that are pseudo-locked, and 256 with an RMID.
 pub const PLACES: usize = 328;
 
 /// The groups of the tree in order of creation, the default group first. Contracts see the list of their records, and
-/// the machine's shareable bits. Gids differ.
+/// the machine's shareable bits. Gids differ. How many groups have each way is kept beside them, so that no walk over
+/// the groups is needed to see which ways are in use. All places stand in one allocation, so that the value itself is small.
 #[derive(Debug, Drop)]
 pub struct Groups {
-    records: ArrayVec<Group, PLACES>,
+    records: Box<ArrayVec<Group, PLACES>>,
+    counts: GroupCounts,
     shareable: u32,
 }
 
 impl Model for Groups {
-    ghost use Rattle.group_tree.specs.Lists.{GroupList, IsTree};
+    ghost use Rattle.group_tree.specs.Counts.{IsCountedTree};
+    ghost use Rattle.group_tree.specs.Lists.{GroupList};
 
     ghost Value = { GroupList };
 
-    ghost view = { λ t. record { groups = t.records.items; shareable = t.shareable } };
+    ghost view = { λ t. record { groups = t.records.value.items; shareable = t.shareable } };
 
-    ghost invariant = { λ t. IsTree t.records.items };
+    ghost invariant = { λ t. IsCountedTree t.records.value.items t.counts.domains };
 }
 
 impl Groups {
     /// The groups of a machine at the start: the default group, shareable and with every way of each cache (kernel
-    /// documentation, "Resource alloc and monitor groups"). It never answers NoMemory, since the places lie in the value itself.
-    pub fn create(m: &Machine) -> Result<Groups, NoMemory>
-        ensures { result ≡ Ok (opening_groups (parameters_of m.now)) }
+    /// documentation, "Resource alloc and monitor groups"). NoMemory where there is no room for the places, of which there are
+    /// as many as the tree can ever need.
+    pub fn create(alloc: Global, m: &Machine) -> Result<Groups, NoMemory>
+        ensures { IfOk result (λ t. t ≡ opening_groups (parameters_of m.now)) }
     {
-        let mut records = ArrayVec::new();
-        records.push(default_group(m));
+        let first = default_group(m);
+        let mut records = Box::new(alloc, ArrayVec::new())?;
+        records.push(first);
         Ok(Groups {
             records,
+            counts: GroupCounts::of_one(&first),
             shareable: m.shareable,
         })
     }
@@ -77,6 +84,7 @@ impl Groups {
         ensures last { self.new.groups ≡ self.old.groups ++ g ∷ [] }
         ensures kept { self.new.shareable ≡ self.old.shareable }
     {
+        self.counts.add(&g);
         self.records.push(g);
     }
 
@@ -86,7 +94,9 @@ impl Groups {
         ensures replaced { self.new.groups ≡ replaced g self.old.groups }
         ensures kept { self.new.shareable ≡ self.old.shareable }
     {
-        put(&mut self.records, g);
+        let old = put(&mut self.records, g);
+        self.counts.remove(&old);
+        self.counts.add(&g);
     }
 
     /// Removes a group other than the default group.
@@ -96,7 +106,8 @@ impl Groups {
         ensures without { self.new.groups ≡ without gid self.old.groups }
         ensures kept { self.new.shareable ≡ self.old.shareable }
     {
-        take_out(&mut self.records, gid);
+        let gone = take_out(&mut self.records, gid);
+        self.counts.remove(&gone);
     }
 
     /// The group with this gid, and None where there is no such group.
@@ -139,6 +150,7 @@ impl Groups {
         ensures { IsUseByOthers self.now gid domain result }
     {
         let groups = self.records.as_slice();
-        use_by_others(groups, gid, domain, self.shareable)
+        let own = find_own(groups, gid);
+        self.counts.without(own, domain).used(self.shareable)
     }
 }

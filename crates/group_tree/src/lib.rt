@@ -3,12 +3,14 @@
 
 mod edit;
 pub mod group;
+mod group_counts;
 pub mod group_kind;
 pub mod groups;
 mod lookup;
+mod mode_counts;
 mod opening;
 pub mod theorems;
-mod union;
+mod way_counts;
 
 pub use group::Group;
 pub use group_kind::GroupKind;

@@ -2,6 +2,7 @@
 ghost use Rattle.group_tree.specs.declared.group.Group.{Group};
 ghost use Rattle.std.specs.Prelude.{◌≡◌, ◌<◌, length, slice_index_or, find, IsTrue, true};
 ghost use Rattle.std.specs.Option.{option_copied};
+ghost use Rattle.group_tree.specs.Counts.{own_group};
 ghost use Rattle.group_tree.specs.Lists.{has_group};
 ghost use Rattle.group_tree.specs.Records.{has_gid, is_control_named, is_monitor_named};
 
@@ -14,6 +15,16 @@ pub(crate) fn find_gid(groups: &[Group], gid: Gid) -> Option<&Group>
     ensures { option_copied result ≡ find (has_gid gid) groups.now }
 {
     groups.iter().find(|g| g.has_gid(gid))
+}
+
+/// The group with this gid, where one is named.
+pub(crate) fn find_own(groups: &[Group], gid: Option<Gid>) -> Option<&Group>
+    ensures { option_copied result ≡ own_group gid groups.now }
+{
+    match gid {
+        Some(gid) => find_gid(groups, gid),
+        None => None,
+    }
 }
 
 /// The control group of this name.

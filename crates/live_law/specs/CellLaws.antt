@@ -1,4 +1,5 @@
 -- What the locks keep they keep with each step: one law for each thing that a cell sees or is given.
+-- (For functions and proofs: no promise of the program stands on it.)
 use Rattle.std.specs.Prelude.{◌≡◌, ℕ, ◌+◌, ◌<◌, ◌≤◌, IsSome, List, [], ◌∷◌, ◌++◌, length}
 use Rattle.cache_core.specs.History.{IsLegal, floor_of}
 use Rattle.cache_core.specs.declared.entry.SliceEntry.{SliceEntry}

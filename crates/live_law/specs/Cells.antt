@@ -1,4 +1,5 @@
 -- What the locks keep: the tree's cell and the slices' cells, by what each has seen.
+-- (For functions and proofs: no promise of the program stands on it.)
 use Rattle.std.specs.Prelude.{◌≡◌, ℕ, ◌<◌, ◌≤◌, IsTrue, IsSome, List, length, filter, Some}
 use Rattle.cache_core.specs.History.{IsLegal}
 use Rattle.cache_core.specs.declared.entry.SliceEntry.{SliceEntry}

@@ -1,4 +1,5 @@
 -- What holds when all threads are at their ends, and what it gives.
+-- (For functions and proofs: no promise of the program stands on it.)
 use Rattle.std.specs.Prelude.{◌≡◌, ℕ, ◌<◌, length}
 use Rattle.machine.specs.Slices.{slice_count}
 use Rattle.run_law.specs.Journals.{JournalsValue, slice_at}

@@ -1,4 +1,5 @@
 -- What a thread's passes keep, by what the thread has seen.
+-- (For functions and proofs: no promise of the program stands on it.)
 use Rattle.std.specs.Prelude.{◌≡◌, ℕ, ◌<◌, ◌≤◌, length, Some}
 use Rattle.cache_core.specs.declared.entry.SliceEntry.{SliceEntry}
 use Rattle.run_law.specs.Journals.{At, JournalsValue, slice_at}

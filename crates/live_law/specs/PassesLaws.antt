@@ -1,4 +1,5 @@
 -- What a thread's passes keep from op to op.
+-- (For functions and proofs: no promise of the program stands on it.)
 use Rattle.std.specs.Prelude.{◌≡◌, ℕ, ◌+◌, [], length}
 use Rattle.run_law.specs.Journals.{JournalsValue, slice_at}
 use Rattle.script_ops.specs.Values.{ScriptValue, ops_of}

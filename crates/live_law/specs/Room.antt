@@ -1,4 +1,5 @@
 -- What a thread has of its own in the journals, and the room that its passes have for more.
+-- (For functions and proofs: no promise of the program stands on it.)
 use Rattle.std.specs.Prelude.{ℕ, ◌+◌, ◌<◌, ◌≤◌, List, length, filter}
 use Rattle.cache_core.specs.declared.entry.SliceEntry.{SliceEntry}
 use Rattle.lists.specs.Sums.{one_if}

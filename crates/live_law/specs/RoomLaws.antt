@@ -1,4 +1,5 @@
 -- How many entries a thread has of its own, and that the quotas of its passes have room for each that it is to make.
+-- (For functions and proofs: no promise of the program stands on it.)
 use Rattle.std.specs.Prelude.{◌≡◌, ℕ, ◌+◌, ◌<◌, ◌≤◌, List, length, drop, take, Some}
 use Rattle.machine.specs.Slices.{slice_count}
 use Rattle.run_law.specs.Jobs.{Job, in_slice, jobs_of}

@@ -1,4 +1,5 @@
 -- What somebody has seen of the journals, and how that grows.
+-- (For functions and proofs: no promise of the program stands on it.)
 use Rattle.std.specs.Prelude.{◌≡◌, ◌≢◌, ℕ, ◌<◌, ◌==◌, Bool, false, List, [], ◌∷◌, ◌++◌, filter, length}
 use Rattle.cache_core.specs.declared.entry.SliceEntry.{SliceEntry}
 use Rattle.run_law.specs.Journals.{At, JournalsValue, slice_at}

@@ -1,4 +1,5 @@
 -- The stages of an op: a thread is ready for it; its command holds the tree, looks, and follows; its access holds a tag.
+-- (For functions and proofs: no promise of the program stands on it.)
 use Rattle.std.specs.Prelude.{◌≡◌, ℕ, ◌+◌, ◌<◌, ◌≤◌, false, IsTrue, List, length, map, take, Some}
 use Rattle.cache_core.specs.declared.entry.SliceEntry.{SliceEntry}
 use Rattle.cache_core.specs.declared.entry.What.TheVariants as whats

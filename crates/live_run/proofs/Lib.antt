@@ -1,4 +1,3 @@
-mod FoundSums
 mod Looked
 pub mod Bridges
 pub mod Cells

@@ -16,15 +16,16 @@ use Rattle.live_law.specs.Stages.{IsLooking}
 use Rattle.live_run.proofs.Bridges.{history_length}
 use Rattle.live_run.proofs.Trees.{lists_of}
 use Rattle.live_run.specs.Names.{SeenValue, history_of, seen_by}
-use Rattle.live_run.specs.Commands.{LooksAt, found_at}
+use Rattle.live_run.specs.Commands.{LooksAt}
 use Rattle.live_run.specs.Steps.{HasAdded}
 use Rattle.live_run.specs.Visits.{MayLook}
 use Rattle.machine.specs.Slices.{slice_count, slice_number}
 use Rattle.run_law.proofs.laws.DistinctLooks.{distinct_pairs}
 use Rattle.run_law.proofs.laws.FoundLooks.{pair_at}
+use Rattle.run_law.proofs.laws.FoundSums.{At-map, found_at-last, found_at-push, get-push_front, get-push_last}
 use Rattle.run_law.proofs.laws.JobKinds.{look_of, looks_are}
 use Rattle.run_law.proofs.laws.Positions.{At-append_front}
-use Rattle.run_law.specs.FoundLooks.{AreDistinct, pairs_for}
+use Rattle.run_law.specs.FoundLooks.{AreDistinct, found_at, pairs_for}
 use Rattle.run_law.specs.Jobs.{Job, follows_of, jobs_of, looks_of}
 use Rattle.run_law.specs.Journals.{At, JournalsValue}
 use Rattle.run_law.specs.TreeHistory.{TreeEntryValue, tree_after}
@@ -33,7 +34,6 @@ use Rattle.script_ops.specs.Values.{ScriptValue}
 use Rattle.script_ops.specs.declared.op.Op.{Op}
 use Rattle.seen_journal.specs.Journals.{JournalName, JournalValue}
 use Rattle.seen_journal.specs.Passes.{PassValue}
-use Rattle.live_run.proofs.FoundSums.{At-map, found_at-last, found_at-push, get-push_front, get-push_last}
 use Rattle.tree_law.specs.Steps.{needs}
 
 -- the job of a pair

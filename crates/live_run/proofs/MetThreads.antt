@@ -13,18 +13,6 @@ use Rattle.script_ops.specs.Values.{ScriptValue}
 pub IsHanded-self : (p : PassesValue) → IsHanded p p
 IsHanded-self p = record { taken = record { thread = refl; sees = SeesMore-self p.seen.thread (seen_by p.seen) }; next = refl }
 
--- before the first
-pub HasMetEach-none : (script : ScriptValue) (one : PassesValue) (others : List PassesValue) → HasMetEach script 0 one one others others
-HasMetEach-none script one others = record {
-  one_is = IsHanded-self one;
-  count = refl;
-  each = λ k before within. absurd (omega (arith, before));
-  rest = λ k after within. refl;
-  gathered = λ k before within. absurd (omega (arith, before));
-  given = λ k u before within. absurd (omega (arith, before));
-  own = λ k before within. absurd (omega (arith, before));
-}
-
 -- One has met another.
 pub record HasMet (script : ScriptValue) (one one_now other other_now : PassesValue) : Type 0 where
   pub one_is : IsHanded one one_now

@@ -38,12 +38,3 @@ next-reading m s (ops.List path) looks reads = same (ops.List path) (refusal m s
     same op None = refl
     same op (Some r) = refl
 next-reading m s op looks reads = absurd cc
-
--- a reply is ok only where nothing is refused
-pub refusal-ok : (m : Parameters) (s : State) (op : Op) (looks : List ℕ) → (next m s op looks).reply ≡ replies.Ok → refusal m s op ≡ None
-unfolding next
-refusal-ok m s op looks ok = at (refusal m s op) ok
-  where
-    at : (o : Option Refusal) → reply_of o ≡ replies.Ok → o ≡ None
-    at None e = refl
-    at (Some r) e = absurd cc

@@ -14,6 +14,7 @@ use Rattle.live_run.specs.Names.{SeenValue, history_of, seen_by}
 use Rattle.live_run.specs.Steps.{HaveGrown, HaveSeenSame}
 use Rattle.machine.specs.Maps.{domain_of}
 use Rattle.machine.specs.declared.parameters.Parameters.{Parameters}
+use Rattle.rc_base.proofs.laws.Tags.{same_tag}
 use Rattle.rc_base.specs.declared.names.Tag.{Tag}
 use Rattle.run_law.specs.Growth.{tag_of}
 use Rattle.run_law.specs.TreeHistory.{tree_after}
@@ -42,16 +43,6 @@ lists_same ps qs same = of ps qs same.count same.same
     of [] (q ∷ qs) count same = absurd (omega (arith, count))
     of (p ∷ ps) [] count same = absurd (omega (arith, count))
     of (p ∷ ps) (q ∷ qs) count same = rw (same 0) (ap (λ (ls : List (List SliceEntry)). list_of q.seen ∷ ls) (of ps qs (omega (arith, count)) (λ i. same (suc i))))
-
--- a tag is what its parts are
-same_tag : (a b : Tag) → a.epoch ≡ b.epoch → a.owner ≡ b.owner → a.class ≡ b.class → a.rmid ≡ b.rmid → a.mask ≡ b.mask → a.domain ≡ b.domain → a ≡ b
-same_tag a b e o c r m d =
-    ap (λ x. record { epoch = x; owner = a.owner; class = a.class; rmid = a.rmid; mask = a.mask; domain = a.domain }) e
-    ∙ (ap (λ x. record { epoch = b.epoch; owner = x; class = a.class; rmid = a.rmid; mask = a.mask; domain = a.domain }) o
-    ∙ (ap (λ x. record { epoch = b.epoch; owner = b.owner; class = x; rmid = a.rmid; mask = a.mask; domain = a.domain }) c
-    ∙ (ap (λ x. record { epoch = b.epoch; owner = b.owner; class = b.class; rmid = x; mask = a.mask; domain = a.domain }) r
-    ∙ (ap (λ x. record { epoch = b.epoch; owner = b.owner; class = b.class; rmid = b.rmid; mask = x; domain = a.domain }) m
-    ∙ ap (λ x. record { epoch = b.epoch; owner = b.owner; class = b.class; rmid = b.rmid; mask = b.mask; domain = x }) d))))
 
 module _ (script : ScriptValue) (tree : JournalName) (slices : List JournalName) (c : TreeCellValue) (kept : TreeIsKept script tree slices c) where
   -- the tasks of the tree are the script's

@@ -1,4 +1,5 @@
 -- A command, step by step.
+-- (For functions and proofs: no promise of the program stands on it.)
 use Rattle.std.specs.Prelude.{◌≡◌, ℕ, ◌+◌, ◌*◌, ◌<◌, ◌≤◌, ◌^◌, All, slice_get, slice_index_or, if◌then◌else◌, List, length, take, Some}
 use Rattle.file_view.specs.Texts.{is_reading, text_of}
 use Rattle.lists.specs.Sums.{sum_below}
@@ -7,16 +8,13 @@ use Rattle.live_law.specs.Stages.{IsFollowing, IsLooking}
 use Rattle.live_run.specs.Names.{PassesValue, SeenValue, history_of, seen_by}
 use Rattle.rc_base.specs.declared.replies.Reply.{Reply}
 use Rattle.rc_base.specs.declared.replies.Reply.TheVariants as replies
+use Rattle.run_law.specs.FoundLooks.{found_at}
 use Rattle.run_law.specs.Journals.{At, JournalsValue}
 use Rattle.run_law.specs.TreeHistory.{TreeEntryValue, tree_after}
 use Rattle.script_ops.specs.Values.{ScriptValue}
 use Rattle.script_ops.specs.declared.op.Op.{Op}
 use Rattle.tree_law.specs.State.{State}
 use Rattle.tree_law.specs.Steps.{next}
-
--- the sum of the first numbers found for a count: one for each slice of its domain
-abbrev pub found_at : ℕ → List ℕ → ℕ → ℕ → ℕ
-found_at slices found q number = sum_below number (λ x. slice_index_or found (q * slices + x) 0)
 
 -- A thread looks for its command c, op n, which is not decided yet: it has q counts whole, and of the next the lines of x slices.
 pub record LooksAt (script : ScriptValue) (n : ℕ) (c : Op) (q x lines : ℕ) (numbers : List ℕ) (s : SeenValue) : Type 0 where

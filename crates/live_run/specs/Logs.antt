@@ -1,4 +1,5 @@
 -- The journals of a run before it begins.
+-- (For functions and proofs: no promise of the program stands on it.)
 use Rattle.std.specs.Prelude.{◌≡◌, ℕ, ◌-◌, ◌^◌, ◌<◌, ◌≤◌, List, [], length, slice_get, slice_index_or, Some, Vec}
 use Rattle.std.specs.declared.alloc.Global.{Global}
 use Rattle.live_run.specs.Names.{no_name}

@@ -1,4 +1,5 @@
 -- What a Named names, and what contracts see of a thread's passes.
+-- (For functions and proofs: no promise of the program stands on it.)
 use Rattle.std.specs.Prelude.{ℕ, false, List, [], map, slice_index_or}
 use Rattle.cache_core.specs.declared.entry.SliceEntry.{SliceEntry}
 use Rattle.run_law.specs.Entries.{entry_value}

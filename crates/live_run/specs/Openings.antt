@@ -1,4 +1,5 @@
 -- Before the first op.
+-- (For functions and proofs: no promise of the program stands on it.)
 use Rattle.std.specs.Prelude.{◌≡◌, ℕ, ◌+◌, ◌-◌, ◌<◌, ◌≤◌, List, length, min, slice_index_or}
 use Rattle.cache_core.specs.declared.entry.SliceEntry.{SliceEntry}
 use Rattle.live_run.specs.Cells.{SliceCellValue, SliceIsKept, pass_in}

@@ -1,4 +1,5 @@
 -- What a thread's passes keep between two of its ops.
+-- (For functions and proofs: no promise of the program stands on it.)
 use Rattle.std.specs.Prelude.{ℕ, ◌+◌, ◌≤◌, List, drop, length}
 use Rattle.live_law.specs.Passes.{PassesKeep}
 use Rattle.live_run.specs.Names.{SeenValue, seen_by}

@@ -1,4 +1,5 @@
 -- From phase to phase.
+-- (For functions and proofs: no promise of the program stands on it.)
 use Rattle.std.specs.Prelude.{◌≡◌, ℕ, ◌<◌, ◌≤◌, List, [], length, slice_index_or}
 use Rattle.live_law.specs.DoneOps.{AreEnded, HasEnded}
 use Rattle.live_run.specs.Names.{PassesValue, no_name, seen_by}

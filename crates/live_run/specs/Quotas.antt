@@ -1,4 +1,5 @@
 -- How many entries each pass may add.
+-- (For functions and proofs: no promise of the program stands on it.)
 use Rattle.std.specs.Prelude.{◌≡◌, ℕ, ◌<◌, List, [], ◌∷◌, ◌++◌, length, map, replicate}
 use Rattle.live_run.specs.Names.{name_at}
 use Rattle.machine.specs.Slices.{slice_count}

@@ -1,4 +1,5 @@
 -- What a step leaves a thread with.
+-- (For functions and proofs: no promise of the program stands on it.)
 use Rattle.std.specs.Prelude.{◌≡◌, ◌≢◌, ℕ, ◌<◌, ◌≤◌, List, length, Option, None, Some}
 use Rattle.cache_core.specs.Stands.{entry}
 use Rattle.cache_core.specs.declared.entry.SliceEntry.{SliceEntry}

@@ -1,4 +1,5 @@
 -- What a thread knows when it goes to a slice.
+-- (For functions and proofs: no promise of the program stands on it.)
 use Rattle.std.specs.Prelude.{◌≡◌, ℕ, ◌+◌, ◌-◌, ◌<◌, ◌≤◌, List, length, IsSome}
 use Rattle.cache_steps.specs.Needs.{CanFollow, CanReach}
 use Rattle.live_law.specs.Cells.{AreMade}

@@ -11,10 +11,10 @@ filled base width n = replicate (width - length (digits base false n)) 48 ++ dig
 abbrev pub hexadecimal : ℕ → ℕ → List ℕ
 hexadecimal width n = filled 16 width n
 
--- reading the decimal text of a number gives the number
+-- (For proofs.) reading the decimal text of a number gives the number
 abbrev pub DecimalReadsBack : Type 0
 DecimalReadsBack = (n : ℕ) → n < 2 ^ 64 → dec_of (decimal n) ≡ Some n
 
--- reading the hexadecimal text of a number, of any width, gives the number
+-- (For proofs.) reading the hexadecimal text of a number, of any width, gives the number
 abbrev pub HexadecimalReadsBack : Type 0
 HexadecimalReadsBack = (width n : ℕ) → n < 2 ^ 64 → hex_of (hexadecimal width n) ≡ Some n

@@ -1,8 +1,9 @@
 //! The canonical texts of numbers.
 ghost use Rattle.std.specs.Prelude.{◌≡◌, ◌+◌, ◌≤◌, ◌<◌, [], ◌∷◌, ◌++◌, length, decimal, false};
 ghost use Rattle.std.specs.Fmt.{digit_glyph};
-ghost use Rattle.num_text.specs.Printed.{filled, hexadecimal};
+ghost use Rattle.num_text.specs.Printed.{hexadecimal};
 
+use itoa::Buffer;
 use rc_base::TextBuf;
 
 fn glyph(digit: u8) -> u8
@@ -16,19 +17,17 @@ fn glyph(digit: u8) -> u8
     }
 }
 
-// The digits of a number, at least `width` of them.
-fn push_digits(n: u64, base: u64, width: u8, out: &mut TextBuf)
-    requires low { 2 ≤ base }
-    requires high { base ≤ 16 }
-    requires room { length (filled base width n) ≤ out.old.spare }
-    ensures bytes { out.new.bytes ≡ out.old.bytes ++ filled base width n }
-    ensures spare { out.new.spare + length (filled base width n) ≡ out.old.spare }
+// The digits of a number in hexadecimal, at least `width` of them.
+fn push_digits(n: u64, width: u8, out: &mut TextBuf)
+    requires { length (hexadecimal width n) ≤ out.old.spare }
+    ensures bytes { out.new.bytes ≡ out.old.bytes ++ hexadecimal width n }
+    ensures spare { out.new.spare + length (hexadecimal width n) ≡ out.old.spare }
 {
-    if n >= base {
-        push_digits(n / base, base, width.saturating_sub(1), out);
-        out.push(glyph((n % base) as u8));
+    if n >= 16 {
+        push_digits(n / 16, width.saturating_sub(1), out);
+        out.push(glyph((n % 16) as u8));
     } else if width > 1 {
-        push_digits(0, base, width - 1, out);
+        push_digits(0, width - 1, out);
         out.push(glyph(n as u8));
     } else {
         out.push(glyph(n as u8));
@@ -36,13 +35,13 @@ fn push_digits(n: u64, base: u64, width: u8, out: &mut TextBuf)
 }
 
 /// Adds a number in decimal, without leading zeros (this project's profile).
-#[tactic(auto, using(crate::proofs::Prints::decimal_printed))]
 pub fn push_dec(n: u64, out: &mut TextBuf)
     requires { 20 ≤ out.old.spare }
     ensures bytes { out.new.bytes ≡ out.old.bytes ++ decimal n }
     ensures spare { out.new.spare + length (decimal n) ≡ out.old.spare }
 {
-    push_digits(n, 10, 0, out);
+    let mut digits = Buffer::new();
+    out.push_all(digits.format(n).as_bytes());
 }
 
 /// Adds a number in hexadecimal, in lower case, with zeros on the left up to `width` digits in
@@ -54,5 +53,5 @@ pub fn push_hex(n: u64, width: u8, out: &mut TextBuf)
     ensures bytes { out.new.bytes ≡ out.old.bytes ++ hexadecimal width n }
     ensures spare { out.new.spare + length (hexadecimal width n) ≡ out.old.spare }
 {
-    push_digits(n, 16, width, out);
+    push_digits(n, width, out);
 }

@@ -8,7 +8,7 @@ use Rattle.path_names.specs.declared.names.NameId.{NameId}
 abbrev pub interned : List ℕ → List (List ℕ) → List (List ℕ)
 interned name names = if list_any (bytes_eq name) names then names else names ++ name ∷ []
 
--- all names that were known keep their numbers
+-- (For proofs.) all names that were known keep their numbers
 abbrev pub Keeps : List (List ℕ) → List (List ℕ) → Type 0
 Keeps old new = take (length old) new ≡ old
 

@@ -88,20 +88,20 @@ item_of sets group set own what = []
 abbrev pub items : ℕ → ℕ → ℕ → (ℕ → Bool) → List SliceEntry → List Item
 items sets group set own entries = flat_map (λ (e : SliceEntry). item_of sets group set own e.what) entries
 
--- for an entry that is an item of this set: whether it is an access that hit
+-- (For proofs.) for an entry that is an item of this set: whether it is an access that hit
 abbrev pub hit_of : ℕ → ℕ → ℕ → (ℕ → Bool) → What → List Bool
 hit_of sets group set own (Access hit way owner rmid mask line) = if (owner.0 == group) && (line % sets == set) then hit ∷ [] else []
 hit_of sets group set own (Drop line at) = if own line && (line % sets == set) then false ∷ [] else []
 hit_of sets group set own what = []
 
--- whether each of the group's items in this set is an access that hit, in order
+-- (For proofs.) whether each of the group's items in this set is an access that hit, in order
 abbrev pub hits_in : ℕ → ℕ → ℕ → (ℕ → Bool) → List SliceEntry → List Bool
 hits_in sets group set own entries = flat_map (λ (e : SliceEntry). hit_of sets group set own e.what) entries
 
--- the group's items in this set of the window up to the last covered access
+-- (For proofs.) the group's items in this set of the window up to the last covered access
 abbrev pub covered_items : ℕ → ℕ → ℕ → What → List SliceEntry → List Item
 covered_items sets group set opening window = items sets group set (uses_line group window) (covered_front sets group opening window)
 
--- and whether each of them is an access that hit
+-- (For proofs.) and whether each of them is an access that hit
 abbrev pub covered_hits : ℕ → ℕ → ℕ → What → List SliceEntry → List Bool
 covered_hits sets group set opening window = hits_in sets group set (uses_line group window) (covered_front sets group opening window)

@@ -12,14 +12,14 @@ use Rattle.private_lru.specs.Private.{private_hit}
 abbrev pub between : List SliceEntry → ℕ → ℕ → List SliceEntry
 between entries from to = take (to - (from + 1)) (drop (from + 1) entries)
 
--- an entry that may open a window of this mask: a flush, or a lock of other ways
+-- (For proofs.) an entry that may open a window of this mask: a flush, or a lock of other ways
 abbrev pub Opens : ℕ → What → Type 0
 Opens mask Flush = Unit {0}
 Opens mask (Lock others first_line) = overlaps others mask ≡ false
 Opens mask what = ⊥
 
--- an entry that leaves the ways of the mask to the group: the group's accesses have the mask, another owner's have masks with
--- no way of it, and no other entry empties every place
+-- (For proofs.) an entry that leaves the ways of the mask to the group: the group's accesses have the mask, another owner's have
+-- masks with no way of it, and no other entry empties every place
 abbrev pub Respects : ℕ → ℕ → What → Type 0
 Respects group mask (Access hit way owner rmid its line) = MatchBool (owner.0 == group) (its ≡ mask) (overlaps its mask ≡ false)
 Respects group mask what = empties what ≡ false

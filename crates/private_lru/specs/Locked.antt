@@ -8,7 +8,8 @@ use Rattle.cache_core.specs.declared.entry.SliceEntry.{SliceEntry}
 use Rattle.cbm.specs.Masks.{overlaps}
 use Rattle.private_lru.specs.Covered.{loads}
 
--- an entry that leaves the ways of a region alone: no access of it may fill there, and no other entry empties every place
+-- (For proofs.) an entry that leaves the ways of a region alone: no access of it may fill there, and no other entry empties every
+-- place
 abbrev pub Spares : ℕ → What → Type 0
 Spares region (Access hit way owner rmid mask line) = overlaps mask region ≡ false
 Spares region what = empties what ≡ false

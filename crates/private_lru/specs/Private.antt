@@ -4,7 +4,7 @@ use Rattle.std.specs.List.{list_any, filter}
 use Rattle.private_lru.specs.declared.item.Item.{Item}
 use Rattle.private_lru.specs.declared.item.Item.TheVariants.{Use, Drop}
 
--- whether the line is in the list
+-- (For proofs.) whether the line is in the list
 abbrev pub among : ℕ → List ℕ → Bool
 among x lines = list_any (λ (y : ℕ). y == x) lines
 
@@ -44,28 +44,28 @@ always_fewer ways (item ∷ items) = nat_lt (length (alive (item ∷ items))) wa
 abbrev pub private_hit : ℕ → List Item → ℕ → Bool
 private_hit ways earlier x = is_used x (reverse earlier) && always_fewer ways (since x (reverse earlier))
 
--- whether an item is a use that hits
+-- (For proofs.) whether an item is a use that hits
 abbrev pub is_hit : ℕ → List Item → Item → Bool
 is_hit ways earlier (Use x) = private_hit ways earlier x
 is_hit ways earlier (Drop x) = false
 
--- whether each of these items is a use that hits, after some earlier ones
+-- (For proofs.) whether each of these items is a use that hits, after some earlier ones
 abbrev pub hits_after : ℕ → List Item → List Item → List Bool
 hits_after ways earlier [] = []
 hits_after ways earlier (item ∷ items) = is_hit ways earlier item ∷ hits_after ways (earlier ++ item ∷ []) items
 
--- whether each of these items is a use that hits, in a cache that is empty at first
+-- (For proofs.) whether each of these items is a use that hits, in a cache that is empty at first
 abbrev pub hits_of : ℕ → List Item → List Bool
 hits_of ways items = hits_after ways [] items
 
 -- ---- a list of the lines that are kept, the one used last in front
 
--- the lines that are kept after one item more
+-- (For proofs.) the lines that are kept after one item more
 abbrev pub kept_after : ℕ → List ℕ → Item → List ℕ
 kept_after ways lines (Use x) = take ways (x ∷ without x lines)
 kept_after ways lines (Drop x) = without x lines
 
--- whether an item is a use of a line that is kept
+-- (For proofs.) whether an item is a use of a line that is kept
 abbrev pub was_kept : List ℕ → Item → Bool
 was_kept lines (Use x) = among x lines
 was_kept lines (Drop x) = false

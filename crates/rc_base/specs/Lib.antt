@@ -1,4 +1,5 @@
 pub mod Buffers
+pub mod Faults
 pub mod Follows
 pub mod Gids
 pub mod Reasons

@@ -18,7 +18,7 @@ name_of Eexist = codes "EEXIST"
 name_of Einval = codes "EINVAL"
 name_of Enospc = codes "ENOSPC"
 
--- the number of an error, as Linux counts them
+-- (For proofs.) the number of an error, as Linux counts them
 abbrev pub code_of : Errno → ℕ
 code_of Eperm = 1
 code_of Enoent = 2
@@ -29,7 +29,7 @@ code_of Eexist = 17
 code_of Einval = 22
 code_of Enospc = 28
 
--- the number of a reason
+-- (For proofs.) the number of a reason
 abbrev pub number_of : Why → ℕ
 number_of NoSuchPath = 1
 number_of NotAPlace = 2

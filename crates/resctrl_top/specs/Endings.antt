@@ -125,15 +125,15 @@ pub record IsComplete (c : Call) (status : Status) : Type 0 where
 
 -- ---- the parts of a call
 
--- the sink took the text, or it failed and took a beginning of it
+-- (For proofs.) the sink took the text, or it failed and took a beginning of it
 abbrev pub Says : Status → Option JournalsValue → List ℕ → Writing → Status → Option JournalsValue → Type 0
 Says said told text sink status journals = (journals ≡ told) × (((status ≡ said) × TakesAll sink text) ⊎ ((status ≡ WriteFault) × TakesSome sink text))
 
--- memory ran out, and the sink took nothing
+-- (For proofs.) memory ran out, and the sink took nothing
 abbrev pub SaysNothing : Writing → Status → Option JournalsValue → Type 0
 SaysNothing sink status journals = (journals ≡ None) × (status ≡ NoMemory) × TakesNone sink
 
--- the script was played, and the sink took the report, or it failed and took a beginning of it
+-- (For proofs.) the script was played, and the sink took the report, or it failed and took a beginning of it
 pub record Reports (form : Form) (script : ScriptValue) (sink : Writing) (status : Status) (journals : Option JournalsValue) : Type 0 where
   pub run : JournalsValue
   pub promised : IsPromised form.command script run

@@ -1,86 +1,27 @@
 //! Running threads, and gates that hold them.
 
+mod gates;
+
 use crate::tests::{told_by, words};
 use crate::{Status, top};
-use rc_stream::{Gate, MemSink, MemSource, OpenGate, Point};
+use gates::{Crossing, Turns};
+use rc_stream::{Gate, MemSink, MemSource, OpenGate};
 use std::alloc::Global;
 use std::process::Abort;
 use std::sync::Wait;
-use std::sync::atomic::{AtomicBool, AtomicU32, Ordering};
+use std::sync::atomic::Ordering;
 use std::test::Fail;
 use std::thread::Threads;
 
-// How often a worker that is held looks for what it waits for.
-const TURNS: u32 = 100_000_000;
-
-// How many ops the worker of thread 1 has.
-const OPS: u32 = 2;
-
-// Holds the worker of thread 1 before its first op until that of thread 0 is in its slice, and that one there until thread 1 has
-// done its two ops. What each has seen in the end is noted.
-#[derive(Drop)]
-struct Crossing {
-    in_slice: AtomicBool,
-    done: AtomicU32,
-    first_was_seen: AtomicBool,
-    second_was_seen: AtomicBool,
-}
-
-impl Crossing {
-    fn new() -> Crossing {
-        Crossing {
-            in_slice: AtomicBool::new(false),
-            done: AtomicU32::new(0),
-            first_was_seen: AtomicBool::new(false),
-            second_was_seen: AtomicBool::new(false),
-        }
-    }
-
-    // Until thread 0 is in its slice.
-    fn await_slice(&self) {
-        for _ in 0..TURNS {
-            if self.in_slice.load(Ordering::SeqCst) {
-                self.first_was_seen.store(true, Ordering::SeqCst);
-                return;
-            }
-        }
-    }
-
-    // Until thread 1 has done its ops.
-    fn await_ops(&self) {
-        for _ in 0..TURNS {
-            if self.done.load(Ordering::SeqCst) == OPS {
-                self.second_was_seen.store(true, Ordering::SeqCst);
-                return;
-            }
-        }
-    }
-}
-
-impl Gate for Crossing {
-    fn at(&self, point: Point, thread: u32) {
-        match (thread, point) {
-            (0, Point::InSlice) => {
-                self.in_slice.store(true, Ordering::SeqCst);
-                self.await_ops();
-            }
-            (1, Point::BeforeOp) if self.done.load(Ordering::SeqCst) == 0 => self.await_slice(),
-            (1, Point::AfterOp) => {
-                self.done.fetch_add(1, Ordering::SeqCst);
-            }
-            _ => {}
-        }
-    }
-}
-
-// The status of a `run` of a script under a gate, and what is written.
+// The status of a call whose words begin with `run` on a script under a gate, and what is written.
 fn run_told<R: Threads + Wait + Sync, G: Gate>(
     rt: &R,
     alloc: Global,
+    form: &[&str],
     script: &[u8],
     gate: &G,
 ) -> Result<(Status, Vec<u8>), Fail> {
-    let words = words(alloc, &["run"])?;
+    let words = words(alloc, form)?;
     let mut source = MemSource::create(alloc, script, 1 << 20, &[])?;
     let mut sink = MemSink::create(alloc, 4096, 4096, &[])?;
     let ended = top(rt, alloc, &words, &mut source, &mut sink, gate);
@@ -100,7 +41,7 @@ fn cross<R: Abort + Threads + Wait + Sync>(
     script: &[u8],
 ) -> Result<(), Fail> {
     let gate = Crossing::new();
-    let (status, _) = run_told(rt, alloc, script, &gate)?;
+    let (status, _) = run_told(rt, alloc, &["run"], script, &gate)?;
     assert_eq!(rt; status, Status::Done);
     assert!(rt; gate.first_was_seen.load(Ordering::SeqCst));
     assert!(rt; gate.second_was_seen.load(Ordering::SeqCst));
@@ -119,6 +60,37 @@ fn workers_run_beside_each_other(rt: HostRuntime) -> Result<(), Fail> {
         rt.alloc(),
         b"machine domains=1 sets=2 slices=2 ways=4\ntasks 1\nphase\nthread\naccess 1 0 0\nthread\nread /schemata\naccess 1 0 64\n",
     )
+}
+
+// An access of each thread, and a change of the mask between them and two more.
+const IN_TURN: &[u8] =
+    b"machine sets=1 ways=4\ntasks 1 2\nphase\nthread\naccess 1 0 0\nwrite /schemata L3:0=c\naccess 1 0 64\nthread\naccess 2 0 0\naccess 2 0 64\nmkdir /a\n";
+
+const TOLD_IN_TURN: &[u8] = b"0 0.1 write /schemata L3:0=c: ok\n\
+1 1.2 mkdir /a: ok\n\
+slice 0.0\n\
+0 0.0 e0 access group 0 rmid 0 mask f set 0 line 0 fill way 0\n\
+1 1.0 e0 access group 0 rmid 0 mask f set 0 line 0 hit way 0\n\
+2 0.1 e1 raise\n\
+3 1.1 e1 access group 0 rmid 0 mask c set 0 line 1 fill way 2\n\
+4 0.2 e1 access group 0 rmid 0 mask c set 0 line 1 hit way 2\n\
+group 0 /: accesses 4 hits 2 misses 2\n\
+group 1 /a: accesses 0 hits 0 misses 0\n\
+domain 0: valid 2 of 4, rmid 0 2\n\
+total: commands 2 refused 0 accesses 4 hits 2 misses 2\n";
+
+#[test]
+fn two_threads_take_turns(rt: HostRuntime) -> Result<(), Fail> {
+    let (status, report) = run_told(
+        &rt,
+        rt.alloc(),
+        &["run", "--journal"],
+        IN_TURN,
+        &Turns::new(),
+    )?;
+    assert_eq!(rt; status, Status::Done);
+    assert_eq!(rt; report.as_slice(), TOLD_IN_TURN);
+    Ok(())
 }
 
 // How often a contended script is run.
@@ -153,7 +125,7 @@ fn tenants_keep_their_hits_beside_changes(rt: HostRuntime) -> Result<(), Fail> {
     for tenants in rows {
         let script = contended(rt.alloc(), tenants)?;
         for _ in 0..RUNS {
-            let (status, report) = run_told(&rt, rt.alloc(), &script, &OpenGate)?;
+            let (status, report) = run_told(&rt, rt.alloc(), &["run"], &script, &OpenGate)?;
             assert_eq!(rt; status, Status::Done);
             assert!(rt; tenants_are_alone(&report));
         }
@@ -165,7 +137,7 @@ fn tenants_keep_their_hits_beside_changes(rt: HostRuntime) -> Result<(), Fail> {
 fn words_that_begin_with_run_are_forms(rt: HostRuntime) -> Result<(), Fail> {
     let script: &[u8] =
         b"machine sets=1 ways=4\ntasks 1\nphase\norder 0\nthread\naccess 1 0 0\naccess 1 0 0\n";
-    let (status, report) = run_told(&rt, rt.alloc(), script, &OpenGate)?;
+    let (status, report) = run_told(&rt, rt.alloc(), &["run"], script, &OpenGate)?;
     assert_eq!(rt; status, Status::Done);
     let (_, stepped) = told_by(rt.alloc(), &["step"], script)?;
     assert_eq!(rt; report.as_slice(), stepped.as_slice());

@@ -22,41 +22,41 @@ abbrev pub first_hit : List SliceEntry → Option Bool
 first_hit [] = None
 first_hit (e ∷ es) = Some (is_hit e.what)
 
--- whether an entry is an access that this command made
+-- (For proofs.) whether an entry is an access that this command made
 abbrev pub is_access_by : TreeEntryValue → SliceEntry → Bool
 is_access_by h e = is_made_by h.thread h.op e && is_access e.what
 
--- whether an entry is the touch of the command at this position of the tree's history, and so has the epoch after it
+-- (For proofs.) whether an entry is the touch of the command at this position of the tree's history, and so has the epoch after it
 abbrev pub is_touch_of : ℕ → TreeEntryValue → SliceEntry → Bool
 is_touch_of k h e = is_access_by h e && (e.epoch == k + 1)
 
--- whether the first access of that command among these entries hit
+-- (For proofs.) whether the first access of that command among these entries hit
 abbrev pub touch_hit : ℕ → TreeEntryValue → List SliceEntry → Option Bool
 touch_hit k h [] = None
 touch_hit k h (e ∷ es) = if is_touch_of k h e then Some (is_hit e.what) else touch_hit k h es
 
--- whether this is the position k
+-- (For proofs.) whether this is the position k
 abbrev pub is_at : ℕ → Option ℕ → Bool
 is_at k None = false
 is_at k (Some at) = at == k
 
--- for each command at its position, new says what old says, or else what these entries say
+-- (For proofs.) for each command at its position, new says what old says, or else what these entries say
 abbrev pub Notes : List TreeEntryValue → List (Option Bool) → List (Option Bool) → List SliceEntry → Type 0
 Notes tree old new entries = (k : ℕ) (h : TreeEntryValue) → At tree k h → slice_index_or new k None ≡ option_or (slice_index_or old k None) (touch_hit k h entries)
 
--- `hit` says whether the first access that a command made hit, as the journals tell it; None, where it made none
+-- (For proofs.) `hit` says whether the first access that a command made hit, as the journals tell it; None, where it made none
 abbrev pub TellsTouch : JournalsValue → TreeEntryValue → Option Bool → Type 0
 TellsTouch j h hit = first_hit (accesses_by j h.thread h.op) ≡ hit
 
--- the same for each command, at its position
+-- (For proofs.) the same for each command, at its position
 abbrev pub TellTouches : JournalsValue → List (Option Bool) → Type 0
 TellTouches j hits = (k : ℕ) (h : TreeEntryValue) → At j.tree k h → TellsTouch j h (slice_index_or hits k None)
 
--- whether an op is a touch that was accepted
+-- (For proofs.) whether an op is a touch that was accepted
 abbrev pub is_accepted_touch : Op → Reply → Bool
 is_accepted_touch (Touch cpu path task offset) Ok = true
 is_accepted_touch op reply = false
 
--- whether the op of an entry is a touch that was accepted
+-- (For proofs.) whether the op of an entry is a touch that was accepted
 abbrev pub is_touch_in : ScriptValue → TreeEntryValue → Bool
 is_touch_in script h = option_map_or (λ op. is_accepted_touch op h.reply) (op_at script h.thread h.op) false

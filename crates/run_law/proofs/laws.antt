@@ -6,6 +6,7 @@ pub mod DoneCommands
 pub mod Endings
 pub mod FollowCounts
 pub mod FoundLooks
+pub mod FoundSums
 pub mod GrownLists
 pub mod JobKinds
 pub mod JobLists

@@ -1,7 +1,8 @@
 -- What the looks of a command have found.
 -- (For functions and proofs: no promise of the program stands on it.)
 use Rattle.std.specs.List.{flat_map, range_with_len}
-use Rattle.std.specs.Prelude.{List, map, slice_get, ℕ, ◌≡◌}
+use Rattle.lists.specs.Sums.{sum_below}
+use Rattle.std.specs.Prelude.{List, map, slice_get, slice_index_or, ℕ, ◌+◌, ◌*◌, ◌≡◌}
 use Rattle.machine.specs.Slices.{slice_number}
 use Rattle.machine.specs.declared.parameters.Parameters.{Parameters}
 use Rattle.run_law.specs.Journals.{At, JournalsValue, slice_at}
@@ -30,3 +31,7 @@ HasFound j t n pairs found = (r : ℕ) (pair : ℕ × ℕ) → At pairs r pair �
 -- the pairs of the looks of a command after this history
 abbrev pub pairs_for : ScriptValue → List TreeEntryValue → Op → List (ℕ × ℕ)
 pairs_for script tree op = look_pairs script.machine (needs script.machine (tree_after script tree) op)
+
+-- the sum of the first numbers found for a count: one for each slice of its domain
+abbrev pub found_at : ℕ → List ℕ → ℕ → ℕ → ℕ
+found_at slices found q number = sum_below number (λ x. slice_index_or found (q * slices + x) 0)

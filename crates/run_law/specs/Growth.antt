@@ -34,31 +34,33 @@ tag_of m s epoch task cpu =
     let owned = resolve m s task cpu in
     record { epoch = epoch; owner = owned.owner; class = owned.class; rmid = owned.rmid; mask = owned.mask; domain = domain_of m cpu }
 
--- an epoch at which no thread holds the tree: at most the length of its history, and below that while a command holds it
+-- (For proofs.) an epoch at which no thread holds the tree: at most the length of its history, and below that while a command holds
+-- it
 pub record IsFree (at : ℕ → Progress) (tree : List TreeEntryValue) (epoch : ℕ) : Type 0 where
   pub within : epoch ≤ length tree
   pub before : (t : ℕ) → IsSome (at t).made → epoch < length tree
 
--- Every entry is of an op that has begun. One of an op that does not hold the tree has an epoch before the command that does.
+-- (For proofs.) Every entry is of an op that has begun. One of an op that does not hold the tree has an epoch before the command
+-- that does.
 pub record AreOfBegun (j : JournalsValue) (at : ℕ → Progress) : Type 0 where
   pub commands : (k : ℕ) (h : TreeEntryValue) → At j.tree k h → HasBegun (at h.thread) h.op
   pub entries : (i p : ℕ) (e : SliceEntry) → At (slice_at j i) p e → HasBegun (at e.thread) e.op
   pub epochs : (i p : ℕ) (e : SliceEntry) → At (slice_at j i) p e → e.epoch ≤ length j.tree
   pub others : (i p : ℕ) (e : SliceEntry) → At (slice_at j i) p e → (IsUnderWay (at e.thread) e.op → ⊥) → IsFree at j.tree e.epoch
 
--- At most one thread holds the tree, and its command stands last in the tree's history, and nowhere else.
+-- (For proofs.) At most one thread holds the tree, and its command stands last in the tree's history, and nowhere else.
 pub record IsAlone (j : JournalsValue) (at : ℕ → Progress) : Type 0 where
   pub one : (t u : ℕ) → IsSome (at t).made → IsSome (at u).made → t ≡ u
   pub some : (t : ℕ) → IsSome (at t).made → 0 < length j.tree
   pub there : (t k : ℕ) → IsSome (at t).made → k + 1 ≡ length j.tree → (h : TreeEntryValue) × At j.tree k h × IsTrue (is_taken_from t (at t).next h)
   pub last : (t k : ℕ) (h : TreeEntryValue) → IsSome (at t).made → At j.tree k h → IsTrue (is_taken_from t (at t).next h) → k + 1 ≡ length j.tree
 
--- The phases before the present one are done, and those after it are not begun.
+-- (For proofs.) The phases before the present one are done, and those after it are not begun.
 pub record AreInPhase (script : ScriptValue) (at : ℕ → Progress) (phase : ℕ) : Type 0 where
   pub earlier : (t : ℕ) → phase_in script.phases t < phase → at t ≡ (record { next = length (ops_of script t); made = None; tag = None })
   pub later : (t : ℕ) → phase < phase_in script.phases t → at t ≡ (record { next = 0; made = None; tag = None })
 
--- ops that come before others in the script happened before them
+-- (For proofs.) ops that come before others in the script happened before them
 abbrev pub MarksInOrder : ScriptValue → JournalsValue → Type 0
 MarksInOrder script j =
     (thread op later_thread later_op start stop later_start later_stop : ℕ) (c later : Op)
@@ -66,21 +68,21 @@ MarksInOrder script j =
     → HasMarks j thread op c start stop → HasMarks j later_thread later_op later later_start later_stop
     → stop ≤ later_start
 
--- all ops that come before this one ended by this epoch
+-- (For proofs.) all ops that come before this one ended by this epoch
 abbrev pub IsBehindAll : ScriptValue → JournalsValue → ℕ → ℕ → ℕ → Type 0
 IsBehindAll script j thread op epoch =
     (earlier_thread earlier_op start stop : ℕ) (c : Op)
     → op_at script earlier_thread earlier_op ≡ Some c → Precedes script earlier_thread earlier_op thread op → HasMarks j earlier_thread earlier_op c start stop
     → stop ≤ epoch
 
--- entries of ops that come before others stand before theirs
+-- (For proofs.) entries of ops that come before others stand before theirs
 abbrev pub EntriesInOrder : ScriptValue → JournalsValue → Type 0
 EntriesInOrder script j =
     (i p q : ℕ) (e later : SliceEntry) → At (slice_at j i) p e → At (slice_at j i) q later
     → Precedes script e.thread e.op later.thread later.op
     → p < q
 
--- An entry of an epoch stands after all entries of other commands before that epoch.
+-- (For proofs.) An entry of an epoch stands after all entries of other commands before that epoch.
 abbrev pub BehindCommands : JournalsValue → Type 0
 BehindCommands j =
     (i p q k : ℕ) (e earlier : SliceEntry) (command : TreeEntryValue)
@@ -88,18 +90,18 @@ BehindCommands j =
     → IsTrue (is_made_by command.thread command.op earlier) → k < e.epoch → (IsTrue (is_made_by command.thread command.op e) → ⊥)
     → q < p
 
--- what a tag is: what the tree gives at its epoch, at which no thread holds the tree, after all ops that come before
+-- (For proofs.) what a tag is: what the tree gives at its epoch, at which no thread holds the tree, after all ops that come before
 pub record IsTagOf (script : ScriptValue) (j : JournalsValue) (at : ℕ → Progress) (t task cpu : ℕ) (tag : Tag) : Type 0 where
   pub is : tag ≡ tag_of script.machine (tree_after script (take tag.epoch j.tree)) tag.epoch task cpu
   pub free : IsFree at j.tree tag.epoch
   pub behind : IsBehindAll script j t (at t).next tag.epoch
 
--- the command that holds the tree: its entries so far are the first `made` of those it owes, and those of them that go to slice i
--- stand there
+-- (For proofs.) the command that holds the tree: its entries so far are the first `made` of those it owes, and those of them that
+-- go to slice i stand there
 abbrev pub HasMade : ScriptValue → JournalsValue → ℕ → ℕ → ℕ → ℕ → Op → ℕ → Type 0
 HasMade script j i thread op k c made = map paid_by (filter (is_made_by thread op) (slice_at j i)) ≡ in_slice i (take made (jobs_of script j.tree k c))
 
--- Each op that has begun is there once, as far as it has come.
+-- (For proofs.) Each op that has begun is there once, as far as it has come.
 pub record AreInOrderSoFar (script : ScriptValue) (j : JournalsValue) (at : ℕ → Progress) : Type 0 where
   pub commands_once : (t op : ℕ) (c : Op) → op_at script t op ≡ Some c → IsTrue (is_command c) → HasBegun (at t) op → length (filter (is_taken_from t op) j.tree) ≡ 1
   pub entries_once :
@@ -114,7 +116,8 @@ pub record AreInOrderSoFar (script : ScriptValue) (j : JournalsValue) (at : ℕ 
   pub marks : MarksInOrder script j
   pub entries_in_order : EntriesInOrder script j
 
--- What is kept of the journals at every moment, where the command that holds the tree stands last in the tree's history.
+-- (For proofs.) What is kept of the journals at every moment, where the command that holds the tree stands last in the tree's
+-- history.
 pub record IsKept (script : ScriptValue) (j : JournalsValue) (at : ℕ → Progress) (phase : ℕ) : Type 0 where
   pub in_phase : AreInPhase script at phase
   pub alone : IsAlone j at
@@ -123,7 +126,7 @@ pub record IsKept (script : ScriptValue) (j : JournalsValue) (at : ℕ → Progr
   pub entries_true : AreTrue script j
   pub in_order : AreInOrderSoFar script j at
 
--- The histories are legal, and each command that was decided was given what its looks counted.
+-- (For proofs.) The histories are legal, and each command that was decided was given what its looks counted.
 pub record AreLegal (script : ScriptValue) (j : JournalsValue) : Type 0 where
   pub all_slices : length j.slices ≡ slice_count script.machine
   pub tree_legal : IsLegalTree script j.tree

@@ -45,7 +45,7 @@ follows_of script tree k op = flat_map (follow_jobs script.machine (k + 1)) (aft
 abbrev pub jobs_of : ScriptValue → List TreeEntryValue → ℕ → Op → List Job
 jobs_of script tree k op = looks_of script tree k op ++ follows_of script tree k op
 
--- of these jobs, what is owed to slice i
+-- (For proofs.) of these jobs, what is owed to slice i
 abbrev pub in_slice : ℕ → List Job → List Owed
 in_slice i [] = []
 in_slice i (job ∷ jobs) = if job.slice == i then job.owed ∷ in_slice i jobs else in_slice i jobs

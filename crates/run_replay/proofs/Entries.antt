@@ -6,9 +6,7 @@ use Rattle.std.specs.Prelude.{IsTrue, is_some}
 use Rattle.std.proofs.lemmas.List.{length-map, take-map}
 use Rattle.std.proofs.lemmas.Option.{slice_get-get_or}
 use Rattle.machine.specs.Ranges.{InRange}
-use Rattle.machine.specs.declared.parameters.Parameters.{Parameters}
 use Rattle.rc_base.proofs.laws.Histories.{EachFollows-at}
-use Rattle.rc_base.specs.declared.replies.Reply.TheVariants as replies
 use Rattle.run_replay.specs.Replayed.{HasFewLooks, IsAnswered, IsAnsweredAs, IsCounted}
 use Rattle.run_law.proofs.laws.Looks.{looks-few}
 use Rattle.run_law.specs.Entries.{entry_value}
@@ -18,9 +16,8 @@ use Rattle.run_law.specs.TreeHistory.{CommandMayFollow, IsCommandThat, IsLegalTr
 use Rattle.run_law.specs.declared.journals.TreeEntry.{TreeEntry}
 use Rattle.script_ops.specs.Values.{ScriptValue, op_at}
 use Rattle.script_ops.specs.declared.op.Op.{Op}
-use Rattle.tree_law.specs.Refusals.{Refusal, reply_of}
 use Rattle.tree_law.specs.State.{State, opening}
-use Rattle.tree_law.specs.Steps.{needs, next, refusal}
+use Rattle.tree_law.specs.Steps.{needs, next}
 
 -- a command is there
 pub is_some-command : (P : Op → Type 0) (o : Option Op) → IsCommandThat P o → IsTrue (is_some o)
@@ -62,15 +59,6 @@ IsCounted-answered script s h answered = at (op_at script h.thread h.op) answere
 -- its op was answered so
 pub IsAnsweredAs-op : (script : ScriptValue) (s : State) (h : TreeEntryValue) (op : Op) → IsAnswered script s h → op_at script h.thread h.op ≡ Some op → IsAnsweredAs script.machine s h op
 IsAnsweredAs-op script s h op answered is = IsCommandThat-some (IsAnsweredAs script.machine s h) (op_at script h.thread h.op) op answered is
-
--- an op that was answered with `ok` was accepted
-pub refusal-ok : (m : Parameters) (s : State) (op : Op) (looks : List ℕ) → replies.Ok ≡ (next m s op looks).reply → refusal m s op ≡ None
-unfolding next
-refusal-ok m s op looks ok = at (refusal m s op) ok
-  where
-    at : (o : Option Refusal) → replies.Ok ≡ reply_of o → o ≡ None
-    at None e = refl
-    at (Some r) e = absurd cc
 
 -- ---- the counts that entries were given
 

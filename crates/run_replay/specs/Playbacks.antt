@@ -11,8 +11,8 @@ use Rattle.script_ops.specs.declared.limits.TheConstants.{MOST_WEIGHT}
 use Rattle.script_ops.specs.declared.op.Op.{Op}
 use Rattle.tree_law.specs.State.{State, opening}
 
--- So many commands of a legal history were taken: the tree is as it is before the next one, and the groups are those that they
--- made. The history has no more commands than a script may have.
+-- (For proofs.) So many commands of a legal history were taken: the tree is as it is before the next one, and the groups are those
+-- that they made. The history has no more commands than a script may have.
 pub record HasTaken (script : ScriptValue) (tree : List TreeEntryValue) (commands : ℕ) (r : ReplayValue) : Type 0 where
   pub legal : IsLegalTree script tree
   pub few : length tree ≤ MOST_WEIGHT

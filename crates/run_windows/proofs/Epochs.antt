@@ -2,7 +2,6 @@
 use Rattle.std.proofs.Common.{◌≡◌, ℕ, ◌+◌, [], ◌∷◌, ◌++◌, take, Some, sym, subst, ap, ◌∙◌}
 use Rattle.std.proofs.lemmas.List.{take_more}
 use Rattle.std.proofs.lemmas.Option.{get_or_from_slice_get, slice_get_within}
-use Rattle.rc_base.specs.declared.replies.Reply.TheVariants as replies
 use Rattle.run_law.proofs.laws.Tasks.{tasks_of-tree_after}
 use Rattle.run_law.proofs.laws.TreeHistory.{tree_after-push}
 use Rattle.run_law.specs.Journals.{At, JournalsValue}

@@ -1,8 +1,10 @@
+mod ChangeLists
 mod CountedWindows
 mod Entries
 mod Epochs
 mod Floors
 mod IsolatedWindows
+mod KeptGroups
 mod KeptStays
 mod LockEnds
 mod LockWindows
@@ -12,7 +14,9 @@ mod Owners
 mod Replays
 mod RisingGids
 mod SiteOrder
+mod SpanPlaces
 mod StepFollows
+mod Tenants
 mod Timelines
 mod WindowEnds
 mod WindowEntries

@@ -8,7 +8,7 @@ use Rattle.run_law.specs.Runs.{IsRun}
 use Rattle.run_law.specs.TreeHistory.{TreeEntryValue, tree_after}
 use Rattle.run_windows.proofs.Epochs.{Fits-state_at, state_at-suc}
 use Rattle.run_windows.specs.Epochs.{state_at}
-use Rattle.run_windows.specs.Stays.{IsReplayed}
+use Rattle.run_windows.specs.Changes.{IsReplayed}
 use Rattle.script_ops.specs.Fits.{Fits}
 use Rattle.script_ops.specs.Values.{IsLawful, ScriptValue, op_at}
 use Rattle.script_ops.specs.declared.op.Op.{Op}

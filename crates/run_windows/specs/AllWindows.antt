@@ -38,7 +38,7 @@ pub record IsUsed (script : ScriptValue) (j : JournalsValue) (s : Site) : Type 0
   pub is : IsWindow script j (slice_number script.machine s.domain s.slice) s.from to opening (gid_of s.gid) mask last
   pub used : 0 < accesses_of s.gid (between (slice_at j (slice_number script.machine s.domain s.slice)) s.from to)
 
--- a flush or a lock stands at this position of a slice
+-- (For proofs.) a flush or a lock stands at this position of a slice
 abbrev pub IsOpening : ScriptValue → JournalsValue → ℕ → ℕ → ℕ → Type 0
 IsOpening script j domain slice from = IsSomeAnd (slice_get (slice_at j (slice_number script.machine domain slice)) from) (λ e. empties e.what ≡ true)
 
@@ -48,13 +48,13 @@ pub record AreWindowsOf (script : ScriptValue) (j : JournalsValue) (windows : Li
   pub all : (s : Site) → IsUsed script j s → Contains (map site_of windows) s
   pub ordered : AllPairs Precedes (map site_of windows)
 
--- The same for those of the windows that begin before a place.
+-- (For proofs.) The same for those of the windows that begin before a place.
 pub record AreWindowsBefore (script : ScriptValue) (j : JournalsValue) (bound : Site) (windows : List Window) : Type 0 where
   pub each : All (IsUsedWindow script j) windows
   pub before : All (λ (s : Site). Precedes s bound) (map site_of windows)
   pub all : (s : Site) → Precedes s bound → IsUsed script j s → Contains (map site_of windows) s
   pub ordered : AllPairs Precedes (map site_of windows)
 
--- a list with one window more, where its group has an access in it
+-- (For proofs.) a list with one window more, where its group has an access in it
 abbrev pub with_used : List Window → Window → List Window
 with_used windows w = if nat_lt 0 w.accesses then windows ++ w ∷ [] else windows

@@ -10,6 +10,6 @@ use Rattle.tree_law.specs.State.{State}
 abbrev pub state_at : ScriptValue → JournalsValue → ℕ → State
 state_at script j epoch = tree_after script (take epoch j.tree)
 
--- the state of every epoch is sound
+-- (For proofs.) the state of every epoch is sound
 abbrev pub AreSound : ScriptValue → JournalsValue → Type 0
 AreSound script j = (epoch : ℕ) → epoch ≤ length j.tree → IsSound script.machine (state_at script j epoch)

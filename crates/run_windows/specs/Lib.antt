@@ -1,8 +1,10 @@
 pub mod AllWindows
+pub mod Changes
 pub mod Epochs
 pub mod Regions
 pub mod Sites
 pub mod Stays
+pub mod Timelines
 pub mod WindowCounts
 pub mod WindowLaws
 pub mod Windows

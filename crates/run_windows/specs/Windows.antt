@@ -35,7 +35,7 @@ GoesOver last e = (empties e.what ≡ false) × (e.epoch ≤ last)
 abbrev pub Ends : ℕ → SliceEntry → Type 0
 Ends last e = (empties e.what ≡ true) ⊎ (last < e.epoch)
 
--- whether an entry ends such a window
+-- (For proofs.) whether an entry ends such a window
 abbrev pub ends_window : ℕ → SliceEntry → Bool
 ends_window last e = empties e.what || nat_lt last e.epoch
 

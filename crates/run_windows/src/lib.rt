@@ -1,6 +1,7 @@
 //! The windows of a run in which a group has its ways for itself. A call that runs out of memory answers NoMemory.
 #![tactic(auto)]
 
+mod changes;
 pub mod counting;
 pub mod listing;
 mod stay;

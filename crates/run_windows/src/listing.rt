@@ -6,13 +6,16 @@ ghost use Rattle.machine.specs.Slices.{slice_number};
 ghost use Rattle.run_law.specs.Journals.{At, slice_at};
 ghost use Rattle.run_law.specs.Runs.{IsRun};
 ghost use Rattle.run_windows.specs.AllWindows.{AreWindowsBefore, AreWindowsOf, IsOpening, with_used};
-ghost use Rattle.run_windows.specs.Stays.{AreStays, IsTimeline};
+ghost use Rattle.run_windows.specs.Changes.{AreChanges};
+ghost use Rattle.run_windows.specs.Stays.{AreStays};
+ghost use Rattle.run_windows.specs.Timelines.{IsTimeline};
 ghost use Rattle.run_windows.specs.Windows.{StaysExclusive};
 ghost use Rattle.script_ops.specs.Values.{IsLawful};
 
+use crate::changes::{Change, changes};
 use crate::counting::{Place, count_window_at, empties};
 use crate::stay::Stay;
-use crate::timeline::timeline;
+use crate::timeline::{Span, stays_at, timeline};
 use cache_core::SliceEntry;
 use rc_base::NoMemory;
 use run_law::{Journals, Window};
@@ -98,7 +101,7 @@ fn push_entry(
     journals: &Journals,
     opening: Opening,
     entry: &SliceEntry,
-    timeline: &[Vec<Stay>],
+    timeline: &[Span],
     windows: &mut Vec<Window>,
 ) -> Result<(), NoMemory>
     requires lawful { IsLawful script.now }
@@ -106,15 +109,15 @@ fn push_entry(
     requires domain { opening.domain < script.now.machine.domains }
     requires slice { opening.slice < script.now.machine.slices }
     requires entry { At (slice_at journals.now (slice_number script.now.machine opening.domain opening.slice)) opening.from entry.now }
-    requires timeline { IsTimeline script.now journals.now opening.domain (length journals.now.tree + 1) timeline.now }
+    requires timeline { IsTimeline script.now journals.now opening.domain 0 timeline.now }
     requires before { AreWindowsBefore script.now journals.now (record { domain = opening.domain; slice = opening.slice; from = opening.from; gid = 0 }) windows.old.items }
     ensures { OnOk result (AreWindowsBefore script.now journals.now (record { domain = opening.domain; slice = opening.slice; from = opening.from + 1; gid = 0 }) windows.new.items) }
 {
     if !empties(entry.what) {
         return Ok(());
     }
-    let back = journals.tree().len() - entry.epoch as usize;
-    push_opened(alloc, script, journals, opening, &timeline[back], windows)
+    let stays = stays_at(script, journals, opening.domain, timeline, entry.epoch);
+    push_opened(alloc, script, journals, opening, stays, windows)
 }
 
 // Adds the windows of a slice.
@@ -124,14 +127,14 @@ fn push_slice(
     journals: &Journals,
     domain: u8,
     slice: u8,
-    timeline: &[Vec<Stay>],
+    timeline: &[Span],
     windows: &mut Vec<Window>,
 ) -> Result<(), NoMemory>
     requires lawful { IsLawful script.now }
     requires run { IsRun script.now journals.now }
     requires domain { domain < script.now.machine.domains }
     requires slice { slice < script.now.machine.slices }
-    requires timeline { IsTimeline script.now journals.now domain (length journals.now.tree + 1) timeline.now }
+    requires timeline { IsTimeline script.now journals.now domain 0 timeline.now }
     requires before { AreWindowsBefore script.now journals.now (record { domain = domain; slice = slice; from = 0; gid = 0 }) windows.old.items }
     ensures { OnOk result (AreWindowsBefore script.now journals.now (record { domain = domain; slice = slice + 1; from = 0; gid = 0 }) windows.new.items) }
 {
@@ -154,15 +157,17 @@ fn push_domain(
     script: &Script,
     journals: &Journals,
     domain: u8,
+    changes: &[Change],
     windows: &mut Vec<Window>,
 ) -> Result<(), NoMemory>
     requires lawful { IsLawful script.now }
     requires run { IsRun script.now journals.now }
     requires domain { domain < script.now.machine.domains }
+    requires changes { AreChanges script.now journals.now (length journals.now.tree + 1) changes.now }
     requires before { AreWindowsBefore script.now journals.now (record { domain = domain; slice = 0; from = 0; gid = 0 }) windows.old.items }
     ensures { OnOk result (AreWindowsBefore script.now journals.now (record { domain = domain + 1; slice = 0; from = 0; gid = 0 }) windows.new.items) }
 {
-    let timeline = timeline(alloc, script, journals, domain)?;
+    let timeline = timeline(alloc, script, journals, domain, changes)?;
     for slice in 0..script.machine().slices {
         push_slice(alloc, script, journals, domain, slice, &timeline, windows)?;
     }
@@ -173,17 +178,19 @@ fn push_domain(
 /// access of the group: by domain, by slice, by the position of the flush or lock, and by group in order of creation (this
 /// project's profile).
 ///
-/// The tree is played once more for each domain, and for each epoch its exclusive groups are kept, 16 bytes for each. Then the
-/// entries of a window are walked a few times for each group that is exclusive when it begins. These have masks with no way in
-/// common, so there are at most as many as ways. Walking costs a look-up among the group's lines in the window for each access.
+/// The tree is played once more, and after each command that changes the exclusive groups or a mask of theirs they are kept, 12
+/// bytes for each group and domain, and then 16 for each group of one domain at a time. Then the entries of a window are walked a
+/// few times for each group that is exclusive when it begins. These have masks with no way in common, so there are at most as many
+/// as ways. Walking costs a look-up among the group's lines in the window for each access.
 pub fn windows(alloc: Global, script: &Script, journals: &Journals) -> Result<Vec<Window>, NoMemory>
     requires lawful { IsLawful script.now }
     requires run { IsRun script.now journals.now }
     ensures { IfOk result (λ windows. AreWindowsOf script.now journals.now windows.items) }
 {
+    let changes = changes(alloc, script, journals)?;
     let mut windows: Vec<Window> = Vec::new(alloc);
     for domain in 0..script.machine().domains {
-        push_domain(alloc, script, journals, domain, &mut windows)?;
+        push_domain(alloc, script, journals, domain, &changes, &mut windows)?;
     }
     Ok(windows)
 }

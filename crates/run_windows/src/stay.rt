@@ -1,24 +1,35 @@
-//! The groups that are exclusive in one domain at one epoch.
-ghost use Rattle.std.specs.Prelude.{◌≡◌, ◌<◌, ◌∷◌, [], ◌++◌, IfOk, OnOk, find, map};
+//! The groups that are exclusive at one epoch, and how long they stay so.
+ghost use Rattle.std.specs.Prelude.{◌≡◌, ◌<◌, ◌∷◌, [], ◌++◌, IfOk, OnOk, filter, find, map};
 ghost use Rattle.std.specs.Option.{option_copied};
 ghost use Rattle.group_tree.specs.Records.{has_mode};
 ghost use Rattle.rc_base.specs.declared.names.Mode.TheVariants.{Exclusive};
-ghost use Rattle.run_windows.specs.Stays.{extended, is_same, stays_in};
+ghost use Rattle.run_windows.specs.Stays.{is_in, is_same, last_of, stay_of, tenants_in};
 
 use group_tree::{Group, GroupKind};
 use rc_base::{Gid, Mode, NoMemory};
 use std::alloc::Global;
 use tree_core::Tree;
 
-/// A group that is exclusive on one mask, and the last epoch up to which it is known to stay so.
+/// A group that is exclusive, with its mask in one domain.
 #[derive(Clone, Copy, Debug, PartialEq, Eq, Drop)]
-pub(crate) struct Stay {
+pub(crate) struct Tenant {
     /// The group.
     pub gid: Gid,
     /// Its mask in the domain.
     pub mask: u32,
+    /// The domain, from 0.
+    pub domain: u8,
+}
+
+/// A group that is exclusive on one mask, and the last epoch up to which it stays so.
+#[derive(Clone, Copy, Debug, PartialEq, Eq, Drop)]
+pub(crate) struct Stay {
     /// The last epoch.
     pub last: u64,
+    /// The group.
+    pub gid: Gid,
+    /// Its mask in the domain.
+    pub mask: u32,
 }
 
 // Whether it is an exclusive control group.
@@ -29,80 +40,99 @@ fn is_exclusive(group: &Group) -> bool
 }
 
 // Adds the group, where it is exclusive.
-fn push_exclusive(
-    stays: &mut Vec<Stay>,
-    group: &Group,
-    domain: u8,
-    epoch: u64,
-) -> Result<(), NoMemory>
+fn push_exclusive(tenants: &mut Vec<Tenant>, group: &Group, domain: u8) -> Result<(), NoMemory>
     requires { domain < 8 }
-    ensures { OnOk result (stays.new.items ≡ stays.old.items ++ stays_in domain epoch (group.now ∷ [])) }
+    ensures { OnOk result (tenants.new.items ≡ tenants.old.items ++ tenants_in domain (group.now ∷ [])) }
 {
     if !is_exclusive(group) {
         return Ok(());
     }
-    stays.push(Stay {
+    tenants.push(Tenant {
         gid: group.gid,
         mask: group.masks[domain as usize],
-        last: epoch,
+        domain,
     })?;
     Ok(())
 }
 
-/// The exclusive groups of a tree with their masks in a domain, each up to the present epoch.
-pub(crate) fn exclusive_groups(
-    alloc: Global,
+/// Adds the exclusive groups of a tree with their masks in a domain.
+pub(crate) fn push_tenants(
+    tenants: &mut Vec<Tenant>,
     tree: &Tree,
     domain: u8,
-) -> Result<Vec<Stay>, NoMemory>
+) -> Result<(), NoMemory>
     requires { domain < 8 }
-    ensures { IfOk result (λ stays. stays.items ≡ stays_in domain tree.now.epoch tree.now.state.groups) }
+    ensures { OnOk result (tenants.new.items ≡ tenants.old.items ++ tenants_in domain tree.now.state.groups) }
 {
     let groups = tree.groups();
-    let mut stays: Vec<Stay> = Vec::new(alloc);
     for i in 0..groups.len() {
         match groups.at(i) {
-            Some(group) => push_exclusive(&mut stays, group, domain, tree.epoch())?,
+            Some(group) => push_exclusive(tenants, group, domain)?,
             None => unreachable!(),
         }
     }
-    Ok(stays)
+    Ok(())
 }
 
 // Whether it is the same group with the same mask.
-fn is_same(stay: Stay, later: &Stay) -> bool
-    ensures { result ≡ is_same stay later.now }
+fn is_same(tenant: Tenant, later: &Stay) -> bool
+    ensures { result ≡ is_same tenant later.now }
 {
-    later.gid.0 == stay.gid.0 && later.mask == stay.mask
+    later.gid.0 == tenant.gid.0 && later.mask == tenant.mask
 }
 
-// The same group with the same mask in the next epoch.
-fn find_same(next: &[Stay], stay: Stay) -> Option<&Stay>
-    ensures { option_copied result ≡ find (is_same stay) next.now }
+// The same group with the same mask from a later epoch on.
+fn find_same(next: &[Stay], tenant: Tenant) -> Option<&Stay>
+    ensures { option_copied result ≡ find (is_same tenant) next.now }
 {
-    next.iter().find(|later| is_same(stay, later))
+    next.iter().find(|later| is_same(tenant, later))
 }
 
-// A group that is exclusive on the same mask in the next epoch stays so as long as it does from there.
-fn extended_stay(stay: Stay, next: &[Stay]) -> Stay
-    ensures { result ≡ extended next.now stay }
+// A group that is exclusive on the same mask from the next change on stays so as long as it does from there.
+fn last_of(tenant: Tenant, next: &[Stay], last: u64) -> u64
+    ensures { result ≡ last_of last next.now tenant }
 {
-    match find_same(next, stay) {
-        Some(later) => Stay {
-            last: later.last,
-            ..stay
-        },
-        None => stay,
+    match find_same(next, tenant) {
+        Some(later) => later.last,
+        None => last,
     }
 }
 
-/// The exclusive groups of an epoch, each with the last epoch that the groups of the next epoch tell for it.
-pub(crate) fn extended(alloc: Global, now: &[Stay], next: &[Stay]) -> Result<Vec<Stay>, NoMemory>
-    ensures { IfOk result (λ stays. stays.items ≡ map (extended next.now) now.now) }
+// How long this group stays exclusive, where it is listed for the domain.
+fn push_stay(
+    stays: &mut Vec<Stay>,
+    tenant: Tenant,
+    domain: u8,
+    next: &[Stay],
+    last: u64,
+) -> Result<(), NoMemory>
+    ensures { OnOk result (stays.new.items ≡ stays.old.items ++ map (stay_of last next.now) (filter (is_in domain) (tenant ∷ []))) }
+{
+    if tenant.domain != domain {
+        return Ok(());
+    }
+    stays.push(Stay {
+        last: last_of(tenant, next, last),
+        gid: tenant.gid,
+        mask: tenant.mask,
+    })?;
+    Ok(())
+}
+
+/// The exclusive groups of a domain, from a change to the next one, which comes after this last epoch: each with the last epoch
+/// that the groups after the next change tell for it.
+pub(crate) fn stays_of(
+    alloc: Global,
+    tenants: &[Tenant],
+    domain: u8,
+    next: &[Stay],
+    last: u64,
+) -> Result<Vec<Stay>, NoMemory>
+    ensures { IfOk result (λ stays. stays.items ≡ map (stay_of last next.now) (filter (is_in domain) tenants.now)) }
 {
     let mut stays: Vec<Stay> = Vec::new(alloc);
-    for stay in now {
-        stays.push(extended_stay(*stay, next))?;
+    for tenant in tenants {
+        push_stay(&mut stays, *tenant, domain, next, last)?;
     }
     Ok(stays)
 }

@@ -1,7 +1,7 @@
 //! Where windows end, and how long groups stay exclusive.
 
 use crate::counting::window_len;
-use crate::stay::{Stay, extended};
+use crate::stay::{Stay, Tenant, stays_of};
 use cache_core::{SliceEntry, What};
 use rc_base::Gid;
 use std::test::Fail;
@@ -30,20 +30,34 @@ fn windows_end_at_a_flush_or_a_later_epoch(rt: HostRuntime) -> Result<(), Fail> 
     Ok(())
 }
 
+// A group that is exclusive on a mask in a domain.
+fn tenant(domain: u8, gid: u32, mask: u32) -> Tenant {
+    Tenant {
+        gid: Gid(gid),
+        mask,
+        domain,
+    }
+}
+
 // A group that is exclusive on a mask up to an epoch.
 fn stay(gid: u32, mask: u32, last: u64) -> Stay {
     Stay {
+        last,
         gid: Gid(gid),
         mask,
-        last,
     }
 }
 
 #[test]
 fn groups_last_while_their_masks_stay(rt: HostRuntime) -> Result<(), Fail> {
-    let now = [stay(1, 3, 4), stay(2, 4, 4), stay(5, 8, 4)];
+    let now = [
+        tenant(0, 1, 3),
+        tenant(1, 1, 12),
+        tenant(0, 2, 4),
+        tenant(0, 5, 8),
+    ];
     let next = [stay(1, 3, 9), stay(2, 12, 9), stay(7, 8, 9)];
-    let stays = extended(rt.alloc(), &now, &next)?;
+    let stays = stays_of(rt.alloc(), &now, 0, &next, 4)?;
     assert_eq!(rt;
         stays.as_slice(),
         [stay(1, 3, 9), stay(2, 4, 4), stay(5, 8, 4)].as_slice()

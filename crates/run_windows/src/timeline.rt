@@ -1,100 +1,93 @@
-//! The groups that are exclusive in one domain, epoch by epoch.
-ghost use Rattle.std.specs.Prelude.{◌≡◌, ◌+◌, ◌<◌, IfOk, length};
-ghost use Rattle.run_law.specs.Entries.{entry_value};
-ghost use Rattle.run_law.specs.Journals.{At};
+//! The groups that are exclusive in one domain, from each change on.
+ghost use Rattle.std.specs.Prelude.{◌≡◌, ◌+◌, ◌-◌, ◌<◌, ◌≤◌, [], IfOk, length, slice_get};
+ghost use Rattle.std.specs.List.{AllWithin};
+ghost use Rattle.std.specs.Option.{option_map_or};
 ghost use Rattle.run_law.specs.Runs.{IsRun};
-ghost use Rattle.run_windows.specs.Stays.{AreSnapshots, IsReplayed, IsTimeline};
+ghost use Rattle.run_windows.specs.Changes.{AreChanges};
+ghost use Rattle.run_windows.specs.Stays.{AreStays};
+ghost use Rattle.run_windows.specs.Timelines.{IsTimeline};
+ghost use Rattle.run_windows.specs.declared.timeline.Span.{Span};
 ghost use Rattle.script_ops.specs.Values.{IsLawful};
-ghost use Rattle.script_ops.specs.declared.limits.TheConstants.{MOST_WEIGHT};
 
-use crate::stay::{Stay, exclusive_groups, extended};
+use crate::changes::Change;
+use crate::stay::{Stay, stays_of};
 use rc_base::NoMemory;
-use run_law::{Journals, TreeEntry};
+use run_law::Journals;
 use script_ops::Script;
 use std::alloc::Global;
-use tree_core::Tree;
 
-// Takes the next command of a run.
-fn take(tree: &mut Tree, script: &Script, journals: &Journals, entry: &TreeEntry)
-    requires lawful { IsLawful script.now }
-    requires run { IsRun script.now journals.now }
-    requires replayed { IsReplayed script.now journals.now tree.old }
-    requires next { At journals.now.tree tree.old.epoch (entry_value entry.now) }
-    ensures replayed { IsReplayed script.now journals.now tree.new }
-    ensures epoch { tree.new.epoch ≡ tree.old.epoch + 1 }
+/// The groups that are exclusive in a domain from an epoch on, until those of the next change.
+#[derive(Drop)]
+pub(crate) struct Span {
+    /// The first epoch.
+    pub from: u64,
+    /// The groups.
+    pub stays: Vec<Stay>,
+}
+
+// The groups of the latest of these spans.
+fn latest(spans: &[Span]) -> &[Stay]
+    ensures { result.now ≡ option_map_or (λ (s : Span). s.stays.items) (slice_get spans.now (length spans.now - 1)) [] }
 {
-    match script.op(entry.thread, entry.op) {
-        Some(op) => {
-            tree.apply(op, entry.looks.items());
-        }
-        None => unreachable!(),
+    match spans.last() {
+        Some(span) => span.stays.as_slice(),
+        None => &[],
     }
 }
 
-// The exclusive groups of every epoch, each up to that epoch.
-fn snapshots(
-    alloc: Global,
-    script: &Script,
-    journals: &Journals,
-    domain: u8,
-) -> Result<Vec<Vec<Stay>>, NoMemory>
-    requires lawful { IsLawful script.now }
-    requires run { IsRun script.now journals.now }
-    requires domain { domain < 8 }
-    ensures { IfOk result (λ all. AreSnapshots script.now journals.now domain (length journals.now.tree + 1) all.items) }
-{
-    let mut tree = Tree::create(alloc, script.machine(), script.tasks())?;
-    let mut all: Vec<Vec<Stay>> = Vec::new(alloc);
-    let first = exclusive_groups(alloc, &tree, domain)?;
-    all.push(first)?;
-    for entry in journals.tree() {
-        take(&mut tree, script, journals, entry);
-        let stays = exclusive_groups(alloc, &tree, domain)?;
-        all.push(stays)?;
-    }
-    Ok(all)
-}
-
-// The same, each with the last epoch at which it is still exclusive on its mask; the last epoch first.
-fn last_first(
-    alloc: Global,
-    script: &Script,
-    journals: &Journals,
-    domain: u8,
-    snapshots: &[Vec<Stay>],
-) -> Result<Vec<Vec<Stay>>, NoMemory>
-    requires lawful { IsLawful script.now }
-    requires run { IsRun script.now journals.now }
-    requires domain { domain < script.now.machine.domains }
-    requires snapshots { AreSnapshots script.now journals.now domain (length journals.now.tree + 1) snapshots.now }
-    ensures { IfOk result (λ all. IsTimeline script.now journals.now domain (length journals.now.tree + 1) all.items) }
-{
-    let epochs = journals.tree().len();
-    let mut all: Vec<Vec<Stay>> = Vec::new(alloc);
-    let last = extended(alloc, &snapshots[epochs], &[])?;
-    all.push(last)?;
-    for back in 0..epochs {
-        let stays = extended(alloc, &snapshots[epochs - 1 - back], &all[back])?;
-        all.push(stays)?;
-    }
-    Ok(all)
-}
-
-/// The exclusive groups of every epoch with their masks in a domain, each with the last epoch at which it is still exclusive on
-/// its mask; the last epoch first.
+/// The groups that are exclusive in a domain from each change on, each with the last epoch at which it is still exclusive on its
+/// mask; the last change first.
 pub(crate) fn timeline(
     alloc: Global,
     script: &Script,
     journals: &Journals,
     domain: u8,
-) -> Result<Vec<Vec<Stay>>, NoMemory>
+    changes: &[Change],
+) -> Result<Vec<Span>, NoMemory>
     requires lawful { IsLawful script.now }
     requires run { IsRun script.now journals.now }
     requires domain { domain < script.now.machine.domains }
-    ensures { IfOk result (λ all. IsTimeline script.now journals.now domain (length journals.now.tree + 1) all.items) }
+    requires changes { AreChanges script.now journals.now (length journals.now.tree + 1) changes.now }
+    ensures { IfOk result (λ spans. IsTimeline script.now journals.now domain 0 spans.items) }
 {
-    // What the type keeps makes the script a lawful one.
-    let _lawful = script.threads();
-    let snapshots = snapshots(alloc, script, journals, domain)?;
-    last_first(alloc, script, journals, domain, &snapshots)
+    let count = changes.len();
+    let mut spans: Vec<Span> = Vec::new(alloc);
+    let mut last = journals.tree().len() as u64;
+    for back in 0..count {
+        let change = &changes[count - 1 - back];
+        let stays = stays_of(alloc, &change.tenants, domain, latest(&spans), last)?;
+        spans.push(Span {
+            from: change.from,
+            stays,
+        })?;
+        last = change.from.saturating_sub(1);
+    }
+    Ok(spans)
+}
+
+// How many of these spans begin after an epoch.
+fn count_past(script: &Script, journals: &Journals, domain: u8, spans: &[Span], epoch: u64) -> usize
+    requires timeline { IsTimeline script.now journals.now domain 0 spans.now }
+    ensures past { AllWithin (λ (s : Span). epoch < s.from) spans.now 0 result }
+    ensures rest { AllWithin (λ (s : Span). s.from ≤ epoch) spans.now result (length spans.now) }
+{
+    spans.partition_point(|span| epoch < span.from)
+}
+
+/// The groups that are exclusive at an epoch.
+pub(crate) fn stays_at<'a>(
+    script: &Script,
+    journals: &Journals,
+    domain: u8,
+    spans: &'a [Span],
+    epoch: u64,
+) -> &'a [Stay]
+    requires timeline { IsTimeline script.now journals.now domain 0 spans.now }
+    requires known { epoch ≤ length journals.now.tree }
+    ensures { AreStays script.now journals.now domain epoch result.now }
+{
+    match spans.get(count_past(script, journals, domain, spans, epoch)) {
+        Some(span) => span.stays.as_slice(),
+        None => unreachable!(),
+    }
 }

@@ -8,12 +8,13 @@ use Rattle.std.proofs.lemmas.Bool.{ne_eqb, eqb-false, lt-ltb}
 use Rattle.std.proofs.lemmas.List.{append-nil}
 use Rattle.std.proofs.lemmas.List.Folds.{list_any-append}
 use Rattle.std.proofs.lemmas.Map.Keys.{IsDistinct-head, IsDistinct-tail}
+use Rattle.num_text.specs.Signs.{equals}
 use Rattle.num_text.specs.Numbers.{dec_of, hex_of}
 use Rattle.num_text.specs.Blanks.{is_blank, trim}
 use Rattle.cbm.specs.declared.geometry.Geometry.{Geometry}
 use Rattle.cbm.specs.Validity.{checked}
 use Rattle.schemata_text.specs.declared.assignment.Assignment.{Assignment}
-use Rattle.schemata_text.specs.Items.{Item, Entry, newline, semicolon, equals, without_empty_last, items_of, items_of_line, items_of_rest}
+use Rattle.schemata_text.specs.Items.{Item, Entry, newline, semicolon, without_empty_last, items_of, items_of_line, items_of_rest}
 use Rattle.schemata_text.specs.Reading.{line_of, entry_of, reading_from, is_of, domains_of, AreLawful}
 use Rattle.schemata_text.specs.Printed.{ReadsBack, printed, entry_text, mask_digits}
 use Rattle.num_text.specs.Printed.{hexadecimal}

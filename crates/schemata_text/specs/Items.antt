@@ -19,10 +19,6 @@ colon b = b == 58
 abbrev pub semicolon : ℕ → Bool
 semicolon b = b == 59
 
--- an equals sign, which separates the id in an entry from the mask
-abbrev pub equals : ℕ → Bool
-equals b = b == 61
-
 -- all pieces but an empty last one after another
 abbrev pub without_empty_last : List (List ℕ) → List (List ℕ)
 without_empty_last [] = []

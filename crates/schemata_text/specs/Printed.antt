@@ -18,7 +18,7 @@ entry_text ways a = decimal a.domain ++ 61 ∷ hexadecimal (mask_digits ways) a.
 unfoldable pub printed : ℕ → List Assignment → List ℕ
 printed ways all = codes "L3:" ++ join_with_byte 59 (map (entry_text ways) all)
 
--- reading the printed text of valid masks of distinct domains that exist gives them back
+-- (For proofs.) reading the printed text of valid masks of distinct domains that exist gives them back
 abbrev pub ReadsBack : Type 0
 ReadsBack = (g : Geometry) (domains : ℕ) (all : List Assignment) → g.len ≤ 32 → domains ≤ 8 → 0 < length all → AreLawful g domains all
     → AllByRecursion (λ (a : Assignment). a.mask < 2 ^ 32) all → reading g domains (printed g.len all) ≡ Ok all

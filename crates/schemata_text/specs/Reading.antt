@@ -1,6 +1,9 @@
 -- What a schemata text says: the assignments of its entries, or the fault of its first bad item.
 use Rattle.std.specs.Prelude.{◌≡◌, ℕ, ◌^◌, ◌<◌, Bool, not, ◌==◌, nat_eq, List, [], ◌∷◌, ◌++◌, length, map, codes, Option, Some, None, Result, Ok, Err, if◌then◌else◌}
 use Rattle.std.specs.List.{list_any, before_first, after_first, IsDistinct, AllByRecursion}
+use Rattle.std.specs.Option.{ok_or}
+use Rattle.num_text.specs.Signs.{equals}
+use Rattle.rc_base.specs.Faults.{◌>>=◌, fault_if}
 use Rattle.num_text.specs.Numbers.{dec_of, hex_of, below}
 use Rattle.num_text.specs.Blanks.{trim}
 use Rattle.rc_base.specs.Texts.{is_text}
@@ -10,24 +13,7 @@ use Rattle.cbm.specs.Validity.{checked}
 use Rattle.schemata_text.specs.declared.assignment.Assignment.{Assignment}
 use Rattle.schemata_text.specs.declared.fault.TextFault.{TextFault}
 use Rattle.schemata_text.specs.declared.fault.TextFault.TheVariants.{NoColon, BadResource, NoValue, NoEquals, BadDomain, Twice, NotHex, Mask}
-use Rattle.schemata_text.specs.Items.{Item, Line, Entry, colon, equals, items_of}
-
--- ---- one step after the other, up to the first fault
-
-infixl 10 ◌>>=◌
--- the reading that follows from a value, or the fault where there is none
-abbrev pub ◌>>=◌ : {A B : Type 0} → Result A TextFault → (A → Result B TextFault) → Result B TextFault
-(Ok x) >>= f = f x
-(Err e) >>= f = Err e
-
--- a fault where a test says so
-abbrev pub fault_if : Bool → TextFault → Result (Unit {0}) TextFault
-fault_if b fault = if b then Err fault else Ok tt
-
--- a fault where there is nothing
-abbrev pub or_fault : {A : Type 0} → Option A → TextFault → Result A TextFault
-or_fault None fault = Err fault
-or_fault (Some x) fault = Ok x
+use Rattle.schemata_text.specs.Items.{Item, Line, Entry, colon, items_of}
 
 -- ---- what an item says
 
@@ -40,7 +26,7 @@ line_of line = do
 
 -- an id is a decimal number of a domain that exists
 abbrev pub domain_of : ℕ → List ℕ → Result ℕ TextFault
-domain_of domains id = or_fault (below domains (dec_of (trim id))) BadDomain
+domain_of domains id = ok_or (below domains (dec_of (trim id))) BadDomain
 
 -- whether an assignment is of this domain
 abbrev pub is_of : ℕ → Assignment → Bool
@@ -61,7 +47,7 @@ entry_of g domains before entry = do
   a ← fault_if (not (list_any equals entry)) NoEquals
   domain ← domain_of domains (before_first equals entry)
   b ← fault_if (list_any (is_of domain) before) (Twice domain)
-  bits ← or_fault (below (2 ^ 64) (hex_of (trim (after_first equals entry)))) NotHex
+  bits ← ok_or (below (2 ^ 64) (hex_of (trim (after_first equals entry)))) NotHex
   mask ← mask_of g bits
   Ok (record { domain = domain; mask = mask })
 
@@ -77,11 +63,11 @@ reading g domains text = reading_from g domains [] (items_of text)
 
 -- ---- what is read
 
--- the domains of assignments
+-- (For proofs.) the domains of assignments
 abbrev pub domains_of : List Assignment → List ℕ
 domains_of all = map (λ (a : Assignment). a.domain) all
 
--- valid masks of distinct domains that exist
+-- (For proofs.) valid masks of distinct domains that exist
 pub record AreLawful (g : Geometry) (domains : ℕ) (all : List Assignment) : Type 0 where
   pub exist : AllByRecursion (λ d. d < domains) (domains_of all)
   pub apart : IsDistinct nat_eq (domains_of all)
@@ -89,12 +75,12 @@ pub record AreLawful (g : Geometry) (domains : ℕ) (all : List Assignment) : Ty
 
 -- ---- what the readers answer
 
--- an answer, seen by view, is this reading
+-- (For proofs.) an answer, seen by view, is this reading
 abbrev pub Gives : {X Y : Type 0} → (X → Y) → Result X TextFault → Result Y TextFault → Type 0
 Gives view (Ok x) read = read ≡ Ok (view x)
 Gives view (Err e) read = read ≡ Err e
 
--- whatever follows these items: they say what is there now, or the fault is theirs
+-- (For proofs.) whatever follows these items: they say what is there now, or the fault is theirs
 abbrev pub Continues : Geometry → ℕ → List Assignment → List Item → Result (Unit {0}) TextFault → List Assignment → Type 0
 Continues g domains before items (Ok u) after = (more : List Item) → reading_from g domains before (items ++ more) ≡ reading_from g domains after more
 Continues g domains before items (Err e) after = (more : List Item) → reading_from g domains before (items ++ more) ≡ Err e

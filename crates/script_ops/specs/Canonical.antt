@@ -31,7 +31,7 @@ op_text names (ops.Touch cpu path task offset) = codes "touch " ++ path_text nam
 op_text names (ops.DropLine addr) = codes "clflush " ++ decimal addr
 op_text names (ops.DropRegion path offset) = codes "clflush " ++ path_text names path ++ codes " " ++ decimal offset
 
--- the numbers of the names in an op
+-- (For proofs.) the numbers of the names in an op
 abbrev pub op_ids : Op → List ℕ
 op_ids (ops.Mkdir path) = path_ids path
 op_ids (ops.Rmdir path) = path_ids path
@@ -45,7 +45,7 @@ op_ids (ops.Touch cpu path task offset) = path_ids path
 op_ids (ops.DropLine addr) = []
 op_ids (ops.DropRegion path offset) = path_ids path
 
--- the numbers of the names that are components of the path in an op
+-- (For proofs.) the numbers of the names that are components of the path in an op
 abbrev pub op_component_ids : Op → List ℕ
 op_component_ids (ops.Mkdir path) = component_ids path
 op_component_ids (ops.Rmdir path) = component_ids path
@@ -59,18 +59,18 @@ op_component_ids (ops.Touch cpu path task offset) = component_ids path
 op_component_ids (ops.DropLine addr) = []
 op_component_ids (ops.DropRegion path offset) = component_ids path
 
--- an op whose components have short names
+-- (For proofs.) an op whose components have short names
 abbrev pub IsShort : List (List ℕ) → Op → Type 0
 IsShort names op = AreShort names (op_component_ids op)
 
--- ops whose components have short names
+-- (For proofs.) ops whose components have short names
 abbrev pub AreAllShort : List (List ℕ) → List Op → Type 0
 AreAllShort names ops = All (IsShort names) ops
 
--- an op whose names are known
+-- (For proofs.) an op whose names are known
 abbrev pub IsNamed : ℕ → Op → Type 0
 IsNamed count op = AreKnown count (op_ids op)
 
--- ops whose names are known
+-- (For proofs.) ops whose names are known
 abbrev pub AreNamed : ℕ → List Op → Type 0
 AreNamed count ops = All (IsNamed count) ops

@@ -46,17 +46,18 @@ phase_at script phase = slice_index_or script.phases phase (record { order = [];
 abbrev pub first_thread : ScriptValue → ℕ → ℕ
 first_thread script phase = length (threads_in (take phase script.phases))
 
--- what the ops of all threads weigh together
+-- (For proofs.) what the ops of all threads weigh together
 abbrev pub total_weight : ScriptValue → ℕ
 total_weight script = sum_by (weights_of script.machine) (threads_of script)
 
--- no more phases, and no more threads in each, than a script may have
+-- (For proofs.) no more phases, and no more threads in each, than a script may have
 pub record AreFew (phases : List PhaseValue) : Type 0 where
   pub few_phases : length phases ≤ MOST_PHASES
   pub few_threads : All (λ p. length p.threads ≤ MOST_PHASE_THREADS) phases
 
--- The rules of every script: the parameters of its machine are in range, its tasks rise and are few, its phases and their threads
--- are few, its ops have known names and short components and fit the machine and the tasks, and their weight is within the limit.
+-- (For proofs.) The rules of every script: the parameters of its machine are in range, its tasks rise and are few, its phases and
+-- their threads are few, its ops have known names and short components and fit the machine and the tasks, and their weight is
+-- within the limit.
 pub record IsLawful (script : ScriptValue) : Type 0 where
   pub in_range : InRange script.machine
   pub rising : IsStrictlyIncreasing script.tasks

@@ -1,6 +1,8 @@
 -- The names of a path that a line names.
 use Rattle.std.proofs.Common.{◌≡◌, ℕ, Bool, true, false, cond, ltb, List, length, Option, Some, None, Ok, refl}
 use Rattle.std.specs.Prelude.{option_map}
+use Rattle.std.specs.Option.{ok_or}
+use Rattle.rc_base.specs.Faults.{◌>>=◌}
 use Rattle.path_names.specs.Domains.{IsWithin}
 use Rattle.path_names.specs.Interned.{Keeps}
 use Rattle.path_names.specs.Reading.{path_of}
@@ -11,7 +13,7 @@ use Rattle.script_ops.specs.declared.limits.TheConstants.{MOST_PATH_BYTES}
 use Rattle.script_text.specs.declared.fault.LineFault.TheVariants.{BadArgument, BadPath, TooLarge}
 use Rattle.script_text.specs.Arguments.{only}
 use Rattle.script_text.specs.Lines.{words}
-use Rattle.script_text.specs.Meaning.{named_in, or_fault, path_alone, ◌>>=◌}
+use Rattle.script_text.specs.Meaning.{named_in, path_alone}
 use Rattle.script_text.specs.Paths.{Named, named}
 use Rattle.script_text.specs.States.{ReaderState}
 
@@ -48,11 +50,11 @@ pub path_of-path_alone : (s : ReaderState) (rest : List ℕ) (p : Named) → pat
 unfolding path_alone
 path_of-path_alone s rest p read = at (only (words rest)) read
   where
-    found_at : (found : Option (Option Named)) → (found ≡ Some (Some p) → IsGood s p) → (or_fault found BadPath >>= λ f. or_fault f TooLarge) ≡ Ok p → IsGood s p
+    found_at : (found : Option (Option Named)) → (found ≡ Some (Some p) → IsGood s p) → (ok_or found BadPath >>= λ f. ok_or f TooLarge) ≡ Ok p → IsGood s p
     found_at None good e = absurd cc
     found_at (Some None) good e = absurd cc
     found_at (Some (Some q)) good e = good cc
 
-    at : (word : Option (List ℕ)) → (or_fault word BadArgument >>= λ w. or_fault (named_in s w) BadPath >>= λ f. or_fault f TooLarge) ≡ Ok p → IsGood s p
+    at : (word : Option (List ℕ)) → (ok_or word BadArgument >>= λ w. ok_or (named_in s w) BadPath >>= λ f. ok_or f TooLarge) ≡ Ok p → IsGood s p
     at None e = absurd cc
     at (Some word) e = found_at (named_in s word) (λ is. (IsWithin-named s.machine.domains s.names word p is, AddsShort-named s.machine.domains s.names word p is)) e

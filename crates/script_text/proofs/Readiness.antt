@@ -5,6 +5,7 @@ use Rattle.std.proofs.lemmas.List.Elements.{All-nil, All-append, All-push}
 use Rattle.std.proofs.lemmas.List.Sums.{sum_by-append}
 use Rattle.rc_base.specs.Texts.{is_text}
 use Rattle.std.specs.Prelude.{codes}
+use Rattle.rc_base.specs.Faults.{◌>>=◌, fault_if}
 use Rattle.path_names.specs.Domains.{IsWithin}
 use Rattle.path_names.specs.declared.dirs.DirRef.TheVariants.{MonDomain}
 use Rattle.path_names.specs.declared.path_ref.PathRef.{PathRef}
@@ -24,7 +25,7 @@ use Rattle.script_ops.specs.Fits.{Fits, AreFit}
 use Rattle.script_text.specs.Keys.{machine_of}
 use Rattle.script_text.specs.Kinds.{kind_of, may_stand}
 use Rattle.script_text.specs.Lines.{is_bad, is_comment, words, behind_word}
-use Rattle.script_text.specs.Meaning.{Means, means, path_alone, drop_line, drop_region, named_in, with_names, word_means, said_by, says, line_meaning, with_op, with_ops, sweep_ops, ◌>>=◌}
+use Rattle.script_text.specs.Meaning.{Means, means, path_alone, drop_line, drop_region, named_in, with_names, word_means, said_by, says, line_meaning, with_op, with_ops, sweep_ops}
 use Rattle.script_text.specs.Reading.{nothing_read}
 use Rattle.script_text.specs.Paths.{Named}
 use Rattle.script_text.specs.States.{ReaderState, close_thread, close_phase, is_start, is_thread, is_early, IsFit, IsReady, IsSound}
@@ -33,7 +34,7 @@ use Rattle.script_ops.specs.Canonical.{AreAllShort, IsShort, op_component_ids}
 use Rattle.script_text.proofs.PathNames.{AddsShort, AddsShort-named, path_of-path_alone}
 use Rattle.script_text.specs.Tasks.{declared, task_of, count_of, ids_of}
 use Rattle.script_ops.specs.Weights.{weight_of, weights_of}
-use Rattle.script_text.proofs.Guards.{IfOk-unless, IfOk-or_fault, IfOk-bind}
+use Rattle.script_text.proofs.Guards.{IfOk-fault_if, IfOk-ok_or, IfOk-bind}
 use Rattle.script_text.proofs.Places.{is_early-thread, is_early-machine, is_early-tasks}
 use Rattle.script_text.proofs.FitOps.{IsFit-no_ops, IsFit-close_thread, IsFit-close_phase, IsFit-with_names}
 use Rattle.script_text.proofs.Uses.{access_of-fits, flush_of-fits, drop_line_of-fits, AreFit-sweep_ops, weights_of-sweep_ops, AreAllShort-sweep_ops, touch_of-fits, task_of-declared}
@@ -129,12 +130,12 @@ Fits-Read m tasks path within = tt
 IsReady-clflush : (s : ReaderState) (rest : List ℕ) (b : Bool) → is_thread s.place ≡ true → IsSound s → IsReady s → IfOk (cond b (drop_region s rest) (drop_line s rest)) IsReady
 unfolding drop_region drop_line
 IsReady-clflush s rest true stands sound ready =
-    IfOk-or_fault IsReady (drop_region_of (words rest)) BadArgument _ (λ t e.
-    IfOk-or_fault IsReady (named_in s t.0) BadPath _ (λ found h.
-    IfOk-or_fault IsReady found TooLarge _ (λ p i.
+    IfOk-ok_or IsReady (drop_region_of (words rest)) BadArgument _ (λ t e.
+    IfOk-ok_or IsReady (named_in s t.0) BadPath _ (λ found h.
+    IfOk-ok_or IsReady found TooLarge _ (λ p i.
     IsReady-with_path s (λ path. ops.DropRegion path t.1) p stands sound ready.fit (AddsShort-named s.machine.domains s.names t.0 p (h ∙ ap Some i)) tt (λ path. refl))))
 IsReady-clflush s rest false stands sound ready =
-    IfOk-or_fault IsReady (drop_line_of (words rest)) BadArgument _ (λ addr e. IsReady-with_op s (ops.DropLine addr) stands ready.fit (drop_line_of-fits (words rest) addr e) (All-nil _))
+    IfOk-ok_or IsReady (drop_line_of (words rest)) BadArgument _ (λ addr e. IsReady-with_op s (ops.DropLine addr) stands ready.fit (drop_line_of-fits (words rest) addr e) (All-nil _))
 
 -- ---- a line of each kind
 
@@ -143,46 +144,46 @@ IsReady-means : (k : Kind) (s : ReaderState) (rest : List ℕ) → may_stand k s
 unfolding means
 IsReady-means kinds.Machine s rest stands sound ready =
     let none = ready.bare (is_early-machine s.place stands) in
-    IfOk-or_fault IsReady (machine_of (words rest)) BadMachine _ (λ m e. IsReady-no_ops (record s { place = places.Head; machine = m }) none ready.fit.few_tasks ready.fit.counted)
+    IfOk-ok_or IsReady (machine_of (words rest)) BadMachine _ (λ m e. IsReady-no_ops (record s { place = places.Head; machine = m }) none ready.fit.few_tasks ready.fit.counted)
 IsReady-means kinds.Tasks s rest stands sound ready =
     let none = ready.bare (is_early-tasks s.place stands) in
-    IfOk-or_fault IsReady (declared s.tasks (words rest)) BadTasks _ (λ tasks e.
-    IfOk-unless IsReady (ltb MOST_TASKS (count_of tasks)) TooLarge _ (λ few. IsReady-no_ops (record s { tasks = tasks }) none (ltb-false _ _ few) ready.fit.counted))
+    IfOk-ok_or IsReady (declared s.tasks (words rest)) BadTasks _ (λ tasks e.
+    IfOk-fault_if IsReady (ltb MOST_TASKS (count_of tasks)) TooLarge _ (λ few. IsReady-no_ops (record s { tasks = tasks }) none (ltb-false _ _ few) ready.fit.counted))
 IsReady-means kinds.Phase s rest stands sound ready =
-    IfOk-unless IsReady (not (eqb (length (words rest)) 0)) BadArgument _ (λ a. IfOk-unless IsReady (leb MOST_PHASES (length (close_phase s).phases)) TooLarge _ (λ b. IsReady-moved (close_phase s) places.Opened (close_phase s).order refl (IsFit-close_phase s ready.fit)))
+    IfOk-fault_if IsReady (not (eqb (length (words rest)) 0)) BadArgument _ (λ a. IfOk-fault_if IsReady (leb MOST_PHASES (length (close_phase s).phases)) TooLarge _ (λ b. IsReady-moved (close_phase s) places.Opened (close_phase s).order refl (IsFit-close_phase s ready.fit)))
 IsReady-means kinds.Order s rest stands sound ready =
-    IfOk-or_fault IsReady (order_of (words rest)) BadArgument _ (λ numbers e. IfOk-unless IsReady (ltb MOST_ORDER (length numbers)) TooLarge _ (λ a. IsReady-moved s places.Ordered numbers refl ready.fit))
+    IfOk-ok_or IsReady (order_of (words rest)) BadArgument _ (λ numbers e. IfOk-fault_if IsReady (ltb MOST_ORDER (length numbers)) TooLarge _ (λ a. IsReady-moved s places.Ordered numbers refl ready.fit))
 IsReady-means kinds.Thread s rest stands sound ready =
-    IfOk-unless IsReady (not (eqb (length (words rest)) 0)) BadArgument _ (λ a. IfOk-unless IsReady (leb MOST_PHASE_THREADS (length (close_thread s).threads)) TooLarge _ (λ b. IsReady-moved (close_thread s) places.Thread (close_thread s).order refl (IsFit-close_thread s ready.fit)))
+    IfOk-fault_if IsReady (not (eqb (length (words rest)) 0)) BadArgument _ (λ a. IfOk-fault_if IsReady (leb MOST_PHASE_THREADS (length (close_thread s).threads)) TooLarge _ (λ b. IsReady-moved (close_thread s) places.Thread (close_thread s).order refl (IsFit-close_thread s ready.fit)))
 IsReady-means kinds.Mkdir s rest stands sound ready = IsReady-path_alone s (λ path. ops.Mkdir path) rest stands sound ready.fit (λ path within. tt) (λ path. refl)
 IsReady-means kinds.Rmdir s rest stands sound ready = IsReady-path_alone s (λ path. ops.Rmdir path) rest stands sound ready.fit (λ path within. tt) (λ path. refl)
 IsReady-means kinds.Read s rest stands sound ready = IsReady-path_alone s (λ path. ops.Read path) rest stands sound ready.fit (Fits-Read s.machine (ids_of s.tasks)) (λ path. refl)
 IsReady-means kinds.List s rest stands sound ready = IsReady-path_alone s (λ path. ops.List path) rest stands sound ready.fit (λ path within. tt) (λ path. refl)
 IsReady-means kinds.Write s rest stands sound ready =
-    IfOk-or_fault IsReady (first_of (words rest)) BadArgument _ (λ word e.
-    IfOk-or_fault IsReady (named_in s word) BadPath _ (λ found h.
-    IfOk-or_fault IsReady (unescaped (text_behind rest)) BadEscape _ (λ text g.
-    IfOk-or_fault IsReady found TooLarge _ (λ p i.
-    IfOk-unless IsReady (ltb MOST_TEXT_BYTES (length text)) TooLarge _ (λ short.
+    IfOk-ok_or IsReady (first_of (words rest)) BadArgument _ (λ word e.
+    IfOk-ok_or IsReady (named_in s word) BadPath _ (λ found h.
+    IfOk-ok_or IsReady (unescaped (text_behind rest)) BadEscape _ (λ text g.
+    IfOk-ok_or IsReady found TooLarge _ (λ p i.
+    IfOk-fault_if IsReady (ltb MOST_TEXT_BYTES (length text)) TooLarge _ (λ short.
     IsReady-with_path s (λ path. ops.Write path text) p stands sound ready.fit (AddsShort-named s.machine.domains s.names word p (h ∙ ap Some i)) (ltb-false _ _ short) (λ path. refl))))))
 IsReady-means kinds.Flush s rest stands sound ready =
-    IfOk-or_fault IsReady (flush_of s.machine (words rest)) BadArgument _ (λ domain e. IsReady-with_op s (ops.Flush domain) stands ready.fit (flush_of-fits s.machine (ids_of s.tasks) (words rest) domain e) (All-nil _))
-IsReady-means kinds.Tick s rest stands sound ready = IfOk-unless IsReady (not (eqb (length (words rest)) 0)) BadArgument _ (λ a. IsReady-with_op s ops.Tick stands ready.fit tt (All-nil _))
+    IfOk-ok_or IsReady (flush_of s.machine (words rest)) BadArgument _ (λ domain e. IsReady-with_op s (ops.Flush domain) stands ready.fit (flush_of-fits s.machine (ids_of s.tasks) (words rest) domain e) (All-nil _))
+IsReady-means kinds.Tick s rest stands sound ready = IfOk-fault_if IsReady (not (eqb (length (words rest)) 0)) BadArgument _ (λ a. IsReady-with_op s ops.Tick stands ready.fit tt (All-nil _))
 IsReady-means kinds.Clflush s rest stands sound ready = IsReady-clflush s rest (has_path (words rest)) stands sound ready
 IsReady-means kinds.Access s rest stands sound ready =
-    IfOk-or_fault IsReady (access_of s.machine (words rest)) BadArgument _ (λ u e.
-    IfOk-or_fault IsReady (task_of s.tasks u.task) UnknownTask _ (λ task h.
+    IfOk-ok_or IsReady (access_of s.machine (words rest)) BadArgument _ (λ u e.
+    IfOk-ok_or IsReady (task_of s.tasks u.task) UnknownTask _ (λ task h.
     let fits = access_of-fits s.machine (words rest) u e in
     IsReady-with_op s (ops.Access task u.cpu u.at) stands ready.fit (task_of-declared s.tasks u.task task h, fits.0, fits.1) (All-nil _)))
 IsReady-means kinds.Sweep s rest stands sound ready =
-    IfOk-or_fault IsReady (sweep_of s.machine (words rest)) BadArgument _ (λ w e.
-    IfOk-or_fault IsReady (task_of s.tasks w.first.task) UnknownTask _ (λ task h.
+    IfOk-ok_or IsReady (sweep_of s.machine (words rest)) BadArgument _ (λ w e.
+    IfOk-ok_or IsReady (task_of s.tasks w.first.task) UnknownTask _ (λ task h.
     IsReady-with_ops s w.count (sweep_ops task w) stands ready.fit (AreFit-sweep_ops s.machine (ids_of s.tasks) (words rest) w task e (task_of-declared s.tasks w.first.task task h)) (AreAllShort-sweep_ops s.names task w) (weights_of-sweep_ops s.machine task w)))
 IsReady-means kinds.Touch s rest stands sound ready =
-    IfOk-or_fault IsReady (touch_of s.machine (words rest)) BadArgument _ (λ t e.
-    IfOk-or_fault IsReady (named_in s t.0) BadPath _ (λ found h.
-    IfOk-or_fault IsReady (task_of s.tasks t.1.task) UnknownTask _ (λ task g.
-    IfOk-or_fault IsReady found TooLarge _ (λ p i.
+    IfOk-ok_or IsReady (touch_of s.machine (words rest)) BadArgument _ (λ t e.
+    IfOk-ok_or IsReady (named_in s t.0) BadPath _ (λ found h.
+    IfOk-ok_or IsReady (task_of s.tasks t.1.task) UnknownTask _ (λ task g.
+    IfOk-ok_or IsReady found TooLarge _ (λ p i.
     IsReady-with_path s (λ path. ops.Touch t.1.cpu path task t.1.at) p stands sound ready.fit (AddsShort-named s.machine.domains s.names t.0 p (h ∙ ap Some i)) (task_of-declared s.tasks t.1.task task g, touch_of-fits s.machine (words rest) t e) (λ path. refl)))))
 
 -- after any words
@@ -190,9 +191,9 @@ IsReady-said_by : (s : ReaderState) (words : List (List ℕ)) (rest : List ℕ) 
 unfolding word_means
 IsReady-said_by s [] rest sound ready = ready
 IsReady-said_by s (word ∷ words) rest sound ready =
-    IfOk-unless IsReady (is_start s.place && not (is_text word (codes "machine"))) NoMachine _ (λ a.
-    IfOk-or_fault IsReady (kind_of word) UnknownWord _ (λ k e.
-    IfOk-unless IsReady (not (may_stand k s.place)) OutOfPlace _ (λ b. IsReady-means k s rest (stands (may_stand k s.place) b) sound ready)))
+    IfOk-fault_if IsReady (is_start s.place && not (is_text word (codes "machine"))) NoMachine _ (λ a.
+    IfOk-ok_or IsReady (kind_of word) UnknownWord _ (λ k e.
+    IfOk-fault_if IsReady (not (may_stand k s.place)) OutOfPlace _ (λ b. IsReady-means k s rest (stands (may_stand k s.place) b) sound ready)))
   where
     stands : (b : Bool) → not b ≡ false → b ≡ true
     stands true e = refl
@@ -201,7 +202,7 @@ IsReady-said_by s (word ∷ words) rest sound ready =
 -- after any good line
 pub IsReady-line_meaning : (s : ReaderState) (line : List ℕ) → IsSound s → IsReady s → IfOk (line_meaning s line) IsReady
 unfolding line_meaning
-IsReady-line_meaning s line sound ready = IfOk-unless IsReady (list_any is_bad line) BadByte _ (λ a. at (is_comment line))
+IsReady-line_meaning s line sound ready = IfOk-fault_if IsReady (list_any is_bad line) BadByte _ (λ a. at (is_comment line))
   where
     at : (b : Bool) → IfOk (cond b (Ok s) (says s line)) IsReady
     at true = ready

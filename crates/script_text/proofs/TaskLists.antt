@@ -4,8 +4,9 @@ use Rattle.std.specs.List.{list_any, All, before_first, after_first}
 use Rattle.std.proofs.lemmas.Bool.{cases_lt, lt-ltb, le-ltb}
 use Rattle.std.proofs.lemmas.List.{append-nil}
 use Rattle.std.proofs.lemmas.List.Elements.{All-nil, All-cons}
+use Rattle.num_text.specs.Signs.{dash}
 use Rattle.script_text.specs.declared.tasks.TaskRange.{TaskRange}
-use Rattle.script_text.specs.Tasks.{meets, with_range, dash, id_of, tasks_of, range_of, ranges_from, declared_from}
+use Rattle.script_text.specs.Tasks.{meets, with_range, id_of, tasks_of, range_of, ranges_from, declared_from}
 
 -- a range has a task or more
 abbrev pub IsOrdered : TaskRange → Type 0

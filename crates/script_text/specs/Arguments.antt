@@ -78,7 +78,7 @@ abbrev pub first_of : List (List ℕ) → Option (List ℕ)
 first_of [] = None
 first_of (word ∷ words) = Some word
 
--- After the call the numbers are this order, or memory ran out. BadArgument says that there is no order.
+-- (For proofs.) After the call the numbers are this order, or memory ran out. BadArgument says that there is no order.
 abbrev pub Orders : Result (Unit {0}) LineError → List ℕ → Option (List ℕ) → Type 0
 Orders (Ok u) after order = order ≡ Some after
 Orders (Err errors.NoMemory) after order = Unit {0}

@@ -20,7 +20,7 @@ unescaped (b ∷ c ∷ rest) =
 abbrev pub text_behind : List ℕ → List ℕ
 text_behind rest = drop 1 (behind_word rest)
 
--- The result is this text, or memory ran out. BadEscape says that there is no text.
+-- (For proofs.) The result is this text, or memory ran out. BadEscape says that there is no text.
 abbrev pub Unescapes : Result (List ℕ) LineError → Option (List ℕ) → Type 0
 Unescapes (Ok bytes) text = text ≡ Some bytes
 Unescapes (Err errors.NoMemory) text = Unit {0}

@@ -2,15 +2,12 @@
 use Rattle.std.specs.Prelude.{ℕ, Bool, ◌==◌, nat_le, nat_eq, List, [], ◌∷◌, drop, codes, Option, Some, None, is_some, unwrap_or, if◌then◌else◌}
 use Rattle.std.specs.Option.{option_and_then, option_or}
 use Rattle.std.specs.List.{list_any, before_first, after_first, starts_with}
+use Rattle.num_text.specs.Signs.{equals}
 use Rattle.num_text.specs.Numbers.{dec_of, number_of}
 use Rattle.rc_base.specs.Texts.{is_text}
 use Rattle.machine.specs.declared.parameters.Parameters.{Parameters}
 use Rattle.machine.specs.Ranges.{is_machine}
 use Rattle.script_text.specs.declared.keys.Keys.{Keys}
-
--- the byte `=`
-abbrev pub equals : ℕ → Bool
-equals b = b == 61
 
 -- a number that is at most this
 abbrev pub at_most : ℕ → Option ℕ → Option ℕ

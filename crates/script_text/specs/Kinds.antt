@@ -40,7 +40,7 @@ access_kind word =
 unfoldable pub kind_of : List ℕ → Option Kind
 kind_of word = option_or (part_kind word) (option_or (command_kind word) (access_kind word))
 
--- the word that a line of a kind begins with
+-- (For proofs.) the word that a line of a kind begins with
 abbrev pub kind_name : Kind → List ℕ
 kind_name kinds.Machine = codes "machine"
 kind_name kinds.Tasks = codes "tasks"
@@ -59,14 +59,14 @@ kind_name kinds.Access = codes "access"
 kind_name kinds.Sweep = codes "sweep"
 kind_name kinds.Touch = codes "touch"
 
--- the only kind whose word can begin with a `t` and this byte
+-- (For proofs.) the only kind whose word can begin with a `t` and this byte
 abbrev pub kind_with_t : ℕ → Kind
 kind_with_t second =
     if second == 97 then kinds.Tasks else
     if second == 104 then kinds.Thread else
     if second == 105 then kinds.Tick else kinds.Touch
 
--- the only kind whose word can begin with these two bytes
+-- (For proofs.) the only kind whose word can begin with these two bytes
 abbrev pub kind_with : ℕ → ℕ → Kind
 kind_with first second =
     if first == 97 then kinds.Access else

@@ -1,6 +1,8 @@
 -- What a line means, after the lines before it.
 use Rattle.std.specs.Prelude.{◌≡◌, ℕ, ◌+◌, ◌*◌, Bool, not, ◌&&◌, ◌==◌, nat_lt, nat_le, List, [], ◌∷◌, ◌++◌, length, map, codes, Option, Some, None, Result, Ok, Err, if◌then◌else◌}
 use Rattle.std.specs.List.{list_any, range_with_len}
+use Rattle.std.specs.Option.{ok_or}
+use Rattle.rc_base.specs.Faults.{◌>>=◌, fault_if}
 use Rattle.rc_base.specs.Texts.{is_text}
 use Rattle.path_names.specs.declared.path_ref.PathRef.{PathRef}
 use Rattle.script_text.specs.declared.fault.LineFault.{LineFault}
@@ -24,21 +26,6 @@ use Rattle.script_text.specs.Tasks.{declared, task_of, count_of}
 use Rattle.script_ops.specs.Weights.{weight_of}
 use Rattle.script_ops.specs.declared.limits.TheConstants.{MOST_WEIGHT, MOST_TASKS, MOST_TEXT_BYTES, MOST_ORDER, MOST_PHASES, MOST_PHASE_THREADS}
 
-infixl 10 ◌>>=◌
--- the meaning that follows from a value, or the fault where there is none
-abbrev pub ◌>>=◌ : {A B : Type 0} → Result A LineFault → (A → Result B LineFault) → Result B LineFault
-(Ok x) >>= f = f x
-(Err e) >>= f = Err e
-
--- this fault where the test is true, and else nothing
-abbrev pub unless : Bool → LineFault → Result (Unit {0}) LineFault
-unless b fault = if b then Err fault else Ok tt
-
--- a value, or a fault where there is none
-abbrev pub or_fault : {A : Type 0} → Option A → LineFault → Result A LineFault
-or_fault None fault = Err fault
-or_fault (Some x) fault = Ok x
-
 -- ---- parts of a meaning
 
 -- ops at the end of the open thread, or TooLarge where they weigh too much
@@ -60,9 +47,9 @@ named_in s word = named s.machine.domains s.names word
 -- what a line's only argument names
 unfoldable pub path_alone : ReaderState → List ℕ → Result Named LineFault
 path_alone s rest = do
-  word ← or_fault (only (words rest)) BadArgument
-  found ← or_fault (named_in s word) BadPath
-  or_fault found TooLarge
+  word ← ok_or (only (words rest)) BadArgument
+  found ← ok_or (named_in s word) BadPath
+  ok_or found TooLarge
 
 -- the i-th access of a sweep
 abbrev pub access_at : ℕ → Sweep → ℕ → Op
@@ -75,15 +62,15 @@ sweep_ops task w = map (access_at task w) (range_with_len 0 w.count)
 -- `clflush ADDR`: flushes the line of an address
 unfoldable pub drop_line : ReaderState → List ℕ → Result ReaderState LineFault
 drop_line s rest = do
-  addr ← or_fault (drop_line_of (words rest)) BadArgument
+  addr ← ok_or (drop_line_of (words rest)) BadArgument
   with_op s (ops.DropLine addr)
 
 -- `clflush PATH OFFSET`: flushes the line of a byte of a group's locked region
 unfoldable pub drop_region : ReaderState → List ℕ → Result ReaderState LineFault
 drop_region s rest = do
-  t ← or_fault (drop_region_of (words rest)) BadArgument
-  found ← or_fault (named_in s t.0) BadPath
-  p ← or_fault found TooLarge
+  t ← ok_or (drop_region_of (words rest)) BadArgument
+  found ← ok_or (named_in s t.0) BadPath
+  p ← ok_or found TooLarge
   with_op (with_names s p.1) (ops.DropRegion p.0 t.1)
 
 -- ---- what a line of each kind means, by what stands after its first word
@@ -91,23 +78,23 @@ drop_region s rest = do
 -- the state after a line of this kind, or its first fault
 unfoldable pub means : Kind → ReaderState → List ℕ → Result ReaderState LineFault
 means kinds.Machine s rest = do
-  m ← or_fault (machine_of (words rest)) BadMachine
+  m ← ok_or (machine_of (words rest)) BadMachine
   Ok (record s { place = places.Head; machine = m })
 means kinds.Tasks s rest = do
-  tasks ← or_fault (declared s.tasks (words rest)) BadTasks
-  a ← unless (nat_lt MOST_TASKS (count_of tasks)) TooLarge
+  tasks ← ok_or (declared s.tasks (words rest)) BadTasks
+  a ← fault_if (nat_lt MOST_TASKS (count_of tasks)) TooLarge
   Ok (record s { tasks = tasks })
 means kinds.Phase s rest = do
-  a ← unless (not (length (words rest) == 0)) BadArgument
-  b ← unless (nat_le MOST_PHASES (length (close_phase s).phases)) TooLarge
+  a ← fault_if (not (length (words rest) == 0)) BadArgument
+  b ← fault_if (nat_le MOST_PHASES (length (close_phase s).phases)) TooLarge
   Ok (record (close_phase s) { place = places.Opened })
 means kinds.Order s rest = do
-  numbers ← or_fault (order_of (words rest)) BadArgument
-  a ← unless (nat_lt MOST_ORDER (length numbers)) TooLarge
+  numbers ← ok_or (order_of (words rest)) BadArgument
+  a ← fault_if (nat_lt MOST_ORDER (length numbers)) TooLarge
   Ok (record s { place = places.Ordered; order = numbers })
 means kinds.Thread s rest = do
-  a ← unless (not (length (words rest) == 0)) BadArgument
-  b ← unless (nat_le MOST_PHASE_THREADS (length (close_thread s).threads)) TooLarge
+  a ← fault_if (not (length (words rest) == 0)) BadArgument
+  b ← fault_if (nat_le MOST_PHASE_THREADS (length (close_thread s).threads)) TooLarge
   Ok (record (close_thread s) { place = places.Thread })
 means kinds.Mkdir s rest = do
   p ← path_alone s rest
@@ -116,11 +103,11 @@ means kinds.Rmdir s rest = do
   p ← path_alone s rest
   with_op (with_names s p.1) (ops.Rmdir p.0)
 means kinds.Write s rest = do
-  word ← or_fault (first_of (words rest)) BadArgument
-  found ← or_fault (named_in s word) BadPath
-  text ← or_fault (unescaped (text_behind rest)) BadEscape
-  p ← or_fault found TooLarge
-  a ← unless (nat_lt MOST_TEXT_BYTES (length text)) TooLarge
+  word ← ok_or (first_of (words rest)) BadArgument
+  found ← ok_or (named_in s word) BadPath
+  text ← ok_or (unescaped (text_behind rest)) BadEscape
+  p ← ok_or found TooLarge
+  a ← fault_if (nat_lt MOST_TEXT_BYTES (length text)) TooLarge
   with_op (with_names s p.1) (ops.Write p.0 text)
 means kinds.Read s rest = do
   p ← path_alone s rest
@@ -129,33 +116,33 @@ means kinds.List s rest = do
   p ← path_alone s rest
   with_op (with_names s p.1) (ops.List p.0)
 means kinds.Flush s rest = do
-  domain ← or_fault (flush_of s.machine (words rest)) BadArgument
+  domain ← ok_or (flush_of s.machine (words rest)) BadArgument
   with_op s (ops.Flush domain)
 means kinds.Tick s rest = do
-  a ← unless (not (length (words rest) == 0)) BadArgument
+  a ← fault_if (not (length (words rest) == 0)) BadArgument
   with_op s ops.Tick
 means kinds.Clflush s rest = if has_path (words rest) then drop_region s rest else drop_line s rest
 means kinds.Access s rest = do
-  u ← or_fault (access_of s.machine (words rest)) BadArgument
-  task ← or_fault (task_of s.tasks u.task) UnknownTask
+  u ← ok_or (access_of s.machine (words rest)) BadArgument
+  task ← ok_or (task_of s.tasks u.task) UnknownTask
   with_op s (ops.Access task u.cpu u.at)
 means kinds.Sweep s rest = do
-  w ← or_fault (sweep_of s.machine (words rest)) BadArgument
-  task ← or_fault (task_of s.tasks w.first.task) UnknownTask
+  w ← ok_or (sweep_of s.machine (words rest)) BadArgument
+  task ← ok_or (task_of s.tasks w.first.task) UnknownTask
   with_ops s w.count (sweep_ops task w)
 means kinds.Touch s rest = do
-  t ← or_fault (touch_of s.machine (words rest)) BadArgument
-  found ← or_fault (named_in s t.0) BadPath
-  task ← or_fault (task_of s.tasks t.1.task) UnknownTask
-  p ← or_fault found TooLarge
+  t ← ok_or (touch_of s.machine (words rest)) BadArgument
+  found ← ok_or (named_in s t.0) BadPath
+  task ← ok_or (task_of s.tasks t.1.task) UnknownTask
+  p ← ok_or found TooLarge
   with_op (with_names s p.1) (ops.Touch t.1.cpu p.0 task t.1.at)
 
 -- what a line means that begins with this word
 unfoldable pub word_means : ReaderState → List ℕ → List ℕ → Result ReaderState LineFault
 word_means s word rest = do
-  a ← unless (is_start s.place && not (is_text word (codes "machine"))) NoMachine
-  kind ← or_fault (kind_of word) UnknownWord
-  b ← unless (not (may_stand kind s.place)) OutOfPlace
+  a ← fault_if (is_start s.place && not (is_text word (codes "machine"))) NoMachine
+  kind ← ok_or (kind_of word) UnknownWord
+  b ← fault_if (not (may_stand kind s.place)) OutOfPlace
   means kind s rest
 
 -- what a line means by its words; one without words leaves the state as it is
@@ -170,22 +157,22 @@ says s line = said_by s (words line) (behind_word line)
 -- what a line means in this state, or its first fault
 unfoldable pub line_meaning : ReaderState → List ℕ → Result ReaderState LineFault
 line_meaning s line = do
-  a ← unless (list_any is_bad line) BadByte
+  a ← fault_if (list_any is_bad line) BadByte
   if is_comment line then Ok s else says s line
 
 -- ---- what the readers promise
 
--- The error is the fault of this meaning, or out of memory.
+-- (For proofs.) The error is the fault of this meaning, or out of memory.
 abbrev pub Fails : {A : Type 0} → LineError → Result A LineFault → Type 0
 Fails errors.NoMemory meaning = Unit {0}
 Fails (errors.Fault f) meaning = meaning ≡ Err f
 
--- After the call the state is this meaning, or memory ran out. Any other error is the fault of this meaning.
+-- (For proofs.) After the call the state is this meaning, or memory ran out. Any other error is the fault of this meaning.
 abbrev pub Means : Result (Unit {0}) LineError → ReaderState → Result ReaderState LineFault → Type 0
 Means (Ok u) after meaning = meaning ≡ Ok after
 Means (Err e) after meaning = Fails e meaning
 
--- The call found what the only argument of the line names, and added the names in it and nothing else.
+-- (For proofs.) The call found what the only argument of the line names, and added the names in it and nothing else.
 abbrev pub FindsAlone : Result PathRef LineError → ReaderState → ReaderState → Result Named LineFault → Type 0
 FindsAlone (Ok path) before after meaning = (meaning ≡ Ok (path, after.names)) × (after ≡ with_names before after.names)
 FindsAlone (Err e) before after meaning = Fails e meaning

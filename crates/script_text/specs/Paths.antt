@@ -16,7 +16,7 @@ Named = PathRef × List (List ℕ)
 abbrev pub named : ℕ → List (List ℕ) → List ℕ → Option (Option Named)
 named domains names word = if nat_lt MOST_PATH_BYTES (length word) then Some None else option_map (λ p. Some p) (path_of domains names word)
 
--- The call found what a word names, or memory ran out. BadPath says that the word is no path.
+-- (For proofs.) The call found what a word names, or memory ran out. BadPath says that the word is no path.
 abbrev pub Finds : Result (Option PathRef) LineError → List (List ℕ) → Option (Option Named) → Type 0
 Finds (Ok None) after found = found ≡ Some None
 Finds (Ok (Some path)) after found = found ≡ Some (Some (path, after))

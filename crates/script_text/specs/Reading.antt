@@ -42,17 +42,17 @@ reading_from n s (line ∷ lines) = after_line (n + 1) (line_meaning s line) (λ
 abbrev pub script_of : List ℕ → Result ScriptValue ScriptFault
 script_of text = reading_from 0 nothing_read (lines text)
 
--- an error of a line, with the line's number
+-- (For proofs.) an error of a line, with the line's number
 abbrev pub located : LineError → ℕ → ScriptError
 located (line_errors.Fault what) n = errors.Bad (record { line = n; what = what })
 located line_errors.NoMemory n = errors.NoMemory
 
--- The error is the fault of this reading, or out of memory.
+-- (For proofs.) The error is the fault of this reading, or out of memory.
 abbrev pub Fails : ScriptError → Result ScriptValue ScriptFault → Type 0
 Fails errors.NoMemory script = Unit {0}
 Fails (errors.Bad fault) script = script ≡ Err fault
 
--- The result is this reading, or memory ran out.
+-- (For proofs.) The result is this reading, or memory ran out.
 abbrev pub Reads : Result ScriptValue ScriptError → Result ScriptValue ScriptFault → Type 0
 Reads (Ok s) script = script ≡ Ok s
 Reads (Err e) script = Fails e script

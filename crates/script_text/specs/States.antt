@@ -50,12 +50,12 @@ close_thread s = if is_thread s.place then record s { threads = s.threads ++ s.o
 abbrev pub close_phase : ReaderState → ReaderState
 close_phase s = if is_head s.place then s else record (close_thread s) { phases = s.phases ++ (record { order = s.order; threads = (close_thread s).threads }) ∷ []; order = []; threads = [] }
 
--- the state of a reader
+-- (For proofs.) the state of a reader
 abbrev pub state_of : Reader → ReaderState
 state_of r = record { place = r.place; machine = parameters_of r.machine; tasks = r.tasks.items; names = r.names; phases = r.phases.items; order = r.order.items; threads = r.threads.items; ops = r.ops.items; weight = r.weight }
 
--- Limits while reading, with so many phases, threads of the open phase, and names still to come. Each op weighs at least 1 and
--- has few names, so these stay bounded.
+-- (For proofs.) Limits while reading, with so many phases, threads of the open phase, and names still to come. Each op weighs at
+-- least 1 and has few names, so these stay bounded.
 pub record InLimits (more_phases more_threads extra : ℕ) (s : ReaderState) : Type 0 where
   pub names : length s.names ≤ MOST_PATH_NAMES * s.weight + extra
   pub weight : s.weight ≤ MOST_WEIGHT
@@ -67,22 +67,22 @@ pub record InLimits (more_phases more_threads extra : ℕ) (s : ReaderState) : T
   pub threads_named : All (AreNamed (length s.names)) s.threads
   pub phases_named : All (AreNamed (length s.names)) (threads_in s.phases)
 
--- one more phase and one more thread can be closed
+-- (For proofs.) one more phase and one more thread can be closed
 abbrev pub IsSound : ReaderState → Type 0
 IsSound s = InLimits 1 1 0 s
 
--- before the first phase
+-- (For proofs.) before the first phase
 abbrev pub is_early : Place → Bool
 is_early Start = true
 is_early Head = true
 is_early place = false
 
--- before the first phase there are no ops, threads or phases
+-- (For proofs.) before the first phase there are no ops, threads or phases
 abbrev pub BeginsBare : ReaderState → Type 0
 BeginsBare s = is_early s.place ≡ true → (s.ops ≡ []) × (s.threads ≡ []) × (s.phases ≡ [])
 
--- The tasks are few; the ops so far fit the machine and its tasks, their components have short names, and they weigh no more than
--- is counted.
+-- (For proofs.) The tasks are few; the ops so far fit the machine and its tasks, their components have short names, and they weigh
+-- no more than is counted.
 pub record IsFit (s : ReaderState) : Type 0 where
   pub few_tasks : count_of s.tasks ≤ MOST_TASKS
   pub ops : AreFit s.machine (ids_of s.tasks) s.ops
@@ -94,7 +94,7 @@ pub record IsFit (s : ReaderState) : Type 0 where
   pub light : sum_by (weights_of s.machine) (threads_in s.phases) + sum_by (weights_of s.machine) s.threads + weights_of s.machine s.ops ≤ s.weight
   pub counted : s.weight ≤ MOST_WEIGHT
 
--- what holds after the lines so far, whatever the next one is
+-- (For proofs.) what holds after the lines so far, whatever the next one is
 pub record IsReady (s : ReaderState) : Type 0 where
   pub bare : BeginsBare s
   pub fit : IsFit s

@@ -2,15 +2,12 @@
 use Rattle.std.specs.Prelude.{◌≡◌, Result, Ok, Err, ℕ, ◌+◌, ◌-◌, ◌≤◌, ◌^◌, Bool, ◌&&◌, ◌==◌, nat_lt, nat_le, List, [], ◌∷◌, ◌++◌, Option, Some, None, if◌then◌else◌}
 use Rattle.std.specs.Option.{option_and_then}
 use Rattle.std.specs.List.{list_any, before_first, after_first, sum_by, flat_map, position_or_len, range_with_len, insert}
+use Rattle.num_text.specs.Signs.{dash}
 use Rattle.num_text.specs.Numbers.{dec_of, below}
 use Rattle.script_text.specs.declared.fault.LineError.{LineError}
 use Rattle.script_text.specs.declared.fault.LineError.TheVariants as errors
 use Rattle.script_text.specs.declared.fault.LineFault.TheVariants.{BadTasks}
 use Rattle.script_text.specs.declared.tasks.TaskRange.{TaskRange}
-
--- the byte `-`
-abbrev pub dash : ℕ → Bool
-dash b = b == 45
 
 -- a task id: 1 to 2 ^ 32 - 1
 abbrev pub id_of : List ℕ → Option ℕ
@@ -49,7 +46,7 @@ abbrev pub declared : List TaskRange → List (List ℕ) → Option (List TaskRa
 declared all [] = None
 declared all (word ∷ words) = declared_from all (word ∷ words)
 
--- these and the tasks of the words, in the order of the words, where each word declares tasks
+-- (For proofs.) these and the tasks of the words, in the order of the words, where each word declares tasks
 unfoldable pub ranges_from : List TaskRange → List (List ℕ) → Option (List TaskRange)
 ranges_from all [] = Some all
 ranges_from all (word ∷ words) = option_and_then (λ t. ranges_from (all ++ t ∷ []) words) (tasks_of word)
@@ -58,7 +55,7 @@ ranges_from all (word ∷ words) = option_and_then (λ t. ranges_from (all ++ t 
 abbrev pub has_task : ℕ → TaskRange → Bool
 has_task id t = nat_le t.first id && nat_le id t.last
 
--- each range begins after the end of the one before it, and the first no lower than this
+-- (For proofs.) each range begins after the end of the one before it, and the first no lower than this
 abbrev pub RiseFrom : ℕ → List TaskRange → Type 0
 RiseFrom low [] = Unit {0}
 RiseFrom low (t ∷ ts) = (low ≤ t.first) × (t.first ≤ t.last) × RiseFrom (t.last + 1) ts
@@ -83,7 +80,7 @@ ids_in t = range_with_len t.first (size_of t)
 abbrev pub ids_of : List TaskRange → List ℕ
 ids_of all = flat_map ids_in all
 
--- After the call the ranges are this declaration, or memory ran out. BadTasks says that there is none.
+-- (For proofs.) After the call the ranges are this declaration, or memory ran out. BadTasks says that there is none.
 abbrev pub Declares : Result (Unit {0}) LineError → List TaskRange → Option (List TaskRange) → Type 0
 Declares (Ok u) after declaration = declaration ≡ Some after
 Declares (Err errors.NoMemory) after declaration = Unit {0}

@@ -5,6 +5,8 @@ use Rattle.std.specs.Prelude.{◌≡◌, ℕ, ◌^◌, ◌<◌, nat_lt, List, []
 use Rattle.std.specs.Borrow.{Bor}
 use Rattle.std.specs.Str.Lines.{lines}
 use Rattle.std.specs.Str.Parse.{digits_value, AllDigits}
+use Rattle.std.specs.Option.{ok_or}
+use Rattle.rc_base.specs.Faults.{◌>>=◌}
 use Rattle.num_text.specs.Numbers.{dec_of, below}
 use Rattle.machine.specs.declared.parameters.Parameters.{Parameters}
 use Rattle.script_text.specs.declared.fault.LineFault.{LineFault}
@@ -13,7 +15,7 @@ use Rattle.script_text.specs.declared.fault.LineError.{LineError}
 use Rattle.script_text.specs.declared.arguments.Use.{Use}
 use Rattle.script_ops.specs.declared.op.Op.TheVariants as ops
 use Rattle.script_text.specs.Lines.{words}
-use Rattle.script_text.specs.Meaning.{◌>>=◌, or_fault, with_op, line_meaning, Fails}
+use Rattle.script_text.specs.Meaning.{with_op, line_meaning, Fails}
 use Rattle.script_text.specs.States.{ReaderState}
 use Rattle.script_text.specs.Tasks.{task_of}
 
@@ -63,8 +65,8 @@ use_by m task cpu addr = if nat_lt cpu m.cpus then (if nat_lt addr (2 ^ 48) then
 -- what an access line of this use means
 abbrev pub access_means : ReaderState → Option Use → Result ReaderState LineFault
 access_means s used = do
-  u ← or_fault used BadArgument
-  task ← or_fault (task_of s.tasks u.task) UnknownTask
+  u ← ok_or used BadArgument
+  task ← ok_or (task_of s.tasks u.task) UnknownTask
   with_op s (ops.Access task u.cpu u.at)
 
 -- The call took in the first line of a text and left what stands after it, or there is no line. An error is the line's first

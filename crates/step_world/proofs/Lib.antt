@@ -7,7 +7,6 @@ pub mod EndedThreads
 pub mod EntryRooms
 pub mod FollowedWorlds
 pub mod FollowingWorlds
-pub mod FoundSums
 pub mod FreeSteps
 pub mod GivenAnswers
 pub mod HeldLines
@@ -23,6 +22,7 @@ pub mod MachineStates
 pub mod NextEntries
 pub mod NextPhases
 pub mod NextRooms
+pub mod NotedLists
 pub mod OpeningWorlds
 pub mod Openings
 pub mod PassedWorlds

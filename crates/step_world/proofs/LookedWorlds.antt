@@ -13,19 +13,20 @@ use Rattle.machine.specs.Slices.{slice_number}
 use Rattle.rc_base.specs.Buffers.{Looks as LooksValue}
 use Rattle.run_law.proofs.laws.DistinctLooks.{distinct_pairs}
 use Rattle.run_law.proofs.laws.FoundLooks.{pair_at}
+use Rattle.run_law.proofs.laws.FoundSums.{AreDistinct-pairs, At-map, found_at-last, found_at-push, get-push_front, get-push_last}
 use Rattle.run_law.proofs.laws.JobKinds.{look_of, looks_are}
 use Rattle.run_law.proofs.laws.Lines.{lines_of-few}
 use Rattle.run_law.specs.Entries.{entry_value}
-use Rattle.run_law.specs.FoundLooks.{AreDistinct, look_pairs, pairs_for}
+use Rattle.run_law.specs.FoundLooks.{AreDistinct, found_at, look_pairs, pairs_for}
 use Rattle.run_law.specs.Jobs.{Job, looks_of}
 use Rattle.run_law.specs.Journals.{At}
 use Rattle.run_law.specs.Progress.{Progress}
 use Rattle.run_law.specs.TreeHistory.{tree_after}
 use Rattle.script_ops.specs.Values.{ScriptValue, op_at}
 use Rattle.script_ops.specs.declared.op.Op.{Op}
-use Rattle.step_world.proofs.FoundSums.{AreDistinct-pairs, At-map, found_at-last, found_at-push, get-push_front, get-push_last, list-noted}
 use Rattle.step_world.proofs.KeptWorlds.{AreInPlay-set, IsWorldOf-step, Leaves, moves-leaves, notes-grows}
 use Rattle.step_world.proofs.LookedCounts.{look_looked}
+use Rattle.step_world.proofs.NotedLists.{list-noted}
 use Rattle.step_world.proofs.SoundStates.{IsSound-now}
 use Rattle.step_world.proofs.StepParts.{looking_is}
 use Rattle.step_world.proofs.StepRows.{step_looks}
@@ -36,7 +37,7 @@ use Rattle.step_world.specs.Machine.{Looks, Moves, Notes, Steps, thread_at}
 use Rattle.step_world.specs.Moments.{progress_by}
 use Rattle.step_world.specs.Slices.{CountsLines, SliceValue}
 use Rattle.step_world.specs.Works.{CountsOn}
-use Rattle.step_world.specs.Worlds.{AreInPlay, HasList, IsLookingAt, IsTreeOf, IsWorldOf, found_at, machine_of}
+use Rattle.step_world.specs.Worlds.{AreInPlay, HasList, IsLookingAt, IsTreeOf, IsWorldOf, machine_of}
 use Rattle.step_world.specs.declared.place.Place.TheVariants.{Looking}
 use Rattle.step_world.specs.declared.place.Thread.{Thread}
 use Rattle.step_world.specs.declared.world.World.{World}

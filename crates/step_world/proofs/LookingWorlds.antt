@@ -8,6 +8,7 @@ use Rattle.cache_core.specs.History.{lines_of}
 use Rattle.machine.specs.Slices.{slice_number}
 use Rattle.rc_base.specs.Buffers.{Looks}
 use Rattle.run_law.proofs.laws.FoundLooks.{pair_at}
+use Rattle.run_law.proofs.laws.FoundSums.{At-map}
 use Rattle.run_law.proofs.laws.JobKinds.{look_of, looks_are}
 use Rattle.run_law.proofs.laws.Lines.{lines_of-few}
 use Rattle.run_law.proofs.laws.LongerHistories.{jobs_front}
@@ -25,7 +26,6 @@ use Rattle.script_ops.specs.declared.op.Op.{Op}
 use Rattle.step_world.proofs.AccessSteps.{some_can_be}
 use Rattle.step_world.proofs.NextRooms.{room-job}
 use Rattle.run_law.proofs.laws.ReadyLists.{spare_in-last}
-use Rattle.step_world.proofs.FoundSums.{At-map}
 use Rattle.step_world.proofs.LookedWorlds.{counted}
 use Rattle.step_world.proofs.MachineStates.{can_be_at}
 use Rattle.step_world.proofs.RoomLeft.{has-room}

@@ -2,6 +2,7 @@
 use Rattle.std.proofs.Common.{◌≡◌, ℕ, false, length, map, get_or, Some, None, refl, sym, ap, ◌∙◌, subst}
 use Rattle.std.proofs.lemmas.Option.{same_Some, none-some}
 use Rattle.machine.specs.Maps.{domain_of}
+use Rattle.rc_base.proofs.laws.Tags.{same_tag}
 use Rattle.rc_base.specs.declared.names.Tag.{Tag}
 use Rattle.run_law.proofs.laws.SoundHistories.{Fits-tree_after}
 use Rattle.run_law.specs.Entries.{entry_value}
@@ -23,16 +24,6 @@ use Rattle.step_world.specs.declared.world.World.{World}
 use Rattle.tree_law.specs.Resolving.{Owned, resolve}
 use Rattle.tree_law.specs.State.{tasks_of}
 use Rattle.step_world.proofs.TakenWorlds.{IsQuiet, journals-quiet, leaves-quiet, lists-quiet, tree-quiet, within-next}
-
--- a tag is what its parts are
-same_tag : (a b : Tag) → a.epoch ≡ b.epoch → a.owner ≡ b.owner → a.class ≡ b.class → a.rmid ≡ b.rmid → a.mask ≡ b.mask → a.domain ≡ b.domain → a ≡ b
-same_tag a b e o c r m d =
-    ap (λ x. record { epoch = x; owner = a.owner; class = a.class; rmid = a.rmid; mask = a.mask; domain = a.domain }) e
-    ∙ (ap (λ x. record { epoch = b.epoch; owner = x; class = a.class; rmid = a.rmid; mask = a.mask; domain = a.domain }) o
-    ∙ (ap (λ x. record { epoch = b.epoch; owner = b.owner; class = x; rmid = a.rmid; mask = a.mask; domain = a.domain }) c
-    ∙ (ap (λ x. record { epoch = b.epoch; owner = b.owner; class = b.class; rmid = x; mask = a.mask; domain = a.domain }) r
-    ∙ (ap (λ x. record { epoch = b.epoch; owner = b.owner; class = b.class; rmid = b.rmid; mask = x; domain = a.domain }) m
-    ∙ ap (λ x. record { epoch = b.epoch; owner = b.owner; class = b.class; rmid = b.rmid; mask = b.mask; domain = x }) d))))
 
 -- the tag that the tree gives
 tag-resolved : (script : ScriptValue) (old : World) (task cpu : ℕ) (tag : Tag) → IsWorldOf script old → IsResolved old task cpu tag

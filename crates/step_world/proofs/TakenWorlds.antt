@@ -17,10 +17,11 @@ use Rattle.step_world.proofs.LookedCounts.{take_looked}
 use Rattle.step_world.proofs.StepRows.{step_takes}
 use Rattle.step_world.specs.Answers.{HasNext, HasTaken}
 use Rattle.run_law.proofs.laws.ReadyLists.{drop-at}
+use Rattle.run_law.specs.FoundLooks.{found_at}
 use Rattle.run_law.specs.LookLists.{AreReady, rooms_of}
 use Rattle.step_world.specs.Looked.{HasLooked}
 use Rattle.step_world.specs.Machine.{Moves, Steps, Takes, thread_at}
-use Rattle.step_world.specs.Worlds.{AreInPlay, HasList, HasLists, IsLookingAt, IsTreeOf, IsWorldOf, found_at, journals_of, machine_of, rooms_from}
+use Rattle.step_world.specs.Worlds.{AreInPlay, HasList, HasLists, IsLookingAt, IsTreeOf, IsWorldOf, journals_of, machine_of, rooms_from}
 use Rattle.step_world.specs.declared.place.Place.{Place}
 use Rattle.step_world.specs.declared.place.Place.TheVariants.{Ready, Looking}
 use Rattle.step_world.specs.declared.place.Thread.{Thread}

@@ -181,23 +181,23 @@ pub record GoesOn (script : ScriptValue) (old new : MachineValue) : Type 0 where
   pub threads : new.threads ≡ old.threads
   pub phase : new.phase ≡ old.phase + 1
 
--- the last phase is over
+-- (For proofs.) the last phase is over
 abbrev pub IsOver : ScriptValue → MachineValue → Type 0
 IsOver script s = length script.phases ≤ s.phase
 
 -- ---- schedules
 
--- what may happen: a thread takes a step, or the next phase begins
+-- (For proofs.) what may happen: a thread takes a step, or the next phase begins
 pub data Event : Type 0 where
   Step : ℕ → Event
   Next : Event
 
--- what an event does
+-- (For proofs.) what an event does
 abbrev pub Happens : ScriptValue → Event → MachineValue → MachineValue → Type 0
 Happens script (Step t) old new = Steps script t old new
 Happens script Next old new = GoesOn script old new
 
--- these events happen, one after the other
+-- (For proofs.) these events happen, one after the other
 abbrev pub Plays : ScriptValue → List Event → MachineValue → MachineValue → Type 0
 Plays script [] old new = new ≡ old
 Plays script (e ∷ es) old new = (between : MachineValue) × Happens script e old between × Plays script es between new

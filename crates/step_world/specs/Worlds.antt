@@ -16,6 +16,7 @@ use Rattle.script_ops.specs.Values.{IsLawful, ScriptValue, op_at, ops_of, thread
 use Rattle.script_ops.specs.declared.op.Op.{Op}
 use Rattle.script_ops.specs.declared.op.Op.TheVariants.{Access}
 use Rattle.run_law.specs.Caches.{IsCacheOf}
+use Rattle.run_law.specs.FoundLooks.{found_at}
 use Rattle.run_law.specs.LookLists.{AreReady, rooms_of}
 use Rattle.step_world.specs.Looked.{HasLooked}
 use Rattle.step_world.specs.Machine.{MachineValue, thread_at}
@@ -95,10 +96,6 @@ HasLists script t n (Following made) lists = AreReady (rooms_from script t (n + 
 HasLists script t n (Tagged tag) lists = KeepsLists script t n lists
 
 -- ---- the work of the command that holds the tree
-
--- what the looks for the q-th count found together
-abbrev pub found_at : ℕ → List ℕ → ℕ → ℕ → ℕ
-found_at slices found q number = sum_below number (λ x. slice_index_or found (q * slices + x) 0)
 
 -- the command looks: `work.at` counts are complete, and `work.slice` slices of the next one are counted
 pub record IsLookingAt (script : ScriptValue) (s : MachineValue) (t : ℕ) (op : Op) (lists : List Looks) (work : Work) : Type 0 where

@@ -44,6 +44,6 @@ control_members group tasks = map (λ b. b.task) (filter (has_control group) tas
 abbrev pub monitor_members : Gid → List Binding → List ℕ
 monitor_members group tasks = map (λ b. b.task) (filter (has_monitor group) tasks)
 
--- the tasks rise
+-- (For proofs.) the tasks rise
 abbrev pub AreRising : List Binding → Type 0
 AreRising tasks = AllPairs (λ a b. a.task < b.task) tasks

@@ -12,6 +12,6 @@ counts_text script j p =
     codes "accesses " ++ decimal (count_entries script j p) ++ codes " hits " ++ decimal (count_entries script j (λ what. p what && is_hit what))
     ++ codes " misses " ++ decimal (count_entries script j (λ what. p what && not (is_hit what)))
 
--- these counts: `accesses A hits H misses M`
+-- (For proofs.) these counts: `accesses A hits H misses M`
 abbrev pub counts_told : Counts → List ℕ
 counts_told c = codes "accesses " ++ decimal c.accesses ++ codes " hits " ++ decimal c.hits ++ codes " misses " ++ decimal c.misses

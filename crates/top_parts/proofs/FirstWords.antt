@@ -1,5 +1,5 @@
 -- The words that commands begin with differ.
-use Rattle.std.proofs.Common.{◌≡◌, true, false, ◌==◌, codes, String, refl, subst}
+use Rattle.std.proofs.Common.{◌≡◌, true, false, codes, String, refl}
 use Rattle.std.specs.declared.alloc.Global.{Global}
 use Rattle.top_parts.specs.Forms.{is_word}
 use Rattle.rc_base.proofs.laws.Texts.{is_text-other}

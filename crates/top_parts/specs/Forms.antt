@@ -78,12 +78,12 @@ abbrev pub form_of : List (String Global) → Option Form
 form_of [] = None
 form_of (first ∷ more) = if has_flags_once more then option_map (with_flags more) (command_of first (others_in more)) else None
 
--- whether the first word is `run`
+-- (For proofs.) whether the first word is `run`
 abbrev pub begin_with_run : List (String Global) → Bool
 begin_with_run [] = false
 begin_with_run (first ∷ more) = is_word (codes "run") first
 
--- the command is `run`
+-- (For proofs.) the command is `run`
 abbrev pub is_run : Command → Bool
 is_run Step = false
 is_run Run = true
@@ -101,7 +101,7 @@ is_of_source Step = true
 is_of_source Run = true
 is_of_source (Gen n) = false
 
--- a command whose number, if it has one, is one that the generator takes
+-- (For proofs.) a command whose number, if it has one, is one that the generator takes
 abbrev pub IsInRange : Command → Type 0
 IsInRange Step = Unit {0}
 IsInRange Run = Unit {0}

@@ -52,7 +52,7 @@ refusal_line refusal = codes "line " ++ decimal (line_number refusal) ++ codes "
 
 -- ---- what the reader of an input answers
 
--- the answer is what these bytes mean, or memory ran out; no source failed, for none was called
+-- (For proofs.) the answer is what these bytes mean, or memory ran out; no source failed, for none was called
 abbrev pub MeansAs : Result ScriptValue InputError → Result ScriptValue Refusal → Type 0
 MeansAs (Ok script) answer = answer ≡ Ok script
 MeansAs (Err (inputs.Bad refusal)) answer = answer ≡ Err refusal

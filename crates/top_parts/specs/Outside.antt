@@ -61,11 +61,12 @@ pub record TakesNone (sink : Writing) : Type 0 where
 
 -- ---- what a source had left
 
--- these bytes, cut off after one more than a script may have
+-- (For proofs.) these bytes, cut off after one more than a script may have
 unfoldable pub first_bytes : List ℕ → List ℕ
 first_bytes bytes = take (MOST_SCRIPT_BYTES + 1) bytes
 
--- the bytes that a source had left, cut off after one more than a script may have; any bytes, where those are not known
+-- (For proofs.) the bytes that a source had left, cut off after one more than a script may have; any bytes, where those are not
+-- known
 abbrev pub IsInput : Option (List ℕ) → List ℕ → Type 0
 IsInput None bytes = Unit {0}
 IsInput (Some left) bytes = bytes ≡ first_bytes left
@@ -75,21 +76,22 @@ abbrev pub IsToTheEnd : Option (List ℕ) → List ℕ → Type 0
 IsToTheEnd None bytes = Unit {0}
 IsToTheEnd (Some left) bytes = bytes ≡ left
 
--- all bytes that a source had left mean this
+-- (For proofs.) all bytes that a source had left mean this
 pub record IsMeant (left : Option (List ℕ)) (answer : Result ScriptValue Refusal) : Type 0 where
   pub bytes : List ℕ
   pub to_the_end : IsToTheEnd left bytes
   pub meant : meaning bytes ≡ answer
 
--- An answer that a source can cause: it failed, or what it gave is no script. The text of the generator gives no such answer.
+-- (For proofs.) An answer that a source can cause: it failed, or what it gave is no script. The text of the generator gives no such
+-- answer.
 abbrev pub IsOfSource : Result ScriptValue InputError → Type 0
 IsOfSource (Ok script) = ⊥
 IsOfSource (Err (Bad refusal)) = Unit {0}
 IsOfSource (Err Failed) = Unit {0}
 IsOfSource (Err NoMemory) = ⊥
 
--- What reading an input and its script answers: a script, a refusal, a failure of the source, or out of memory. The numbers say
--- how often the source had failed before and has failed after.
+-- (For proofs.) What reading an input and its script answers: a script, a refusal, a failure of the source, or out of memory. The
+-- numbers say how often the source had failed before and has failed after.
 abbrev pub HasRead : Option (List ℕ) → ℕ → ℕ → Result ScriptValue InputError → Type 0
 HasRead input faults faults_now (Ok script) = IsMeant input (Ok script) × (faults_now ≡ faults)
 HasRead input faults faults_now (Err (Bad refusal)) = IsMeant input (Err refusal) × (faults_now ≡ faults)
@@ -123,7 +125,7 @@ LeavesPlayed Step left now = LeavesNothing left now
 LeavesPlayed Run left now = LeavesNothing left now
 LeavesPlayed (Gen n) left now = now ≡ left
 
--- what reading a script leaves, unless the source failed or memory ran out
+-- (For proofs.) what reading a script leaves, unless the source failed or memory ran out
 abbrev pub LeavesRead : Result ScriptValue InputError → Option (List ℕ) → Option (List ℕ) → Type 0
 LeavesRead (Ok script) left now = LeavesNothing left now
 LeavesRead (Err (Bad refusal)) left now = LeavesRefused refusal left now

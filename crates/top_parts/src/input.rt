@@ -14,8 +14,8 @@ use rc_stream::{Failed, Source};
 use script_ops::{MOST_SCRIPT_BYTES, Script};
 use script_text::{ScriptError, read_script};
 use std::alloc::Global;
-use trace_gen::theorems::traces_are_scripts;
-use trace_gen::{MOST_THREAD_ACCESSES, make};
+use trace_gen::theorems::{traces_are_scripts, traces_say_what_is_stated};
+use trace_gen::{MOST_THREAD_ACCESSES, make_script};
 
 /// Why no script was read.
 #[derive(Clone, Copy, Debug, PartialEq, Eq)]
@@ -124,7 +124,7 @@ pub fn read_input<S: Source>(alloc: Global, source: &mut S) -> Result<Script, In
     }
 }
 
-// The script that the generator makes of a number.
+// The script that the generator makes of a number, which is what a reader makes of its trace.
 fn generate(alloc: Global, n: u32) -> Result<Script, InputError>
     requires low { 1 ≤ n }
     requires high { n ≤ MOST_THREAD_ACCESSES }
@@ -132,8 +132,9 @@ fn generate(alloc: Global, n: u32) -> Result<Script, InputError>
     ensures good { IsOfSource result → ⊥ }
 {
     traces_are_scripts();
-    match make(alloc, n) {
-        Ok(text) => script_in(alloc, &text),
+    traces_say_what_is_stated();
+    match make_script(alloc, n) {
+        Ok(script) => Ok(script),
         Err(NoMemory) => Err(InputError::NoMemory),
     }
 }

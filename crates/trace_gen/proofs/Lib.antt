@@ -1,3 +1,5 @@
+pub mod Drawn
+pub mod Lawful
 pub mod Lengths
 pub mod Opening
 pub mod Orders

@@ -11,16 +11,17 @@ pub(crate) const TASKS: u64 = 4;
 /// Room for the line of an access, in bytes: a word of six, three numbers of at most 20 digits, and a byte that ends each.
 pub(crate) const LINE_BYTES: usize = 70;
 
-// Each task has a CPU of its own, and leaves the next one out.
-const CPU_STEP: u64 = 2;
+/// Each task has a CPU of its own, and leaves the next one out.
+pub(crate) const CPU_STEP: u64 = 2;
 
-// The addresses of a task begin at its number times this.
-const TASK_BYTES: u64 = 1 << 30;
+/// The addresses of a task begin at its number times this.
+pub(crate) const TASK_BYTES: u64 = 1 << 30;
 
-// How many lines of memory a task uses, and the bytes of each.
-const TASK_LINES: u32 = 4_096;
+/// How many lines of memory a task uses.
+pub(crate) const TASK_LINES: u32 = 4_096;
 
-const MEMORY_LINE_BYTES: u64 = 64;
+/// How many bytes a line of memory has.
+pub(crate) const MEMORY_LINE_BYTES: u64 = 64;
 
 /// Adds a number after a space.
 #[tactic(auto, using(crate::proofs::Sizes::number_sizes))]

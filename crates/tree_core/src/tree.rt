@@ -94,7 +94,7 @@ impl Tree {
         ensures sound { IfOk result (λ t. IsSound t.machine t.state) }
     {
         let tasks = Tasks::create(alloc, tasks)?;
-        let groups = Groups::create(m)?;
+        let groups = Groups::create(alloc, m)?;
         Ok(Tree {
             machine: *m,
             groups,

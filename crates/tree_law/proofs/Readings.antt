@@ -2,6 +2,9 @@
 use Rattle.std.proofs.Common.{◌≡◌, ℕ, zero, suc, ◌<◌, ◌^◌, Bool, true, false, not, List, [], ◌∷◌, ◌++◌, length, get_or, Option, None, Some, Result, Ok, Err, refl, sym, subst, ap, arith}
 use Rattle.std.specs.List.{All, AllByRecursion, list_any, before_first, after_first}
 use Rattle.std.proofs.lemmas.List.Elements.{All-push}
+use Rattle.std.specs.Option.{ok_or}
+use Rattle.num_text.specs.Signs.{equals}
+use Rattle.rc_base.specs.Faults.{◌>>=◌, fault_if}
 use Rattle.cbm.specs.Validity.{checked}
 use Rattle.cbm.specs.declared.fault.CbmFault.{CbmFault}
 use Rattle.cbm.specs.declared.geometry.Geometry.{Geometry}
@@ -11,8 +14,8 @@ use Rattle.num_text.specs.Blanks.{trim}
 use Rattle.num_text.specs.Numbers.{below, dec_of, hex_of}
 use Rattle.cbm.proofs.laws.Validity.{checked-ok, checked-checked}
 use Rattle.schemata_text.proofs.laws.Lawful.{AreLawful-none, AreLawful-push}
-use Rattle.schemata_text.specs.Items.{Entry, Item, Line, equals, items_of}
-use Rattle.schemata_text.specs.Reading.{AreLawful, domain_of, domains_of, entry_of, fault_if, is_of, line_of, mask_of, mask_said, or_fault, reading, reading_from, ◌>>=◌}
+use Rattle.schemata_text.specs.Items.{Entry, Item, Line, items_of}
+use Rattle.schemata_text.specs.Reading.{AreLawful, domain_of, domains_of, entry_of, is_of, line_of, mask_of, mask_said, reading, reading_from}
 use Rattle.schemata_text.specs.declared.assignment.Assignment.{Assignment}
 use Rattle.schemata_text.specs.declared.fault.TextFault.{TextFault}
 use Rattle.schemata_text.specs.declared.fault.TextFault.TheVariants.{Mask, BadDomain, Twice, NoEquals, NotHex}
@@ -26,9 +29,9 @@ bind-Ok (Ok x) f y e = (x, refl, e)
 bind-Ok {B = B} (Err fault) f y e = absurd (let g : ◌≡◌ {A = Result B TextFault} (Err fault) (Ok y) = e in cc)
 
 -- a fault that was not met leaves the value
-or_fault-Ok : {A : Type 0} (o : Option A) (fault : TextFault) (x : A) → or_fault o fault ≡ Ok x → o ≡ Some x
-or_fault-Ok None fault x e = absurd (let g : Err fault ≡ Ok x = e in cc)
-or_fault-Ok (Some y) fault x e = let g : ◌≡◌ {A = Result _ TextFault} (Ok y) (Ok x) = e in cc
+ok_or-Ok : {A : Type 0} (o : Option A) (fault : TextFault) (x : A) → ok_or o fault ≡ Ok x → o ≡ Some x
+ok_or-Ok None fault x e = absurd (let g : Err fault ≡ Ok x = e in cc)
+ok_or-Ok (Some y) fault x e = let g : ◌≡◌ {A = Result _ TextFault} (Ok y) (Ok x) = e in cc
 
 -- a test that gave no fault did not pass
 fault_if-Ok : (b : Bool) (fault : TextFault) (u : Unit {0}) → fault_if b fault ≡ Ok u → b ≡ false
@@ -62,14 +65,14 @@ IsReadEntry-entry_of g domains before entry a e =
     let one = bind-Ok (fault_if (not (list_any equals entry)) NoEquals) _ a e in
     let two = bind-Ok (domain_of domains (before_first equals entry)) _ a one.2 in
     let three = bind-Ok (fault_if (list_any (is_of two.0) before) (Twice two.0)) _ a two.2 in
-    let four = bind-Ok (or_fault (below (2 ^ 64) (hex_of (trim (after_first equals entry)))) NotHex) _ a three.2 in
+    let four = bind-Ok (ok_or (below (2 ^ 64) (hex_of (trim (after_first equals entry)))) NotHex) _ a three.2 in
     let five = bind-Ok (mask_of g four.0) _ a four.2 in
     let same : assignment two.0 five.0 ≡ a = Ok-same (assignment two.0 five.0) a five.2 in
     subst (IsReadEntry g domains before) same (record {
-      exists = below-lt domains (dec_of (trim (before_first equals entry))) two.0 (or_fault-Ok (below domains (dec_of (trim (before_first equals entry)))) BadDomain two.0 two.1);
+      exists = below-lt domains (dec_of (trim (before_first equals entry))) two.0 (ok_or-Ok (below domains (dec_of (trim (before_first equals entry)))) BadDomain two.0 two.1);
       fresh = fault_if-Ok (list_any (is_of two.0) before) (Twice two.0) three.0 three.1;
       valid = checked-checked g four.0 five.0 (mask_said-Ok four.0 five.0 (checked g four.0) five.1);
-      small = subst (λ (n : ℕ). n < 2 ^ 64) (sym (checked-ok g four.0 five.0 (mask_said-Ok four.0 five.0 (checked g four.0) five.1))) (below-lt (2 ^ 64) (hex_of (trim (after_first equals entry))) four.0 (or_fault-Ok (below (2 ^ 64) (hex_of (trim (after_first equals entry)))) NotHex four.0 four.1));
+      small = subst (λ (n : ℕ). n < 2 ^ 64) (sym (checked-ok g four.0 five.0 (mask_said-Ok four.0 five.0 (checked g four.0) five.1))) (below-lt (2 ^ 64) (hex_of (trim (after_first equals entry))) four.0 (ok_or-Ok (below (2 ^ 64) (hex_of (trim (after_first equals entry)))) NotHex four.0 four.1));
     })
 
 -- the items after lawful assignments make lawful ones

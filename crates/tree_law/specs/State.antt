@@ -26,7 +26,7 @@ pub record State : Type 0 where
   pub status : Reply
   pub next_gid : ℕ
 
--- the numbers of the tasks
+-- (For proofs.) the numbers of the tasks
 abbrev pub tasks_of : State → List ℕ
 tasks_of s = map (λ (b : Binding). b.task) s.tasks
 

@@ -101,7 +101,7 @@ goes_to (follows.Lock domain mask first_line) = EachSlice domain
 goes_to (follows.Touch tag line) = SliceOf tag.domain line
 goes_to (follows.Drop domain line) = SliceOf domain line
 
--- the domain of a follow-up; that of a touch is its tag's
+-- (For proofs.) the domain of a follow-up; that of a touch is its tag's
 abbrev pub follow_domain : Follow → ℕ
 follow_domain (follows.Raise domain) = domain
 follow_domain (follows.Flush domain) = domain

@@ -1,2 +1,3 @@
+pub mod EqualWays
 pub mod LowestEmpty
 pub mod LowestWay

@@ -3,6 +3,11 @@ ghost use Rattle.std.specs.Prelude.{◌≡◌, ◌≢◌, ℕ, ◌+◌, ◌<◌,
 ghost use Rattle.cbm.specs.Masks.{has_way};
 ghost use Rattle.way_fill.specs.Sets.{HoldsLine};
 
+use crate::lanes::equal_ways;
+
+/// From so many ways on all of them are compared at once: a line that none holds is then found missing sooner than by the walk.
+const MANY_WAYS: usize = 24;
+
 /// Whether a way is in a mask.
 pub(crate) fn is_in_mask(mask: u32, way: u8) -> bool
     requires { way < 32 }
@@ -32,8 +37,8 @@ fn passed(lines: &[u64], line: u64) -> usize
     way
 }
 
-/// The way of a set that holds the line. `lines` has the line of each way, and `valid` the ways that hold one.
-pub fn find(lines: &[u64], valid: u32, line: u64) -> Option<u8>
+// The same, one way after the other.
+fn find_in_turn(lines: &[u64], valid: u32, line: u64) -> Option<u8>
     requires { length lines.now ≤ 32 }
     ensures { MatchOption result ((way : ℕ) → way < length lines.now → HoldsLine lines.now valid line way → ⊥) (λ way. (way < length lines.now) × HoldsLine lines.now valid line way) }
 {
@@ -43,4 +48,28 @@ pub fn find(lines: &[u64], valid: u32, line: u64) -> Option<u8>
         }
     }
     None
+}
+
+// The same, by all ways that have the line.
+fn find_at_once(lines: &[u64], valid: u32, line: u64) -> Option<u8>
+    requires { length lines.now ≤ 32 }
+    ensures { MatchOption result ((way : ℕ) → way < length lines.now → HoldsLine lines.now valid line way → ⊥) (λ way. (way < length lines.now) × HoldsLine lines.now valid line way) }
+{
+    let ways = equal_ways(lines, line) & valid;
+    if ways == 0 {
+        return None;
+    }
+    Some(ways.trailing_zeros() as u8)
+}
+
+/// The way of a set that holds the line. `lines` has the line of each way, and `valid` the ways that hold one.
+pub fn find(lines: &[u64], valid: u32, line: u64) -> Option<u8>
+    requires { length lines.now ≤ 32 }
+    ensures { MatchOption result ((way : ℕ) → way < length lines.now → HoldsLine lines.now valid line way → ⊥) (λ way. (way < length lines.now) × HoldsLine lines.now valid line way) }
+{
+    if lines.len() < MANY_WAYS {
+        find_in_turn(lines, valid, line)
+    } else {
+        find_at_once(lines, valid, line)
+    }
 }

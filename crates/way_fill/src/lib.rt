@@ -2,10 +2,12 @@
 #![tactic(auto)]
 
 pub mod finding;
+pub mod lanes;
 pub mod victims;
 
 pub use finding::find;
-pub use victims::victim;
+pub use lanes::equal_ways;
+pub use victims::{least_used, victim};
 
 #[cfg(test)]
 mod tests;

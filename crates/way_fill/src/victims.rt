@@ -11,8 +11,10 @@ fn lowest_empty(valid: u32, mask: u32) -> u8
     (mask & !valid).trailing_zeros() as u8
 }
 
-// The way of the mask with the least stamp, the lowest of these.
-fn least_used(used: &[u64], mask: u32) -> u8
+/// The way of the mask with the least stamp, the lowest of these. `used` has the stamp of each way. The ways are read one after
+/// the other: lanes took more time at every number of ways up to 32, for stamps are numbers of 64 bits without a sign, whose
+/// lesser takes four instructions for every two of them.
+pub fn least_used(used: &[u64], mask: u32) -> u8
     requires ways { length used.now ≤ 32 }
     requires mask { 0 < mask % 2 ^ length used.now }
     ensures { IsLeast used.now mask (length used.now) result }

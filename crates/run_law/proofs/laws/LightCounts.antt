@@ -4,6 +4,7 @@ use Rattle.std.specs.Prelude.{sum_by}
 use Rattle.std.proofs.Math.Nat.{mul_comm}
 use Rattle.std.proofs.lemmas.List.Sums.{sum_by-le-sum_by}
 use Rattle.std.proofs.lemmas.Nat.{mul-le}
+use Rattle.machine.specs.Slices.{slice_count}
 use Rattle.machine.specs.declared.parameters.Parameters.{Parameters}
 use Rattle.path_names.specs.declared.files.FileKind.TheVariants as files
 use Rattle.path_names.specs.declared.path_ref.PathRef.{PathRef}
@@ -11,18 +12,18 @@ use Rattle.path_names.specs.declared.path_ref.PathRef.TheVariants.{File}
 use Rattle.run_law.specs.Quotas.{most_counts, most_read, most_written}
 use Rattle.run_law.specs.Rooms.{all_counts}
 use Rattle.script_ops.specs.Values.{IsLawful, ScriptValue, threads_of, total_weight}
-use Rattle.script_ops.specs.Weights.{looks_weight, read_weight, slices_of, weight_of, weights_of, write_weight}
+use Rattle.script_ops.specs.Weights.{looks_weight, read_weight, weight_of, weights_of, write_weight}
 use Rattle.script_ops.specs.declared.op.Op.{Op}
 use Rattle.script_ops.specs.declared.op.Op.TheVariants as ops
 
 module _ (m : Parameters) (some : 0 < m.slices) where
   -- a domain has some slice
-  domains_light : m.domains ≤ slices_of m
+  domains_light : m.domains ≤ slice_count m
   domains_light = omega (arith, mul-le m.domains 1 m.domains m.slices (omega arith) (omega (arith, some)))
 
   -- each RMID in each domain
   all_light : m.domains * m.rmids ≤ looks_weight m
-  all_light = omega (arith, mul-le m.domains m.rmids (slices_of m) (m.rmids + 1) domains_light (omega arith), mul_comm (slices_of m) (m.rmids + 1))
+  all_light = omega (arith, mul-le m.domains m.rmids (slice_count m) (m.rmids + 1) domains_light (omega arith), mul_comm (slice_count m) (m.rmids + 1))
 
   -- a write
   written_light : (path : PathRef) → most_written m path ≤ write_weight m path

@@ -6,8 +6,8 @@ ghost use Rattle.path_names.specs.declared.path_ref.PathRef.TheVariants.{Dir};
 ghost use Rattle.script_ops.specs.declared.op.Op.TheVariants.{Rmdir};
 ghost use Rattle.tree_core.specs.Follows.{IsReady};
 ghost use Rattle.tree_core.specs.Found.{IsControl, IsGroup, IsMonitor, found_path};
+ghost use Rattle.tree_core.specs.Removals.{MayLeave};
 ghost use Rattle.tree_law.specs.Steps.{accepted, after, follow_domain, needs, next, refusal};
-ghost use Rattle.tree_law.specs.commands.Rmdir as rmdir;
 
 use super::Tree;
 use crate::classes::give;
@@ -80,9 +80,7 @@ impl Tree {
     // Removes a control group with its monitor groups and its region. Its tasks and CPUs go to the default group.
     fn remove_control(&mut self, found: Control, freed: &[u16], looks: &[u64])
         requires found { IsControl self.old.state found }
-        requires accepted { refusal self.old.machine self.old.state (Rmdir (Dir (Ctrl found.name))) ≡ None }
-        requires freed { freed.now ≡ rmdir.freed self.old.state (Dir (Ctrl found.name)) }
-        requires looks { length looks.now ≡ length (needs self.old.machine self.old.state (Rmdir (Dir (Ctrl found.name)))) }
+        requires leaves { MayLeave self.old (Dir (Ctrl found.name)) freed.now looks.now }
         ensures machine { self.new.machine ≡ self.old.machine }
         ensures state { self.new.state ≡ accepted self.old.machine self.old.state (Rmdir (Dir (Ctrl found.name))) looks.now }
         ensures epoch { self.new.epoch ≡ self.old.epoch }
@@ -99,9 +97,7 @@ impl Tree {
     // Removes a monitor group. Its tasks and CPUs count at its parent.
     fn remove_monitor(&mut self, found: Monitor, freed: &[u16], looks: &[u64])
         requires found { IsMonitor self.old.state found }
-        requires accepted { refusal self.old.machine self.old.state (Rmdir (Dir (Mon found.owner found.name))) ≡ None }
-        requires freed { freed.now ≡ rmdir.freed self.old.state (Dir (Mon found.owner found.name)) }
-        requires looks { length looks.now ≡ length (needs self.old.machine self.old.state (Rmdir (Dir (Mon found.owner found.name)))) }
+        requires leaves { MayLeave self.old (Dir (Mon found.owner found.name)) freed.now looks.now }
         ensures machine { self.new.machine ≡ self.old.machine }
         ensures state { self.new.state ≡ accepted self.old.machine self.old.state (Rmdir (Dir (Mon found.owner found.name))) looks.now }
         ensures epoch { self.new.epoch ≡ self.old.epoch }

@@ -18,6 +18,7 @@ use Rattle.tree_law.specs.State.{State}
 use Rattle.tree_law.specs.Steps.{left, next, next_if, refusal, with_status}
 use Rattle.path_names.specs.declared.files.FileKind.TheVariants as kinds
 use Rattle.script_ops.specs.declared.op.Op.TheVariants as ops
+use Rattle.rc_base.specs.declared.replies.Reply.TheVariants as replies
 use Rattle.tree_law.specs.commands.Rmdir as rmdir
 use Rattle.tree_law.specs.commands.Tasks as tasks
 use Rattle.tree_law.specs.commands.Tick as tick
@@ -83,3 +84,12 @@ pub with_status-alone : (s : State) (op : Op) (reply : Reply) → with_status op
 with_status-alone s (ops.Mkdir path) reply = refl
 with_status-alone s (ops.Write path text) reply = refl
 with_status-alone s op reply = refl
+
+-- a reply is ok only where nothing is refused
+pub refusal-ok : (m : Parameters) (s : State) (op : Op) (looks : List ℕ) → (next m s op looks).reply ≡ replies.Ok → refusal m s op ≡ None
+unfolding next
+refusal-ok m s op looks ok = at (refusal m s op) ok
+  where
+    at : (o : Option Refusal) → reply_of o ≡ replies.Ok → o ≡ None
+    at None e = refl
+    at (Some r) e = absurd cc

@@ -9,7 +9,7 @@ use Rattle.live_law.specs.SeenJournals.{is_from}
 use Rattle.live_run.proofs.Bridges.{history_length}
 use Rattle.live_run.proofs.Commands.{IsDecided, command_follows, command_kept, command_ready, command_replied}
 use Rattle.live_run.proofs.TakenTrees.{command_looks, counts_few, history_push, named-next, ready-room, state_sound}
-use Rattle.live_run.proofs.Readings.{next-reading, refusal-ok}
+use Rattle.live_run.proofs.Readings.{next-reading}
 use Rattle.live_run.proofs.Trees.{tree_tasks}
 use Rattle.live_run.proofs.tree.TreeCell.command.Goals as goal
 use Rattle.live_run.proofs.tree.TreeCell.command.Goals.{After-counts-counts, After-decide, After-take}
@@ -18,6 +18,7 @@ use Rattle.live_run.specs.Cells.{AreOfThreads, TreeCellValue, TreeIsKept, taken_
 use Rattle.live_run.specs.Names.{history_of, seen_by}
 use Rattle.live_run.specs.Commands.{FollowsAt, LooksAt, shown_after}
 use Rattle.machine.specs.declared.parameters.Parameters.{Parameters}
+use Rattle.run_law.proofs.laws.FoundSums.{AreDistinct-pairs}
 use Rattle.run_law.specs.Entries.{entry_value}
 use Rattle.run_law.specs.Jobs.{jobs_of, looks_of}
 use Rattle.run_law.specs.TreeHistory.{tree_after}
@@ -30,10 +31,10 @@ use Rattle.tree_core.specs.Named.{AreNamed}
 use Rattle.seen_journal.specs.Journals.{JournalValue}
 use Rattle.seen_journal.specs.Passes.{PassValue}
 use Rattle.run_law.specs.FoundLooks.{AreDistinct}
-use Rattle.live_run.proofs.FoundSums.{AreDistinct-pairs}
 use Rattle.tree_law.proofs.laws.DistinctCounts.{needs-distinct}
 use Rattle.tree_law.specs.LawsCounts.{CanLook}
 use Rattle.tree_core.specs.Follows.{IsReady}
+use Rattle.tree_law.proofs.laws.Refusals.{refusal-ok}
 use Rattle.tree_law.specs.State.{State, tasks_of}
 use Rattle.tree_law.specs.Steps.{after, follow_domain, needs, next, refusal}
 use Rattle.tree_law.specs.declared.follow.Follow.{Follow}

@@ -18,6 +18,11 @@ use Rattle.tree_law.specs.Places.{is_closed}
 use Rattle.tree_law.specs.Refusals.{Refusal, reply_of}
 use Rattle.tree_law.specs.Steps.{next_if, refusal}
 use Rattle.tree_law.specs.commands.Mkdir.{against}
+use Rattle.path_names.specs.declared.dirs.Owner.{Owner}
+use Rattle.path_names.specs.declared.names.NameId.{NameId}
+use Rattle.rc_base.specs.declared.names.Gid.{Gid}
+use Rattle.tree_core.specs.Kept.{Keeps}
+use Rattle.tree_core.proofs.tree.Tree.make_monitor.Goals.{After-take_rmid}
 use Rattle.tree_core.proofs.tree.Tree.make_monitor.Goals as goal
 
 pub unreachable-requires : goal.unreachable-requires
@@ -41,89 +46,61 @@ insert-requires-clause-fresh c = ap (λ (g : Group). has_group g.gid c.self.insi
 pub insert-requires-clause-place : goal.insert-requires-clause-place
 insert-requires-clause-place c = length-groups_lt (Keeps-from_IsKept c.self.invariant) c.self.inside.machine.in_range
 
+-- the tree before, by its fields
+abbrev before : After-take_rmid → TreeValue
+before c =
+    let t = c.self.inside in let m = parameters_of t.machine in
+    record { machine = m; state = state_of m (tables t.groups t.tasks t.cpus t.classes t.rmids t.regions) t.status t.next_gid; epoch = t.epoch }
+
+keeps : (c : After-take_rmid) → (let t = c.self.inside in Keeps (before c).machine (tables t.groups t.tasks t.cpus t.classes t.rmids t.regions) (before c).state t.epoch)
+keeps c = Keeps-from_IsKept c.self.invariant
+
+-- a place for a monitor group, whose parent is there and is not closed
+abbrev IsPlace : TreeValue → Owner → NameId → Gid → Type 0
+IsPlace v owner name parent = (find (against v.machine v.state (Dir (Mon owner name))) place_reasons ≡ None) × (owner_gid v.state owner ≡ Some parent) × (is_closed v.state parent ≡ false)
+
+place : (c : After-take_rmid) → IsPlace (before c) c.args.owner c.args.name c.in-Some.parent
+place c = subst (λ (v : TreeValue). IsPlace v c.args.owner c.args.name c.in-Some.parent) (sym c.self.view_is) (c.requires.place, sym c.in-Some.ensures, sym c.is_closed_control.ensures ∙ c.if-is_closed_control.false)
+
 pub invariant_of-self : goal.invariant_of-self
 invariant_of-self c =
-    let t = c.self.inside in
-    let m = parameters_of t.machine in
-    let s = state_of m (tables t.groups t.tasks t.cpus t.classes t.rmids t.regions) t.status t.next_gid in
-    let keeps = Keeps-from_IsKept c.self.invariant in
-    let path = Dir (Mon c.args.owner c.args.name) in
-    let parent = c.in-Some.parent in
-    let place : find (against m s path) place_reasons ≡ None = subst (λ (v : TreeValue). find (against v.machine v.state path) place_reasons ≡ None) (sym c.self.view_is) c.requires.place in
-    let is_owner : owner_gid s c.args.owner ≡ Some parent = subst (λ (v : TreeValue). owner_gid v.state c.args.owner ≡ Some parent) (sym c.self.view_is) (sym c.in-Some.ensures) in
-    let not_closed : is_closed s parent ≡ false = subst (λ (v : TreeValue). is_closed v.state parent ≡ false) (sym c.self.view_is) (sym c.is_closed_control.ensures ∙ c.if-is_closed_control.false) in
-    let rmid = c.in-Ok.rmid in
-    let rmids = c.take_rmid.new.rmids in
-    let new = creation.monitor_record keeps c.args.owner c.args.name parent place is_owner not_closed rmid rmids c.in-Ok.ensures in
+    let o = (goal.at.invariant_of-self c).After-take_rmid in let t = c.self.inside in let s = (before o).state in let p = place o in
+    let rmid = c.in-Ok.rmid in let rmids = c.take_rmid.new.rmids in
+    let new = creation.monitor_record (keeps o) c.args.owner c.args.name c.in-Some.parent p.0 p.1 p.2 rmid rmids c.in-Ok.ensures in
     let after : c.insert.new.self.groups ≡ t.groups.groups ++ new ∷ [] = c.insert.ensures.last ∙ ap (λ (g : Group). t.groups.groups ++ g ∷ []) c.monitor_group-group.ensures in
     let same = State-same (record s { next_gid = s.next_gid + 1 }) c.insert.new.self.groups (t.groups.groups ++ new ∷ []) rmids.limbo t.rmids.limbo rmids.threshold t.rmids.threshold after (ap (λ (r : MonitoringIds). r.limbo) c.in-Ok.ensures.taken) (ap (λ (r : MonitoringIds). r.threshold) c.in-Ok.ensures.taken) in
     let gids : t.next_gid ≤ t.epoch = subst (λ (v : TreeValue). v.state.next_gid ≤ v.epoch) (sym c.self.view_is) c.requires.gids in
-    IsKept-from_Keeps (creation.Keeps-with_monitor keeps c.args.owner c.args.name parent place is_owner not_closed rmid rmids c.in-Ok.ensures c.insert.new.self _ t.machine.in_range after c.insert.ensures.kept gids same)
+    IsKept-from_Keeps (creation.Keeps-with_monitor (keeps o) c.args.owner c.args.name c.in-Some.parent p.0 p.1 p.2 rmid rmids c.in-Ok.ensures c.insert.new.self _ t.machine.in_range after c.insert.ensures.kept gids same)
 
 pub returns-in-Ok-clause-reply : goal.returns-in-Ok-clause-reply
 returns-in-Ok-clause-reply c =
-    let t = c.self.inside in
-    let m = parameters_of t.machine in
-    let s = state_of m (tables t.groups t.tasks t.cpus t.classes t.rmids t.regions) t.status t.next_gid in
-    let keeps = Keeps-from_IsKept c.self.invariant in
-    let path = Dir (Mon c.args.owner c.args.name) in
-    let parent = c.in-Some.parent in
-    let place : find (against m s path) place_reasons ≡ None = subst (λ (v : TreeValue). find (against v.machine v.state path) place_reasons ≡ None) (sym c.self.view_is) c.requires.place in
-    let is_owner : owner_gid s c.args.owner ≡ Some parent = subst (λ (v : TreeValue). owner_gid v.state c.args.owner ≡ Some parent) (sym c.self.view_is) (sym c.in-Some.ensures) in
-    let not_closed : is_closed s parent ≡ false = subst (λ (v : TreeValue). is_closed v.state parent ≡ false) (sym c.self.view_is) (sym c.is_closed_control.ensures ∙ c.if-is_closed_control.false) in
-    let rmid = c.in-Ok.rmid in
-    let rmids = c.take_rmid.new.rmids in
-    let accepted = creation.refusal-none keeps c.args.owner c.args.name parent place is_owner not_closed rmid rmids c.in-Ok.ensures in
-    subst (λ (v : TreeValue). replies.Ok ≡ reply_of (refusal v.machine v.state (Mkdir path))) c.self.view_is (ap reply_of (sym accepted))
+    let o = (goal.at.returns-in-Ok-clause-reply c).After-take_rmid in let p = place o in
+    let accepted = creation.refusal-none (keeps o) c.args.owner c.args.name c.in-Some.parent p.0 p.1 p.2 c.in-Ok.rmid c.take_rmid.new.rmids c.in-Ok.ensures in
+    subst (λ (v : TreeValue). replies.Ok ≡ reply_of (refusal v.machine v.state (Mkdir (Dir (Mon c.args.owner c.args.name))))) c.self.view_is (ap reply_of (sym accepted))
 
 pub returns-in-Ok-clause-state : goal.returns-in-Ok-clause-state
 returns-in-Ok-clause-state c = λ looks.
-    let t = c.self.inside in
-    let m = parameters_of t.machine in
-    let s = state_of m (tables t.groups t.tasks t.cpus t.classes t.rmids t.regions) t.status t.next_gid in
-    let keeps = Keeps-from_IsKept c.self.invariant in
-    let path = Dir (Mon c.args.owner c.args.name) in
-    let parent = c.in-Some.parent in
-    let place : find (against m s path) place_reasons ≡ None = subst (λ (v : TreeValue). find (against v.machine v.state path) place_reasons ≡ None) (sym c.self.view_is) c.requires.place in
-    let is_owner : owner_gid s c.args.owner ≡ Some parent = subst (λ (v : TreeValue). owner_gid v.state c.args.owner ≡ Some parent) (sym c.self.view_is) (sym c.in-Some.ensures) in
-    let not_closed : is_closed s parent ≡ false = subst (λ (v : TreeValue). is_closed v.state parent ≡ false) (sym c.self.view_is) (sym c.is_closed_control.ensures ∙ c.if-is_closed_control.false) in
-    let rmid = c.in-Ok.rmid in
-    let rmids = c.take_rmid.new.rmids in
-    let accepted = creation.refusal-none keeps c.args.owner c.args.name parent place is_owner not_closed rmid rmids c.in-Ok.ensures in
-    let new = creation.monitor_record keeps c.args.owner c.args.name parent place is_owner not_closed rmid rmids c.in-Ok.ensures in
+    let o = (goal.at.returns-in-Ok-clause-state c).After-take_rmid in let t = c.self.inside in let m = (before o).machine in let s = (before o).state in let p = place o in
+    let path = Dir (Mon c.args.owner c.args.name) in let rmid = c.in-Ok.rmid in let rmids = c.take_rmid.new.rmids in
+    let accepted = creation.refusal-none (keeps o) c.args.owner c.args.name c.in-Some.parent p.0 p.1 p.2 rmid rmids c.in-Ok.ensures in
+    let new = creation.monitor_record (keeps o) c.args.owner c.args.name c.in-Some.parent p.0 p.1 p.2 rmid rmids c.in-Ok.ensures in
     let after : c.insert.new.self.groups ≡ t.groups.groups ++ new ∷ [] = c.insert.ensures.last ∙ ap (λ (g : Group). t.groups.groups ++ g ∷ []) c.monitor_group-group.ensures in
     let same = State-same (record s { next_gid = s.next_gid + 1 }) c.insert.new.self.groups (t.groups.groups ++ new ∷ []) rmids.limbo t.rmids.limbo rmids.threshold t.rmids.threshold after (ap (λ (r : MonitoringIds). r.limbo) c.in-Ok.ensures.taken) (ap (λ (r : MonitoringIds). r.threshold) c.in-Ok.ensures.taken) in
     subst (λ (v : TreeValue). state_of m (tables c.insert.new.self t.tasks t.cpus t.classes rmids t.regions) t.status (t.next_gid + 1) ≡ next_if v.machine v.state (Mkdir path) looks (refusal v.machine v.state (Mkdir path))) c.self.view_is
-    (same ∙ creation.with_monitor-accepted keeps c.args.owner c.args.name parent place is_owner not_closed rmid rmids c.in-Ok.ensures looks
+    (same ∙ creation.with_monitor-accepted (keeps o) c.args.owner c.args.name c.in-Some.parent p.0 p.1 p.2 rmid rmids c.in-Ok.ensures looks
     ∙ ap (λ (against : Option Refusal). next_if m s (Mkdir path) looks against) (sym accepted))
 
 pub returns-in-Err-clause-reply : goal.returns-in-Err-clause-reply
 returns-in-Err-clause-reply c =
-    let t = c.self.inside in
-    let m = parameters_of t.machine in
-    let s = state_of m (tables t.groups t.tasks t.cpus t.classes t.rmids t.regions) t.status t.next_gid in
-    let keeps = Keeps-from_IsKept c.self.invariant in
-    let path = Dir (Mon c.args.owner c.args.name) in
-    let parent = c.in-Some.parent in
-    let place : find (against m s path) place_reasons ≡ None = subst (λ (v : TreeValue). find (against v.machine v.state path) place_reasons ≡ None) (sym c.self.view_is) c.requires.place in
-    let is_owner : owner_gid s c.args.owner ≡ Some parent = subst (λ (v : TreeValue). owner_gid v.state c.args.owner ≡ Some parent) (sym c.self.view_is) (sym c.in-Some.ensures) in
-    let not_closed : is_closed s parent ≡ false = subst (λ (v : TreeValue). is_closed v.state parent ≡ false) (sym c.self.view_is) (sym c.is_closed_control.ensures ∙ c.if-is_closed_control.false) in
-    let refused = creation.IsRefused-no_rmid keeps c.args.owner c.args.name parent place is_owner not_closed c.take_rmid.new.rmids c.in-Err.reply c.in-Err.ensures in
-    subst (λ (v : TreeValue). c.in-Err.reply ≡ reply_of (refusal v.machine v.state (Mkdir path))) c.self.view_is refused.reply
+    let o = (goal.at.returns-in-Err-clause-reply c).After-take_rmid in let p = place o in
+    let refused = creation.IsRefused-no_rmid (keeps o) c.args.owner c.args.name c.in-Some.parent p.0 p.1 p.2 c.take_rmid.new.rmids c.in-Err.reply c.in-Err.ensures in
+    subst (λ (v : TreeValue). c.in-Err.reply ≡ reply_of (refusal v.machine v.state (Mkdir (Dir (Mon c.args.owner c.args.name))))) c.self.view_is refused.reply
 
 pub returns-in-Err-clause-state : goal.returns-in-Err-clause-state
 returns-in-Err-clause-state c = λ looks.
-    let t = c.self.inside in
-    let m = parameters_of t.machine in
-    let s = state_of m (tables t.groups t.tasks t.cpus t.classes t.rmids t.regions) t.status t.next_gid in
-    let keeps = Keeps-from_IsKept c.self.invariant in
-    let path = Dir (Mon c.args.owner c.args.name) in
-    let parent = c.in-Some.parent in
-    let place : find (against m s path) place_reasons ≡ None = subst (λ (v : TreeValue). find (against v.machine v.state path) place_reasons ≡ None) (sym c.self.view_is) c.requires.place in
-    let is_owner : owner_gid s c.args.owner ≡ Some parent = subst (λ (v : TreeValue). owner_gid v.state c.args.owner ≡ Some parent) (sym c.self.view_is) (sym c.in-Some.ensures) in
-    let not_closed : is_closed s parent ≡ false = subst (λ (v : TreeValue). is_closed v.state parent ≡ false) (sym c.self.view_is) (sym c.is_closed_control.ensures ∙ c.if-is_closed_control.false) in
-    let rmids = c.take_rmid.new.rmids in
-    let refused = creation.IsRefused-no_rmid keeps c.args.owner c.args.name parent place is_owner not_closed rmids c.in-Err.reply c.in-Err.ensures in
+    let o = (goal.at.returns-in-Err-clause-state c).After-take_rmid in let t = c.self.inside in let m = (before o).machine in let s = (before o).state in let p = place o in
+    let path = Dir (Mon c.args.owner c.args.name) in let rmids = c.take_rmid.new.rmids in
+    let refused = creation.IsRefused-no_rmid (keeps o) c.args.owner c.args.name c.in-Some.parent p.0 p.1 p.2 rmids c.in-Err.reply c.in-Err.ensures in
     subst (λ (v : TreeValue). state_of m (tables t.groups t.tasks t.cpus t.classes rmids t.regions) t.status t.next_gid ≡ next_if v.machine v.state (Mkdir path) looks (refusal v.machine v.state (Mkdir path))) c.self.view_is
     (State-same s t.groups.groups t.groups.groups rmids.limbo t.rmids.limbo rmids.threshold t.rmids.threshold refl (ap (λ (r : MonitoringIds). r.limbo) c.in-Err.ensures.0) (ap (λ (r : MonitoringIds). r.threshold) c.in-Err.ensures.0)
     ∙ sym (refused.kept looks))

@@ -1,0 +1,6 @@
+use Rattle.group_tree.specs.Counts.{without_group}
+use Rattle.group_tree.proofs.EachDomain.{AreChangedBelow}
+use Rattle.group_tree.proofs.group_counts.GroupCounts.remove.Given as goal
+
+abbrev pub invariant-loop-domain : goal.invariant-loop-domain
+invariant-loop-domain l = AreChangedBelow (without_group l.g) l.initial.self.domains l.self.domains l.domain

@@ -1,0 +1,160 @@
+-- The changes of the exclusive groups, one after the other.
+use Rattle.std.proofs.Common.{◌≡◌, ℕ, ◌+◌, ◌-◌, ◌<◌, List, [], ◌∷◌, ◌++◌, length, map, filter, get_or, Option, None, Some, inl, inr, sym, subst, ap, ◌∙◌, arith}
+use Rattle.std.specs.Prelude.{IfSome, IsSomeAnd, slice_get}
+use Rattle.std.proofs.lemmas.Bool.{cases_lt}
+use Rattle.std.proofs.lemmas.List.{get_or-map, length-append, length-map}
+use Rattle.std.proofs.lemmas.List.Elements.{All-append}
+use Rattle.std.proofs.lemmas.Option.{slice_get-get_or, slice_get_past, slice_get_within}
+use Rattle.group_tree.specs.Records.{has_mode}
+use Rattle.lists.proofs.Pairs.{AllPairs-append, AllPairs-one}
+use Rattle.lists.proofs.Tests.{All-one}
+use Rattle.rc_base.specs.declared.names.Mode.TheVariants.{Exclusive}
+use Rattle.run_law.specs.Entries.{entry_value}
+use Rattle.run_law.specs.Journals.{At, JournalsValue}
+use Rattle.run_law.specs.TreeHistory.{TreeEntryValue}
+use Rattle.run_law.specs.declared.journals.TreeEntry.{TreeEntry}
+use Rattle.run_windows.specs.Changes.{AreChanges, AreTenants, IsReplayed}
+use Rattle.run_windows.specs.Epochs.{state_at}
+use Rattle.run_windows.specs.declared.changes.Change.{Change}
+use Rattle.run_windows.specs.declared.stay.Tenant.{Tenant}
+use Rattle.script_ops.specs.Values.{ScriptValue}
+use Rattle.tree_core.specs.Values.{TreeValue}
+use Rattle.tree_law.specs.State.{State}
+use Rattle.run_windows.proofs.Tenants.{At-push, AreTenants-kept, slice_get-push, slice_get-pushed}
+
+module _ (script : ScriptValue) (j : JournalsValue) where
+  -- the groups of an epoch
+  abbrev AreAt : ℕ → Change → Type 0
+  AreAt epoch c = AreTenants script.machine.domains (state_at script j epoch) c.tenants.items
+
+  -- none at first
+  pub AreChanges-none : AreChanges script j 0 []
+  AreChanges-none = record {
+    some = λ lt. absurd (omega (arith, lt));
+    first = λ c e. absurd (let none : None ≡ Some c = e in cc);
+    known = λ k d within. absurd (omega arith);
+    rising = λ a b d below within. absurd (omega arith);
+    each = λ i epoch c e low high ends. absurd (let none : None ≡ Some c = e in cc);
+  }
+
+  -- one more
+  pub AreChanges-push : (n : ℕ) (old now : List Change) (c : Change) → AreChanges script j n old → c.from ≡ n → AreAt n c → now ≡ old ++ c ∷ [] → AreChanges script j (n + 1) now
+  AreChanges-push n old now c were from are made = subst (AreChanges script j (n + 1)) (sym made) (record {
+    some = λ lt. omega (arith, length-append old (c ∷ []));
+    first = λ x there. elim (At-push old c 0 x there) [
+      | inl h ↦ were.first x h
+      | inr h ↦ ap (λ (y : Change). y.from) h.1 ∙ (from ∙ elim (cases_lt 0 n) [
+        | inl lt ↦ absurd (let some = were.some lt in let is = h.0 in omega (arith, some, is))
+        | inr le ↦ omega (arith, le)
+      ])
+    ];
+    known = All-append (λ (x : Change). x.from < n + 1) old (c ∷ []) (λ k d within. let lt = were.known k d within in omega (arith, lt)) (All-one (λ (x : Change). x.from < n + 1) c (omega (arith, from)));
+    rising = AllPairs-append (λ (a b : Change). a.from < b.from) old (c ∷ []) were.rising (AllPairs-one (λ (a b : Change). a.from < b.from) c)
+        (λ a b d within one. let lt = were.known a d within in All-one (λ (x : Change). (get_or old a d).from < x.from) c (omega (arith, lt, from)) b d one);
+    each = λ i epoch x there low high ends. elim (At-push old c i x there) [
+      | inl h ↦
+          let within = slice_get_within old i x h in
+          let next : (epoch < n) × IfSome (slice_get old (i + 1)) (λ (d : Change). epoch < d.from) = elim (cases_lt (i + 1) (length old)) [
+            | inl lt ↦
+                let here = get_or old (i + 1) c in
+                let same : slice_get (old ++ c ∷ []) (i + 1) ≡ slice_get old (i + 1) = slice_get-push old c (i + 1) lt in
+                let is : slice_get old (i + 1) ≡ Some here = slice_get-get_or old (i + 1) c lt in
+                let less : epoch < here.from = subst (λ (o : Option Change). IfSome o (λ (d : Change). epoch < d.from)) (same ∙ is) ends in
+                let bound = were.known (i + 1) c lt in
+                (omega (arith, less, bound), subst (λ (o : Option Change). IfSome o (λ (d : Change). epoch < d.from)) same ends)
+            | inr le ↦
+                let is : slice_get (old ++ c ∷ []) (i + 1) ≡ Some c = slice_get-pushed old c (i + 1) (omega (arith, le, within)) in
+                let less : epoch < c.from = subst (λ (o : Option Change). IfSome o (λ (d : Change). epoch < d.from)) is ends in
+                (omega (arith, less, from), subst (λ (o : Option Change). IfSome o (λ (d : Change). epoch < d.from)) (sym (slice_get_past old (i + 1) le)) tt)
+          ] in
+          were.each i epoch x h low next.0 next.1
+      | inr h ↦
+          let same : n ≡ epoch = let is = h.1 in let its : x.from ≡ n = ap (λ (y : Change). y.from) is ∙ from in omega (arith, its, low, high) in
+          subst (λ (y : Change). AreAt epoch y) (sym h.1) (subst (λ k. AreAt k c) same are)
+    ];
+  })
+
+  -- the groups of the latest change are those of the latest epoch
+  pub AreTenants-latest : (n : ℕ) (all : List Change) → AreChanges script j (n + 1) all → IsSomeAnd (slice_get all (length all - 1)) (AreAt n)
+  AreTenants-latest n all are =
+      let some = are.some (omega arith) in
+      let d : Change = (change_of all (omega (arith, some))) in
+      let c : Change = get_or all (length all - 1) d in
+      let there : slice_get all (length all - 1) ≡ Some c = slice_get-get_or all (length all - 1) d (omega (arith, some)) in
+      let known = are.known (length all - 1) d (omega (arith, some)) in
+      let past : slice_get all (length all - 1 + 1) ≡ None = slice_get_past all (length all - 1 + 1) (omega (arith, some)) in
+      subst (λ (o : Option Change). IsSomeAnd o (AreAt n)) (sym there)
+      (are.each (length all - 1) n c there (omega (arith, known)) (omega arith) (subst (λ (o : Option Change). IfSome o (λ (x : Change). n < x.from)) (sym past) tt))
+    where
+      change_of : (l : List Change) → 0 < length l → Change
+      change_of [] lt = absurd (omega (arith, lt))
+      change_of (x ∷ xs) lt = x
+
+  -- they are the same at one epoch more
+  pub AreChanges-same : (n : ℕ) (all : List Change) → AreChanges script j n all → IsSomeAnd (slice_get all (length all - 1)) (AreAt n) → AreChanges script j (n + 1) all
+  AreChanges-same n all were latest = record {
+    some = λ lt. elim (cases_lt 0 (length all)) [
+      | inl some ↦ some
+      | inr none ↦ absurd (subst (λ (o : Option Change). IsSomeAnd o (AreAt n)) (slice_get_past all (length all - 1) (omega (arith, none))) latest)
+    ];
+    first = were.first;
+    known = λ k d within. let lt = were.known k d within in omega (arith, lt);
+    rising = were.rising;
+    each = λ i epoch c there low high ends. elim (cases_lt epoch n) [
+      | inl lt ↦ were.each i epoch c there low lt ends
+      | inr le ↦
+          let within = slice_get_within all i c there in
+          let last : i ≡ length all - 1 = elim (cases_lt (i + 1) (length all)) [
+            | inl lt ↦ absurd (
+                let less : epoch < (get_or all (i + 1) c).from = subst (λ (o : Option Change). IfSome o (λ (d : Change). epoch < d.from)) (slice_get-get_or all (i + 1) c lt) ends in
+                let bound = were.known (i + 1) c lt in
+                omega (arith, less, bound, le))
+            | inr past ↦ omega (arith, past, within)
+          ] in
+          let is : IsSomeAnd (slice_get all i) (AreAt n) = subst (λ k. IsSomeAnd (slice_get all k) (AreAt n)) (sym last) latest in
+          let here : AreAt n c = subst (λ (o : Option Change). IsSomeAnd o (AreAt n)) there is in
+          let same : n ≡ epoch = omega (arith, le, high) in
+          subst (λ k. AreAt k c) same here
+    ];
+  }
+
+  -- ---- by a tree that has taken the commands so far
+
+  -- the groups of the tree are those of its epoch
+  AreAt-tree : (t : TreeValue) (c : Change) → IsReplayed script j t → AreTenants script.machine.domains t.state c.tenants.items → AreAt t.epoch c
+  AreAt-tree t c replayed are = subst (λ (s : State). AreTenants script.machine.domains s c.tenants.items) replayed.state are
+
+  -- where the latest ones are still those of the tree
+  pub AreChanges-latest : (t : TreeValue) (all : List Change) (now : List Tenant) → IsReplayed script j t → AreTenants script.machine.domains t.state now
+      → IsSomeAnd (slice_get all (length all - 1)) (λ (c : Change). c.tenants.items ≡ now) → AreChanges script j t.epoch all → AreChanges script j (t.epoch + 1) all
+  AreChanges-latest t all now replayed are latest were = AreChanges-same t.epoch all were (of (slice_get all (length all - 1)) latest)
+    where
+      of : (o : Option Change) → IsSomeAnd o (λ (c : Change). c.tenants.items ≡ now) → IsSomeAnd o (AreAt t.epoch)
+      of None none = absurd none
+      of (Some c) same = AreAt-tree t c replayed (subst (λ (l : List Tenant). AreTenants script.machine.domains t.state l) (sym same) are)
+
+  -- where they are others
+  pub AreChanges-changed : (t : TreeValue) (old new : List Change) (c : Change) → IsReplayed script j t → AreTenants script.machine.domains t.state c.tenants.items → AreChanges script j t.epoch old → c.from ≡ t.epoch → new ≡ old ++ c ∷ []
+      → AreChanges script j (t.epoch + 1) new
+  AreChanges-changed t old new c replayed are were from made = AreChanges-push t.epoch old new c were from (AreAt-tree t c replayed are) made
+
+  -- after a command that leaves the exclusive groups as they are
+  pub AreChanges-kept : (t u : TreeValue) (all : List Change) → IsReplayed script j t → IsReplayed script j u → u.epoch ≡ t.epoch + 1 → filter (has_mode Exclusive) u.state.groups ≡ filter (has_mode Exclusive) t.state.groups
+      → AreChanges script j (t.epoch + 1) all → AreChanges script j (u.epoch + 1) all
+  AreChanges-kept t u all before after epoch kept were =
+      subst (λ n. AreChanges script j (n + 1) all) (sym epoch) (AreChanges-same (t.epoch + 1) all were (of (slice_get all (length all - 1)) (AreTenants-latest t.epoch all were)))
+    where
+      of : (o : Option Change) → IsSomeAnd o (AreAt t.epoch) → IsSomeAnd o (AreAt (t.epoch + 1))
+      of None none = absurd none
+      of (Some c) are =
+          let old : AreTenants script.machine.domains t.state c.tenants.items = subst (λ (s : State). AreTenants script.machine.domains s c.tenants.items) (sym before.state) are in
+          let new : AreTenants script.machine.domains u.state c.tenants.items = AreTenants-kept script.machine.domains t.state u.state c.tenants.items kept old in
+          subst (λ n. AreAt n c) epoch (AreAt-tree u c after new)
+
+-- an entry of the tree's history by its position
+pub At-entry_value : (es : List TreeEntry) (tree : List TreeEntryValue) (k n : ℕ) (e : TreeEntry) → map entry_value es ≡ tree → n ≡ k → k < length es → e ≡ get_or es k e → At tree n (entry_value e)
+At-entry_value es tree k n e whole same within is =
+    let len = length-map es entry_value in
+    let here : At (map entry_value es) k (entry_value e) =
+    slice_get-get_or (map entry_value es) k (entry_value e) (omega (arith, within, len)) ∙ ap (λ (x : TreeEntryValue). Some x) (get_or-map entry_value es k e (entry_value e) within ∙ ap entry_value (sym is)) in
+    subst (λ (t : List TreeEntryValue). At t n (entry_value e)) whole (subst (λ i. At (map entry_value es) i (entry_value e)) (sym same) here)

@@ -1,6 +1,0 @@
-use Rattle.std.proofs.Common.{ℕ, ◌<◌}
-use Rattle.way_fill.specs.Sets.{HoldsLine}
-use Rattle.way_fill.proofs.finding.find.Given as goal
-
-abbrev pub invariant-loop-way : goal.invariant-loop-way
-invariant-loop-way l = (w : ℕ) → w < l.way → HoldsLine l.lines l.valid l.line w → ⊥
