@@ -1,0 +1,7 @@
+mod Alive
+mod CurveSteps
+mod Fronts
+mod Powers
+mod Shifted
+mod SetHits
+mod Totals

@@ -1,0 +1,111 @@
+//! The curve of the hits by ways.
+ghost use Rattle.std.specs.Prelude.{◌≡◌, ℕ, ◌+◌, ◌-◌, ◌^◌, ◌<◌, ◌≤◌, ◌%◌, List, [], replicate, IsTrue, IfOk};
+ghost use Rattle.std.specs.Int.{is_power_of_two};
+ghost use Rattle.way_curve.specs.Curves.{set_hits_of};
+ghost use Rattle.way_curve.specs.IsCurve.{AddsUse, IsCurve};
+
+use crate::distances::{count, total};
+use crate::recent_lines::{MOST_WAYS, RecentLines};
+use rc_base::NoMemory;
+use std::alloc::Global;
+use std::marker::Model;
+
+/// The hits that a private cache would have with each number of ways, from 0 to 32, counted line by line. Contracts see whose
+/// curve it is (`IsCurve`): that of the lines that were noted, in order.
+///
+/// `recent` has the last lines of each set. `at_distance` has for each number below 32 how many uses came when so many other
+/// lines of their set had been used since the last use of their own: just these hit with more ways than that. A use at a
+/// greater distance, or of a line that is new, is counted in `uses` alone.
+#[derive(Drop)]
+pub struct Curve {
+    recent: Vec<RecentLines>,
+    at_distance: [u64; MOST_WAYS],
+    uses: u64,
+}
+
+impl Model for Curve {
+    ghost use Rattle.std.specs.Prelude.{length};
+    ghost use Rattle.way_curve.specs.IsCurve.{CurveValue, IsKept};
+
+    ghost Value = { CurveValue };
+
+    ghost view = { λ c. record { sets = length c.recent.items; uses = c.uses; recent = c.recent.items; at_distance = c.at_distance } };
+
+    ghost invariant = { λ c. IsKept (length c.recent.items) c.uses c.at_distance };
+}
+
+impl Curve {
+    /// A curve of no uses, for caches of so many sets: a power of two, up to 65,536 in a machine. NoMemory where the allocator
+    /// gives no room for the last lines of each set, which take 264 bytes. No other call takes memory.
+    pub fn create(alloc: Global, sets: u32) -> Result<Curve, NoMemory>
+        requires { IsTrue (is_power_of_two sets) }
+        ensures sets { IfOk result (λ c. c.sets ≡ sets) }
+        ensures uses { IfOk result (λ c. c.uses ≡ 0) }
+        ensures empty { IfOk result (λ c. IsCurve c []) }
+    {
+        let recent = empty_sets(alloc, sets)?;
+        Ok(Curve {
+            recent,
+            at_distance: [0; MOST_WAYS],
+            uses: 0,
+        })
+    }
+
+    /// Notes the use of a line, whose set is its number modulo the sets. It takes as many steps as other lines of the set were
+    /// used since its last use, 32 at most.
+    pub fn note(&mut self, line: u64)
+        requires room { self.old.uses < 2 ^ 64 - 1 }
+        ensures sets { self.new.sets ≡ self.old.sets }
+        ensures uses { self.new.uses ≡ self.old.uses + 1 }
+        ensures line { AddsUse self.old self.new line }
+    {
+        let set = set_of(self.recent.len(), line);
+        let distance = self.recent[set].note(line);
+        count(&mut self.at_distance, distance);
+        self.uses += 1;
+    }
+
+    /// How many uses were noted.
+    pub fn uses(&self) -> u64
+        ensures { result ≡ self.now.uses }
+    {
+        self.uses
+    }
+
+    /// How many of the uses hit in a private cache of so many ways, 32 at most: of each set it keeps that many lines, and where
+    /// a use misses, the line that was used longest ago makes room (this project's profile).
+    pub fn hits(&self, ways: u8) -> u64
+        requires { ways ≤ 32 }
+        ensures within { result ≤ self.now.uses }
+        ensures hits { (lines : List ℕ) → IsCurve self.now lines → result ≡ set_hits_of self.now.sets ways lines }
+    {
+        total(&self.at_distance[..ways as usize])
+    }
+
+    /// How many of the uses miss in such a cache.
+    pub fn misses(&self, ways: u8) -> u64
+        requires { ways ≤ 32 }
+        ensures { (lines : List ℕ) → IsCurve self.now lines → result + set_hits_of self.now.sets ways lines ≡ self.now.uses }
+    {
+        self.uses - self.hits(ways)
+    }
+}
+
+// The set of a line, where there are as many as a power of two, so that nothing is divided.
+fn set_of(sets: usize, line: u64) -> usize
+    requires { IsTrue (is_power_of_two sets) }
+    ensures { result ≡ line % sets }
+{
+    (line & (sets as u64 - 1)) as usize
+}
+
+// So many sets of which no line was used.
+fn empty_sets(alloc: Global, sets: u32) -> Result<Vec<RecentLines>, NoMemory>
+    ensures { IfOk result (λ v. v.items ≡ replicate sets []) }
+{
+    let mut recent = Vec::with_capacity(alloc, sets as usize)?;
+    for _ in 0..sets {
+        recent.push(RecentLines::new())?;
+    }
+    Ok(recent)
+}
