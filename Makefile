@@ -18,7 +18,7 @@ demo:
 build: $(BUILT)
 
 $(BUILT): $(SOURCES)
-	@echo "Proving what is not proved yet, on $(PROCESSORS) processors. From nothing this took 12 to 21 minutes on four."
+	@echo "Proving what is not proved yet, on $(PROCESSORS) processors. From nothing this is some 43 processor minutes."
 	@sh tools/progress -q -p resctrl_sim sh tools/prove resctrl_sim
 	@touch -d @$(BEGAN) $(BUILT)
 

@@ -12,6 +12,7 @@ from timing import table
 SETS = 65_536
 PLACES = SETS * 16
 MOST_WEIGHT = 4_000_000
+MOST_TEXT_BYTES = 4_096
 LARGEST = "machine sets=65536 ways=16"
 
 
@@ -105,6 +106,7 @@ def orders(script, count):
 
 
 TENANTS = 31
+MANY = 63
 
 
 def tenants(script, machine, domains):
@@ -135,6 +137,28 @@ def window_of_many(script, count):
     script.write("flush\n" + sweeps * (count // (TENANTS * 1000)))
 
 
+def cpu_lists(script, count):
+    """Lists of CPUs, each of as many ranges of all CPUs as a text may hold."""
+    script.write("machine cpus=64\nphase\nthread\n")
+    script.write(("write /cpus_list " + ",".join(["0-63"] * (MOST_TEXT_BYTES // 5)) + "\n") * count)
+
+
+def masks_among_many(script, count):
+    """Masks of 63 groups in eight caches, written over and over."""
+    domains = range(8)
+    script.write(head("machine domains=8 sets=1 ways=32 classes=64 rmids=64 cpus=8"))
+    script.writelines(f"mkdir /tenant{tenant}\n" for tenant in range(MANY))
+    for at in range(count):
+        masks = ";".join(f"{domain}={3 << (at + domain) % 30:x}" for domain in domains)
+        script.write(f"write /tenant{at % MANY}/schemata L3:{masks}\n")
+
+
+def windows_of_many(script, count):
+    """A window of each of 31 exclusive groups after each flush, with an access of one of them."""
+    tenants(script, "machine sets=1024", 1)
+    script.writelines(f"flush\naccess {at % TENANTS + 1} 0 {64 * (at % 1024)}\n" for at in range(count))
+
+
 ROWS = (
     ("flushes", MOST_WEIGHT // 2, flushes),
     ("flushes of eight", MOST_WEIGHT // 9, flushes_of_eight),
@@ -151,7 +175,10 @@ ROWS = (
     ("scattered", MOST_WEIGHT, scattered),
     ("orders", MOST_WEIGHT, orders),
     ("reads of mode", MOST_WEIGHT - 20_000, reads_of_mode, "--windows"),
+    ("CPU lists", 15_000, cpu_lists),
+    ("masks among many", MOST_WEIGHT // 10, masks_among_many),
     ("window of many", MOST_WEIGHT - 100_000, window_of_many, "--windows"),
+    ("windows of many", (MOST_WEIGHT - 100_000) // 3, windows_of_many, "--windows"),
 )
 
 # A script is played, or told to be too large once it was read.

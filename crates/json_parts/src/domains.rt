@@ -3,9 +3,8 @@ ghost use Rattle.std.specs.Prelude.{◌≡◌, ◌*◌, ◌++◌, ◌∷◌, [],
 ghost use Rattle.json_parts.specs.Domains.{domain_of_counts, domain_values, rmid_value, rmid_values};
 ghost use Rattle.json_parts.specs.Pieces.{items_told, members_told};
 ghost use Rattle.json_parts.specs.Values.{array_of, object_of, whole};
-ghost use Rattle.machine.specs.Maps.{parameters_of};
-ghost use Rattle.machine.specs.Slices.{slice_count};
-ghost use Rattle.run_counts.specs.Occupancies.{Suits, lines_told};
+ghost use Rattle.run_counts.specs.DomainLines.{lines_in};
+ghost use Rattle.run_counts.specs.RunCounts.{AreCountsOf};
 ghost use Rattle.serde_json.specs.View.{view};
 ghost use Rattle.serde_json.specs.Written.{compact_text};
 
@@ -13,7 +12,7 @@ use crate::members::{push_comma, push_key, push_value};
 use machine::Machine;
 use rc_base::NoMemory;
 use report_pieces::ReportText;
-use run_counts::{Occupancy, count_domain};
+use run_counts::{DomainLines, RunCounts};
 use run_law::Journals;
 use script_ops::Script;
 use serde_json::{Value, json};
@@ -38,17 +37,13 @@ fn add_rmid(alloc: Global, all: &mut Vec<Value>, rmid: u16, lines: u64) -> Resul
 }
 
 // The RMIDs with lines.
-fn rmids_of(
-    alloc: Global,
-    machine: &Machine,
-    occupancy: &Occupancy,
-) -> Result<Vec<Value>, AllocError>
-    requires { Suits (parameters_of machine.now) occupancy.now }
-    ensures { IfOk result (λ all. map view all.items ≡ rmid_values machine.now.rmids (lines_told occupancy.now)) }
+fn rmids_of(alloc: Global, machine: &Machine, lines: &DomainLines) -> Result<Vec<Value>, AllocError>
+    requires { length lines.now.counts ≡ machine.now.rmids }
+    ensures { IfOk result (λ all. map view all.items ≡ rmid_values machine.now.rmids (lines_in lines.now)) }
 {
     let mut all = Vec::new(alloc);
     for rmid in 0..machine.rmids {
-        add_rmid(alloc, &mut all, rmid, occupancy.lines(rmid))?;
+        add_rmid(alloc, &mut all, rmid, lines.lines(rmid))?;
     }
     Ok(all)
 }
@@ -74,14 +69,14 @@ fn push_domain(
     report: &mut ReportText,
     machine: &Machine,
     domain: u8,
-    occupancy: &Occupancy,
+    lines: &DomainLines,
 ) -> Result<(), NoMemory>
-    requires { Suits (parameters_of machine.now) occupancy.now }
-    ensures { OnOk result (report.new ≡ report.old ++ compact_text (domain_of_counts domain (machine.now.sets * machine.now.ways) (rmid_values machine.now.rmids (lines_told occupancy.now)) occupancy.now.valid)) }
+    requires { length lines.now.counts ≡ machine.now.rmids }
+    ensures { OnOk result (report.new ≡ report.old ++ compact_text (domain_of_counts domain (machine.now.sets * machine.now.ways) (rmid_values machine.now.rmids (lines_in lines.now)) lines.now.valid)) }
 {
     let places = u64::from(machine.sets) * u64::from(machine.ways);
-    let rmids = rmids_of(alloc, machine, occupancy)?;
-    let value = value_of(alloc, domain, places, rmids, occupancy.valid())?;
+    let rmids = rmids_of(alloc, machine, lines)?;
+    let value = value_of(alloc, domain, places, rmids, lines.valid())?;
     push_value(alloc, report, &value)
 }
 
@@ -91,32 +86,34 @@ fn push_items(
     report: &mut ReportText,
     script: &Script,
     journals: &Journals,
+    counts: &RunCounts,
 ) -> Result<(), NoMemory>
-    requires { length journals.now.slices ≡ slice_count script.now.machine }
+    requires { AreCountsOf script.now journals.now counts.now }
     ensures { OnOk result (report.new ≡ report.old ++ items_told false (domain_values script.now journals.now)) }
 {
-    let mut occupancy = Occupancy::create(alloc, script.machine())?;
     for domain in 0..script.machine().domains {
-        count_domain(&mut occupancy, script, journals, domain);
+        let lines = counts.domain(domain);
         push_comma(report, domain > 0)?;
-        push_domain(alloc, report, script.machine(), domain, &occupancy)?;
+        push_domain(alloc, report, script.machine(), domain, lines)?;
     }
     Ok(())
 }
 
-/// Adds the domains with the lines that are in their slices at the end of the run, after a comma where something stands before.
+/// Adds the domains with the lines that are in their slices at the end of the run, as they were counted, after a comma where
+/// something stands before.
 pub fn push_domains(
     alloc: Global,
     report: &mut ReportText,
     later: bool,
     script: &Script,
     journals: &Journals,
+    counts: &RunCounts,
 ) -> Result<(), NoMemory>
-    requires { length journals.now.slices ≡ slice_count script.now.machine }
+    requires { AreCountsOf script.now journals.now counts.now }
     ensures { OnOk result (report.new ≡ report.old ++ members_told later ((codes "domains", array_of (domain_values script.now journals.now)) ∷ [])) }
 {
     push_key(report, later, "domains")?;
     report.push(b"[".as_slice())?;
-    push_items(alloc, report, script, journals)?;
+    push_items(alloc, report, script, journals, counts)?;
     report.push(b"]".as_slice())
 }

@@ -8,7 +8,7 @@ use crate::groups::push_groups;
 use json_parts::{push_domains, push_journal_part, push_total, push_windows_part};
 use rc_base::NoMemory;
 use report_pieces::ReportText;
-use run_counts::{Tally, slices_of};
+use run_counts::RunCounts;
 use run_law::{Flags, Journals, Window};
 use script_ops::Script;
 use std::alloc::Global;
@@ -27,11 +27,11 @@ fn push_report(
 {
     report.push(b"{".as_slice())?;
     let made = push_commands_part(alloc, report, flags.quiet, script, journals)?;
-    push_domains(alloc, report, !flags.quiet, script, journals)?;
-    let tally = Tally::of_slices(alloc, journals, slices_of(script))?;
-    push_groups(alloc, report, script, journals, &made, &tally)?;
+    let counts = RunCounts::of(alloc, script, journals)?;
+    push_domains(alloc, report, !flags.quiet, script, journals, &counts)?;
+    push_groups(alloc, report, script, journals, &made, counts.tally())?;
     push_journal_part(report, flags.journal, script, journals)?;
-    push_total(alloc, report, script, journals, &tally)?;
+    push_total(alloc, report, script, journals, counts.tally())?;
     push_windows_part(report, flags.windows, windows)?;
     report.push(b"}\n".as_slice())
 }

@@ -1,12 +1,10 @@
 -- The follow-ups of a command, one by one.
-use Rattle.std.proofs.Common.{◌≡◌, ℕ, ◌+◌, ◌-◌, ◌%◌, ◌<◌, List, length, take, sum_by, refl, sym, ap, ap₂, ◌∙◌, subst, arith}
+use Rattle.std.proofs.Common.{◌≡◌, ℕ, ◌+◌, ◌-◌, ◌<◌, List, length, take, sum_by, refl, sym, ap, ap₂, ◌∙◌, subst, arith}
 use Rattle.std.specs.List.{flat_map}
 use Rattle.std.proofs.Math.Seq.{take-length}
 use Rattle.std.proofs.lemmas.List.{length-append}
-use Rattle.cache_core.specs.History.{IsOwn}
 use Rattle.cache_core.specs.Stands.{entry}
 use Rattle.cache_core.specs.declared.entry.SliceEntry.{SliceEntry}
-use Rattle.cache_steps.proofs.laws.FollowNeeds.{CanFollow-ready}
 use Rattle.cache_steps.specs.Needs.{CanFollow}
 use Rattle.live_law.specs.Cells.{AreMade}
 use Rattle.live_law.proofs.laws.FollowStages.{IsFollowing-follow}
@@ -20,9 +18,7 @@ use Rattle.live_run.specs.Names.{SeenValue, history_of, seen_by}
 use Rattle.live_run.specs.Commands.{FollowsAt}
 use Rattle.live_run.specs.Steps.{HasAdded, HasFollowed}
 use Rattle.live_run.specs.Visits.{MayFollow}
-use Rattle.machine.specs.Ranges.{InRange}
 use Rattle.machine.specs.Slices.{slice_count}
-use Rattle.machine.specs.declared.parameters.Parameters.{Parameters}
 use Rattle.run_law.specs.Growth.{PaysJob}
 use Rattle.run_law.specs.Jobs.{Job, follow_jobs, follows_of, jobs_of, looks_of}
 use Rattle.run_law.specs.Journals.{At, JournalsValue}
@@ -37,10 +33,8 @@ use Rattle.seen_journal.specs.Journals.{JournalName, JournalValue}
 use Rattle.seen_journal.specs.Passes.{PassValue}
 use Rattle.run_law.proofs.laws.FollowCounts.{follow-at, follow_job, follows-are, job_behind, length-follows}
 use Rattle.run_law.specs.Targets.{slice_for, slices_for}
-use Rattle.tree_core.specs.Follows.{IsReady}
 use Rattle.tree_law.specs.Steps.{after}
 use Rattle.tree_law.specs.declared.follow.Follow.{Follow}
-use Rattle.tree_law.specs.declared.follow.Follow.TheVariants.{Drop, Flush, Lock, Raise, Touch}
 
 module _ (script : ScriptValue) (tree : JournalName) (n k made : ℕ) (c : Op) (s : SeenValue) (at : FollowsAt script n k c made s) (job : Job) (is_job : At (jobs_of script (history_of s.tree.seen) k c) made job) (within : job.slice < slice_count script.machine) where
   -- the thread may go there

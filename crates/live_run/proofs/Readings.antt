@@ -4,11 +4,10 @@ use Rattle.std.proofs.lemmas.List.Elements.{All-head, All-nil, All-tail}
 use Rattle.std.proofs.lemmas.Option.{get_or_from_slice_get, slice_get_within}
 use Rattle.file_view.specs.Texts.{is_reading}
 use Rattle.machine.specs.declared.parameters.Parameters.{Parameters}
-use Rattle.rc_base.specs.declared.replies.Reply.TheVariants as replies
 use Rattle.script_ops.specs.Values.{ScriptValue, op_at, ops_of, threads_of}
 use Rattle.script_ops.specs.declared.op.Op.{Op}
 use Rattle.script_ops.specs.declared.op.Op.TheVariants as ops
-use Rattle.tree_law.specs.Refusals.{Refusal, reply_of}
+use Rattle.tree_law.specs.Refusals.{Refusal}
 use Rattle.tree_law.specs.State.{State}
 use Rattle.tree_law.specs.Steps.{next, next_if, refusal}
 

@@ -1,8 +1,7 @@
 -- A command, step by step.
 -- (For functions and proofs: no promise of the program stands on it.)
-use Rattle.std.specs.Prelude.{◌≡◌, ℕ, ◌+◌, ◌*◌, ◌<◌, ◌≤◌, ◌^◌, All, slice_get, slice_index_or, if◌then◌else◌, List, length, take, Some}
+use Rattle.std.specs.Prelude.{◌≡◌, ℕ, ◌+◌, ◌*◌, ◌<◌, ◌≤◌, ◌^◌, All, slice_get, if◌then◌else◌, List, length, take, Some}
 use Rattle.file_view.specs.Texts.{is_reading, text_of}
-use Rattle.lists.specs.Sums.{sum_below}
 use Rattle.live_law.specs.DoneOps.{AreEnded}
 use Rattle.live_law.specs.Stages.{IsFollowing, IsLooking}
 use Rattle.live_run.specs.Names.{PassesValue, SeenValue, history_of, seen_by}

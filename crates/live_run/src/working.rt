@@ -23,7 +23,10 @@ impl<N: Named> Live<N> {
         ensures { HasWorked N.script p.old p.new }
     {
         let thread = p.seen.thread();
-        for op in script.ops(thread) {
+        let ops = script.ops(thread);
+        for i in 0..ops.len() {
+            let op = ops.at(i);
+            let op = op.get();
             gate.at(Point::BeforeOp, thread);
             if let Op::Access { .. } = op {
                 self.access(rt, p, op, gate);

@@ -6,6 +6,7 @@ pub mod NameKeys
 pub mod NameTable
 pub mod NamedPaths
 pub mod PathCounts
+pub mod PathsAgain
 pub mod NameTexts
 pub mod Pieces
 pub mod Walks

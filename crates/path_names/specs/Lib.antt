@@ -1,6 +1,7 @@
 pub mod Components
 pub mod Domains
 pub mod Interned
+pub mod LastPath
 pub mod NameIndex
 pub mod NameKeys
 pub mod NameList

@@ -6,6 +6,7 @@ pub mod dirs;
 pub mod entries;
 pub mod files;
 pub mod fixed;
+mod last_path;
 mod name_index;
 mod name_key;
 mod name_list;

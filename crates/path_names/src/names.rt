@@ -1,12 +1,15 @@
 //! Names, each of which is kept once and known by a number.
-ghost use Rattle.std.specs.Prelude.{◌≡◌, ◌-◌, ◌^◌, ◌<◌, [], length, Some, IfOk, OnOk, OnErr};
+ghost use Rattle.std.specs.Prelude.{◌≡◌, ◌-◌, ◌^◌, ◌<◌, [], length, Some, IfOk, IfSome, OnOk, OnErr};
 ghost use Rattle.std.specs.List.{slice_get};
 ghost use Rattle.path_names.specs.Interned.{id_of, interned, number_of};
+ghost use Rattle.path_names.specs.LastPath.{HasRead};
 ghost use Rattle.path_names.specs.NameIndex.{number_at, AreNumbered};
 ghost use Rattle.path_names.specs.NameList.{names_of};
 
+use crate::last_path::LastPath;
 use crate::name_index::NameIndex;
 use crate::name_list::NameList;
+use crate::path_ref::PathRef;
 use rc_base::NoMemory;
 use std::alloc::Global;
 use std::marker::Model;
@@ -20,6 +23,7 @@ pub struct NameId(pub u32);
 pub struct Names {
     list: NameList,
     index: Option<NameIndex>,
+    last: LastPath,
     alloc: Global,
 }
 
@@ -28,12 +32,13 @@ impl Model for Names {
 
     ghost Value = { List (List ℕ) };
 
+    ghost use Rattle.path_names.specs.LastPath.{IsReadAgain};
     ghost use Rattle.path_names.specs.NameIndex.{IsIndexed};
     ghost use Rattle.path_names.specs.NameList.{names_of};
 
     ghost view = { λ n. names_of n.list };
 
-    ghost invariant = { λ n. IsIndexed (names_of n.list) n.index };
+    ghost invariant = { λ n. (IsIndexed (names_of n.list) n.index) × (IsReadAgain (names_of n.list) n.last) };
 }
 
 impl Names {
@@ -44,6 +49,7 @@ impl Names {
         Ok(Names {
             list: NameList::create(alloc),
             index: None,
+            last: LastPath::create(alloc),
             alloc,
         })
     }
@@ -58,6 +64,7 @@ impl Names {
         ensures within { IfOk result (λ id. id.0 < length self.new) }
         ensures err { OnErr result (self.new ≡ self.old) }
     {
+        self.last.forget();
         if let Some(index) = &mut self.index {
             return intern_by(index, &mut self.list, name);
         }
@@ -72,6 +79,21 @@ impl Names {
         ensures { self.new ≡ self.old }
     {
         self.index = None;
+    }
+
+    /// What this text names, where it is that of the path that was read last and no name was asked for since.
+    pub(crate) fn last_path(&self, text: &[u8], domains: u8) -> Option<PathRef>
+        ensures { IfSome result (HasRead self.now domains text.now) }
+    {
+        self.last.find(text, domains)
+    }
+
+    /// Keeps what a text was read to. Memory may be lacking for that, which changes no answer.
+    pub(crate) fn keep_path(&mut self, text: &[u8], domains: u8, path: PathRef)
+        requires { HasRead self.old domains text.now path }
+        ensures { self.new ≡ self.old }
+    {
+        self.last.set(text, domains, path);
     }
 
     /// The name of this number.

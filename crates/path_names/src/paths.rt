@@ -60,6 +60,28 @@ pub fn read_path(text: &[u8], domains: u8, names: &mut Names) -> Result<PathRef,
     ensures few { length names.new ≤ length names.old + MOST_PATH_NAMES }
     ensures bytes { length names.new ≤ length names.old + length text.now }
 {
+    if let Some(path) = names.last_path(text, domains) {
+        return Ok(path);
+    }
+    let path = read_anew(text, domains, names)?;
+    names.keep_path(text, domains, path);
+    Ok(path)
+}
+
+// The same of a path that was not read last.
+fn read_anew(text: &[u8], domains: u8, names: &mut Names) -> Result<PathRef, PathFault>
+    requires domains { domains ≤ 8 }
+    requires room { length names.old < 2 ^ 31 }
+    ensures path { IfOk result (λ path. path_of domains names.old text.now ≡ Some (path, names.new)) }
+    ensures bad { (result ≡ Err PathFault.Bad) ↔ (path_of domains names.old text.now ≡ None) }
+    ensures unchanged { result ≡ Err PathFault.Bad → names.new ≡ names.old }
+    ensures kept { Keeps names.old names.new }
+    ensures within { IfOk result (λ path. IsWithin domains path) }
+    ensures ids { IfOk result (λ path. All (λ id. id < length names.new) (path_ids path)) }
+    ensures short { IfOk result (λ path. AreShort names.new (component_ids path)) }
+    ensures few { length names.new ≤ length names.old + MOST_PATH_NAMES }
+    ensures bytes { length names.new ≤ length names.old + length text.now }
+{
     if is_text(text, b"/") {
         return Ok(PathRef::Dir(DirRef::Root));
     }

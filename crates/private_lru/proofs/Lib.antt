@@ -1,4 +1,3 @@
-mod AloneEntries
 mod KeptAfter
 mod KeptWays
 mod MissingWays

@@ -1,4 +1,5 @@
 -- Lemmas that crates above cite.
+pub mod AloneEntries
 pub mod CoveredAccesses
 pub mod LoadedWays
 pub mod SliceWindows

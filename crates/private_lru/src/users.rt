@@ -22,7 +22,7 @@ pub(crate) fn is_own(what: What, group: Gid) -> bool
 }
 
 /// Whether it is an access of the group that hit.
-pub(crate) fn is_own_hit(what: What, group: Gid) -> bool
+pub fn is_own_hit(what: What, group: Gid) -> bool
     ensures { result ≡ is_own_hit group.0 what }
 {
     match what {
@@ -44,7 +44,7 @@ fn loads(sets: u32, opening: What, line: u64) -> bool
 }
 
 /// Whether it is an access of the group to a line that the opening of the window loaded.
-pub(crate) fn is_loaded_use(sets: u32, opening: What, what: What, group: Gid) -> bool
+pub fn is_loaded_use(sets: u32, opening: What, what: What, group: Gid) -> bool
     ensures { result ≡ is_loaded_use sets group.0 opening what }
 {
     match what {

@@ -49,7 +49,7 @@ pub fn push_words(
     ensures { OnOk result (report.new ≡ report.old ++ words_of script.now (entry_value entry.now)) }
 {
     match script.op(entry.thread, entry.op) {
-        Some(op) => report.push_op(op, script.names()),
+        Some(op) => report.push_op(op.get(), script.names()),
         None => Ok(()),
     }
 }
@@ -67,7 +67,7 @@ pub fn push_result(
     ensures { OnOk result (report.new ≡ report.old ++ result_of script.now journals.now (entry_value entry.now)) }
 {
     match script.op(entry.thread, entry.op) {
-        Some(op) => push_result_text(report, journals, entry, op, hit),
+        Some(op) => push_result_text(report, journals, entry, op.get(), hit),
         None => report.push_reply(entry.reply),
     }
 }

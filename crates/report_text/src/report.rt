@@ -10,7 +10,7 @@ use crate::commands::push_commands;
 use crate::groups::push_groups;
 use rc_base::NoMemory;
 use report_pieces::ReportText;
-use run_counts::{Tally, slices_of};
+use run_counts::RunCounts;
 use run_law::{Flags, Journals, Window};
 use run_replay::{Made, made_groups};
 use script_ops::Script;
@@ -51,10 +51,10 @@ fn push_report(
     let made = push_commands_part(alloc, report, script, journals, flags.quiet)?;
     push_journal(report, flags.journal, script, journals)?;
     push_windows(report, flags.windows, windows)?;
-    let tally = Tally::of_slices(alloc, journals, slices_of(script))?;
-    push_groups(report, script, journals, &made, &tally)?;
-    push_domains(alloc, report, script, journals)?;
-    push_total(report, script, journals, &tally)
+    let counts = RunCounts::of(alloc, script, journals)?;
+    push_groups(report, script, journals, &made, counts.tally())?;
+    push_domains(report, script, journals, &counts)?;
+    push_total(report, script, journals, counts.tally())
 }
 
 /// The report of a run (this project's profile): a line for each command, with what an accepted read gave, unless it is to be

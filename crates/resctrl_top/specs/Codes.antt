@@ -1,5 +1,4 @@
 -- The exit status of the program.
--- (For functions and proofs: no promise of the program stands on it.)
 use Rattle.std.specs.Prelude.{◌≡◌, ℕ, Option}
 use Rattle.resctrl_top.specs.Endings.{Call, Ends, IsComplete}
 use Rattle.resctrl_top.specs.declared.ended.Status.{Status}

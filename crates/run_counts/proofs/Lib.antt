@@ -1,3 +1,4 @@
+pub mod CountedAccesses
 pub mod CountedEntries
 pub mod DomainCounts
 pub mod FullSlices

@@ -87,7 +87,7 @@ pub record Suits (m : Parameters) (o : OccupancyValue) : Type 0 where
   pub rmids : length o.counts ≡ m.rmids
 
 -- the lines of a domain at the end were counted
-pub record IsOfDomain (script : ScriptValue) (j : JournalsValue) (domain : ℕ) (o : OccupancyValue) : Type 0 where
+pub record HasCountedDomain (script : ScriptValue) (j : JournalsValue) (domain : ℕ) (o : OccupancyValue) : Type 0 where
   pub suits : Suits script.machine o
   pub lines : (rmid : ℕ) → rmid < script.machine.rmids → lines_told o rmid ≡ rmid_lines script j domain rmid
   pub valid : o.valid ≡ valid_lines script j domain

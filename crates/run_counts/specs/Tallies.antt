@@ -1,5 +1,5 @@
 -- The accesses, hits and misses of each group and of all groups.
-use Rattle.std.specs.Prelude.{◌≡◌, ℕ, ◌+◌, ◌≤◌, Bool, not, ◌==◌, ◌&&◌, if◌then◌else◌, List, count_by, nat_eq, unwrap_or}
+use Rattle.std.specs.Prelude.{◌≡◌, ℕ, ◌+◌, ◌*◌, ◌^◌, ◌≤◌, Bool, not, ◌==◌, ◌&&◌, if◌then◌else◌, List, count_by, nat_eq, unwrap_or}
 use Rattle.std.specs.Map.{lookup}
 use Rattle.lists.specs.Sums.{one_if, sum_below}
 use Rattle.cache_core.specs.declared.entry.SliceEntry.{SliceEntry}
@@ -74,6 +74,12 @@ pub record AreAtMost (most : ℕ) (c : Counts) : Type 0 where
 pub record IsFewWith (most : ℕ) (t : TallyValue) (s : StreakValue) : Type 0 where
   pub groups : (gid : ℕ) → AreAtMost most (at_with t s gid)
   pub all : AreAtMost most (all_with t s)
+
+-- (For proofs.) a tally with a streak has the accesses in the first slices
+pub record HasTallied (j : JournalsValue) (slices : ℕ) (t : TallyValue) (s : StreakValue) : Type 0 where
+  pub groups : (gid : ℕ) → at_with t s gid ≡ counted_in (is_access_of gid) j slices
+  pub all : all_with t s ≡ counted_in is_access j slices
+  pub few : IsFewWith (slices * 2 ^ 58) t s
 
 -- (For proofs.) the accesses of each group and of all in the first slices
 pub record IsTallyOf (j : JournalsValue) (slices : ℕ) (t : TallyValue) : Type 0 where

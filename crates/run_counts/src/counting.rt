@@ -1,12 +1,13 @@
-//! Counts of the lines that the entries of a slice left, from the last entry back.
+//! The lines that an entry of a slice left, where the entries after it kept them.
 ghost use Rattle.std.specs.Prelude.{◌≡◌, ℕ, List, ◌+◌, ◌-◌, ◌*◌, ◌/◌, ◌%◌, ◌<◌, ◌≤◌, ◌==◌, ◌&&◌, ◌∷◌, not, false, length};
 ghost use Rattle.cache_core.specs.Filled.{empties};
 ghost use Rattle.cache_core.specs.declared.entry.SliceEntry.{SliceEntry};
-ghost use Rattle.cache_core.specs.History.{IsOwn, decided, decides, held, is_own, lines_of, valid_of};
+ghost use Rattle.cache_core.specs.History.{IsOwn, decided, decides, held, is_own};
 ghost use Rattle.cache_core.specs.declared.entry.What.TheVariants.{Drop};
 ghost use Rattle.cbm.specs.Masks.{has_way as has};
 ghost use Rattle.machine.specs.Maps.{parameters_of};
-ghost use Rattle.run_counts.specs.Occupancies.{AddsPlaces, HasCounted, HasDecided, IsAtMost, OccupancyValue, SkipsPlaces, lines_told};
+ghost use Rattle.run_counts.specs.Counts.{is_access};
+ghost use Rattle.run_counts.specs.Occupancies.{AddsPlaces, HasCounted, HasDecided, IsAtMost, OccupancyValue, SkipsPlaces};
 ghost use Rattle.run_counts.specs.declared.line_counts.TheConstants.{MOST_COUNT};
 ghost use Rattle.run_law.specs.Slices.{shape_in};
 
@@ -21,16 +22,17 @@ fn is_of_slice(machine: &Machine, i: u32, set: u32) -> bool
     machine.slice_of(u64::from(set)) == machine.slice_of(u64::from(i))
 }
 
-// How many places a slice has.
-fn places_of(machine: &Machine) -> u64
+/// How many places a slice has.
+pub(crate) fn places_of(machine: &Machine) -> u64
     ensures { result ≡ machine.now.sets / machine.now.slices * machine.now.ways }
 {
     u64::from(machine.sets / u32::from(machine.slices)) * u64::from(machine.ways)
 }
 
 impl Occupancy {
-    // Counts a line that filled a place, where the place is of slice i.
-    fn fill(&mut self, machine: &Machine, i: u32, line: u64, way: u8, rmid: u16)
+    /// Counts a line that filled a place, where the place is of slice i.
+    #[inline]
+    pub(crate) fn fill(&mut self, machine: &Machine, i: u32, line: u64, way: u8, rmid: u16)
         requires sets { length self.old.seen ≡ machine.now.sets }
         requires few { IsAtMost MOST_COUNT self.old }
         ensures { AddsPlaces (shape_in (parameters_of machine.now) i) self.old self.new rmid (λ s w. (line % machine.now.sets == s) && (way == w)) }
@@ -92,10 +94,12 @@ impl Occupancy {
         }
     }
 
-    // Counts what an entry left that the later ones kept, and says whether an earlier entry could have left something.
-    fn take(&mut self, machine: &Machine, i: u32, entry: &SliceEntry) -> bool
+    /// Counts what an entry that is no access left that the later ones kept, and says whether an earlier entry could have left
+    /// something.
+    pub(crate) fn take_change(&mut self, machine: &Machine, i: u32, entry: &SliceEntry) -> bool
         requires sets { length self.old.seen ≡ machine.now.sets }
         requires few { IsAtMost (MOST_COUNT / 2) self.old }
+        requires change { is_access entry.now.what ≡ false }
         ensures more { result ≡ not (empties entry.now.what) }
         ensures counted { (base : OccupancyValue) (es : List SliceEntry) → HasDecided (shape_in (parameters_of machine.now) i) base (decided (shape_in (parameters_of machine.now) i) es) self.old
             → HasCounted (shape_in (parameters_of machine.now) i) base (λ s w. held (shape_in (parameters_of machine.now) i) (entry.now ∷ es) s w) self.new }
@@ -103,48 +107,18 @@ impl Occupancy {
             → HasDecided (shape_in (parameters_of machine.now) i) base (decided (shape_in (parameters_of machine.now) i) (entry.now ∷ es)) self.new }
     {
         match entry.what {
-            What::Access { hit: true, .. } => true,
-            What::Access {
-                line,
-                way,
-                rmid,
-                ..
-            } => {
-                self.fill(machine, i, line, way, rmid);
-                true
-            }
             What::Lock { mask, .. } => {
                 self.load(machine, i, mask);
                 false
             }
             What::Flush => false,
-            What::Raise => true,
-            What::Look { .. } => true,
             What::Drop { line, way } => {
                 self.empty_if_held(machine, i, line, way);
                 true
             }
-        }
-    }
-
-    /// Counts the lines that the entries of slice i left, besides those that were counted before.
-    pub fn count_slice(&mut self, machine: &Machine, i: u32, entries: &[SliceEntry])
-        requires sets { length self.old.seen ≡ machine.now.sets }
-        requires few { IsAtMost (MOST_COUNT / 4) self.old }
-        ensures sets { length self.new.seen ≡ length self.old.seen }
-        ensures rmids { length self.new.counts ≡ length self.old.counts }
-        ensures counts { (r : ℕ) → r < length self.old.counts → lines_told self.new r ≡ lines_told self.old r + lines_of (shape_in (parameters_of machine.now) i) entries.now r }
-        ensures valid { self.new.valid ≡ self.old.valid + valid_of (shape_in (parameters_of machine.now) i) entries.now }
-    {
-        self.begin_slice();
-        let full = self.valid() + places_of(machine);
-        let mut left = entries.len();
-        // Where each place holds a line, no earlier entry can have left one.
-        while left > 0 && self.valid() < full {
-            left -= 1;
-            if !self.take(machine, i, &entries[left]) {
-                return;
-            }
+            What::Raise => true,
+            What::Look { .. } => true,
+            What::Access { .. } => true,
         }
     }
 }

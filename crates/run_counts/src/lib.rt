@@ -3,17 +3,22 @@
 
 mod counting;
 mod counts;
+mod domain_lines;
 mod domains;
 mod line_counts;
 mod refusals;
+mod run_counts;
+mod running_tally;
 mod streak;
 mod tally;
 mod touches;
+mod walk;
 
 pub use counts::Counts;
-pub use domains::{count_domain, number_of, slices_of};
-pub use line_counts::Occupancy;
+pub use domain_lines::DomainLines;
+pub use domains::{number_of, slices_of};
 pub use refusals::count_refused;
+pub use run_counts::RunCounts;
 pub use tally::Tally;
 pub use touches::{Touches, is_accepted_touch};
 

@@ -5,6 +5,7 @@ ghost use Rattle.lists.specs.Sums.{one_if};
 ghost use Rattle.run_counts.specs.Occupancies.{AddsPlace, IsAtMost, SkipsPlace, is_seen, lines_told};
 ghost use Rattle.run_counts.specs.declared.line_counts.TheConstants.{MOST_COUNT};
 
+use crate::domain_lines::DomainLines;
 use machine::Machine;
 use rc_base::NoMemory;
 use std::alloc::Global;
@@ -13,11 +14,11 @@ use std::marker::Model;
 /// No count gets greater than this while it may still grow.
 pub(crate) const MOST_COUNT: u64 = 1 << 62;
 
-/// How many lines each RMID has in the slices of a domain, and how many there are. The entries of a slice are counted from
+/// How many lines each RMID has in the slices of a domain, and how many there are, while they are counted. The entries of a slice are counted from
 /// the last one back: a place holds what the last entry that decides it left there, so that a word for each set, with a bit
 /// for each way, says which places are done with.
 #[derive(Drop)]
-pub struct Occupancy {
+pub(crate) struct Occupancy {
     seen: Vec<u32>,
     counts: Vec<u64>,
     valid: u64,
@@ -49,7 +50,7 @@ fn with_way(word: u32, way: u8) -> u32
 
 impl Occupancy {
     /// No line, with room for the sets and the RMIDs of a machine.
-    pub fn create(alloc: Global, machine: &Machine) -> Result<Occupancy, NoMemory>
+    pub(crate) fn create(alloc: Global, machine: &Machine) -> Result<Occupancy, NoMemory>
         ensures sets { IfOk result (λ o. length o.seen ≡ machine.now.sets) }
         ensures rmids { IfOk result (λ o. length o.counts ≡ machine.now.rmids) }
     {
@@ -123,16 +124,17 @@ impl Occupancy {
         }
     }
 
-    /// How many lines an RMID has.
-    pub fn lines(&self, rmid: u16) -> u64
-        requires { rmid < length self.now.counts }
-        ensures { result ≡ lines_told self.now rmid }
+    /// The lines that were counted since `clear`.
+    pub(crate) fn told(&self) -> Result<DomainLines, NoMemory>
+        ensures counts { IfOk result (λ d. d.counts ≡ self.now.counts) }
+        ensures valid { IfOk result (λ d. d.valid ≡ self.now.valid) }
     {
-        self.counts[usize::from(rmid)]
+        let counts = self.counts.clone()?;
+        Ok(DomainLines::of(counts, self.valid))
     }
 
     /// How many lines there are.
-    pub fn valid(&self) -> u64
+    pub(crate) fn valid(&self) -> u64
         ensures { result ≡ self.now.valid }
     {
         self.valid

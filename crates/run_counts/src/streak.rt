@@ -1,5 +1,5 @@
 //! Consecutive accesses of one group.
-ghost use Rattle.std.specs.Prelude.{◌≡◌, ◌^◌};
+ghost use Rattle.std.specs.Prelude.{◌≡◌, ◌^◌, false, true};
 ghost use Rattle.run_counts.specs.Tallies.{AreAtMost, nothing, with_access};
 
 use crate::counts::Counts;
@@ -9,19 +9,17 @@ use std::marker::Model;
 #[derive(Drop)]
 pub(crate) struct Streak {
     gid: u32,
-    accesses: u64,
     hits: u64,
+    misses: u64,
 }
 
 impl Model for Streak {
-    ghost use Rattle.std.specs.Prelude.{◌≤◌, ◌-◌};
+    ghost use Rattle.std.specs.Prelude.{◌+◌};
     ghost use Rattle.run_counts.specs.Tallies.{StreakValue};
 
     ghost Value = { StreakValue };
 
-    ghost view = { λ s. record { gid = s.gid; counts = record { accesses = s.accesses; hits = s.hits; misses = s.accesses - s.hits } } };
-
-    ghost invariant = { λ s. s.hits ≤ s.accesses };
+    ghost view = { λ s. record { gid = s.gid; counts = record { accesses = s.hits + s.misses; hits = s.hits; misses = s.misses } } };
 }
 
 impl Streak {
@@ -32,8 +30,8 @@ impl Streak {
     {
         Streak {
             gid,
-            accesses: 0,
             hits: 0,
+            misses: 0,
         }
     }
 
@@ -47,26 +45,33 @@ impl Streak {
 
     /// How many there were.
     pub(crate) fn counts(&self) -> Counts
+        requires { AreAtMost (2 ^ 63) self.now.counts }
         ensures { result ≡ self.now.counts }
     {
         Counts {
-            accesses: self.accesses,
+            accesses: self.hits + self.misses,
             hits: self.hits,
-            misses: self.accesses - self.hits,
+            misses: self.misses,
         }
     }
 
-    /// One access more.
+    /// Adds an access that hit.
     #[inline]
-    pub(crate) fn with_access(self, hit: bool) -> Streak
-        requires { AreAtMost (2 ^ 63) self.counts }
-        ensures gid { result.gid ≡ self.gid }
-        ensures counts { result.counts ≡ with_access hit self.counts }
+    pub(crate) fn add_hit(&mut self)
+        requires { AreAtMost (2 ^ 63) self.old.counts }
+        ensures gid { self.new.gid ≡ self.old.gid }
+        ensures counts { self.new.counts ≡ with_access true self.old.counts }
     {
-        Streak {
-            gid: self.gid,
-            accesses: self.accesses + 1,
-            hits: self.hits + u64::from(hit),
-        }
+        self.hits += 1;
+    }
+
+    /// Adds an access that missed.
+    #[inline]
+    pub(crate) fn add_miss(&mut self)
+        requires { AreAtMost (2 ^ 63) self.old.counts }
+        ensures gid { self.new.gid ≡ self.old.gid }
+        ensures counts { self.new.counts ≡ with_access false self.old.counts }
+    {
+        self.misses += 1;
     }
 }

@@ -1,13 +1,16 @@
-//! The lines that entries leave, and what they say of touches, worked out by hand.
+//! The accesses among entries, the lines that they leave, and what they say of touches, worked out by hand.
 
-ghost use Rattle.std.specs.Prelude.{◌≡◌};
+ghost use Rattle.std.specs.Prelude.{◌≡◌, IfOk, length};
 
-use crate::line_counts::Occupancy;
-use crate::touches::note_all;
+mod touches;
+
+use crate::counts::Counts;
+use crate::domain_lines::DomainLines;
+use crate::tally::Tally;
+use crate::walk::Walk;
 use cache_core::{SliceEntry, What};
 use machine::{Machine, Parameters};
-use rc_base::{Gid, LookList, NoMemory, Reply};
-use run_law::TreeEntry;
+use rc_base::{Gid, NoMemory};
 use std::alloc::Global;
 use std::process::Abort;
 use std::test::Fail;
@@ -41,23 +44,42 @@ fn entry(what: What) -> SliceEntry {
     }
 }
 
-// A line that fills a way for an RMID.
-fn fill(rmid: u16, line: u64, way: u8) -> SliceEntry {
+// An access to a line, which is in this way then.
+fn access(rmid: u16, line: u64, hit: bool, way: u8) -> SliceEntry {
     entry(What::Access {
         owner: Gid(0),
         rmid,
         mask: 15,
         line,
-        hit: false,
+        hit,
         way,
     })
+}
+
+// A line that fills a way for an RMID.
+fn fill(rmid: u16, line: u64, way: u8) -> SliceEntry {
+    access(rmid, line, false, way)
+}
+
+// What one walk over the entries of a slice counts.
+fn counts(
+    alloc: Global,
+    machine: &Machine,
+    entries: &[SliceEntry],
+) -> Result<(DomainLines, Tally), NoMemory>
+    ensures { IfOk result (λ told. length told.0.counts ≡ machine.now.rmids) }
+{
+    let mut walk = Walk::create(alloc, machine)?;
+    walk.lines.clear();
+    walk.take_slice(machine, 0, entries)?;
+    let lines = walk.lines.told()?;
+    let tally = walk.tally.finish()?;
+    Ok((lines, tally))
 }
 
 #[test]
 fn only_the_last_fill_of_a_place_since_a_flush_counts(rt: HostRuntime) -> Result<(), Fail> {
     let machine = machine(&rt);
-    let mut occupancy = Occupancy::create(rt.alloc(), &machine)?;
-    occupancy.clear();
     let entries = [
         fill(1, 10, 3),
         entry(What::Flush),
@@ -65,18 +87,18 @@ fn only_the_last_fill_of_a_place_since_a_flush_counts(rt: HostRuntime) -> Result
         fill(2, 12, 0),
         fill(2, 13, 1),
     ];
-    occupancy.count_slice(&machine, 0, &entries);
-    assert_eq!(rt; occupancy.valid(), 2);
-    assert_eq!(rt; occupancy.lines(1), 0);
-    assert_eq!(rt; occupancy.lines(2), 2);
+    let (lines, tally) = counts(rt.alloc(), &machine, &entries)?;
+    assert_eq!(rt; lines.valid(), 2);
+    assert_eq!(rt; lines.lines(1), 0);
+    assert_eq!(rt; lines.lines(2), 2);
+    // The access before the flush counts too.
+    assert_eq!(rt; tally.all().misses, 4);
     Ok(())
 }
 
 #[test]
 fn a_dropped_line_counts_no_more(rt: HostRuntime) -> Result<(), Fail> {
     let machine = machine(&rt);
-    let mut occupancy = Occupancy::create(rt.alloc(), &machine)?;
-    occupancy.clear();
     let gone = What::Drop {
         line: 11,
         way: Some(1),
@@ -93,77 +115,51 @@ fn a_dropped_line_counts_no_more(rt: HostRuntime) -> Result<(), Fail> {
         entry(nowhere),
         fill(3, 13, 0),
     ];
-    occupancy.count_slice(&machine, 0, &entries);
-    assert_eq!(rt; occupancy.valid(), 2);
-    assert_eq!(rt; occupancy.lines(1), 0);
-    assert_eq!(rt; occupancy.lines(2), 1);
-    assert_eq!(rt; occupancy.lines(3), 1);
+    let (lines, tally) = counts(rt.alloc(), &machine, &entries)?;
+    assert_eq!(rt; lines.valid(), 2);
+    assert_eq!(rt; lines.lines(1), 0);
+    assert_eq!(rt; lines.lines(2), 1);
+    assert_eq!(rt; lines.lines(3), 1);
+    assert_eq!(rt; tally.all().misses, 4);
     Ok(())
 }
 
 #[test]
 fn a_region_keeps_the_places_that_no_later_line_took(rt: HostRuntime) -> Result<(), Fail> {
     let machine = machine(&rt);
-    let mut occupancy = Occupancy::create(rt.alloc(), &machine)?;
-    occupancy.clear();
     let region = What::Lock {
         mask: 7,
         first_line: 100,
     };
     let entries = [fill(3, 10, 3), entry(region), fill(1, 11, 0)];
-    occupancy.count_slice(&machine, 0, &entries);
-    assert_eq!(rt; occupancy.valid(), 3);
-    assert_eq!(rt; occupancy.lines(0), 2);
-    assert_eq!(rt; occupancy.lines(1), 1);
-    assert_eq!(rt; occupancy.lines(3), 0);
+    let (lines, tally) = counts(rt.alloc(), &machine, &entries)?;
+    assert_eq!(rt; lines.valid(), 3);
+    assert_eq!(rt; lines.lines(0), 2);
+    assert_eq!(rt; lines.lines(1), 1);
+    assert_eq!(rt; lines.lines(3), 0);
+    assert_eq!(rt; tally.all().misses, 2);
     Ok(())
 }
 
-// A command of the first thread.
-fn command(alloc: Global, op: u32) -> Result<TreeEntry, NoMemory> {
-    let looks = LookList::with_room(alloc, 0)?;
-    Ok(TreeEntry {
-        thread: 0,
-        op,
-        reply: Reply::Ok,
-        looks,
-    })
-}
-
-// An access to the first line of a region.
-fn access(op: u32, epoch: u64, hit: bool) -> SliceEntry {
-    let what = What::Access {
-        owner: Gid(0),
-        rmid: 0,
-        mask: 3,
-        line: 1 << 52,
-        hit,
-        way: 2,
-    };
-    SliceEntry {
-        thread: 0,
-        op,
-        epoch,
-        what,
-    }
-}
-
 #[test]
-fn touches_are_told_by_their_own_entries(rt: HostRuntime) -> Result<(), Fail> {
-    let alloc = rt.alloc();
-    // A touch, an access, a flush and another touch.
-    let tree = [command(alloc, 0)?, command(alloc, 2)?, command(alloc, 3)?];
+fn accesses_before_those_that_fill_a_slice_are_tallied(rt: HostRuntime) -> Result<(), Fail> {
+    let machine = machine(&rt);
     let entries = [
-        access(0, 1, true),
-        access(1, 1, false),
-        entry(What::Flush),
-        access(3, 3, false),
+        fill(3, 10, 0),
+        access(3, 10, true, 0),
+        fill(1, 11, 0),
+        fill(1, 12, 1),
+        fill(2, 13, 2),
+        fill(2, 14, 3),
     ];
-    let mut hits = vec![in alloc; None; 3]?;
-    note_all(&mut hits, &tree, &entries);
-    assert_eq!(rt;
-        (hits[0], hits[1], hits[2]),
-        (Some(true), None, Some(false))
-    );
+    let (lines, tally) = counts(rt.alloc(), &machine, &entries)?;
+    assert_eq!(rt; lines.valid(), 4);
+    assert_eq!(rt; lines.lines(3), 0);
+    let all = Counts {
+        accesses: 6,
+        hits: 1,
+        misses: 5,
+    };
+    assert_eq!(rt; (tally.all(), tally.of(0)), (all, all));
     Ok(())
 }

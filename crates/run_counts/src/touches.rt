@@ -74,7 +74,7 @@ fn is_touch(script: &Script, entry: &TreeEntry) -> bool
         return false;
     }
     match script.op(entry.thread, entry.op) {
-        Some(op) => is_accepted_touch(op, entry.reply),
+        Some(op) => is_accepted_touch(op.get(), entry.reply),
         None => false,
     }
 }

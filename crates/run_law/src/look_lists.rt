@@ -7,7 +7,7 @@ ghost use Rattle.run_law.specs.LookLists.{AreReady, HasNoted, rooms_of, spare_in
 use crate::quotas::most_counts;
 use machine::Machine;
 use rc_base::{LookList, NoMemory};
-use script_ops::Op;
+use script_ops::{Op, Ops};
 use std::alloc::Global;
 use std::marker::Model;
 
@@ -31,7 +31,7 @@ impl LookLists {
     pub fn create(
         alloc: Global,
         m: &Machine,
-        ops: &[Op],
+        ops: &Ops,
         commands: u64,
     ) -> Result<LookLists, NoMemory>
         requires { commands ≡ commands_of ops.now }
@@ -42,7 +42,8 @@ impl LookLists {
             return Ok(LookLists { lists });
         }
         for k in 0..ops.len() {
-            match &ops[ops.len() - 1 - k] {
+            let op = ops.at(ops.len() - 1 - k);
+            match op.get() {
                 Op::Access { .. } => {}
                 op => lists.push(LookList::with_room(alloc, most_counts(m, op))?)?,
             }

@@ -1,5 +1,5 @@
 //! The rooms of the journals: what all ops can make in each slice, and how many commands there are.
-ghost use Rattle.std.specs.Prelude.{◌≡◌, ◌<◌, ◌≤◌, ◌*◌, ◌^◌, All, IfOk, length};
+ghost use Rattle.std.specs.Prelude.{◌≡◌, ◌<◌, ◌≤◌, ◌*◌, ◌^◌, All, IfOk, HoldsAt, length};
 ghost use Rattle.machine.specs.Maps.{parameters_of};
 ghost use Rattle.machine.specs.Slices.{slice_count};
 ghost use Rattle.run_law.specs.Ops.{is_command};
@@ -11,7 +11,7 @@ ghost use Rattle.script_ops.specs.Values.{threads_of};
 use crate::quotas::common_quota;
 use machine::Machine;
 use rc_base::NoMemory;
-use script_ops::{Op, Script};
+use script_ops::{Op, Ops, Script};
 use std::alloc::Global;
 
 // Adds so many to each room.
@@ -54,7 +54,7 @@ fn add_op(script: &Script, op: &Op, rooms: &mut [u64])
 
 /// Adds to each room, of which there is one for each slice, the most entries that these ops can make in its slice; `commands` says
 /// how many of them are commands.
-pub fn add_ops(script: &Script, ops: &[Op], commands: u64, rooms: &mut [u64])
+pub fn add_ops(script: &Script, ops: &Ops, commands: u64, rooms: &mut [u64])
     requires fit { All (Fits script.now.machine script.now.tasks) ops.now }
     requires few { length ops.now ≤ MOST_WEIGHT }
     requires commands { commands ≡ commands_of ops.now }
@@ -67,8 +67,9 @@ pub fn add_ops(script: &Script, ops: &[Op], commands: u64, rooms: &mut [u64])
         rooms[0] += ops.len() as u64;
         return;
     }
-    for op in ops {
-        add_op(script, op, rooms);
+    for i in 0..ops.len() {
+        let op = ops.at(i);
+        add_op(script, op.get(), rooms);
     }
 }
 
@@ -85,22 +86,23 @@ pub fn slice_rooms(alloc: Global, script: &Script, counts: &[u64]) -> Result<Vec
     Ok(rooms)
 }
 
-// Whether an op is a command.
-fn takes_tree(op: &Op) -> bool
-    ensures { result ≡ is_command op.now }
+// Whether the op of this number is a command.
+fn takes_tree(ops: &Ops, i: usize) -> bool
+    requires { i < length ops.now }
+    ensures { HoldsAt (λ op. result ≡ is_command op) ops.now i }
 {
-    !matches!(op, Op::Access { .. })
+    ops.access(i).is_none()
 }
 
 /// How many of these ops are commands.
-pub fn count_commands(ops: &[Op]) -> u64
+pub fn count_commands(ops: &Ops) -> u64
     requires few { length ops.now ≤ MOST_WEIGHT }
     ensures count { result ≡ commands_of ops.now }
     ensures few { result ≤ MOST_WEIGHT }
 {
     let mut count: u64 = 0;
-    for op in ops {
-        count += u64::from(takes_tree(op));
+    for i in 0..ops.len() {
+        count += u64::from(takes_tree(ops, i));
     }
     count
 }

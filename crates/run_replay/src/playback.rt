@@ -104,7 +104,7 @@ fn push_accepted(replay: &Replay, script: &Script, entry: &TreeEntry, out: &mut 
     ensures room { out.new.spare + length out.new.bytes ≡ out.old.spare + length out.old.bytes }
 {
     match script.op(entry.thread, entry.op) {
-        Some(op) => push_text(replay, script, op, entry.looks.items(), out),
+        Some(op) => push_text(replay, script, op.get(), entry.looks.items(), out),
         None => unreachable!(),
     }
 }

@@ -11,12 +11,12 @@ ghost use Rattle.tree_law.specs.Steps.{needs};
 use crate::replay::Replay;
 use rc_base::NoMemory;
 use run_law::TreeEntry;
-use script_ops::{Op, Script};
+use script_ops::{Op, OpAt, Script};
 
 /// The op of an entry.
-pub(crate) fn op_of<'a>(script: &'a Script, entry: &TreeEntry) -> &'a Op
+pub(crate) fn op_of<'a>(script: &'a Script, entry: &TreeEntry) -> OpAt<'a>
     requires { IsTrue (is_some (op_at script.now entry.now.thread entry.now.op)) }
-    ensures { IsOpOf script.now entry.now.thread entry.now.op result.now }
+    ensures { IsOpOf script.now entry.now.thread entry.now.op result }
 {
     match script.op(entry.thread, entry.op) {
         Some(op) => op,
@@ -53,5 +53,6 @@ pub(crate) fn take(replay: &mut Replay, script: &Script, entry: &TreeEntry) -> R
     ensures epoch { OnOk result (replay.new.tree.epoch ≡ replay.old.tree.epoch + 1) }
     ensures made { OnOk result (replay.new.made ≡ replay.old.made ++ made_by replay.old.tree.state (op_at script.now entry.now.thread entry.now.op) entry.now.reply) }
 {
-    take_op(replay, script, entry, op_of(script, entry))
+    let op = op_of(script, entry);
+    take_op(replay, script, entry, op.get())
 }

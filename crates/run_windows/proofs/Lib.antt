@@ -3,6 +3,7 @@ mod CountedWindows
 mod Entries
 mod Epochs
 mod Floors
+mod FrontWindows
 mod IsolatedWindows
 mod KeptGroups
 mod KeptStays
@@ -20,6 +21,5 @@ mod Tenants
 mod Timelines
 mod WindowEnds
 mod WindowEntries
-mod WindowLengths
 mod WindowLists
 mod WindowSteps

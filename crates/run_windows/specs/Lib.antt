@@ -1,6 +1,7 @@
 pub mod AllWindows
 pub mod Changes
 pub mod Epochs
+pub mod Fronts
 pub mod Regions
 pub mod Sites
 pub mod Stays

@@ -59,6 +59,7 @@ fn take(tree: &mut Tree, script: &Script, journals: &Journals, entry: &TreeEntry
 {
     match script.op(entry.thread, entry.op) {
         Some(op) => {
+            let op = op.get();
             tree.apply(op, entry.looks.items());
             may_change(op)
         }
@@ -78,26 +79,11 @@ fn tenants(alloc: Global, tree: &Tree, domains: u8) -> Result<Vec<Tenant>, NoMem
     Ok(tenants)
 }
 
-// Whether it is the same group with the same mask in the same domain.
-fn is_same(a: Tenant, b: Tenant) -> bool
-    ensures { result ≡ true → a ≡ b }
-{
-    a.gid.0 == b.gid.0 && a.mask == b.mask && a.domain == b.domain
-}
-
 // Whether these are the same groups with the same masks, in the same order.
 fn are_same(old: &[Tenant], new: &[Tenant]) -> bool
     ensures { result ≡ true → old.now ≡ new.now }
 {
-    if old.len() != new.len() {
-        return false;
-    }
-    for i in 0..old.len() {
-        if !is_same(old[i], new[i]) {
-            return false;
-        }
-    }
-    true
+    old == new
 }
 
 // Whether these are the groups of the latest change.

@@ -93,8 +93,8 @@ pub fn count_window_at(
     Ok(window_of(place, counts))
 }
 
-// The window with these counts.
-fn window_of(place: Place, counts: WindowCounts) -> Window
+/// The window with these counts.
+pub(crate) fn window_of(place: Place, counts: WindowCounts) -> Window
     ensures place { (result.domain ≡ place.domain) × (result.slice ≡ place.slice) × (result.from ≡ place.from) × (result.gid ≡ place.gid) }
     ensures ways { result.ways ≡ length (ways_of place.mask) }
     ensures counts { (result.accesses ≡ counts.accesses) × (result.hits ≡ counts.hits) × (result.covered ≡ counts.covered) × (result.covered_hits ≡ counts.covered_hits) × (result.private ≡ counts.covered_hits) }

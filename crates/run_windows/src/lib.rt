@@ -4,6 +4,7 @@
 mod changes;
 pub mod counting;
 pub mod listing;
+mod opened;
 mod stay;
 pub mod theorems;
 mod timeline;

@@ -1,98 +1,24 @@
 //! All windows of a run.
-ghost use Rattle.std.specs.Prelude.{◌≡◌, ◌+◌, ◌<◌, ◌≤◌, ◌^◌, true, length, slice_index_or, IfOk, OnOk};
+ghost use Rattle.std.specs.Prelude.{◌≡◌, ◌+◌, ◌<◌, ◌≤◌, ◌^◌, true, length, IfOk, OnOk};
 ghost use Rattle.cache_core.specs.Filled.{empties};
 ghost use Rattle.cache_core.specs.declared.entry.SliceEntry.{SliceEntry};
 ghost use Rattle.machine.specs.Slices.{slice_number};
 ghost use Rattle.run_law.specs.Journals.{At, slice_at};
 ghost use Rattle.run_law.specs.Runs.{IsRun};
-ghost use Rattle.run_windows.specs.AllWindows.{AreWindowsBefore, AreWindowsOf, IsOpening, with_used};
+ghost use Rattle.run_windows.specs.AllWindows.{AreWindowsBefore, AreWindowsOf};
 ghost use Rattle.run_windows.specs.Changes.{AreChanges};
-ghost use Rattle.run_windows.specs.Stays.{AreStays};
 ghost use Rattle.run_windows.specs.Timelines.{IsTimeline};
-ghost use Rattle.run_windows.specs.Windows.{StaysExclusive};
 ghost use Rattle.script_ops.specs.Values.{IsLawful};
 
 use crate::changes::{Change, changes};
-use crate::counting::{Place, count_window_at, empties};
-use crate::stay::Stay;
+use crate::counting::empties;
+use crate::opened::{Opening, push_opened};
 use crate::timeline::{Span, stays_at, timeline};
 use cache_core::SliceEntry;
 use rc_base::NoMemory;
 use run_law::{Journals, Window};
 use script_ops::Script;
 use std::alloc::Global;
-
-// A flush or a lock: the domain, the slice in it, and the position there.
-#[derive(Clone, Copy, Debug, PartialEq, Eq)]
-struct Opening {
-    domain: u8,
-    slice: u8,
-    from: u32,
-}
-
-// Adds a window in which its group has an access.
-fn push_used(windows: &mut Vec<Window>, window: Window) -> Result<(), NoMemory>
-    ensures { OnOk result (windows.new.items ≡ with_used windows.old.items window) }
-{
-    if 0 < window.accesses {
-        windows.push(window)?;
-    }
-    Ok(())
-}
-
-// Adds the window of an exclusive group that begins at a flush or a lock, where the group has an access in it.
-fn push_window(
-    alloc: Global,
-    script: &Script,
-    journals: &Journals,
-    opening: Opening,
-    stay: Stay,
-    windows: &mut Vec<Window>,
-) -> Result<(), NoMemory>
-    requires lawful { IsLawful script.now }
-    requires run { IsRun script.now journals.now }
-    requires domain { opening.domain < script.now.machine.domains }
-    requires slice { opening.slice < script.now.machine.slices }
-    requires opens { IsOpening script.now journals.now opening.domain opening.slice opening.from }
-    requires exclusive { (d : SliceEntry) → StaysExclusive script.now journals.now opening.domain stay.gid stay.mask (slice_index_or (slice_at journals.now (slice_number script.now.machine opening.domain opening.slice)) opening.from d).epoch stay.last }
-    requires before { AreWindowsBefore script.now journals.now (record { domain = opening.domain; slice = opening.slice; from = opening.from; gid = stay.gid.0 }) windows.old.items }
-    ensures { OnOk result (AreWindowsBefore script.now journals.now (record { domain = opening.domain; slice = opening.slice; from = opening.from; gid = stay.gid.0 + 1 }) windows.new.items) }
-{
-    let place = Place {
-        domain: opening.domain,
-        slice: opening.slice,
-        from: opening.from,
-        gid: stay.gid,
-        mask: stay.mask,
-        last: stay.last,
-    };
-    let window = count_window_at(alloc, script, journals, place)?;
-    push_used(windows, window)
-}
-
-// Adds the windows that begin at a flush or a lock, of the groups that are exclusive then.
-fn push_opened(
-    alloc: Global,
-    script: &Script,
-    journals: &Journals,
-    opening: Opening,
-    stays: &[Stay],
-    windows: &mut Vec<Window>,
-) -> Result<(), NoMemory>
-    requires lawful { IsLawful script.now }
-    requires run { IsRun script.now journals.now }
-    requires domain { opening.domain < script.now.machine.domains }
-    requires slice { opening.slice < script.now.machine.slices }
-    requires opens { IsOpening script.now journals.now opening.domain opening.slice opening.from }
-    requires stays { (d : SliceEntry) → AreStays script.now journals.now opening.domain (slice_index_or (slice_at journals.now (slice_number script.now.machine opening.domain opening.slice)) opening.from d).epoch stays.now }
-    requires before { AreWindowsBefore script.now journals.now (record { domain = opening.domain; slice = opening.slice; from = opening.from; gid = 0 }) windows.old.items }
-    ensures { OnOk result (AreWindowsBefore script.now journals.now (record { domain = opening.domain; slice = opening.slice; from = opening.from + 1; gid = 0 }) windows.new.items) }
-{
-    for stay in stays {
-        push_window(alloc, script, journals, opening, *stay, windows)?;
-    }
-    Ok(())
-}
 
 // Adds the windows that begin at an entry of a slice, where it is a flush or a lock.
 fn push_entry(
@@ -179,9 +105,10 @@ fn push_domain(
 /// project's profile).
 ///
 /// The tree is played once more, and after each command that changes the exclusive groups or a mask of theirs they are kept, 12
-/// bytes for each group and domain, and then 16 for each group of one domain at a time. Then the entries of a window are walked a
-/// few times for each group that is exclusive when it begins. These have masks with no way in common, so there are at most as many
-/// as ways. Walking costs a look-up among the group's lines in the window for each access.
+/// bytes for each group and domain, and then 16 for each group of one domain at a time. Then the entries from a flush or a lock up
+/// to the next one are walked three times for all groups that are exclusive at it: for the first users of each line, which are kept
+/// meanwhile in 32 bytes for each line, for where the covered accesses of each group end, and to count. The first two walks look up
+/// the line of each access.
 pub fn windows(alloc: Global, script: &Script, journals: &Journals) -> Result<Vec<Window>, NoMemory>
     requires lawful { IsLawful script.now }
     requires run { IsRun script.now journals.now }

@@ -9,6 +9,7 @@ use group_tree::{Group, GroupKind};
 use rc_base::{Gid, Mode, NoMemory};
 use std::alloc::Global;
 use tree_core::Tree;
+use window_counts::Stay;
 
 /// A group that is exclusive, with its mask in one domain.
 #[derive(Clone, Copy, Debug, PartialEq, Eq, Drop)]
@@ -19,17 +20,6 @@ pub(crate) struct Tenant {
     pub mask: u32,
     /// The domain, from 0.
     pub domain: u8,
-}
-
-/// A group that is exclusive on one mask, and the last epoch up to which it stays so.
-#[derive(Clone, Copy, Debug, PartialEq, Eq, Drop)]
-pub(crate) struct Stay {
-    /// The last epoch.
-    pub last: u64,
-    /// The group.
-    pub gid: Gid,
-    /// Its mask in the domain.
-    pub mask: u32,
 }
 
 // Whether it is an exclusive control group.

@@ -1,10 +1,11 @@
 //! Where windows end, and how long groups stay exclusive.
 
 use crate::counting::window_len;
-use crate::stay::{Stay, Tenant, stays_of};
+use crate::stay::{Tenant, stays_of};
 use cache_core::{SliceEntry, What};
 use rc_base::Gid;
 use std::test::Fail;
+use window_counts::Stay;
 
 // An entry of an epoch.
 fn entry(epoch: u64, what: What) -> SliceEntry {

@@ -10,11 +10,12 @@ ghost use Rattle.run_windows.specs.declared.timeline.Span.{Span};
 ghost use Rattle.script_ops.specs.Values.{IsLawful};
 
 use crate::changes::Change;
-use crate::stay::{Stay, stays_of};
+use crate::stay::stays_of;
 use rc_base::NoMemory;
 use run_law::Journals;
 use script_ops::Script;
 use std::alloc::Global;
+use window_counts::Stay;
 
 /// The groups that are exclusive in a domain from an epoch on, until those of the next change.
 #[derive(Drop)]

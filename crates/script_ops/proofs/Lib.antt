@@ -1,4 +1,5 @@
 pub mod Decimals
 pub mod FirstLine
+pub mod SlotOps
 pub mod Threads
 pub mod laws

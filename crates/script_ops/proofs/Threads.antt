@@ -1,5 +1,6 @@
 -- Threads in phases.
-use Rattle.std.proofs.Common.{◌≡◌, ℕ, zero, suc, ◌+◌, ◌<◌, ◌≤◌, List, [], ◌∷◌, length, take, get_or, All, HoldsAt, Option, Some, None, IfSome, MatchOption, Bor, refl, sym, subst, ◌∙◌, arith}
+use Rattle.std.proofs.Common.{◌≡◌, ℕ, zero, suc, ◌+◌, ◌<◌, ◌≤◌, List, [], ◌∷◌, length, take, get_or, All, IfSome, refl, ◌∙◌, arith}
+use Rattle.std.specs.Prelude.{slice_get}
 use Rattle.std.proofs.lemmas.List.{get_or_append_left, get_or-append-add, length-append}
 use Rattle.std.proofs.lemmas.List.Elements.{All-nil, All-head, All-tail}
 use Rattle.std.proofs.lemmas.List.Folds.{length-flat_map-take}
@@ -39,6 +40,7 @@ module _ (P : Op → Type 0) where
   All-get_or (t ∷ ts) (suc thread) all = All-get_or ts thread (All-tail (λ ops. All P ops) t ts all)
 
   -- and of one op that is found
-  pub IfSome-get : (ops : List Op) (i : ℕ) (found : Option (Bor Op)) → MatchOption found (length ops ≤ i) (λ o. (i < length ops) × HoldsAt (λ op. o.now ≡ op) ops i) → All P ops → IfSome found (λ o. P o.now)
-  IfSome-get ops i None h all = tt
-  IfSome-get ops i (Some o) h all = subst P (sym (h.1 o.now)) (all i o.now h.0)
+  pub IfSome-slice_get : (ops : List Op) (i : ℕ) → All P ops → IfSome (slice_get ops i) P
+  IfSome-slice_get [] i all = tt
+  IfSome-slice_get (o ∷ os) zero all = All-head P o os all
+  IfSome-slice_get (o ∷ os) (suc i) all = IfSome-slice_get os i (All-tail P o os all)

@@ -5,8 +5,7 @@ use rc_base::NoMemory;
 use std::alloc::Global;
 use std::marker::Model;
 
-/// A text of an op. Contracts see its bytes. It takes one pointer, since a script of millions of accesses has room for a text in
-/// each of its ops.
+/// A text of an op. Contracts see its bytes. It takes one pointer, since each command of a script has room for a text.
 #[derive(Drop)]
 pub struct Bytes {
     text: Box<Vec<u8>>,

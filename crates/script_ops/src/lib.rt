@@ -6,9 +6,12 @@ pub mod growing_text;
 pub mod limits;
 mod numbering;
 pub mod op;
+mod op_at;
+mod ops;
 pub mod phase;
 pub mod printing;
 pub mod script;
+mod slot;
 pub mod text_lines;
 pub mod theorems;
 pub mod weights;
@@ -21,7 +24,9 @@ pub use limits::{
     MOST_TEXT_BYTES, MOST_THREADS, MOST_WEIGHT,
 };
 pub use op::Op;
-pub use phase::{Ops, Phase};
+pub use op_at::OpAt;
+pub use ops::Ops;
+pub use phase::Phase;
 pub use printing::push_op;
 pub use script::Script;
 pub use text_lines::next_line;

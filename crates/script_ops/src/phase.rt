@@ -1,32 +1,8 @@
 //! The phases of a script.
 ghost use Rattle.std.specs.Prelude.{◌≡◌, ◌<◌, [], length, slice_index_or};
 
-use crate::op::Op;
+use crate::ops::Ops;
 use std::marker::Model;
-
-/// The ops of a thread.
-#[derive(Drop)]
-pub struct Ops {
-    ops: Vec<Op>,
-}
-
-impl Model for Ops {
-    ghost use Rattle.std.specs.Prelude.{List};
-    ghost use Rattle.script_ops.specs.declared.op.Op.{Op};
-
-    ghost Value = { List Op };
-
-    ghost view = { λ o. o.ops.items };
-}
-
-impl Ops {
-    /// These ops.
-    pub fn from_vec(ops: Vec<Op>) -> Ops
-        ensures { result ≡ ops.items }
-    {
-        Ops { ops }
-    }
-}
 
 /// A phase: the order in which its threads take their steps, and the threads.
 #[derive(Drop)]
@@ -66,10 +42,10 @@ impl Phase {
     }
 
     /// The ops of a thread of it, numbered from 0 in the phase.
-    pub fn ops(&self, thread: usize) -> &[Op]
+    pub fn ops(&self, thread: usize) -> &Ops
         requires { thread < length self.now.threads }
         ensures { result.now ≡ slice_index_or self.now.threads thread [] }
     {
-        &self.threads[thread].ops
+        &self.threads[thread]
     }
 }

@@ -1,14 +1,15 @@
 //! Scripts.
-ghost use Rattle.std.specs.Prelude.{◌≡◌, ◌<◌, ◌≤◌, ◌+◌, length, All, IfSome, option_copied};
+ghost use Rattle.std.specs.Prelude.{◌≡◌, ◌<◌, ◌≤◌, ◌+◌, length, All, IfSome};
 ghost use Rattle.machine.specs.Maps.{parameters_of};
 ghost use Rattle.std.specs.List.Sorted.{IsStrictlyIncreasing};
 ghost use Rattle.script_ops.specs.Canonical.{IsNamed, AreNamed, IsShort, AreAllShort};
-ghost use Rattle.script_ops.specs.Fits.{Fits, AreFit};
+ghost use Rattle.script_ops.specs.Fits.{Fits};
 ghost use Rattle.script_ops.specs.declared.limits.TheConstants.{MOST_PHASES, MOST_PHASE_THREADS, MOST_TASKS, MOST_THREADS, MOST_WEIGHT};
 ghost use Rattle.script_ops.specs.Values.{threads_of, ops_of, op_at, phase_at, first_thread, IsLawful};
 
 use crate::numbering::{count_threads, find_ops};
-use crate::op::Op;
+use crate::op_at::OpAt;
+use crate::ops::Ops;
 use crate::phase::Phase;
 use machine::Machine;
 use path_names::Names;
@@ -120,19 +121,8 @@ impl Script {
         count_threads(&self.phases)
     }
 
-    // The ops of a thread, and none where there is no such thread.
-    fn ops_of(&self, thread: u32) -> &[Op]
-        ensures ops { result.now ≡ ops_of self.now thread }
-        ensures named { AreNamed (length self.now.names) result.now }
-        ensures short { AreAllShort self.now.names result.now }
-        ensures fit { AreFit self.now.machine self.now.tasks result.now }
-        ensures few { length result.now ≤ MOST_WEIGHT }
-    {
-        find_ops(&self.phases, thread as usize)
-    }
-
     /// The ops of a thread, each sweep as its accesses.
-    pub fn ops(&self, thread: u32) -> &[Op]
+    pub fn ops(&self, thread: u32) -> &Ops
         requires { thread < length (threads_of self.now) }
         ensures ops { result.now ≡ ops_of self.now thread }
         ensures named { AreNamed (length self.now.names) result.now }
@@ -140,16 +130,19 @@ impl Script {
         ensures fit { All (Fits self.now.machine self.now.tasks) result.now }
         ensures few { length result.now ≤ MOST_WEIGHT }
     {
-        self.ops_of(thread)
+        match find_ops(&self.phases, thread as usize) {
+            Some(ops) => ops,
+            None => unreachable!(),
+        }
     }
 
     /// An op, by the numbers of its thread and its own, or None where there is none.
-    pub fn op(&self, thread: u32, op: u32) -> Option<&Op>
-        ensures op { option_copied result ≡ op_at self.now thread op }
-        ensures named { IfSome result (λ o. IsNamed (length self.now.names) o.now) }
-        ensures short { IfSome result (λ o. IsShort self.now.names o.now) }
-        ensures fit { IfSome result (λ o. Fits self.now.machine self.now.tasks o.now) }
+    pub fn op(&self, thread: u32, op: u32) -> Option<OpAt<'_>>
+        ensures op { result ≡ op_at self.now thread op }
+        ensures named { IfSome result (λ o. IsNamed (length self.now.names) o) }
+        ensures short { IfSome result (λ o. IsShort self.now.names o) }
+        ensures fit { IfSome result (λ o. Fits self.now.machine self.now.tasks o) }
     {
-        self.ops_of(thread).get(op as usize)
+        find_ops(&self.phases, thread as usize)?.get(op as usize)
     }
 }

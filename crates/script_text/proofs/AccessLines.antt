@@ -15,16 +15,16 @@ use Rattle.num_text.specs.Numbers.{dec_of, num_of, number_of}
 use Rattle.num_text.proofs.laws.Digits.{number_of-digits, has_prefix-digits, AllDigits-hexadecimal_digits, eqb-decimal, is_blank-decimal, list_any-decimal}
 use Rattle.num_text.proofs.laws.Pieces.{Cut-append}
 use Rattle.machine.specs.declared.parameters.Parameters.{Parameters}
-use Rattle.script_text.specs.declared.arguments.Use.{Use}
+use Rattle.script_lines.specs.declared.arguments.Use.{Use}
 use Rattle.script_text.specs.declared.kind.Place.TheVariants.{Thread}
 use Rattle.rc_base.specs.Texts.{is_text}
-use Rattle.script_text.specs.Arguments.{access_of, use_of}
+use Rattle.script_lines.specs.Arguments.{access_of, use_of}
 use Rattle.script_text.specs.Kinds.{part_kind, command_kind, access_kind, kind_of}
-use Rattle.script_text.specs.Lines.{words, is_some_word, is_bad, behind_word}
+use Rattle.line_words.specs.Lines.{words, is_some_word, is_bad, behind_word}
 use Rattle.script_text.specs.Meaning.{line_meaning, word_means, means}
 use Rattle.script_text.specs.States.{ReaderState}
 use Rattle.script_text.specs.Usual.{BeginsWithAccess, use_by, access_means}
-use Rattle.script_text.proofs.FirstWord.{filter-some_word, words-blank}
+use Rattle.line_words.proofs.laws.FirstWord.{filter-some_word, words-blank}
 
 -- ---- decimal digits
 

@@ -11,7 +11,7 @@ use Rattle.script_text.specs.States.{ReaderState, close_thread, close_phase, is_
 use Rattle.path_names.specs.Interned.{Keeps}
 use Rattle.script_ops.specs.Canonical.{AreAllShort}
 use Rattle.script_ops.proofs.laws.ShortOps.{AreAllShort-kept, All-AreAllShort_kept}
-use Rattle.script_text.specs.Tasks.{count_of, ids_of}
+use Rattle.script_lines.specs.Tasks.{count_of, ids_of}
 use Rattle.script_ops.specs.Values.{PhaseValue, threads_in}
 use Rattle.script_ops.specs.Weights.{weights_of}
 use Rattle.script_ops.specs.declared.limits.TheConstants.{MOST_TASKS, MOST_WEIGHT}

@@ -2,7 +2,7 @@
 use Rattle.std.proofs.Common.{◌≡◌, Bool, true, false, Option, Some, None, Result, Ok, Err, IfOk, refl}
 use Rattle.std.specs.Option.{ok_or}
 use Rattle.rc_base.specs.Faults.{◌>>=◌, fault_if}
-use Rattle.script_text.specs.declared.fault.LineFault.{LineFault}
+use Rattle.script_lines.specs.declared.fault.LineFault.{LineFault}
 
 module _ {B : Type 0} (P : B → Type 0) where
   -- a test

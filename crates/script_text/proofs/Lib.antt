@@ -1,7 +1,5 @@
 pub mod AccessLines
-pub mod EscapedBytes
 pub mod FaultOrder
-pub mod FirstWord
 pub mod FitOps
 pub mod Guards
 pub mod KindNames
@@ -12,10 +10,5 @@ pub mod OrderNumbers
 pub mod PathNames
 pub mod Places
 pub mod Readiness
+pub mod SweepOps
 pub mod TakenLines
-pub mod TaskCounts
-pub mod TaskLists
-pub mod TaskOrder
-pub mod TaskRanges
-pub mod TaskSearch
-pub mod Uses

@@ -1,22 +1,17 @@
 -- What the lines so far keep to, while names, ops, threads and phases are added.
-use Rattle.std.proofs.Common.{◌≡◌, ℕ, zero, suc, ◌+◌, ◌≤◌, ◌++◌, List, [], ◌∷◌, length, map, All, sym, ap, subst, ◌∙◌, arith, length-take}
+use Rattle.std.proofs.Common.{◌≡◌, ℕ, zero, suc, ◌+◌, ◌≤◌, ◌++◌, List, [], ◌∷◌, length, map, All, sym, ap, subst, ◌∙◌, arith}
 use Rattle.std.specs.List.{range_with_len}
 use Rattle.std.proofs.lemmas.Grind.{flat_map-append}
 use Rattle.std.proofs.lemmas.List.{append-nil}
 use Rattle.std.proofs.lemmas.List.Elements.{All-append, All-push}
-use Rattle.path_names.specs.Interned.{Keeps}
 use Rattle.script_ops.specs.declared.op.Op.{Op}
 use Rattle.path_names.specs.NamesIn.{AreKnown}
 use Rattle.script_ops.specs.Canonical.{IsNamed, AreNamed, op_ids}
 use Rattle.script_ops.specs.Values.{PhaseValue, threads_in}
 use Rattle.script_text.specs.Meaning.{with_names, access_at, sweep_ops}
-use Rattle.script_text.specs.declared.arguments.Sweep.{Sweep}
+use Rattle.script_lines.specs.declared.arguments.Sweep.{Sweep}
 use Rattle.script_text.specs.States.{ReaderState, InLimits, IsSound}
 use Rattle.path_names.specs.declared.paths.TheConstants.{MOST_PATH_NAMES}
-
--- names are only added
-pub length-kept : (old new : List (List ℕ)) → Keeps old new → length old ≤ length new
-length-kept old new kept = omega (arith, length-take (length old) new, ap length kept)
 
 -- what is known stays known
 pub AreNamed-more : (n m : ℕ) (ops : List Op) → n ≤ m → AreNamed n ops → AreNamed m ops
@@ -102,5 +97,3 @@ InLimits-fewer_threads s sound = record {
 }
 
 pub ruleset keeping = (InLimits-with_names, InLimits-extra_names, InLimits-fewer_threads, AreKnown-nil, AreNamed-push, AreNamed-sweep_ops, All-AreNamed_push, AreNamed-threads_in_push)
-
-pub ruleset lengths = (length-kept)

@@ -1,7 +1,7 @@
 -- What one more line changes.
 use Rattle.std.proofs.Common.{◌≡◌, ℕ, ◌+◌, List, [], ◌∷◌, Ok, Err, refl}
-use Rattle.script_text.specs.declared.fault.LineError.{LineError}
-use Rattle.script_text.specs.declared.fault.LineError.TheVariants as errors
+use Rattle.script_lines.specs.declared.fault.LineError.{LineError}
+use Rattle.script_lines.specs.declared.fault.LineError.TheVariants as errors
 use Rattle.script_text.specs.States.{ReaderState}
 use Rattle.script_text.specs.Meaning.{line_meaning}
 use Rattle.script_text.specs.Meaning as meaning

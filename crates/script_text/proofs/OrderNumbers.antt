@@ -4,11 +4,11 @@ use Rattle.std.proofs.lemmas.Bool.{lt-ltb}
 use Rattle.num_text.specs.Blanks.{is_blank}
 use Rattle.num_text.specs.Numbers.{dec_of, below}
 use Rattle.num_text.proofs.laws.Digits.{number_of-digits, is_blank-decimal, list_any-decimal}
-use Rattle.script_text.specs.Arguments.{order_from}
-use Rattle.script_text.specs.Lines.{words, from_word}
+use Rattle.script_lines.specs.Arguments.{order_from}
+use Rattle.line_words.specs.Lines.{words, from_word}
 use Rattle.script_text.specs.Usual.{BeginsWithNumber, BeginsWithOrderNumber, BeginsWithNoOrderNumber}
 use Rattle.script_text.proofs.AccessLines.{words-piece}
-use Rattle.script_text.proofs.FirstWord.{Behind-drop_blanks}
+use Rattle.line_words.proofs.laws.FirstWord.{Behind-drop_blanks}
 
 -- digits and a space
 pub BeginsWithOrderNumber-digits : (text : List ℕ) (n : ℕ) (rest : List ℕ) → BeginsWithNumber text 32 n rest → n < 2 ^ 32 → BeginsWithOrderNumber text n rest

@@ -10,11 +10,11 @@ use Rattle.path_names.specs.ShortNames.{AreShort, component_ids}
 use Rattle.path_names.proofs.laws.NamedDomains.{IsWithin-path_of}
 use Rattle.path_names.proofs.laws.ShortNames.{Keeps-path_of, AreShort-path_of}
 use Rattle.script_ops.specs.declared.limits.TheConstants.{MOST_PATH_BYTES}
-use Rattle.script_text.specs.declared.fault.LineFault.TheVariants.{BadArgument, BadPath, TooLarge}
-use Rattle.script_text.specs.Arguments.{only}
-use Rattle.script_text.specs.Lines.{words}
+use Rattle.script_lines.specs.declared.fault.LineFault.TheVariants.{BadArgument, BadPath, TooLarge}
+use Rattle.script_lines.specs.Arguments.{only}
+use Rattle.line_words.specs.Lines.{words}
 use Rattle.script_text.specs.Meaning.{named_in, path_alone}
-use Rattle.script_text.specs.Paths.{Named, named}
+use Rattle.script_lines.specs.Paths.{Named, named}
 use Rattle.script_text.specs.States.{ReaderState}
 
 -- the names that were known are kept, and those of the path's components are short

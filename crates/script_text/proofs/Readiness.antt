@@ -5,39 +5,40 @@ use Rattle.std.proofs.lemmas.List.Elements.{All-nil, All-append, All-push}
 use Rattle.std.proofs.lemmas.List.Sums.{sum_by-append}
 use Rattle.rc_base.specs.Texts.{is_text}
 use Rattle.std.specs.Prelude.{codes}
-use Rattle.rc_base.specs.Faults.{◌>>=◌, fault_if}
+use Rattle.rc_base.specs.Faults.{◌>>=◌}
 use Rattle.path_names.specs.Domains.{IsWithin}
 use Rattle.path_names.specs.declared.dirs.DirRef.TheVariants.{MonDomain}
 use Rattle.path_names.specs.declared.path_ref.PathRef.{PathRef}
 use Rattle.path_names.specs.declared.path_ref.PathRef.TheVariants.{File}
 use Rattle.machine.specs.declared.parameters.Parameters.{Parameters}
-use Rattle.script_text.specs.declared.fault.LineFault.{LineFault}
-use Rattle.script_text.specs.declared.fault.LineFault.TheVariants.{BadByte, NoMachine, UnknownWord, OutOfPlace, BadMachine, BadTasks, BadArgument, BadPath, UnknownTask, BadEscape, TooLarge}
+use Rattle.script_lines.specs.declared.fault.LineFault.{LineFault}
+use Rattle.script_lines.specs.declared.fault.LineFault.TheVariants.{BadByte, NoMachine, UnknownWord, OutOfPlace, BadMachine, BadTasks, BadArgument, BadPath, UnknownTask, BadEscape, TooLarge}
 use Rattle.script_ops.specs.declared.op.Op.{Op}
 use Rattle.script_ops.specs.declared.op.Op.TheVariants as ops
 use Rattle.script_text.specs.declared.kind.Kind.{Kind}
 use Rattle.script_text.specs.declared.kind.Kind.TheVariants as kinds
 use Rattle.script_text.specs.declared.kind.Place.{Place}
 use Rattle.script_text.specs.declared.kind.Place.TheVariants as places
-use Rattle.script_text.specs.Arguments.{access_of, flush_of, sweep_of, touch_of, drop_line_of, drop_region_of, has_path, order_of, first_of}
-use Rattle.script_text.specs.Escapes.{unescaped, text_behind}
+use Rattle.script_lines.specs.Arguments.{access_of, flush_of, sweep_of, touch_of, drop_line_of, drop_region_of, has_path, order_of, first_of}
+use Rattle.script_lines.specs.Escapes.{unescaped, text_behind}
 use Rattle.script_ops.specs.Fits.{Fits, AreFit}
-use Rattle.script_text.specs.Keys.{machine_of}
+use Rattle.script_lines.specs.Keys.{machine_of}
 use Rattle.script_text.specs.Kinds.{kind_of, may_stand}
-use Rattle.script_text.specs.Lines.{is_bad, is_comment, words, behind_word}
+use Rattle.line_words.specs.Lines.{is_bad, is_comment, words, behind_word}
 use Rattle.script_text.specs.Meaning.{Means, means, path_alone, drop_line, drop_region, named_in, with_names, word_means, said_by, says, line_meaning, with_op, with_ops, sweep_ops}
 use Rattle.script_text.specs.Reading.{nothing_read}
-use Rattle.script_text.specs.Paths.{Named}
+use Rattle.script_lines.specs.Paths.{Named}
 use Rattle.script_text.specs.States.{ReaderState, close_thread, close_phase, is_start, is_thread, is_early, IsFit, IsReady, IsSound}
 use Rattle.path_names.specs.ShortNames.{AreShort, component_ids}
 use Rattle.script_ops.specs.Canonical.{AreAllShort, IsShort, op_component_ids}
 use Rattle.script_text.proofs.PathNames.{AddsShort, AddsShort-named, path_of-path_alone}
-use Rattle.script_text.specs.Tasks.{declared, task_of, count_of, ids_of}
+use Rattle.script_lines.specs.Tasks.{declared, task_of, count_of, ids_of}
 use Rattle.script_ops.specs.Weights.{weight_of, weights_of}
 use Rattle.script_text.proofs.Guards.{IfOk-fault_if, IfOk-ok_or, IfOk-bind}
 use Rattle.script_text.proofs.Places.{is_early-thread, is_early-machine, is_early-tasks}
 use Rattle.script_text.proofs.FitOps.{IsFit-no_ops, IsFit-close_thread, IsFit-close_phase, IsFit-with_names}
-use Rattle.script_text.proofs.Uses.{access_of-fits, flush_of-fits, drop_line_of-fits, AreFit-sweep_ops, weights_of-sweep_ops, AreAllShort-sweep_ops, touch_of-fits, task_of-declared}
+use Rattle.script_text.proofs.SweepOps.{AreFit-sweep_ops, weights_of-sweep_ops, AreAllShort-sweep_ops}
+use Rattle.script_lines.proofs.laws.Uses.{access_of-fits, flush_of-fits, drop_line_of-fits, touch_of-fits, task_of-declared}
 use Rattle.script_ops.specs.declared.limits.TheConstants.{MOST_WEIGHT, MOST_TASKS, MOST_TEXT_BYTES, MOST_ORDER, MOST_PHASES, MOST_PHASE_THREADS}
 
 -- ---- lines that give a script its parts

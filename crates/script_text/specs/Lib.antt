@@ -1,9 +1,3 @@
-pub mod Lines
-pub mod Keys
-pub mod Tasks
-pub mod Arguments
-pub mod Escapes
-pub mod Paths
 pub mod States
 pub mod Kinds
 pub mod Meaning

@@ -2,18 +2,18 @@
 use Rattle.std.specs.Prelude.{◌≡◌, ℕ, ◌+◌, List, [], ◌∷◌, Result, Ok, Err, if◌then◌else◌}
 use Rattle.std.specs.Str.Lines.{lines}
 use Rattle.machine.specs.Ranges.{usual}
-use Rattle.script_text.specs.declared.fault.LineFault.{LineFault}
-use Rattle.script_text.specs.declared.fault.LineFault.TheVariants.{NoMachine}
-use Rattle.script_text.specs.declared.fault.LineError.{LineError}
-use Rattle.script_text.specs.declared.fault.LineError.TheVariants as line_errors
-use Rattle.script_text.specs.declared.fault.ScriptFault.{ScriptFault}
-use Rattle.script_text.specs.declared.fault.ScriptError.{ScriptError}
-use Rattle.script_text.specs.declared.fault.ScriptError.TheVariants as errors
+use Rattle.script_lines.specs.declared.fault.LineFault.{LineFault}
+use Rattle.script_lines.specs.declared.fault.LineFault.TheVariants.{NoMachine}
+use Rattle.script_lines.specs.declared.fault.LineError.{LineError}
+use Rattle.script_lines.specs.declared.fault.LineError.TheVariants as line_errors
+use Rattle.script_lines.specs.declared.fault.ScriptFault.{ScriptFault}
+use Rattle.script_lines.specs.declared.fault.ScriptError.{ScriptError}
+use Rattle.script_lines.specs.declared.fault.ScriptError.TheVariants as errors
 use Rattle.script_text.specs.declared.kind.Place.TheVariants.{Start}
 use Rattle.script_ops.specs.Values.{ScriptValue}
 use Rattle.script_text.specs.States.{ReaderState, close_phase, is_start}
 use Rattle.script_text.specs.Meaning.{line_meaning}
-use Rattle.script_text.specs.Tasks.{ids_of}
+use Rattle.script_lines.specs.Tasks.{ids_of}
 
 -- the state before the first line
 abbrev pub nothing_read : ReaderState

@@ -3,11 +3,11 @@ use Rattle.std.specs.Prelude.{◌≡◌, ℕ, ◌*◌, ◌+◌, ◌≤◌, List,
 use Rattle.machine.specs.declared.parameters.Parameters.{Parameters}
 use Rattle.machine.specs.Maps.{parameters_of}
 use Rattle.script_ops.specs.declared.op.Op.{Op}
-use Rattle.script_text.specs.declared.tasks.TaskRange.{TaskRange}
+use Rattle.script_lines.specs.declared.tasks.TaskRange.{TaskRange}
 use Rattle.script_text.specs.declared.reader.Reader.{Reader}
 use Rattle.script_text.specs.declared.kind.Place.{Place}
 use Rattle.script_text.specs.declared.kind.Place.TheVariants.{Start, Head, Thread}
-use Rattle.script_text.specs.Tasks.{RiseFrom, count_of, ids_of}
+use Rattle.script_lines.specs.Tasks.{RiseFrom, count_of, ids_of}
 use Rattle.script_ops.specs.Values.{PhaseValue, threads_in}
 use Rattle.script_ops.specs.Canonical.{AreAllShort, AreNamed}
 use Rattle.script_ops.specs.Fits.{AreFit}
@@ -52,7 +52,7 @@ close_phase s = if is_head s.place then s else record (close_thread s) { phases 
 
 -- (For proofs.) the state of a reader
 abbrev pub state_of : Reader → ReaderState
-state_of r = record { place = r.place; machine = parameters_of r.machine; tasks = r.tasks.items; names = r.names; phases = r.phases.items; order = r.order.items; threads = r.threads.items; ops = r.ops.items; weight = r.weight }
+state_of r = record { place = r.place; machine = parameters_of r.machine; tasks = r.tasks.items; names = r.names; phases = r.phases.items; order = r.order.items; threads = r.threads.items; ops = r.ops; weight = r.weight }
 
 -- (For proofs.) Limits while reading, with so many phases, threads of the open phase, and names still to come. Each op weighs at
 -- least 1 and has few names, so these stay bounded.

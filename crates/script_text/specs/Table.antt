@@ -4,23 +4,23 @@ use Rattle.std.specs.Prelude.{◌≡◌, ℕ, ◌+◌, Bool, true, false, not, �
 use Rattle.std.specs.List.{list_any, find}
 use Rattle.rc_base.specs.Texts.{is_text}
 use Rattle.path_names.specs.declared.path_ref.PathRef.{PathRef}
-use Rattle.script_text.specs.declared.fault.LineFault.{LineFault}
-use Rattle.script_text.specs.declared.fault.LineFault.TheVariants.{BadByte, NoMachine, UnknownWord, OutOfPlace, BadMachine, BadTasks, BadArgument, BadPath, UnknownTask, BadEscape, TooLarge}
-use Rattle.script_text.specs.declared.arguments.Use.{Use}
-use Rattle.script_text.specs.declared.arguments.Sweep.{Sweep}
+use Rattle.script_lines.specs.declared.fault.LineFault.{LineFault}
+use Rattle.script_lines.specs.declared.fault.LineFault.TheVariants.{BadByte, NoMachine, UnknownWord, OutOfPlace, BadMachine, BadTasks, BadArgument, BadPath, UnknownTask, BadEscape, TooLarge}
+use Rattle.script_lines.specs.declared.arguments.Use.{Use}
+use Rattle.script_lines.specs.declared.arguments.Sweep.{Sweep}
 use Rattle.script_ops.specs.declared.op.Op.{Op}
 use Rattle.script_ops.specs.declared.op.Op.TheVariants as ops
 use Rattle.script_text.specs.declared.kind.Kind.{Kind}
 use Rattle.script_text.specs.declared.kind.Kind.TheVariants as kinds
-use Rattle.script_text.specs.Arguments.{access_of, flush_of, sweep_of, touch_of, drop_line_of, drop_region_of, has_path, order_of, only, first_of}
-use Rattle.script_text.specs.Escapes.{unescaped, text_behind}
-use Rattle.script_text.specs.Keys.{machine_of}
+use Rattle.script_lines.specs.Arguments.{access_of, flush_of, sweep_of, touch_of, drop_line_of, drop_region_of, has_path, order_of, only, first_of}
+use Rattle.script_lines.specs.Escapes.{unescaped, text_behind}
+use Rattle.script_lines.specs.Keys.{machine_of}
 use Rattle.script_text.specs.Kinds.{kind_of, may_stand}
-use Rattle.script_text.specs.Lines.{is_bad, is_comment, words, behind_word}
+use Rattle.line_words.specs.Lines.{is_bad, is_comment, words, behind_word}
 use Rattle.script_text.specs.Meaning.{line_meaning, named_in}
-use Rattle.script_text.specs.Paths.{Named}
+use Rattle.script_lines.specs.Paths.{Named}
 use Rattle.script_text.specs.States.{ReaderState, close_thread, close_phase, is_start}
-use Rattle.script_text.specs.Tasks.{declared, task_of, count_of}
+use Rattle.script_lines.specs.Tasks.{declared, task_of, count_of}
 use Rattle.script_ops.specs.Weights.{weight_of}
 use Rattle.script_ops.specs.declared.limits.TheConstants.{MOST_WEIGHT, MOST_TASKS, MOST_TEXT_BYTES, MOST_ORDER, MOST_PHASES, MOST_PHASE_THREADS}
 

@@ -9,15 +9,15 @@ use Rattle.std.specs.Option.{ok_or}
 use Rattle.rc_base.specs.Faults.{◌>>=◌}
 use Rattle.num_text.specs.Numbers.{dec_of, below}
 use Rattle.machine.specs.declared.parameters.Parameters.{Parameters}
-use Rattle.script_text.specs.declared.fault.LineFault.{LineFault}
-use Rattle.script_text.specs.declared.fault.LineFault.TheVariants.{BadArgument, UnknownTask}
-use Rattle.script_text.specs.declared.fault.LineError.{LineError}
-use Rattle.script_text.specs.declared.arguments.Use.{Use}
+use Rattle.script_lines.specs.declared.fault.LineFault.{LineFault}
+use Rattle.script_lines.specs.declared.fault.LineFault.TheVariants.{BadArgument, UnknownTask}
+use Rattle.script_lines.specs.declared.fault.LineError.{LineError}
+use Rattle.script_lines.specs.declared.arguments.Use.{Use}
 use Rattle.script_ops.specs.declared.op.Op.TheVariants as ops
-use Rattle.script_text.specs.Lines.{words}
+use Rattle.line_words.specs.Lines.{words}
 use Rattle.script_text.specs.Meaning.{with_op, line_meaning, Fails}
 use Rattle.script_text.specs.States.{ReaderState}
-use Rattle.script_text.specs.Tasks.{task_of}
+use Rattle.script_lines.specs.Tasks.{task_of}
 
 -- A text begins with decimal digits that spell this number, then this byte, and then this rest.
 pub record BeginsWithNumber (text : List ℕ) (end n : ℕ) (rest : List ℕ) : Type 0 where

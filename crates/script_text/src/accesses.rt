@@ -1,16 +1,17 @@
 //! The lines that are accesses.
-ghost use Rattle.std.specs.Prelude.{◌≡◌, ◌+◌, ◌*◌, ◌-◌, ◌<◌, ◌≤◌, ◌^◌, ◌++◌, OnOk, vec_len, vec_capacity};
+ghost use Rattle.std.specs.Prelude.{◌≡◌, ◌+◌, ◌*◌, ◌-◌, ◌<◌, ◌≤◌, ◌^◌, ◌++◌, OnOk};
 ghost use Rattle.script_text.specs.States.{state_of, IsSound};
 ghost use Rattle.script_text.specs.Meaning.{means, sweep_ops, Means};
 ghost use Rattle.script_text.specs.Usual.{access_means};
 ghost use Rattle.script_text.specs.declared.kind.Kind.TheVariants as kinds;
 
-use crate::arguments::{Sweep, Use, access_args, sweep_args, touch_args};
-use crate::fault::{LineError, LineFault};
-use crate::paths::find_path;
 use crate::reader::Reader;
-use crate::tasks::declared_task;
-use script_ops::Op;
+use rc_base::NoMemory;
+use script_lines::arguments::{Sweep, Use, access_args, sweep_args, touch_args};
+use script_lines::paths::find_path;
+use script_lines::tasks::declared_task;
+use script_lines::{LineError, LineFault};
+use script_ops::{Op, Ops};
 
 // What an access weighs on any machine.
 const ACCESS_WEIGHT: u64 = 1;
@@ -93,21 +94,18 @@ impl Reader {
     }
 }
 
-/// Adds the accesses of a sweep, for which there is room. It takes no memory.
-pub fn push_accesses(ops: &mut Vec<Op>, task: u32, sweep: &Sweep)
+/// Adds the accesses of a sweep. The room for all is taken at once.
+pub fn push_accesses(ops: &mut Ops, task: u32, sweep: &Sweep) -> Result<(), NoMemory>
     requires some { 0 < sweep.now.count }
     requires last { sweep.now.first.at + (sweep.now.count - 1) * sweep.now.stride < 2 ^ 48 }
-    requires room { vec_len ops.old + sweep.now.count ≤ vec_capacity ops.old }
-    ensures { ops.new.items ≡ ops.old.items ++ sweep_ops task sweep.now }
+    ensures { OnOk result (ops.new ≡ ops.old ++ sweep_ops task sweep.now) }
 {
     let first = sweep.first;
     let stride = sweep.stride;
+    ops.reserve(sweep.count as usize)?;
     for i in 0..sweep.count {
         let addr = first.at + i * stride;
-        ops.push_reserved(Op::Access {
-            task,
-            cpu: first.cpu,
-            addr,
-        });
+        ops.push_access(task, first.cpu, addr)?;
     }
+    Ok(())
 }

@@ -6,13 +6,13 @@ ghost use Rattle.script_text.specs.Meaning.{means, Means, FindsAlone, path_alone
 ghost use Rattle.script_text.specs.declared.kind.Kind.TheVariants as kinds;
 ghost use Rattle.path_names.specs.declared.paths.TheConstants.{MOST_PATH_NAMES};
 
-use crate::arguments::{drop_line_args, drop_region_args, flush_args, has_path};
-use crate::escapes::{behind_one, unescape};
-use crate::fault::{LineError, LineFault};
-use crate::paths::find_path;
 use crate::reader::Reader;
-use crate::words::{next_word, no_word, one_word};
+use line_words::{next_word, no_word, one_word};
 use path_names::PathRef;
+use script_lines::arguments::{drop_line_args, drop_region_args, flush_args, has_path};
+use script_lines::escapes::{behind_one, unescape};
+use script_lines::paths::find_path;
+use script_lines::{LineError, LineFault};
 use script_ops::{MOST_TEXT_BYTES, Op};
 
 impl Reader {

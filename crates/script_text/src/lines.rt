@@ -4,12 +4,12 @@ ghost use Rattle.script_text.specs.States.{state_of, IsSound};
 ghost use Rattle.script_text.specs.Meaning.{means, word_means, says, line_meaning, Means};
 ghost use Rattle.script_text.specs.Usual.{use_by, access_means, TakesLine, TakesUsual};
 
-use crate::fault::{LineError, LineFault};
 use crate::kind::{Kind, Place, kind_named, may_stand};
 use crate::reader::Reader;
 use crate::usual::{usual_access, usual_use};
-use crate::words::{has_bad_byte, is_comment, next_word};
+use line_words::{has_bad_byte, is_comment, next_word};
 use rc_base::is_text;
+use script_lines::{LineError, LineFault};
 use script_ops::next_line;
 
 impl Reader {

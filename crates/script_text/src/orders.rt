@@ -1,14 +1,14 @@
 //! The numbers of an order.
 ghost use Rattle.std.specs.Prelude.{◌≡◌, ◌^◌, IfSome, []};
 ghost use Rattle.num_text.specs.Numbers.{dec_of, below};
-ghost use Rattle.script_text.specs.Lines.{words};
-ghost use Rattle.script_text.specs.Arguments.{order_of, Orders};
+ghost use Rattle.line_words.specs.Lines.{words};
+ghost use Rattle.script_lines.specs.Arguments.{order_of, Orders};
 ghost use Rattle.script_text.specs.Usual.{BeginsWithOrderNumber, TakesOrderNumber};
 
-use crate::fault::{LineError, LineFault};
 use crate::usual::number_before;
-use crate::words::{from_word, next_word, no_word};
+use line_words::{from_word, next_word, no_word};
 use num_text::read_dec;
+use script_lines::{LineError, LineFault};
 
 fn order_number(word: &[u8]) -> Option<u32>
     ensures { result ≡ below (2 ^ 32) (dec_of word.now) }

@@ -10,13 +10,13 @@ ghost use Rattle.script_text.specs.Meaning.{with_op, with_ops, sweep_ops, Means}
 ghost use Rattle.path_names.specs.declared.paths.TheConstants.{MOST_PATH_NAMES};
 
 use crate::accesses::push_accesses;
-use crate::arguments::Sweep;
-use crate::fault::{LineError, LineFault, ScriptError, ScriptFault};
 use crate::kind::Place;
-use crate::tasks::{TaskRange, push_ids};
 use machine::Machine;
 use path_names::Names;
 use rc_base::NoMemory;
+use script_lines::arguments::Sweep;
+use script_lines::tasks::{TaskRange, push_ids};
+use script_lines::{LineError, LineFault, ScriptError, ScriptFault};
 use script_ops::{MOST_WEIGHT, Op, Ops, Phase, Script, weight_of};
 use std::alloc::Global;
 use std::mem;
@@ -32,7 +32,7 @@ pub struct Reader {
     pub(crate) phases: Vec<Phase>,
     pub(crate) order: Vec<u32>,
     pub(crate) threads: Vec<Ops>,
-    pub(crate) ops: Vec<Op>,
+    pub(crate) ops: Ops,
     pub(crate) weight: u64,
 }
 
@@ -54,7 +54,7 @@ impl Reader {
             phases: Vec::new(alloc),
             order: Vec::new(alloc),
             threads: Vec::new(alloc),
-            ops: Vec::new(alloc),
+            ops: Ops::create(alloc),
             weight: 0,
         })
     }
@@ -147,8 +147,7 @@ impl Reader {
             Some(total) if total <= MOST_WEIGHT => total,
             _ => return Err(LineError::Fault(LineFault::TooLarge)),
         };
-        self.ops.reserve(sweep.count as usize)?;
-        push_accesses(&mut self.ops, task, sweep);
+        push_accesses(&mut self.ops, task, sweep)?;
         self.weight = total;
         Ok(())
     }
@@ -161,8 +160,8 @@ impl Reader {
         ensures limits { OnOk result (InLimits 1 0 0 (state_of self.new)) }
     {
         if self.place == Place::Thread {
-            let ops = mem::replace(&mut self.ops, Vec::new(self.alloc));
-            self.threads.push(Ops::from_vec(ops))?;
+            let ops = mem::replace(&mut self.ops, Ops::create(self.alloc));
+            self.threads.push(ops)?;
         }
         Ok(())
     }

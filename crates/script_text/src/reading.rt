@@ -4,8 +4,8 @@ ghost use Rattle.std.specs.Str.Lines.{lines};
 ghost use Rattle.script_text.specs.States.{state_of, IsSound, IsReady};
 ghost use Rattle.script_text.specs.Reading.{Reads, reading_from, script_of, located};
 
-use crate::fault::{LineError, ScriptError, ScriptFault};
 use crate::reader::Reader;
+use script_lines::{LineError, ScriptError, ScriptFault};
 use script_ops::Script;
 use std::alloc::Global;
 

@@ -4,13 +4,13 @@ ghost use Rattle.script_text.specs.States.{state_of, IsSound};
 ghost use Rattle.script_text.specs.Meaning.{means, Means};
 ghost use Rattle.script_text.specs.declared.kind.Kind.TheVariants as kinds;
 
-use crate::fault::{LineError, LineFault};
 use crate::kind::Place;
-use crate::machine_line::machine_args;
 use crate::orders::read_order;
 use crate::reader::Reader;
-use crate::tasks::{declare, is_too_many};
-use crate::words::no_word;
+use line_words::no_word;
+use script_lines::machine_line::machine_args;
+use script_lines::tasks::{declare, is_too_many};
+use script_lines::{LineError, LineFault};
 use script_ops::{MOST_ORDER, MOST_PHASE_THREADS, MOST_PHASES};
 
 impl Reader {

@@ -4,8 +4,8 @@ ghost use Rattle.std.specs.Char.{digit_value};
 ghost use Rattle.machine.specs.Maps.{parameters_of};
 ghost use Rattle.script_text.specs.Usual.{BeginsWithNumber, BeginsWithAccess, use_by};
 
-use crate::arguments::Use;
 use machine::Machine;
+use script_lines::arguments::Use;
 
 // The greatest number to which any digit can be appended.
 const MOST_BEFORE_A_DIGIT: u64 = u64::MAX / 10 - 1;

@@ -100,10 +100,10 @@ fn read_known(
     move_to(&mut world.threads, t, n, Place::Tagged { tag });
 }
 
-// A thread of the present phase takes a step. An access leaves the tree as it is, so that what is known of it stays true.
-fn step_present(world: &mut World, script: &Script, t: u32, known: &mut Option<Known>)
+// A thread that has this op to do takes a step. An access leaves the tree as it is, so that what is known of it stays true.
+fn step_op(world: &mut World, script: &Script, t: u32, op: &Op, known: &mut Option<Known>)
     requires world { IsWorldOf script.now world.old }
-    requires present { phase_in script.now.phases t ≡ world.old.phase }
+    requires next { HasNext script.now (machine_of world.old) t op.now }
     requires thread { t < length world.old.threads.items }
     requires known { Knows known.old world.old }
     ensures world { IsWorldOf script.now world.new }
@@ -112,9 +112,6 @@ fn step_present(world: &mut World, script: &Script, t: u32, known: &mut Option<K
 {
     let thread = world.threads[t as usize];
     let n = thread.next;
-    let Some(op) = script.op(t, n) else {
-        return;
-    };
     match (op, thread.place) {
         (Op::Access { task, cpu, addr }, Place::Ready) if world.holder.is_none() => {
             read_known(world, script, t, n, *task, *cpu, *addr, known);
@@ -127,6 +124,23 @@ fn step_present(world: &mut World, script: &Script, t: u32, known: &mut Option<K
             *known = None;
         }
     }
+}
+
+// A thread of the present phase takes a step.
+fn step_present(world: &mut World, script: &Script, t: u32, known: &mut Option<Known>)
+    requires world { IsWorldOf script.now world.old }
+    requires present { phase_in script.now.phases t ≡ world.old.phase }
+    requires thread { t < length world.old.threads.items }
+    requires known { Knows known.old world.old }
+    ensures world { IsWorldOf script.now world.new }
+    ensures steps { Steps script.now t (machine_of world.old) (machine_of world.new) }
+    ensures known { Knows known.new world.new }
+{
+    let n = world.threads[t as usize].next;
+    let Some(op) = script.op(t, n) else {
+        return;
+    };
+    step_op(world, script, t, op.get(), known);
 }
 
 /// The thread of this number takes a step, where it is one of those of the present phase.

@@ -8,7 +8,7 @@ ghost use Rattle.step_world.specs.Worlds.{IsWorldOf, machine_of};
 
 use crate::world::World;
 use rc_base::Tag;
-use script_ops::{Op, Script};
+use script_ops::{Ops, Script};
 
 // An access reads its tag, which is this one, and goes to its slice with it: two steps, and the tag is never stale.
 fn pass(world: &mut World, script: &Script, t: u32, n: u32, tag: &Tag, addr: u64)
@@ -24,24 +24,18 @@ fn pass(world: &mut World, script: &Script, t: u32, n: u32, tag: &Tag, addr: u64
 }
 
 // The address of the op of this number, where it is an access of this task on this CPU.
-fn address_at(ops: &[Op], n: u32, task: u32, cpu: u8) -> Option<u64>
+fn address_at(ops: &Ops, n: u32, task: u32, cpu: u8) -> Option<u64>
     ensures is { IfSome result (λ addr. slice_get ops.now n ≡ Some (Access task cpu addr)) }
     ensures there { (addr : ℕ) → slice_get ops.now n ≡ Some (Access task cpu addr) → result ≡ Some addr }
 {
-    match ops.get(n as usize) {
-        Some(
-            Op::Access {
-                task: of,
-                cpu: on,
-                addr,
-            },
-        ) if *of == task && *on == cpu => Some(*addr),
+    match ops.access(n as usize) {
+        Some((of, on, addr)) if of == task && on == cpu => Some(addr),
         _ => None,
     }
 }
 
 /// The accesses of a task on a CPU that come next pass, each with the same tag: the tree stays as it is meanwhile.
-pub(crate) fn pass_all(world: &mut World, script: &Script, t: u32, ops: &[Op], task: u32, cpu: u8)
+pub(crate) fn pass_all(world: &mut World, script: &Script, t: u32, ops: &Ops, task: u32, cpu: u8)
     requires world { IsWorldOf script.now world.old }
     requires ops { ops.now ≡ ops_of script.now t }
     requires before { IsBefore script.now t task cpu (machine_of world.old) }

@@ -1,5 +1,5 @@
 //! One phase of a script.
-ghost use Rattle.std.specs.Prelude.{◌≡◌, ◌<◌, length, None, option_copied, slice_get};
+ghost use Rattle.std.specs.Prelude.{◌≡◌, ◌<◌, length, None, slice_get};
 ghost use Rattle.run_law.specs.Ops.{phase_in};
 ghost use Rattle.script_ops.specs.Values.{ops_of};
 ghost use Rattle.step_world.specs.Answers.{HasNext};
@@ -12,7 +12,7 @@ use crate::listed::{PhaseThreads, step_listed};
 use crate::passing::pass_all;
 use crate::place::Place;
 use crate::world::World;
-use script_ops::{Op, Script};
+use script_ops::{Op, OpAt, Ops, Script};
 
 // These threads take a step each.
 fn step_in_order(world: &mut World, script: &Script, order: &[u32])
@@ -43,7 +43,7 @@ fn let_go(world: &mut World, script: &Script)
 }
 
 // A thread that has this op to do takes a turn: accesses that come next, or its command, or one more step.
-fn take_turn(world: &mut World, script: &Script, t: u32, ops: &[Op], op: &Op)
+fn take_turn(world: &mut World, script: &Script, t: u32, ops: &Ops, op: &Op)
     requires world { IsWorldOf script.now world.old }
     requires ops { ops.now ≡ ops_of script.now t }
     requires next { HasNext script.now (machine_of world.old) t op.now }
@@ -63,9 +63,9 @@ fn take_turn(world: &mut World, script: &Script, t: u32, ops: &[Op], op: &Op)
 }
 
 // The next op of a thread, which has these ops.
-fn next_op<'o>(world: &World, ops: &'o [Op], t: u32) -> Option<&'o Op>
+fn next_op<'o>(world: &World, ops: &'o Ops, t: u32) -> Option<OpAt<'o>>
     requires { t < length world.now.threads.items }
-    ensures { option_copied result ≡ slice_get ops.now (thread_at (machine_of world.now) t).next }
+    ensures { result ≡ slice_get ops.now (thread_at (machine_of world.now) t).next }
 {
     ops.get(world.threads[t as usize].next as usize)
 }
@@ -83,7 +83,7 @@ fn end_thread(world: &mut World, script: &Script, t: u32)
 {
     let ops = script.ops(t);
     while let Some(op) = next_op(world, ops, t) {
-        take_turn(world, script, t, ops, op);
+        take_turn(world, script, t, ops, op.get());
     }
 }
 

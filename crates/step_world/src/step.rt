@@ -14,7 +14,7 @@ use crate::place::{Place, Thread};
 use crate::steps::{read_tag, take, touch};
 use crate::world::World;
 use rc_base::Tag;
-use script_ops::{Op, Script};
+use script_ops::{Op, OpAt, Script};
 
 impl World {
     // Whether a thread is of the present phase.
@@ -35,9 +35,9 @@ impl World {
     }
 
     // The next op of a thread of the present phase.
-    fn next_op<'s>(&self, script: &'s Script, t: u32) -> Option<&'s Op>
+    fn next_op<'s>(&self, script: &'s Script, t: u32) -> Option<OpAt<'s>>
         requires world { IsWorldOf script.now self.now }
-        ensures next { IfSome result (λ op. HasNext script.now (machine_of self.now) t op.now) }
+        ensures next { IfSome result (λ op. HasNext script.now (machine_of self.now) t op) }
         ensures end { result ≡ None → IsAtEnd script.now (machine_of self.now) t }
     {
         if self.is_present(script, t) {
@@ -150,7 +150,7 @@ impl World {
         ensures blocked { (result ≡ stepped.Blocked) ↔ IsBlocked script.now (machine_of self.old) thread }
     {
         match self.next_op(script, thread) {
-            Some(op) => self.act(script, thread, op),
+            Some(op) => self.act(script, thread, op.get()),
             None => Stepped::Ended,
         }
     }

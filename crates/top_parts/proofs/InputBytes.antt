@@ -12,7 +12,7 @@ use Rattle.top_parts.specs.Outside.{HasRead, IsInput, IsMeant, LeavesNothing, Le
 use Rattle.script_ops.specs.declared.limits.TheConstants.{MOST_SCRIPT_BYTES}
 use Rattle.script_text.specs.Reading.{script_of}
 use Rattle.script_ops.specs.Values.{ScriptValue}
-use Rattle.script_text.specs.declared.fault.ScriptFault.{ScriptFault}
+use Rattle.script_lines.specs.declared.fault.ScriptFault.{ScriptFault}
 
 -- all of few bytes
 first_bytes-all : (bytes : List ℕ) → length bytes ≤ 67108865 → first_bytes bytes ≡ bytes

@@ -1,5 +1,4 @@
 -- The words of a command line, among the arguments that the system gives.
--- (For functions and proofs: no promise of the program stands on it.)
 use Rattle.std.specs.Prelude.{List, [], drop, String, Result, Ok, Err}
 use Rattle.std.specs.Vec.Iter.{into_iter_items}
 use Rattle.std.specs.declared.alloc.Global.{Global}

@@ -7,9 +7,9 @@ use Rattle.top_parts.specs.declared.refusal.Refusal.TheVariants.{BadLine, TooLar
 use Rattle.script_ops.specs.declared.limits.TheConstants.{MOST_SCRIPT_BYTES}
 use Rattle.script_text.specs.Reading.{script_of}
 use Rattle.script_ops.specs.Values.{ScriptValue}
-use Rattle.script_text.specs.declared.fault.LineFault.{LineFault}
-use Rattle.script_text.specs.declared.fault.LineFault.TheVariants as faults
-use Rattle.script_text.specs.declared.fault.ScriptFault.{ScriptFault}
+use Rattle.script_lines.specs.declared.fault.LineFault.{LineFault}
+use Rattle.script_lines.specs.declared.fault.LineFault.TheVariants as faults
+use Rattle.script_lines.specs.declared.fault.ScriptFault.{ScriptFault}
 
 -- a script, or its first bad line as the refusal
 abbrev pub or_bad_line : Result ScriptValue ScriptFault → Result ScriptValue Refusal

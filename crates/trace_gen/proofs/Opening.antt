@@ -12,14 +12,14 @@ use Rattle.script_ops.specs.declared.op.Op.{Op}
 use Rattle.script_ops.specs.Values.{PhaseValue}
 use Rattle.script_text.specs.declared.kind.Place.{Place}
 use Rattle.script_text.specs.declared.kind.Place.TheVariants.{Head, Opened}
-use Rattle.script_text.specs.declared.tasks.TaskRange.{TaskRange}
-use Rattle.script_text.specs.Escapes.{unescaped}
-use Rattle.script_text.specs.Keys.{cache_key, id_key, keys_from, mask_key, with_key}
+use Rattle.script_lines.specs.declared.tasks.TaskRange.{TaskRange}
+use Rattle.script_lines.specs.Escapes.{unescaped}
+use Rattle.script_lines.specs.Keys.{cache_key, id_key, keys_from, mask_key, with_key}
 use Rattle.script_text.specs.Kinds.{access_kind, command_kind, kind_of, part_kind}
 use Rattle.script_text.specs.Meaning.{line_meaning, means, path_alone, word_means}
 use Rattle.script_text.specs.Reading.{nothing_read}
 use Rattle.script_text.specs.States.{ReaderState}
-use Rattle.script_text.specs.Tasks.{declared_from, tasks_of}
+use Rattle.script_lines.specs.Tasks.{declared_from, tasks_of}
 use Rattle.trace_gen.specs.Scripts.{opening_ops, trace_machine}
 use Rattle.trace_gen.specs.Trace.{group_lines, machine_line, opening_lines}
 use Rattle.trace_gen.proofs.Steps.{meaning_of, meaning_of-cons}

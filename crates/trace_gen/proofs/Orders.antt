@@ -9,9 +9,9 @@ use Rattle.num_text.proofs.laws.Prints.{decimal_reads_back}
 use Rattle.rc_base.specs.Texts.{is_text}
 use Rattle.script_ops.specs.declared.limits.TheConstants.{MOST_ORDER}
 use Rattle.script_text.specs.declared.kind.Place.TheVariants.{Opened, Ordered}
-use Rattle.script_text.specs.Arguments.{order_from, order_of}
+use Rattle.script_lines.specs.Arguments.{order_from, order_of}
 use Rattle.script_text.specs.Kinds.{access_kind, command_kind, kind_of, part_kind}
-use Rattle.script_text.specs.Lines.{behind_word, words}
+use Rattle.line_words.specs.Lines.{behind_word, words}
 use Rattle.script_text.specs.Meaning.{line_meaning, means, word_means}
 use Rattle.trace_gen.specs.Trace.{order_line, order_number}
 use Rattle.trace_gen.proofs.Opening.{second}

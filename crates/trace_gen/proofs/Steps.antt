@@ -1,7 +1,7 @@
 -- What lines mean one after the other. These belong beside `script_text`'s reading.
 use Rattle.std.proofs.Common.{◌≡◌, ℕ, ◌+◌, false, List, [], ◌∷◌, ◌++◌, Result, Ok, Err, refl, ap, ◌∙◌}
 use Rattle.rc_base.specs.Faults.{◌>>=◌}
-use Rattle.script_text.specs.declared.fault.LineFault.{LineFault}
+use Rattle.script_lines.specs.declared.fault.LineFault.{LineFault}
 use Rattle.script_text.specs.Meaning.{line_meaning}
 use Rattle.script_text.specs.Reading.{after_line, finished, reading_from, script_in}
 use Rattle.script_text.specs.States.{ReaderState, close_phase, is_start}

@@ -11,12 +11,12 @@ use Rattle.rc_base.specs.Texts.{is_text}
 use Rattle.script_ops.specs.declared.limits.TheConstants.{MOST_WEIGHT}
 use Rattle.script_ops.specs.declared.op.Op.{Op}
 use Rattle.script_text.specs.declared.kind.Place.TheVariants.{Thread}
-use Rattle.script_text.specs.Arguments.{access_of, use_of}
+use Rattle.script_lines.specs.Arguments.{access_of, use_of}
 use Rattle.script_text.specs.Kinds.{access_kind, command_kind, kind_of, part_kind}
-use Rattle.script_text.specs.Lines.{behind_word, words}
+use Rattle.line_words.specs.Lines.{behind_word, words}
 use Rattle.script_text.specs.Meaning.{line_meaning, means, word_means}
 use Rattle.script_text.specs.States.{ReaderState}
-use Rattle.script_text.specs.Tasks.{task_of}
+use Rattle.script_lines.specs.Tasks.{task_of}
 use Rattle.trace_gen.specs.Scripts.{access, accesses, trace_machine}
 use Rattle.trace_gen.specs.Trace.{access_line, address, cpu_of, thread_lines}
 use Rattle.trace_gen.proofs.Opening.{second, trace_ranges}

@@ -1,4 +1,4 @@
--- Words with one space between, and the lines of a text. These belong beside `script_text`'s lines.
+-- Words with one space between, and the lines of a text. These belong beside the words of `line_words`.
 use Rattle.std.proofs.Common.{◌≡◌, ℕ, ◌-◌, ◌^◌, ◌<◌, Bool, false, eqb, List, [], ◌∷◌, ◌++◌, length, filter, refl, ap, ◌∙◌, arith, append_assoc}
 use Rattle.std.specs.Prelude.{decimal}
 use Rattle.std.specs.Char.{digit_value}
@@ -12,7 +12,7 @@ use Rattle.lists.proofs.Cuts.{slice_split-some, lines_of_parts-cons, strip_carri
 use Rattle.num_text.specs.Blanks.{is_blank}
 use Rattle.num_text.proofs.laws.Digits.{AllDigits-decimal, is_blank-decimal, eqb-decimal, list_any-decimal}
 use Rattle.num_text.proofs.laws.Pieces.{Cut-append, list_any-join_with_byte, slice_split-join_with_byte}
-use Rattle.script_text.specs.Lines.{is_bad, is_some_word, words}
+use Rattle.line_words.specs.Lines.{is_bad, is_some_word, words}
 use Rattle.trace_gen.specs.Trace.{spaced, text_of}
 use Rattle.lists.proofs.Recursions.{AllByRecursion-map}
 

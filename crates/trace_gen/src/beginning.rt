@@ -85,7 +85,7 @@ fn mkdir_of(dir: DirRef) -> Op
 fn opening_ops(alloc: Global) -> Result<Ops, NoMemory>
     ensures { IfOk result (λ ops. ops ≡ opening_ops) }
 {
-    let mut ops = Vec::with_capacity(alloc, 9)?;
+    let mut ops = Ops::create(alloc);
     ops.push(write_of(alloc, DirRef::Root, FileKind::Schemata, b"L3:0=ff00;1=ff00")?)?;
     ops.push(mkdir_of(FIRST))?;
     ops.push(write_of(alloc, FIRST, FileKind::Schemata, b"L3:0=000f;1=000f")?)?;
@@ -95,7 +95,7 @@ fn opening_ops(alloc: Global) -> Result<Ops, NoMemory>
     ops.push(write_of(alloc, FIRST, FileKind::Tasks, b"1,3")?)?;
     ops.push(write_of(alloc, SECOND, FileKind::Tasks, b"2,4")?)?;
     ops.push(Op::Flush { domain: None })?;
-    Ok(Ops::from_vec(ops))
+    Ok(ops)
 }
 
 /// The first phase, whose one thread makes the groups.

@@ -47,11 +47,12 @@ fn accesses_of(alloc: Global, draws: &mut Draws, task: u32, n: u32) -> Result<Op
     ensures last { OnOk result (draws.new.last ≡ number_at n ((task + 1) * n)) }
     ensures ops { IfOk result (λ ops. ops ≡ accesses task (task_draws n task)) }
 {
-    let mut ops = Vec::with_capacity(alloc, n as usize)?;
+    let mut ops = Ops::create(alloc);
+    ops.reserve(n as usize)?;
     'accesses: for _ in 0..n {
         ops.push(access_of(task, draws.draw()))?;
     }
-    Ok(Ops::from_vec(ops))
+    Ok(ops)
 }
 
 // The threads of the second phase, one of each task.

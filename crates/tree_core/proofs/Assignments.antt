@@ -1,8 +1,7 @@
 -- Masks after some assignments: as many as before, and valid.
-use Rattle.std.proofs.Common.{◌≡◌, ℕ, zero, suc, ◌^◌, ◌<◌, List, [], ◌∷◌, length, set, drop, inl, inr, refl, ◌∙◌, arith, length-set}
-use Rattle.std.specs.List.{All, AllByRecursion, refill}
+use Rattle.std.proofs.Common.{◌≡◌, ℕ, zero, suc, ◌^◌, ◌<◌, List, [], ◌∷◌, length, set, inl, inr, refl, ◌∙◌, arith, length-set}
+use Rattle.std.specs.List.{All, AllByRecursion}
 use Rattle.std.proofs.lemmas.Bool.{cases_lt}
-use Rattle.std.proofs.lemmas.List.{append-nil, take_all, drop_all}
 use Rattle.cbm.proofs.laws.Validity.{checked-zero}
 use Rattle.machine.specs.declared.parameters.Parameters.{Parameters}
 use Rattle.tree_law.specs.Masks.{IsValid}
@@ -31,9 +30,3 @@ pub All-domains_of : (n : ℕ) (all : List Assignment) → AllByRecursion (λ d.
 All-domains_of n [] exist k d lt = absurd (omega arith)
 All-domains_of n (a ∷ all) exist zero d lt = exist.0
 All-domains_of n (a ∷ all) exist (suc k) d lt = All-domains_of n all exist.1 k d (omega arith)
-
--- a write of one place through the slice
-pub refill-set : (masks : List ℕ) (i mask : ℕ) → refill (length masks) masks (set masks i mask) ≡ set masks i mask
-refill-set masks i mask =
-    let none : drop (length (set masks i mask)) masks ≡ [] = drop_all (length (set masks i mask)) masks (omega (arith, length-set masks i mask)) in
-    rw (none, append-nil (set masks i mask)) (take_all (length masks) (set masks i mask) (omega (arith, length-set masks i mask)))

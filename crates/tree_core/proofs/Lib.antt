@@ -1,4 +1,6 @@
 pub mod Assignments
+pub mod Changes
+pub mod Commands
 pub mod ControlGroups
 pub mod CpuSets
 pub mod Creation
@@ -22,6 +24,7 @@ pub mod Owners
 pub mod Raises
 pub mod ReadCounts
 pub mod Refusals
+pub mod ReadyFollows
 pub mod RegionDrops
 pub mod RemovablePaths
 pub mod RemovedControl

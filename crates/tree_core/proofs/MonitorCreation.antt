@@ -37,7 +37,7 @@ use Rattle.tree_law.specs.Sound.{IsSound}
 use Rattle.tree_law.specs.Space.{free_rmid, is_id}
 use Rattle.tree_law.specs.State.{Outcome, State}
 use Rattle.tree_law.specs.Steps.{accepted, refusal}
-use Rattle.tree_law.specs.commands.Mkdir.{against, has_closed_parent, new_monitor, with_argument}
+use Rattle.tree_law.specs.commands.Mkdir.{against, new_monitor, with_argument}
 use Rattle.tree_law.specs.commands.Mkdir as mkdir
 
 -- its parent is there

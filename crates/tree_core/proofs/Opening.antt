@@ -21,7 +21,6 @@ use Rattle.tree_core.specs.Kept.{IsKept}
 use Rattle.tree_core.specs.Tables.{state_of, tables}
 use Rattle.tree_law.specs.Sound.{IsSound}
 use Rattle.tree_law.specs.State.{opening}
-use Rattle.group_tree.specs.Opening.{default_group}
 use Rattle.pseudo_lock.specs.declared.region.Region.{Region}
 use Rattle.std.proofs.lemmas.List.{length-map, take-replicate}
 

@@ -8,7 +8,7 @@ use Rattle.rc_base.specs.declared.replies.Reply.TheVariants as replies
 use Rattle.rc_base.specs.declared.replies.Why.{Why}
 use Rattle.rc_base.specs.declared.replies.Why.TheVariants.{NoSuchPath}
 use Rattle.script_ops.specs.declared.op.Op.{Op}
-use Rattle.script_ops.specs.declared.op.Op.TheVariants.{Flush, Mkdir, Read, Rmdir, Write}
+use Rattle.script_ops.specs.declared.op.Op.TheVariants.{Flush, Read, Rmdir}
 use Rattle.script_ops.specs.declared.op.Op.TheVariants as ops
 use Rattle.tree_law.specs.Existing.{is_directory, is_file}
 use Rattle.tree_law.specs.Refusals.{Refusal, plain, reply_of}
@@ -16,7 +16,6 @@ use Rattle.tree_law.specs.State.{Outcome, State}
 use Rattle.tree_law.specs.Steps.{accepted, after, after_accepted, left, needs, needs_accepted, next, next_if, refusal, with_status}
 use Rattle.tree_law.specs.commands.Reads as reads
 use Rattle.tree_law.specs.commands.Rmdir as rmdir
-use Rattle.tree_law.specs.declared.follow.Follow.{Follow}
 
 -- ---- refused
 
@@ -51,11 +50,6 @@ after-accepted m s k op is = rw is refl
 pub needs-accepted : (m : Parameters) (s : State) (op : Op) → refusal m s op ≡ None → needs m s op ≡ needs_accepted m s op
 unfolding needs
 needs-accepted m s op is = rw is refl
-
--- what follows does not depend on the position, but for a touch
-pub after-moved : (m : Parameters) (s : State) (k j : ℕ) (op : Op) → after_accepted m s k op ≡ after_accepted m s j op → after m s k op ≡ after m s j op
-unfolding after
-after-moved m s k j op same = ap (λ (fs : List Follow). cond (is_some (refusal m s op)) [] fs) same
 
 -- a command that nothing follows where it is accepted
 pub after-nothing : (m : Parameters) (s : State) (k : ℕ) (op : Op) → after_accepted m s k op ≡ [] → after m s k op ≡ []

@@ -1,5 +1,5 @@
 -- Why making a control group is refused.
-use Rattle.std.proofs.Common.{◌≡◌, ℕ, Bool, true, false, not, ◌&&◌, cond, eqb, List, [], ◌∷◌, length, find, Option, None, Some, is_none, is_some, unwrap_or, refl, sym, ap, ap₂, ◌∙◌}
+use Rattle.std.proofs.Common.{◌≡◌, ℕ, Bool, true, false, not, ◌&&◌, cond, eqb, List, [], ◌∷◌, length, find, Option, None, Some, is_none, is_some, unwrap_or, refl, ap, ap₂, ◌∙◌}
 use Rattle.std.specs.Option.{option_map}
 use Rattle.machine.specs.declared.parameters.Parameters.{Parameters}
 use Rattle.path_names.specs.declared.dirs.DirRef.TheVariants.{Ctrl}
@@ -12,10 +12,10 @@ use Rattle.rc_base.specs.declared.replies.Why.{Why}
 use Rattle.rc_base.specs.declared.replies.Why.TheVariants.{NoSuchPath, NotAPlace, Exists, Locking, OutOfClosids, NoSpace, OutOfRmids, RmidsBusy}
 use Rattle.script_ops.specs.declared.op.Op.TheVariants.{Mkdir}
 use Rattle.tree_core.specs.Places.{place_reasons}
-use Rattle.tree_law.specs.Refusals.{Refusal, plain, reply_of}
+use Rattle.tree_law.specs.Refusals.{Refusal, plain}
 use Rattle.tree_law.specs.Space.{free_class, free_rmid, full_domain}
 use Rattle.tree_law.specs.State.{State}
-use Rattle.tree_law.specs.Steps.{next_if, refusal}
+use Rattle.tree_law.specs.Steps.{refusal}
 use Rattle.tree_law.specs.commands.Mkdir.{against, with_argument}
 use Rattle.tree_law.specs.commands.Mkdir as mkdir
 
@@ -25,12 +25,13 @@ lack_reasons = OutOfClosids ∷ NoSpace ∷ Locking ∷ OutOfRmids ∷ RmidsBusy
 
 -- something is against making a group, with this reply
 pub record IsRefused (m : Parameters) (s : State) (path : PathRef) (said : Reply) : Type 0 where
-  pub reply : said ≡ reply_of (refusal m s (Mkdir path))
-  pub kept : (looks : List ℕ) → next_if m s (Mkdir path) looks (refusal m s (Mkdir path)) ≡ s
+  pub reason : Refusal
+  pub is : refusal m s (Mkdir path) ≡ Some reason
+  pub reply : said ≡ refused reason.why reason.arg
 
 -- what is against it makes the reply
 pub IsRefused-by : (m : Parameters) (s : State) (path : PathRef) (r : Refusal) → refusal m s (Mkdir path) ≡ Some r → IsRefused m s path (refused r.why r.arg)
-IsRefused-by m s path r is = record { reply = sym (ap reply_of is); kept = λ looks. ap (next_if m s (Mkdir path) looks) is }
+IsRefused-by m s path r is = record { reason = r; is = is; reply = refl }
 
 -- what is against the place is against the command
 pub refusal-place : (m : Parameters) (s : State) (path : PathRef) (why : Why) → find (against m s path) place_reasons ≡ Some why → refusal m s (Mkdir path) ≡ Some (plain why)

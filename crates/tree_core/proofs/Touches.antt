@@ -1,10 +1,8 @@
 -- What a touch answers, and what follows it.
-use Rattle.std.proofs.Common.{◌≡◌, ◌≢◌, ℕ, zero, suc, ◌+◌, ◌-◌, ◌/◌, ◌^◌, ◌<◌, ◌≤◌, Bool, true, false, cond, ltb, List, [], ◌∷◌, Option, None, Some, refl, sym, subst, ap, ◌∙◌, arith}
-use Rattle.std.specs.List.{All}
+use Rattle.std.proofs.Common.{◌≡◌, ◌≢◌, ℕ, ◌+◌, ◌/◌, ◌<◌, ◌≤◌, Bool, true, false, cond, ltb, [], ◌∷◌, Option, None, Some, refl, ap, ◌∙◌}
 use Rattle.std.proofs.lemmas.Bool.{eq-eqb, ltb-true, ne_eqb, le-leb, lt-leb}
 use Rattle.cbm.specs.Masks.{ways_of}
 use Rattle.machine.specs.Maps.{bytes_of, domain_of}
-use Rattle.machine.specs.Ranges.{InRange}
 use Rattle.machine.specs.declared.parameters.Parameters.{Parameters}
 use Rattle.path_names.specs.declared.path_ref.PathRef.{PathRef}
 use Rattle.pseudo_lock.specs.Lines as lines
@@ -12,13 +10,9 @@ use Rattle.pseudo_lock.specs.declared.region.Region.{Region}
 use Rattle.rc_base.specs.declared.names.Gid.{Gid}
 use Rattle.rc_base.specs.declared.names.Tag.{Tag}
 use Rattle.rc_base.specs.declared.replies.Why.TheVariants.{NoSuchPath, PastRegion, WrongCpu}
-use Rattle.script_ops.specs.declared.limits.TheConstants.{MOST_WEIGHT}
 use Rattle.script_ops.specs.declared.op.Op.TheVariants as ops
-use Rattle.tree_law.proofs.laws.Lines.{first_line-bounded}
-use Rattle.tree_law.specs.LawsFollows.{IsLawful}
 use Rattle.tree_law.specs.Refusals.{plain}
 use Rattle.tree_law.specs.Resolving.{Owned, resolve}
-use Rattle.tree_law.specs.Sound.{IsSound}
 use Rattle.tree_law.specs.State.{State}
 use Rattle.tree_law.specs.Steps.{after, refusal}
 use Rattle.tree_law.specs.commands.Touch as touch
@@ -64,25 +58,6 @@ unfolding tag
 tag_of-parts x o domain epoch a b c d e f =
     ap (λ (n : ℕ). tag n x.owner x.class x.rmid x.mask x.domain) a ∙ ap (λ (g : Gid). tag epoch g x.class x.rmid x.mask x.domain) b ∙ ap (λ (n : ℕ). tag epoch o.owner n x.rmid x.mask x.domain) c
     ∙ ap (λ (n : ℕ). tag epoch o.owner o.class n x.mask x.domain) d ∙ ap (λ (n : ℕ). tag epoch o.owner o.class o.rmid n x.domain) e ∙ ap (λ (n : ℕ). tag epoch o.owner o.class o.rmid o.mask n) f
-
--- the line of a lawful touch is below 2^60
-pub line-low : (m : Parameters) (s : State) (x : Tag) (line : ℕ) → InRange m → IsSound m s → s.locks < MOST_WEIGHT → IsLawful m s (Touch x line) → line < 2 ^ 60
-line-low m s x line range sound few lawful =
-    let r = lawful.0 in
-    let low = first_line-bounded s.regions s.locks sound.lines m x.domain r (line - r.first_line) range few lawful.1 (omega (arith, lawful.2.0, lawful.2.1)) in
-    omega (arith, low, lawful.2.0)
-
--- what holds of one thing holds of each in a list of it
-pub All-only : {X : Type 0} (P : X → Type 0) (x : X) (xs : List X) → xs ≡ x ∷ [] → P x → All P xs
-All-only P x xs is here = subst (All P) (sym is) at
-  where
-    at : All P (x ∷ [])
-    at zero d within = here
-    at (suc k) d within = absurd (omega arith)
-
--- and what holds of each in it holds of that thing
-pub All-one : {X : Type 0} (P : X → Type 0) (x : X) (xs : List X) → xs ≡ x ∷ [] → All P xs → P x
-All-one P x xs is all = subst (All P) is all 0 x (omega arith)
 
 -- a line that is found is that of an offset within the region
 pub line_at-some : (m : Parameters) (r : Region) (offset line : ℕ) → Some line ≡ lines.line_at m r offset → (offset < bytes_of m (ways_of r.mask)) × (line ≡ r.first_line + offset / 64)

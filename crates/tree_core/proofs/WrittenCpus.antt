@@ -12,7 +12,7 @@ use Rattle.path_names.specs.declared.files.FileKind.{FileKind}
 use Rattle.path_names.specs.declared.files.FileKind.TheVariants as files
 use Rattle.path_names.specs.declared.path_ref.PathRef.TheVariants.{File}
 use Rattle.rc_base.specs.declared.replies.Reply.TheVariants as replies
-use Rattle.rc_base.specs.declared.replies.Why.TheVariants.{Locking}
+use Rattle.rc_base.specs.declared.replies.Why.TheVariants.{BadCpus, Locking, NotACpu}
 use Rattle.script_ops.specs.declared.op.Op.TheVariants.{Write}
 use Rattle.tree_core.proofs.Outcomes.{after-nothing, needs-nothing, next-accepted}
 use Rattle.tree_core.proofs.Soundness.{IsSound-from_status}
@@ -70,10 +70,19 @@ abbrev fault_or : CpuFault → Result ℕ CpuFault → CpuFault
 fault_or fault (Ok set) = fault
 fault_or fault (Err other) = other
 
--- a text with a fault changes nothing
-pub unless-fault : (s later : State) (g : Group) (fault : CpuFault) → unless (cpus.against_read g.gid g.kind s.cpus (Err fault)) s later ≡ s
-unless-fault s later g faults.Bad = refl
-unless-fault s later g (faults.NotACpu cpu) = refl
+-- the refusal of a text with a fault
+abbrev pub fault_refusal : CpuFault → Refusal
+fault_refusal faults.Bad = plain BadCpus
+fault_refusal (faults.NotACpu cpu) = record { why = NotACpu; arg = cpu }
+
+pub against_read-fault : (s : State) (g : Group) (fault : CpuFault) → cpus.against_read g.gid g.kind s.cpus (Err fault) ≡ Some (fault_refusal fault)
+against_read-fault s g faults.Bad = refl
+against_read-fault s g (faults.NotACpu cpu) = refl
+
+-- the state with other groups of its CPUs, unless something is against them
+pub unless-cpus : (s : State) (o : Option Refusal) (groups : List CpuGroups) → record s { cpus = unless o s.cpus groups } ≡ unless o s (record s { cpus = groups })
+unless-cpus s None groups = refl
+unless-cpus s (Some r) groups = refl
 
 module _ (s : State) (g : Group) (named : Result (List ℕ) CpuFault) where
   -- a closed group takes none
@@ -112,14 +121,6 @@ module _ (s : State) (g : Group) (named : Result (List ℕ) CpuFault) where
           at : (r : Result (List ℕ) CpuFault) → Ok set ≡ set_read r → cpus.accepted s g r ≡ record s { cpus = cpus.cpus_after g.gid g.kind set s.cpus }
           at (Ok numbers) e = let same : set ≡ cpus.set_of numbers = ap set_or_none e in ap (λ (n : ℕ). record s { cpus = cpus.cpus_after g.gid g.kind n s.cpus }) (sym same)
           at (Err fault) e = absurd (let f : Ok set ≡ Err fault = e in cc)
-
-      -- the state with them, where nothing is against them
-      pub with_set-unless : (new : State) → new ≡ record s { cpus = unless (cpus.against_set g.gid g.kind s.cpus set) s.cpus (cpus.cpus_after g.gid g.kind set s.cpus) } → new ≡ unless (cpus.refusal s g named) s (cpus.accepted s g named)
-      with_set-unless new e = e ∙ at (cpus.against_set g.gid g.kind s.cpus set) ∙ ap (λ (x : State). unless (cpus.against_set g.gid g.kind s.cpus set) s x) (sym accepted-set) ∙ ap (λ (o : Option Refusal). unless o s (cpus.accepted s g named)) (sym refusal-set)
-        where
-          at : (o : Option Refusal) → record s { cpus = unless o s.cpus (cpus.cpus_after g.gid g.kind set s.cpus) } ≡ unless o s (record s { cpus = cpus.cpus_after g.gid g.kind set s.cpus })
-          at None = refl
-          at (Some r) = refl
 
 -- ---- the command
 

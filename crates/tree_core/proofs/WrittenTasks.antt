@@ -27,7 +27,6 @@ use Rattle.tree_law.specs.State.{State}
 use Rattle.tree_law.specs.Steps.{accepted, after, left, refusal}
 use Rattle.tree_law.specs.commands.Tasks as tasks
 use Rattle.tree_law.specs.commands.Write as write
-use Rattle.tree_law.specs.commands.Tasks.{Moves, against_task, elements, in_group, moved, moves, or_ended, task_in, without_empty_last}
 
 -- ---- the state with other tasks
 

@@ -10,13 +10,12 @@ use Rattle.path_names.specs.declared.path_ref.PathRef.TheVariants.{File}
 use Rattle.rc_base.specs.declared.replies.Reply.{Reply}
 use Rattle.rc_base.specs.declared.replies.Why.TheVariants.{BadThreshold}
 use Rattle.script_ops.specs.declared.op.Op.TheVariants.{Write}
-use Rattle.tree_core.proofs.Outcomes.{after-nothing}
 use Rattle.tree_core.proofs.WrittenMasks.{refusal-write_text}
 use Rattle.tree_core.specs.Kept.{Keeps}
 use Rattle.tree_core.specs.Tables.{Tables}
 use Rattle.tree_law.specs.Refusals.{plain}
 use Rattle.tree_law.specs.State.{State}
-use Rattle.tree_law.specs.Steps.{accepted, after, left, refusal, with_status}
+use Rattle.tree_law.specs.Steps.{accepted, after_accepted, left, refusal, with_status}
 use Rattle.tree_law.specs.commands.Threshold as threshold
 use Rattle.tree_law.specs.commands.Write as write
 use Rattle.num_text.proofs.laws.Limits.{below-lt}
@@ -71,6 +70,6 @@ unfolding write.refused
 left-threshold s dir text reply = refl
 
 -- nothing follows a write
-pub after-threshold : (m : Parameters) (s : State) (k : ℕ) (dir : DirRef) (text : List ℕ) → after m s k (Write (File dir MaxThreshold) text) ≡ []
+pub after_accepted-threshold : (m : Parameters) (s : State) (k : ℕ) (dir : DirRef) (text : List ℕ) → after_accepted m s k (Write (File dir MaxThreshold) text) ≡ []
 unfolding write.after
-after-threshold m s k dir text = after-nothing m s k (Write (File dir MaxThreshold) text) refl
+after_accepted-threshold m s k dir text = refl

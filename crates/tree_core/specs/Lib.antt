@@ -1,3 +1,4 @@
+pub mod Changes
 pub mod CpuFiles
 pub mod Directories
 pub mod Follows

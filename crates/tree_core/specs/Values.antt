@@ -9,3 +9,7 @@ pub record TreeValue : Type 0 where
   pub machine : Parameters
   pub state : State
   pub epoch : ℕ
+
+-- the tree of these parts
+abbrev pub tree_of : Parameters → State → ℕ → TreeValue
+tree_of m s epoch = record { machine = m; state = s; epoch = epoch }

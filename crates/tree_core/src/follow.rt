@@ -1,10 +1,7 @@
 //! What follows a command in the slices.
-ghost use Rattle.std.specs.Prelude.{◌≡◌, ◌<◌, ◌≤◌, ◌^◌, [], ◌∷◌, filter, map};
-ghost use Rattle.std.specs.List.{All, list_any, range_with_len};
-ghost use Rattle.machine.specs.declared.parameters.Parameters.{Parameters};
+ghost use Rattle.std.specs.Prelude.{◌≡◌, ◌≤◌, [], ◌∷◌, filter, map};
+ghost use Rattle.std.specs.List.{list_any, range_with_len};
 ghost use Rattle.schemata_text.specs.Reading.{is_of};
-ghost use Rattle.tree_core.specs.Follows.{IsReady};
-ghost use Rattle.tree_law.specs.Steps.{follow_domain};
 ghost use Rattle.tree_law.specs.commands.Schemata.{names_domain};
 ghost use Rattle.tree_law.specs.declared.follow.Follow.TheVariants.{Drop, Flush, Raise};
 
@@ -28,8 +25,6 @@ pub(crate) fn raise_named(follows: &mut After, domains: u8, all: &[Assignment])
     requires nothing { follows.old.items ≡ [] }
     ensures raises { follows.new.items
         ≡ map (λ d. Raise d) (filter (names_domain all.now) (range_with_len 0 domains)) }
-    ensures domains { All (λ f. follow_domain f < domains) follows.new.items }
-    ensures ready { (m : Parameters) → All (IsReady m) follows.new.items }
 {
     for domain in 0..domains {
         if is_named(domain, all) {
@@ -43,8 +38,6 @@ pub(crate) fn raise_all(follows: &mut After, domains: u8)
     requires few { domains ≤ 8 }
     requires nothing { follows.old.items ≡ [] }
     ensures raises { follows.new.items ≡ map (λ d. Raise d) (range_with_len 0 domains) }
-    ensures domains { All (λ f. follow_domain f < domains) follows.new.items }
-    ensures ready { (m : Parameters) → All (IsReady m) follows.new.items }
 {
     for domain in 0..domains {
         follows.push(Follow::Raise { domain });
@@ -56,8 +49,6 @@ pub(crate) fn flush_all(follows: &mut After, domains: u8)
     requires few { domains ≤ 8 }
     requires nothing { follows.old.items ≡ [] }
     ensures flushes { follows.new.items ≡ map (λ d. Flush d) (range_with_len 0 domains) }
-    ensures domains { All (λ f. follow_domain f < domains) follows.new.items }
-    ensures ready { (m : Parameters) → All (IsReady m) follows.new.items }
 {
     for domain in 0..domains {
         follows.push(Follow::Flush { domain });
@@ -69,8 +60,6 @@ pub(crate) fn drop_all(follows: &mut After, domains: u8, line: u64)
     requires few { domains ≤ 8 }
     requires nothing { follows.old.items ≡ [] }
     ensures drops { follows.new.items ≡ map (λ d. Drop d line) (range_with_len 0 domains) }
-    ensures domains { All (λ f. follow_domain f < domains) follows.new.items }
-    ensures ready { (m : Parameters) → line < 2 ^ 60 → All (IsReady m) follows.new.items }
 {
     for domain in 0..domains {
         follows.push(Follow::Drop { domain, line });

@@ -109,14 +109,14 @@ Keeps-led domains (Some (Free dir free)) names name = Keeps-same names
 Keeps-led domains (Some (Nowhere whole)) names name = Keeps-same names
 
 -- so do several
-Keeps-reached_from : (domains : ℕ) (at : Reached) (parts : List (List ℕ)) → Keeps at.1 (reached_from domains at parts).1
+pub Keeps-reached_from : (domains : ℕ) (at : Reached) (parts : List (List ℕ)) → Keeps at.1 (reached_from domains at parts).1
 Keeps-reached_from domains at [] = Keeps-same at.1
 Keeps-reached_from domains at (name ∷ parts) =
     let next = led domains at.0 at.1 name in
     Keeps-trans at.1 next.1 (reached_from domains next parts).1 (Keeps-led domains at.0 at.1 name) (Keeps-reached_from domains next parts)
 
 -- so does a path that leads nowhere
-Keeps-or_nowhere : (text : List ℕ) (at : Reached) → Keeps at.1 (or_nowhere text at).1
+pub Keeps-or_nowhere : (text : List ℕ) (at : Reached) → Keeps at.1 (or_nowhere text at).1
 Keeps-or_nowhere text (Some path, names) = Keeps-same names
 Keeps-or_nowhere text (None, names) = Keeps-interned text names
 
@@ -142,7 +142,7 @@ list_all-components_of text parts read = at (is_text text (codes "/")) (is_well_
 
 module _ (domains : ℕ) (names : List (List ℕ)) (text : List ℕ) where
   -- what the components lead to is what is named
-  option_map-or_nowhere : (parts : Option (List (List ℕ))) (path : PathRef) (after : List (List ℕ)) → option_map (λ ps. or_nowhere text (reached domains names ps)) parts ≡ Some (path, after)
+  pub option_map-or_nowhere : (parts : Option (List (List ℕ))) (path : PathRef) (after : List (List ℕ)) → option_map (λ ps. or_nowhere text (reached domains names ps)) parts ≡ Some (path, after)
       → (ps : List (List ℕ)) × (parts ≡ Some ps) × (or_nowhere text (reached domains names ps) ≡ (path, after))
   option_map-or_nowhere None path after e = absurd (none-some (path, after) e)
   option_map-or_nowhere (Some ps) path after e = (ps, refl, same_Some _ _ e)

@@ -20,6 +20,7 @@ pub(crate) struct Crossing {
 }
 
 impl Crossing {
+    /// Nothing has happened yet.
     pub(crate) fn new() -> Crossing {
         Crossing {
             in_slice: AtomicBool::new(false),
@@ -73,6 +74,7 @@ pub(crate) struct Turns {
 }
 
 impl Turns {
+    /// No op is done yet.
     pub(crate) fn new() -> Turns {
         Turns {
             done: AtomicU32::new(0),

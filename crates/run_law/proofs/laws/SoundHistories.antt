@@ -14,7 +14,6 @@ use Rattle.run_law.specs.TreeHistory.{CommandMayFollow, IsCommandThat, IsLegalTr
 use Rattle.script_ops.specs.Fits.{Fits}
 use Rattle.script_ops.specs.Values.{IsLawful, ScriptValue, op_at, ops_of, threads_of}
 use Rattle.script_ops.specs.declared.op.Op.{Op}
-use Rattle.script_ops.specs.declared.op.Op.TheVariants as ops
 use Rattle.tree_law.proofs.laws.Opening.{opening-sound}
 use Rattle.tree_law.proofs.laws.Steps.{next-sound}
 use Rattle.tree_law.specs.Sound.{IsSound}

@@ -1,10 +1,12 @@
 //! Taking a command.
 ghost use Rattle.std.specs.Prelude.{◌≡◌, ◌+◌, ◌≤◌, ◌<◌, IfSome, None, Some, length, if◌then◌else◌, []};
 ghost use Rattle.std.specs.List.{All};
+ghost use Rattle.machine.specs.Ranges.{InRange};
 ghost use Rattle.rc_base.specs.Replies.{refused};
 ghost use Rattle.rc_base.specs.declared.replies.Why.TheVariants as whys;
 ghost use Rattle.script_ops.specs.Fits.{Fits};
 ghost use Rattle.script_ops.specs.declared.limits.TheConstants.{MOST_WEIGHT};
+ghost use Rattle.tree_core.specs.Changes.{Takes};
 ghost use Rattle.tree_core.specs.Follows.{IsReady};
 ghost use Rattle.tree_law.specs.Steps.{follow_domain};
 ghost use Rattle.tree_law.specs.Refusals.{plain, reply_of};
@@ -38,6 +40,7 @@ impl Tree {
         ensures sound { IsSound self.new.machine self.new.state }
     {
         let mut follows = After::new();
+        self.count();
         let reply = self.take(op, looks, &mut follows);
 
         // What the type keeps makes the new state a sound one.
@@ -45,21 +48,16 @@ impl Tree {
         (reply, follows)
     }
 
-    // Takes a command.
+    // Takes a command that is counted already.
     fn take(&mut self, op: &Op, looks: &[u64], follows: &mut After) -> Reply
         requires fits { Fits self.old.machine (tasks_of self.old.state) op.now }
         requires looks { length looks.now ≡ length (needs self.old.machine self.old.state op.now) }
-        requires epoch { self.old.epoch < MOST_WEIGHT }
+        requires gids { self.old.state.next_gid ≤ self.old.epoch }
+        requires locks { self.old.state.locks < self.old.epoch }
+        requires epoch { self.old.epoch ≤ MOST_WEIGHT }
         requires nothing { follows.old.items ≡ [] }
-        ensures machine { self.new.machine ≡ self.old.machine }
-        ensures reply { result ≡ (next self.old.machine self.old.state op.now looks.now).reply }
-        ensures state { self.new.state ≡ (next self.old.machine self.old.state op.now looks.now).state }
-        ensures epoch { self.new.epoch ≡ self.old.epoch + 1 }
-        ensures after { follows.new.items ≡ after self.old.machine self.old.state self.old.epoch op.now }
-        ensures domains { All (λ f. follow_domain f < self.old.machine.domains) follows.new.items }
-        ensures ready { All (IsReady self.old.machine) follows.new.items }
+        ensures { Takes self.old op.now looks.now self.new result follows.new.items }
     {
-        self.count();
         match op {
             Op::Mkdir { path } => self.mkdir(*path),
             Op::Rmdir { path } => self.rmdir(*path, looks, follows),
@@ -86,12 +84,13 @@ impl Tree {
         }
     }
 
-    // Counts a command. Then the number of the next group is at most that of the commands, and that of the locks is less.
+    // Counts a command. Then the number of the next group is at most that of the commands, and that of the locks is less. The
+    // tree was sound before.
     fn count(&mut self)
         requires epoch { self.old.epoch < MOST_WEIGHT }
-        ensures machine { self.new.machine ≡ self.old.machine }
-        ensures state { self.new.state ≡ self.old.state }
-        ensures epoch { self.new.epoch ≡ self.old.epoch + 1 }
+        ensures range { InRange self.old.machine }
+        ensures sound { IsSound self.old.machine self.old.state }
+        ensures tree { self.new ≡ record self.old { epoch = self.old.epoch + 1 } }
         ensures gids { self.new.state.next_gid ≤ self.new.epoch }
         ensures locks { self.new.state.locks < self.new.epoch }
     {

@@ -1,12 +1,12 @@
 //! A write of `cpus` or `cpus_list`: the CPUs of a group.
-ghost use Rattle.std.specs.Prelude.{◌≡◌, ◌≤◌, ℕ, List, None, find, length, true};
+ghost use Rattle.std.specs.Prelude.{◌≡◌, [], ◌≤◌, ℕ, List, None, find, length, true};
 ghost use Rattle.path_names.specs.declared.path_ref.PathRef.TheVariants.{File};
 ghost use Rattle.script_ops.specs.declared.op.Op.TheVariants.{Write};
+ghost use Rattle.tree_core.specs.Changes.{MakesUnless, Takes};
 ghost use Rattle.tree_core.specs.CpuFiles.{StaysSound, is_cpus, named_by, unless};
 ghost use Rattle.tree_law.specs.Existing.{directory_gid};
 ghost use Rattle.tree_law.specs.Refusals.{reply_of};
 ghost use Rattle.tree_law.specs.Sound.{IsSound};
-ghost use Rattle.tree_law.specs.Steps.{next};
 ghost use Rattle.tree_law.specs.commands.Cpus.{accepted, against_set, cpus_after, refusal};
 ghost use Rattle.tree_law.specs.commands.Write.{against, reasons};
 
@@ -24,12 +24,7 @@ impl Tree {
         requires writable { find (against self.old.state (File at.dir kind)) reasons ≡ None }
         requires found { at.gid ≡ directory_gid self.old.state at.dir }
         requires short { length text.now ≤ 4096 }
-        ensures machine { self.new.machine ≡ self.old.machine }
-        ensures reply { (looks : List ℕ)
-            → result ≡ (next self.old.machine self.old.state (Write (File at.dir kind) text.now) looks).reply }
-        ensures state { (looks : List ℕ)
-            → self.new.state ≡ (next self.old.machine self.old.state (Write (File at.dir kind) text.now) looks).state }
-        ensures epoch { self.new.epoch ≡ self.old.epoch }
+        ensures { (looks : List ℕ) → Takes self.old (Write (File at.dir kind) text.now) looks self.new result [] }
     {
         // What the type keeps makes the next state a sound one.
         let _ = &self.machine;
@@ -43,13 +38,8 @@ impl Tree {
     // Gives a group the CPUs that a text names, where nothing is against it.
     fn join_cpus(&mut self, group: &Group, kind: FileKind, text: &[u8]) -> Reply
         requires sound { StaysSound self.old.machine self.old.state group.now (named_by self.old.machine kind text.now) }
-        ensures machine { self.new.machine ≡ self.old.machine }
-        ensures reply { result
-            ≡ reply_of (refusal self.old.state group.now (named_by self.old.machine kind text.now)) }
-        ensures state { self.new.state
-            ≡ unless (refusal self.old.state group.now (named_by self.old.machine kind text.now)) self.old.state
-            (accepted self.old.state group.now (named_by self.old.machine kind text.now)) }
-        ensures epoch { self.new.epoch ≡ self.old.epoch }
+        ensures { MakesUnless self.old (refusal self.old.state group.now (named_by self.old.machine kind text.now))
+            (accepted self.old.state group.now (named_by self.old.machine kind text.now)) [] self.new result [] }
     {
         if self.is_closed(group) {
             return Reply::refused(Why::Locking, 0);
@@ -64,14 +54,15 @@ impl Tree {
     fn take_cpus(&mut self, group: &Group, set: u64) -> Reply
         requires sound { against_set group.now.gid group.now.kind self.old.state.cpus set ≡ None → IsSound self.old.machine
             (record self.old.state { cpus = cpus_after group.now.gid group.now.kind set self.old.state.cpus }) }
-        ensures machine { self.new.machine ≡ self.old.machine }
         ensures reply { result ≡ reply_of (against_set group.now.gid group.now.kind self.old.state.cpus set) }
-        ensures state { self.new.state ≡ record self.old.state {
-          cpus
-              = unless (against_set group.now.gid group.now.kind self.old.state.cpus set) self.old.state.cpus
-              (cpus_after group.now.gid group.now.kind set self.old.state.cpus);
+        ensures tree { self.new ≡ record self.old {
+          state
+              = record self.old.state {
+                cpus
+                    = unless (against_set group.now.gid group.now.kind self.old.state.cpus set) self.old.state.cpus
+                    (cpus_after group.now.gid group.now.kind set self.old.state.cpus);
+              };
         } }
-        ensures epoch { self.new.epoch ≡ self.old.epoch }
     {
         give(&mut self.cpus, group.gid, group.kind, set)
     }

@@ -1,15 +1,11 @@
 //! The write of `schemata` that locks a region.
-ghost use Rattle.std.specs.Prelude.{◌≡◌, ◌<◌, ◌≤◌, ◌^◌, Ok, Some, [], ◌∷◌, find, replicate, slice_set};
-ghost use Rattle.std.specs.List.{All};
-ghost use Rattle.cbm.specs.Validity.{checked};
+ghost use Rattle.std.specs.Prelude.{◌≡◌, ◌<◌, ◌≤◌, Ok, Some, [], ◌∷◌, find, replicate, slice_set};
 ghost use Rattle.group_tree.specs.Records.{has_gid};
 ghost use Rattle.mode_rules.specs.Overlaps.{write_overlap};
 ghost use Rattle.rc_base.specs.declared.names.Mode.TheVariants as modes;
 ghost use Rattle.script_ops.specs.declared.limits.TheConstants.{MOST_WEIGHT};
-ghost use Rattle.tree_core.specs.Follows.{IsReady};
 ghost use Rattle.tree_law.specs.Sound.{IsSound};
-ghost use Rattle.tree_law.specs.Space.{geometry_of, used_in};
-ghost use Rattle.tree_law.specs.Steps.{follow_domain};
+ghost use Rattle.tree_law.specs.Space.{used_in};
 ghost use Rattle.tree_law.specs.commands.Schemata.{lock, locked as locked_record, with_region};
 
 use super::Tree;
@@ -18,7 +14,6 @@ use crate::follow::{After, Follow, push_only};
 use group_tree::Group;
 use rc_base::Mode;
 use schemata_text::Assignment;
-use tree_law::theorems::valid_is_bounded;
 
 impl Tree {
     /// Locks the region of a group in pseudo-locksetup, which leaves a sound tree: the group is pseudo-locked from then on, its
@@ -27,22 +22,15 @@ impl Tree {
         requires there { find (has_gid group.now.gid) self.old.state.groups ≡ Some group.now }
         requires setup { group.now.mode ≡ modes.LockSetup }
         requires exists { a.now.domain < self.old.machine.domains }
-        requires faultless { checked (geometry_of self.old.machine) a.now.mask ≡ Ok a.now.mask }
         requires free { write_overlap modes.LockSetup a.now.mask
             (used_in self.old.machine self.old.state (Some group.now.gid) a.now.domain) ≡ Ok tt }
         requires locks { self.old.state.locks < self.old.epoch }
         requires epoch { self.old.epoch ≤ MOST_WEIGHT }
         requires sound { IsSound self.old.machine (with_region self.old.state group.now a.now) }
         requires nothing { follows.old.items ≡ [] }
-        ensures machine { self.new.machine ≡ self.old.machine }
-        ensures state { self.new.state ≡ with_region self.old.state group.now a.now }
-        ensures epoch { self.new.epoch ≡ self.old.epoch }
+        ensures tree { self.new ≡ record self.old { state = with_region self.old.state group.now a.now } }
         ensures after { follows.new.items ≡ lock self.old.state (a.now ∷ []) }
-        ensures domains { All (λ f. follow_domain f < self.old.machine.domains) follows.new.items }
-        ensures ready { All (IsReady self.old.machine) follows.new.items }
     {
-        // A mask without a fault is a valid one.
-        valid_is_bounded();
         let region = self.regions.place(group.gid, a.domain, a.mask);
         give(&mut self.classes, group.class);
         self.groups.replace(locked(group, a));
@@ -61,7 +49,6 @@ impl Tree {
 fn locked(group: &Group, a: &Assignment) -> Group
     requires { a.now.domain < 8 }
     ensures whole { result ≡ locked_record group.now a.now }
-    ensures small { a.now.mask < 2 ^ 32 }
 {
     Group {
         mode: Mode::Locked,
@@ -75,7 +62,6 @@ fn locked(group: &Group, a: &Assignment) -> Group
 fn only_mask(domain: u8, mask: u32) -> [u32; 8]
     requires { domain < 8 }
     ensures masks { result ≡ slice_set (replicate 8 0) domain mask }
-    ensures small { mask < 2 ^ 32 }
 {
     let mut masks = [0; 8];
     masks[domain as usize] = mask;

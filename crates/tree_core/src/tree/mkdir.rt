@@ -1,12 +1,12 @@
 //! mkdir: making a group.
-ghost use Rattle.std.specs.Prelude.{◌≡◌, ◌≤◌, ◌<◌, ◌^◌, ◌-◌, ℕ, List, None, false, find};
+ghost use Rattle.std.specs.Prelude.{◌≡◌, ◌≤◌, ◌<◌, ◌^◌, ◌-◌, ℕ, List, None, false, find, []};
 ghost use Rattle.script_ops.specs.declared.op.Op.TheVariants.{Mkdir};
+ghost use Rattle.tree_core.specs.Changes.{MakesGroup, Takes};
 ghost use Rattle.tree_core.specs.Directories.{path_of};
 ghost use Rattle.tree_core.specs.Places.{place_reasons};
 ghost use Rattle.tree_law.specs.Existing.{is_group_directory};
-ghost use Rattle.tree_law.specs.Refusals.{reply_of};
-ghost use Rattle.tree_law.specs.Steps.{next, next_if, refusal};
-ghost use Rattle.tree_law.specs.commands.Mkdir.{against};
+ghost use Rattle.tree_law.specs.Steps.{refusal};
+ghost use Rattle.tree_law.specs.commands.Mkdir.{accepted, against};
 
 use super::Tree;
 use crate::group_dir::{GroupDir, group_dir};
@@ -17,32 +17,20 @@ use rc_base::{Reply, Why};
 
 impl Tree {
     /// Makes a group at this path, and sets the last status.
-    #[tactic(auto, unfolding(tree_law::specs::Steps::next))]
     pub(crate) fn mkdir(&mut self, path: PathRef) -> Reply
         requires gids { self.old.state.next_gid ≤ self.old.epoch }
         requires epoch { self.old.epoch < 2 ^ 32 - 1 }
-        ensures machine { self.new.machine ≡ self.old.machine }
-        ensures reply { (looks : List ℕ) → result
-            ≡ (next self.old.machine self.old.state (Mkdir path) looks).reply }
-        ensures state { (looks : List ℕ)
-            → self.new.state ≡ (next self.old.machine self.old.state (Mkdir path) looks).state }
-        ensures epoch { self.new.epoch ≡ self.old.epoch }
+        ensures { (looks : List ℕ) → Takes self.old (Mkdir path) looks self.new result [] }
     {
         let reply = self.make(path);
-        self.status = reply;
-        reply
+        self.answer(reply)
     }
 
     // Makes a group at this path, but for the last status.
     fn make(&mut self, path: PathRef) -> Reply
         requires gids { self.old.state.next_gid ≤ self.old.epoch }
         requires epoch { self.old.epoch < 2 ^ 32 - 1 }
-        ensures machine { self.new.machine ≡ self.old.machine }
-        ensures reply { result ≡ reply_of (refusal self.old.machine self.old.state (Mkdir path)) }
-        ensures state { (looks : List ℕ) → self.new.state
-            ≡ next_if self.old.machine self.old.state (Mkdir path) looks
-            (refusal self.old.machine self.old.state (Mkdir path)) }
-        ensures epoch { self.new.epoch ≡ self.old.epoch }
+        ensures { MakesGroup self.old path self.new result }
     {
         match self.against_place(path) {
             Some(why) => Reply::refused(why, 0),
@@ -57,12 +45,7 @@ impl Tree {
     fn make_nothing(&mut self, path: PathRef) -> Reply
         requires place { find (against self.old.machine self.old.state path) place_reasons ≡ None }
         requires nameless { is_group_directory path ≡ false }
-        ensures machine { self.new.machine ≡ self.old.machine }
-        ensures reply { result ≡ reply_of (refusal self.old.machine self.old.state (Mkdir path)) }
-        ensures state { (looks : List ℕ) → self.new.state
-            ≡ next_if self.old.machine self.old.state (Mkdir path) looks
-            (refusal self.old.machine self.old.state (Mkdir path)) }
-        ensures epoch { self.new.epoch ≡ self.old.epoch }
+        ensures { MakesGroup self.old path self.new result }
     {
         match take_rmid(&mut self.rmids) {
             Ok(rmid) => {
@@ -78,12 +61,7 @@ impl Tree {
         requires place { find (against self.old.machine self.old.state (path_of dir)) place_reasons ≡ None }
         requires gids { self.old.state.next_gid ≤ self.old.epoch }
         requires epoch { self.old.epoch < 2 ^ 32 - 1 }
-        ensures machine { self.new.machine ≡ self.old.machine }
-        ensures reply { result ≡ reply_of (refusal self.old.machine self.old.state (Mkdir (path_of dir))) }
-        ensures state { (looks : List ℕ) → self.new.state
-            ≡ next_if self.old.machine self.old.state (Mkdir (path_of dir)) looks
-            (refusal self.old.machine self.old.state (Mkdir (path_of dir))) }
-        ensures epoch { self.new.epoch ≡ self.old.epoch }
+        ensures { MakesGroup self.old (path_of dir) self.new result }
     {
         match dir {
             GroupDir::Control(name) => self.make_control(name),

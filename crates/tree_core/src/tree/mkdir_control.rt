@@ -1,13 +1,13 @@
 //! mkdir: making a control group.
-ghost use Rattle.std.specs.Prelude.{◌≡◌, ◌≤◌, ◌<◌, ◌^◌, ◌-◌, ℕ, List, None, Some, find, is_some, true};
+ghost use Rattle.std.specs.Prelude.{◌≡◌, [], ◌≤◌, ◌<◌, ◌^◌, ◌-◌, None, Some, find, is_some, true};
 ghost use Rattle.path_names.specs.declared.dirs.DirRef.TheVariants.{Ctrl};
 ghost use Rattle.path_names.specs.declared.path_ref.PathRef.TheVariants.{Dir};
 ghost use Rattle.script_ops.specs.declared.op.Op.TheVariants.{Mkdir};
+ghost use Rattle.tree_core.specs.Changes.{MakesGroup};
 ghost use Rattle.tree_core.specs.Places.{place_reasons};
-ghost use Rattle.tree_law.specs.Refusals.{reply_of};
 ghost use Rattle.tree_law.specs.Space.{free_class, full_domain};
-ghost use Rattle.tree_law.specs.Steps.{next_if, refusal};
-ghost use Rattle.tree_law.specs.commands.Mkdir.{against, initial_masks};
+ghost use Rattle.tree_law.specs.Steps.{refusal};
+ghost use Rattle.tree_law.specs.commands.Mkdir.{accepted, against, initial_masks};
 
 use super::Tree;
 use crate::taking::{NewIds, has_class, take_ids};
@@ -21,13 +21,7 @@ impl Tree {
         requires place { find (against self.old.machine self.old.state (Dir (Ctrl name))) place_reasons ≡ None }
         requires gids { self.old.state.next_gid ≤ self.old.epoch }
         requires epoch { self.old.epoch < 2 ^ 32 - 1 }
-        ensures machine { self.new.machine ≡ self.old.machine }
-        ensures reply { result
-            ≡ reply_of (refusal self.old.machine self.old.state (Mkdir (Dir (Ctrl name)))) }
-        ensures state { (looks : List ℕ) → self.new.state
-            ≡ next_if self.old.machine self.old.state (Mkdir (Dir (Ctrl name))) looks
-            (refusal self.old.machine self.old.state (Mkdir (Dir (Ctrl name)))) }
-        ensures epoch { self.new.epoch ≡ self.old.epoch }
+        ensures { MakesGroup self.old (Dir (Ctrl name)) self.new result }
     {
         if self.has_class() {
             self.make_in_space(name)
@@ -38,9 +32,7 @@ impl Tree {
 
     // Whether a class is free.
     fn has_class(&mut self) -> bool
-        ensures machine { self.new.machine ≡ self.old.machine }
-        ensures state { self.new.state ≡ self.old.state }
-        ensures epoch { self.new.epoch ≡ self.old.epoch }
+        ensures tree { self.new ≡ self.old }
         ensures free { result ≡ is_some (free_class self.old.machine self.old.state) }
     {
         has_class(&mut self.classes)
@@ -52,13 +44,7 @@ impl Tree {
         requires class { is_some (free_class self.old.machine self.old.state) ≡ true }
         requires gids { self.old.state.next_gid ≤ self.old.epoch }
         requires epoch { self.old.epoch < 2 ^ 32 - 1 }
-        ensures machine { self.new.machine ≡ self.old.machine }
-        ensures reply { result
-            ≡ reply_of (refusal self.old.machine self.old.state (Mkdir (Dir (Ctrl name)))) }
-        ensures state { (looks : List ℕ) → self.new.state
-            ≡ next_if self.old.machine self.old.state (Mkdir (Dir (Ctrl name))) looks
-            (refusal self.old.machine self.old.state (Mkdir (Dir (Ctrl name)))) }
-        ensures epoch { self.new.epoch ≡ self.old.epoch }
+        ensures { MakesGroup self.old (Dir (Ctrl name)) self.new result }
     {
         match self.new_masks() {
             Ok(masks) => self.make_with_masks(name, masks),
@@ -73,13 +59,7 @@ impl Tree {
         requires masks { masks ≡ initial_masks self.old.machine self.old.state }
         requires gids { self.old.state.next_gid ≤ self.old.epoch }
         requires epoch { self.old.epoch < 2 ^ 32 - 1 }
-        ensures machine { self.new.machine ≡ self.old.machine }
-        ensures reply { result
-            ≡ reply_of (refusal self.old.machine self.old.state (Mkdir (Dir (Ctrl name)))) }
-        ensures state { (looks : List ℕ) → self.new.state
-            ≡ next_if self.old.machine self.old.state (Mkdir (Dir (Ctrl name))) looks
-            (refusal self.old.machine self.old.state (Mkdir (Dir (Ctrl name)))) }
-        ensures epoch { self.new.epoch ≡ self.old.epoch }
+        ensures { MakesGroup self.old (Dir (Ctrl name)) self.new result }
     {
         match take_ids(&mut self.classes, &mut self.rmids) {
             Ok(ids) => {

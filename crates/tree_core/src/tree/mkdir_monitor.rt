@@ -1,12 +1,12 @@
 //! mkdir: making a monitor group.
-ghost use Rattle.std.specs.Prelude.{◌≡◌, ◌≤◌, ◌<◌, ◌^◌, ◌-◌, ℕ, List, None, Some, find, replicate};
+ghost use Rattle.std.specs.Prelude.{◌≡◌, [], ◌≤◌, ◌<◌, ◌^◌, ◌-◌, None, Some, find, replicate};
 ghost use Rattle.path_names.specs.declared.dirs.DirRef.TheVariants.{Mon};
 ghost use Rattle.path_names.specs.declared.path_ref.PathRef.TheVariants.{Dir};
 ghost use Rattle.script_ops.specs.declared.op.Op.TheVariants.{Mkdir};
+ghost use Rattle.tree_core.specs.Changes.{MakesGroup};
 ghost use Rattle.tree_core.specs.Places.{place_reasons};
-ghost use Rattle.tree_law.specs.Refusals.{reply_of};
-ghost use Rattle.tree_law.specs.Steps.{next_if, refusal};
-ghost use Rattle.tree_law.specs.commands.Mkdir.{against};
+ghost use Rattle.tree_law.specs.Steps.{refusal};
+ghost use Rattle.tree_law.specs.commands.Mkdir.{accepted, against};
 
 use super::Tree;
 use crate::taking::take_rmid;
@@ -20,13 +20,7 @@ impl Tree {
         requires place { find (against self.old.machine self.old.state (Dir (Mon owner name))) place_reasons ≡ None }
         requires gids { self.old.state.next_gid ≤ self.old.epoch }
         requires epoch { self.old.epoch < 2 ^ 32 - 1 }
-        ensures machine { self.new.machine ≡ self.old.machine }
-        ensures reply { result
-            ≡ reply_of (refusal self.old.machine self.old.state (Mkdir (Dir (Mon owner name)))) }
-        ensures state { (looks : List ℕ) → self.new.state
-            ≡ next_if self.old.machine self.old.state (Mkdir (Dir (Mon owner name))) looks
-            (refusal self.old.machine self.old.state (Mkdir (Dir (Mon owner name)))) }
-        ensures epoch { self.new.epoch ≡ self.old.epoch }
+        ensures { MakesGroup self.old (Dir (Mon owner name)) self.new result }
     {
         let Some(parent) = self.owner_gid(owner) else {
             unreachable!()

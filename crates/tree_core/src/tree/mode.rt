@@ -1,20 +1,18 @@
 //! A write of `mode`: whether a control group shares its ways, keeps them for itself, or is about to lock a region.
-ghost use Rattle.std.specs.Prelude.{◌≡◌, ◌≤◌, ◌<◌, ◌*◌, ◌&&◌, None, Some, [], find, length, true};
-ghost use Rattle.std.specs.List.{All, list_any, range_with_len};
+ghost use Rattle.std.specs.Prelude.{◌≡◌, ◌≤◌, ◌*◌, ◌&&◌, None, Some, [], find, length, true};
+ghost use Rattle.std.specs.List.{list_any, range_with_len};
 ghost use Rattle.std.specs.Option.{option_map};
 ghost use Rattle.group_tree.specs.Records.{has_gid, is_control, is_mode};
 ghost use Rattle.path_names.specs.declared.files.FileKind.TheVariants as files;
 ghost use Rattle.path_names.specs.declared.path_ref.PathRef.TheVariants.{File};
 ghost use Rattle.rc_base.specs.declared.names.Mode.TheVariants as modes;
 ghost use Rattle.script_ops.specs.declared.op.Op.TheVariants.{Write};
-ghost use Rattle.tree_core.specs.CpuFiles.{unless};
-ghost use Rattle.tree_core.specs.Follows.{IsReady};
+ghost use Rattle.tree_core.specs.Changes.{MakesUnless, Takes};
 ghost use Rattle.tree_core.specs.Modes.{AsksMode, against_turn};
 ghost use Rattle.tree_core.specs.Overlaps.{reply_to};
 ghost use Rattle.tree_law.specs.Existing.{directory_gid};
-ghost use Rattle.tree_law.specs.Refusals.{reply_of};
 ghost use Rattle.tree_law.specs.Sound.{IsSound};
-ghost use Rattle.tree_law.specs.Steps.{after, follow_domain, needs, next};
+ghost use Rattle.tree_law.specs.Steps.{needs};
 ghost use Rattle.tree_law.specs.commands.Mode as mode;
 ghost use Rattle.tree_law.specs.commands.Mode.{overlaps_some};
 ghost use Rattle.tree_law.specs.commands.Write.{against, reasons};
@@ -41,16 +39,7 @@ impl Tree {
         requires looks { length looks.now
             ≡ length (needs self.old.machine self.old.state (Write (File at.dir files.Mode) text.now)) }
         requires nothing { follows.old.items ≡ [] }
-        ensures machine { self.new.machine ≡ self.old.machine }
-        ensures reply { result
-            ≡ (next self.old.machine self.old.state (Write (File at.dir files.Mode) text.now) looks.now).reply }
-        ensures state { self.new.state
-            ≡ (next self.old.machine self.old.state (Write (File at.dir files.Mode) text.now) looks.now).state }
-        ensures epoch { self.new.epoch ≡ self.old.epoch }
-        ensures after { follows.new.items
-            ≡ after self.old.machine self.old.state self.old.epoch (Write (File at.dir files.Mode) text.now) }
-        ensures domains { All (λ f. follow_domain f < self.old.machine.domains) follows.new.items }
-        ensures ready { All (IsReady self.old.machine) follows.new.items }
+        ensures { Takes self.old (Write (File at.dir files.Mode) text.now) looks.now self.new result follows.new.items }
     {
         // What the type keeps makes the next state a sound one.
         let _ = &self.machine;
@@ -76,16 +65,9 @@ impl Tree {
         requires sound { mode.refusal self.old.machine self.old.state group.now text.now ≡ None
             → IsSound self.old.machine (mode.accepted self.old.machine self.old.state group.now text.now looks.now) }
         requires nothing { follows.old.items ≡ [] }
-        ensures machine { self.new.machine ≡ self.old.machine }
-        ensures reply { result ≡ reply_of (mode.refusal self.old.machine self.old.state group.now text.now) }
-        ensures state { self.new.state
-            ≡ unless (mode.refusal self.old.machine self.old.state group.now text.now) self.old.state
-            (mode.accepted self.old.machine self.old.state group.now text.now looks.now) }
-        ensures epoch { self.new.epoch ≡ self.old.epoch }
-        ensures after { follows.new.items ≡ unless (mode.refusal self.old.machine self.old.state group.now text.now) []
-            (mode.after self.old.machine group.now text.now) }
-        ensures domains { All (λ f. follow_domain f < self.old.machine.domains) follows.new.items }
-        ensures ready { All (IsReady self.old.machine) follows.new.items }
+        ensures { MakesUnless self.old (mode.refusal self.old.machine self.old.state group.now text.now)
+            (mode.accepted self.old.machine self.old.state group.now text.now looks.now)
+            (mode.after self.old.machine group.now text.now) self.new result follows.new.items }
     {
         match self.asked_mode(group, text) {
             Ok(Some(mode)) => self.turn(group, mode, looks, follows),

@@ -1,13 +1,12 @@
 //! rmdir: removing a group.
-ghost use Rattle.std.specs.Prelude.{◌≡◌, ◌<◌, None, length, []};
-ghost use Rattle.std.specs.List.{All};
+ghost use Rattle.std.specs.Prelude.{◌≡◌, None, length, []};
 ghost use Rattle.path_names.specs.declared.dirs.DirRef.TheVariants.{Ctrl, Mon};
 ghost use Rattle.path_names.specs.declared.path_ref.PathRef.TheVariants.{Dir};
 ghost use Rattle.script_ops.specs.declared.op.Op.TheVariants.{Rmdir};
-ghost use Rattle.tree_core.specs.Follows.{IsReady};
+ghost use Rattle.tree_core.specs.Changes.{Takes};
 ghost use Rattle.tree_core.specs.Found.{IsControl, IsGroup, IsMonitor, found_path};
 ghost use Rattle.tree_core.specs.Removals.{MayLeave};
-ghost use Rattle.tree_law.specs.Steps.{accepted, after, follow_domain, needs, next, refusal};
+ghost use Rattle.tree_law.specs.Steps.{accepted, needs, refusal};
 
 use super::Tree;
 use crate::classes::give;
@@ -26,13 +25,7 @@ impl Tree {
     pub(crate) fn rmdir(&mut self, path: PathRef, looks: &[u64], follows: &mut After) -> Reply
         requires looks { length looks.now ≡ length (needs self.old.machine self.old.state (Rmdir path)) }
         requires nothing { follows.old.items ≡ [] }
-        ensures machine { self.new.machine ≡ self.old.machine }
-        ensures reply { result ≡ (next self.old.machine self.old.state (Rmdir path) looks.now).reply }
-        ensures state { self.new.state ≡ (next self.old.machine self.old.state (Rmdir path) looks.now).state }
-        ensures epoch { self.new.epoch ≡ self.old.epoch }
-        ensures after { follows.new.items ≡ after self.old.machine self.old.state self.old.epoch (Rmdir path) }
-        ensures domains { All (λ f. follow_domain f < self.old.machine.domains) follows.new.items }
-        ensures ready { All (IsReady self.old.machine) follows.new.items }
+        ensures { Takes self.old (Rmdir path) looks.now self.new result follows.new.items }
     {
         match self.found_at(path) {
             Ok(found) => self.remove(found, looks, follows),
@@ -46,14 +39,7 @@ impl Tree {
         requires accepted { refusal self.old.machine self.old.state (Rmdir (found_path found)) ≡ None }
         requires looks { length looks.now ≡ length (needs self.old.machine self.old.state (Rmdir (found_path found))) }
         requires nothing { follows.old.items ≡ [] }
-        ensures machine { self.new.machine ≡ self.old.machine }
-        ensures reply { result ≡ (next self.old.machine self.old.state (Rmdir (found_path found)) looks.now).reply }
-        ensures state { self.new.state ≡ (next self.old.machine self.old.state (Rmdir (found_path found)) looks.now).state }
-        ensures epoch { self.new.epoch ≡ self.old.epoch }
-        ensures after { follows.new.items
-            ≡ after self.old.machine self.old.state self.old.epoch (Rmdir (found_path found)) }
-        ensures domains { All (λ f. follow_domain f < self.old.machine.domains) follows.new.items }
-        ensures ready { All (IsReady self.old.machine) follows.new.items }
+        ensures { Takes self.old (Rmdir (found_path found)) looks.now self.new result follows.new.items }
     {
         raise_all(follows, self.machine.domains);
         self.remove_group(found, looks);
@@ -65,9 +51,9 @@ impl Tree {
         requires found { IsGroup self.old.state found }
         requires accepted { refusal self.old.machine self.old.state (Rmdir (found_path found)) ≡ None }
         requires looks { length looks.now ≡ length (needs self.old.machine self.old.state (Rmdir (found_path found))) }
-        ensures machine { self.new.machine ≡ self.old.machine }
-        ensures state { self.new.state ≡ accepted self.old.machine self.old.state (Rmdir (found_path found)) looks.now }
-        ensures epoch { self.new.epoch ≡ self.old.epoch }
+        ensures tree { self.new ≡ record self.old {
+          state = accepted self.old.machine self.old.state (Rmdir (found_path found)) looks.now;
+        } }
     {
         let mut freed = RmidList::new();
         self.push_freed(found, &mut freed);
@@ -81,9 +67,9 @@ impl Tree {
     fn remove_control(&mut self, found: Control, freed: &[u16], looks: &[u64])
         requires found { IsControl self.old.state found }
         requires leaves { MayLeave self.old (Dir (Ctrl found.name)) freed.now looks.now }
-        ensures machine { self.new.machine ≡ self.old.machine }
-        ensures state { self.new.state ≡ accepted self.old.machine self.old.state (Rmdir (Dir (Ctrl found.name))) looks.now }
-        ensures epoch { self.new.epoch ≡ self.old.epoch }
+        ensures tree { self.new ≡ record self.old {
+          state = accepted self.old.machine self.old.state (Rmdir (Dir (Ctrl found.name))) looks.now;
+        } }
     {
         remove_monitors(&mut self.groups, found.gid);
         self.groups.remove(found.gid);
@@ -98,9 +84,9 @@ impl Tree {
     fn remove_monitor(&mut self, found: Monitor, freed: &[u16], looks: &[u64])
         requires found { IsMonitor self.old.state found }
         requires leaves { MayLeave self.old (Dir (Mon found.owner found.name)) freed.now looks.now }
-        ensures machine { self.new.machine ≡ self.old.machine }
-        ensures state { self.new.state ≡ accepted self.old.machine self.old.state (Rmdir (Dir (Mon found.owner found.name))) looks.now }
-        ensures epoch { self.new.epoch ≡ self.old.epoch }
+        ensures tree { self.new ≡ record self.old {
+          state = accepted self.old.machine self.old.state (Rmdir (Dir (Mon found.owner found.name))) looks.now;
+        } }
     {
         self.groups.remove(found.gid);
         self.tasks.unbind_mon(found.gid, found.parent);

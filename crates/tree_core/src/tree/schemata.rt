@@ -1,20 +1,19 @@
 //! A write of `schemata`: the masks of a control group, or the region of a group in pseudo-locksetup.
 ghost use Rattle.std.specs.Prelude.{◌≡◌, ◌<◌, ◌≤◌, ℕ, List, None, Ok, Some, [], false, find, length};
-ghost use Rattle.std.specs.List.{All};
 ghost use Rattle.group_tree.specs.Records.{has_gid};
 ghost use Rattle.path_names.specs.declared.files.FileKind.TheVariants.{Schemata};
 ghost use Rattle.path_names.specs.declared.path_ref.PathRef.TheVariants.{File};
 ghost use Rattle.schemata_text.specs.Reading.{AreLawful};
 ghost use Rattle.script_ops.specs.declared.limits.TheConstants.{MOST_WEIGHT};
 ghost use Rattle.script_ops.specs.declared.op.Op.TheVariants.{Write};
+ghost use Rattle.tree_core.specs.Changes.{MakesUnless, Takes};
 ghost use Rattle.tree_core.specs.CpuFiles.{unless};
-ghost use Rattle.tree_core.specs.Follows.{IsReady};
 ghost use Rattle.tree_law.specs.Existing.{directory_gid};
 ghost use Rattle.tree_law.specs.Places.{control_at, with_record};
 ghost use Rattle.tree_law.specs.Refusals.{reply_of};
 ghost use Rattle.tree_law.specs.Sound.{IsSound};
 ghost use Rattle.tree_law.specs.Space.{geometry_of};
-ghost use Rattle.tree_law.specs.Steps.{after, follow_domain, next};
+ghost use Rattle.tree_law.specs.Steps.{after};
 ghost use Rattle.tree_law.specs.commands.Schemata as schemata;
 ghost use Rattle.tree_law.specs.commands.Schemata.{against_entries, against_read, assigned, is_locked, names_many, schemata_read, with_masks};
 ghost use Rattle.tree_law.specs.commands.Write.{against, reasons};
@@ -38,16 +37,8 @@ impl Tree {
         requires locks { self.old.state.locks < self.old.epoch }
         requires epoch { self.old.epoch ≤ MOST_WEIGHT }
         requires nothing { follows.old.items ≡ [] }
-        ensures machine { self.new.machine ≡ self.old.machine }
-        ensures reply { (looks : List ℕ)
-            → result ≡ (next self.old.machine self.old.state (Write (File at.dir Schemata) text.now) looks).reply }
-        ensures state { (looks : List ℕ)
-            → self.new.state ≡ (next self.old.machine self.old.state (Write (File at.dir Schemata) text.now) looks).state }
-        ensures epoch { self.new.epoch ≡ self.old.epoch }
-        ensures after { follows.new.items
-            ≡ after self.old.machine self.old.state self.old.epoch (Write (File at.dir Schemata) text.now) }
-        ensures domains { All (λ f. follow_domain f < self.old.machine.domains) follows.new.items }
-        ensures ready { All (IsReady self.old.machine) follows.new.items }
+        ensures { (looks : List ℕ)
+            → Takes self.old (Write (File at.dir Schemata) text.now) looks self.new result follows.new.items }
     {
         // What the type keeps makes the next state a sound one.
         let _ = &self.machine;
@@ -78,18 +69,11 @@ impl Tree {
         requires sound { schemata.refusal self.old.machine self.old.state group.now (schemata_read self.old.machine text.now) ≡ None
             → IsSound self.old.machine (schemata.accepted self.old.state group.now (schemata_read self.old.machine text.now)) }
         requires nothing { follows.old.items ≡ [] }
-        ensures machine { self.new.machine ≡ self.old.machine }
-        ensures reply { result
-            ≡ reply_of (schemata.refusal self.old.machine self.old.state group.now (schemata_read self.old.machine text.now)) }
-        ensures state { self.new.state
-            ≡ unless (schemata.refusal self.old.machine self.old.state group.now (schemata_read self.old.machine text.now))
-            self.old.state (schemata.accepted self.old.state group.now (schemata_read self.old.machine text.now)) }
-        ensures epoch { self.new.epoch ≡ self.old.epoch }
-        ensures after { follows.new.items
-            ≡ unless (schemata.refusal self.old.machine self.old.state group.now (schemata_read self.old.machine text.now)) []
-            (schemata.after self.old.machine self.old.state group.now (schemata_read self.old.machine text.now)) }
-        ensures domains { All (λ f. follow_domain f < self.old.machine.domains) follows.new.items }
-        ensures ready { All (IsReady self.old.machine) follows.new.items }
+        ensures { MakesUnless self.old
+            (schemata.refusal self.old.machine self.old.state group.now (schemata_read self.old.machine text.now))
+            (schemata.accepted self.old.state group.now (schemata_read self.old.machine text.now))
+            (schemata.after self.old.machine self.old.state group.now (schemata_read self.old.machine text.now))
+            self.new result follows.new.items }
     {
         if is_locked(group.mode) {
             return Reply::refused(Why::GroupLocked, 0);
@@ -110,16 +94,9 @@ impl Tree {
         requires sound { against_read self.old.machine self.old.state group.now (Ok all.now) ≡ None
             → IsSound self.old.machine (with_masks self.old.state group.now group.now.mode all.now) }
         requires nothing { follows.old.items ≡ [] }
-        ensures machine { self.new.machine ≡ self.old.machine }
-        ensures reply { result ≡ reply_of (against_read self.old.machine self.old.state group.now (Ok all.now)) }
-        ensures state { self.new.state
-            ≡ unless (against_read self.old.machine self.old.state group.now (Ok all.now)) self.old.state
-            (with_masks self.old.state group.now group.now.mode all.now) }
-        ensures epoch { self.new.epoch ≡ self.old.epoch }
-        ensures after { follows.new.items ≡ unless (against_read self.old.machine self.old.state group.now (Ok all.now)) []
-            (schemata.follow self.old.machine self.old.state group.now.mode all.now) }
-        ensures domains { All (λ f. follow_domain f < self.old.machine.domains) follows.new.items }
-        ensures ready { All (IsReady self.old.machine) follows.new.items }
+        ensures { MakesUnless self.old (against_read self.old.machine self.old.state group.now (Ok all.now))
+            (with_masks self.old.state group.now group.now.mode all.now)
+            (schemata.follow self.old.machine self.old.state group.now.mode all.now) self.new result follows.new.items }
     {
         if names_many(group.mode, all) {
             return Reply::refused(Why::OneDomain, 0);
@@ -142,12 +119,8 @@ impl Tree {
         requires epoch { self.old.epoch ≤ MOST_WEIGHT }
         requires sound { IsSound self.old.machine (with_masks self.old.state group.now group.now.mode all.now) }
         requires nothing { follows.old.items ≡ [] }
-        ensures machine { self.new.machine ≡ self.old.machine }
-        ensures state { self.new.state ≡ with_masks self.old.state group.now group.now.mode all.now }
-        ensures epoch { self.new.epoch ≡ self.old.epoch }
+        ensures tree { self.new ≡ record self.old { state = with_masks self.old.state group.now group.now.mode all.now } }
         ensures after { follows.new.items ≡ schemata.follow self.old.machine self.old.state group.now.mode all.now }
-        ensures domains { All (λ f. follow_domain f < self.old.machine.domains) follows.new.items }
-        ensures ready { All (IsReady self.old.machine) follows.new.items }
     {
         match group.mode {
             Mode::Shareable | Mode::Exclusive => self.write_masks(group, all, follows),
@@ -166,13 +139,10 @@ impl Tree {
         requires sound { IsSound self.old.machine
             (with_record self.old.state (record group.now { masks = assigned group.now.masks all.now })) }
         requires nothing { follows.old.items ≡ [] }
-        ensures machine { self.new.machine ≡ self.old.machine }
-        ensures state { self.new.state
-            ≡ with_record self.old.state (record group.now { masks = assigned group.now.masks all.now }) }
-        ensures epoch { self.new.epoch ≡ self.old.epoch }
+        ensures tree { self.new ≡ record self.old {
+          state = with_record self.old.state (record group.now { masks = assigned group.now.masks all.now });
+        } }
         ensures after { follows.new.items ≡ schemata.raises self.old.machine all.now }
-        ensures domains { All (λ f. follow_domain f < self.old.machine.domains) follows.new.items }
-        ensures ready { All (IsReady self.old.machine) follows.new.items }
     {
         raise_named(follows, self.machine.domains, all);
         let mut masks = group.masks;

@@ -1,12 +1,12 @@
 //! A write of `tasks`: tasks join a group.
-ghost use Rattle.std.specs.Prelude.{◌≡◌, ◌≤◌, ℕ, List, None, find, length};
+ghost use Rattle.std.specs.Prelude.{◌≡◌, [], ◌≤◌, ℕ, List, None, find, length};
 ghost use Rattle.path_names.specs.declared.files.FileKind.TheVariants.{Tasks};
 ghost use Rattle.path_names.specs.declared.path_ref.PathRef.TheVariants.{File};
 ghost use Rattle.script_ops.specs.declared.op.Op.TheVariants.{Write};
+ghost use Rattle.tree_core.specs.Changes.{Takes};
 ghost use Rattle.tree_law.specs.Existing.{directory_gid};
 ghost use Rattle.tree_law.specs.Refusals.{reply_of};
 ghost use Rattle.tree_law.specs.Sound.{IsSound};
-ghost use Rattle.tree_law.specs.Steps.{next};
 ghost use Rattle.tree_law.specs.commands.Tasks.{kept, moves_in, refusal};
 ghost use Rattle.tree_law.specs.commands.Write.{against, reasons};
 
@@ -22,12 +22,7 @@ impl Tree {
         requires writable { find (against self.old.state (File at.dir Tasks)) reasons ≡ None }
         requires found { at.gid ≡ directory_gid self.old.state at.dir }
         requires short { length text.now ≤ 4096 }
-        ensures machine { self.new.machine ≡ self.old.machine }
-        ensures reply { (looks : List ℕ)
-            → result ≡ (next self.old.machine self.old.state (Write (File at.dir Tasks) text.now) looks).reply }
-        ensures state { (looks : List ℕ)
-            → self.new.state ≡ (next self.old.machine self.old.state (Write (File at.dir Tasks) text.now) looks).state }
-        ensures epoch { self.new.epoch ≡ self.old.epoch }
+        ensures { (looks : List ℕ) → Takes self.old (Write (File at.dir Tasks) text.now) looks self.new result [] }
     {
         // What the type keeps makes the next state a sound one.
         let _ = &self.machine;
@@ -41,10 +36,8 @@ impl Tree {
     // Moves the tasks of a text to a group, up to the first that cannot.
     fn join_tasks(&mut self, group: &Group, text: &[u8]) -> Reply
         requires sound { IsSound self.old.machine (kept self.old.state group.now text.now) }
-        ensures machine { self.new.machine ≡ self.old.machine }
         ensures reply { result ≡ reply_of (refusal self.old.state group.now text.now) }
-        ensures state { self.new.state ≡ kept self.old.state group.now text.now }
-        ensures epoch { self.new.epoch ≡ self.old.epoch }
+        ensures tree { self.new ≡ record self.old { state = kept self.old.state group.now text.now } }
     {
         if self.is_closed(group) {
             return Reply::refused(Why::Locking, 0);
@@ -56,11 +49,10 @@ impl Tree {
     fn take_tasks(&mut self, group: &Group, text: &[u8]) -> Reply
         requires sound { IsSound self.old.machine
             (record self.old.state { tasks = (moves_in self.old.state group.now text.now).tasks }) }
-        ensures machine { self.new.machine ≡ self.old.machine }
         ensures reply { result ≡ reply_of (moves_in self.old.state group.now text.now).ended }
-        ensures state { self.new.state
-            ≡ record self.old.state { tasks = (moves_in self.old.state group.now text.now).tasks } }
-        ensures epoch { self.new.epoch ≡ self.old.epoch }
+        ensures tree { self.new ≡ record self.old {
+          state = record self.old.state { tasks = (moves_in self.old.state group.now text.now).tasks };
+        } }
     {
         move_tasks(&mut self.tasks, group.gid, group.kind, text)
     }

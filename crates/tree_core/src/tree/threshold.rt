@@ -1,11 +1,11 @@
 //! A write of `max_threshold_occupancy`.
-ghost use Rattle.std.specs.Prelude.{◌≡◌, ◌≤◌, ◌<◌, ℕ, List, None, find, length};
+ghost use Rattle.std.specs.Prelude.{◌≡◌, [], ◌≤◌, ℕ, List, None, find, length};
 ghost use Rattle.machine.specs.Maps.{cache_bytes, parameters_of};
 ghost use Rattle.path_names.specs.declared.files.FileKind.TheVariants.{MaxThreshold};
 ghost use Rattle.path_names.specs.declared.path_ref.PathRef.TheVariants.{File};
 ghost use Rattle.rc_base.specs.declared.replies.Reply.TheVariants as replies;
 ghost use Rattle.script_ops.specs.declared.op.Op.TheVariants.{Write};
-ghost use Rattle.tree_law.specs.Steps.{next};
+ghost use Rattle.tree_core.specs.Changes.{Takes};
 ghost use Rattle.tree_law.specs.commands.Threshold.{threshold_in};
 ghost use Rattle.tree_law.specs.commands.Write.{against, reasons};
 
@@ -21,12 +21,7 @@ impl Tree {
     pub(crate) fn write_threshold(&mut self, dir: DirRef, text: &[u8]) -> Reply
         requires writable { find (against self.old.state (File dir MaxThreshold)) reasons ≡ None }
         requires short { length text.now ≤ 4096 }
-        ensures machine { self.new.machine ≡ self.old.machine }
-        ensures reply { (looks : List ℕ)
-            → result ≡ (next self.old.machine self.old.state (Write (File dir MaxThreshold) text.now) looks).reply }
-        ensures state { (looks : List ℕ)
-            → self.new.state ≡ (next self.old.machine self.old.state (Write (File dir MaxThreshold) text.now) looks).state }
-        ensures epoch { self.new.epoch ≡ self.old.epoch }
+        ensures { (looks : List ℕ) → Takes self.old (Write (File dir MaxThreshold) text.now) looks self.new result [] }
     {
         let _ = dir;
         match read_threshold(&self.machine, text) {
@@ -38,10 +33,8 @@ impl Tree {
     // Takes a threshold of at most the bytes of one cache. The command is accepted.
     fn put_threshold(&mut self, bytes: u64) -> Reply
         requires few { bytes ≤ cache_bytes self.old.machine }
-        ensures machine { self.new.machine ≡ self.old.machine }
         ensures reply { result ≡ replies.Ok }
-        ensures state { self.new.state ≡ record self.old.state { threshold = bytes; status = replies.Ok } }
-        ensures epoch { self.new.epoch ≡ self.old.epoch }
+        ensures tree { self.new ≡ record self.old { state = record self.old.state { threshold = bytes; status = replies.Ok } } }
     {
         self.rmids.set_threshold(bytes);
         self.status = Reply::Ok;

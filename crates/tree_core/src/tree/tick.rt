@@ -1,8 +1,9 @@
 //! tick: testing the RMIDs in limbo.
-ghost use Rattle.std.specs.Prelude.{◌≡◌, length};
+ghost use Rattle.std.specs.Prelude.{◌≡◌, [], length};
 ghost use Rattle.rc_base.specs.declared.replies.Reply.TheVariants as replies;
 ghost use Rattle.script_ops.specs.declared.op.Op.TheVariants.{Tick};
-ghost use Rattle.tree_law.specs.Steps.{needs, next};
+ghost use Rattle.tree_core.specs.Changes.{Takes};
+ghost use Rattle.tree_law.specs.Steps.{needs};
 
 use super::Tree;
 use crate::freeing::bytes_each;
@@ -13,10 +14,7 @@ impl Tree {
     /// (kernel documentation, "max_threshold_occupancy").
     pub(crate) fn tick(&mut self, looks: &[u64]) -> Reply
         requires looks { length looks.now ≡ length (needs self.old.machine self.old.state Tick) }
-        ensures machine { self.new.machine ≡ self.old.machine }
-        ensures reply { result ≡ replies.Ok }
-        ensures state { self.new.state ≡ (next self.old.machine self.old.state Tick looks.now).state }
-        ensures epoch { self.new.epoch ≡ self.old.epoch }
+        ensures { Takes self.old Tick looks.now self.new result [] }
     {
         let bytes = bytes_each(looks, self.machine.domains, self.rmids.limbo_len());
         self.rmids.tick(bytes.as_slice());

@@ -1,16 +1,12 @@
 //! touch: one access to a line of a region.
-ghost use Rattle.std.specs.Prelude.{◌≡◌, ◌==◌, ◌+◌, ◌<◌, ◌^◌, ℕ, Contains, IfSome, []};
-ghost use Rattle.std.specs.List.{All};
+ghost use Rattle.std.specs.Prelude.{◌≡◌, ◌==◌, ◌<◌, ◌^◌, ℕ, Contains, IfSome, List, []};
 ghost use Rattle.std.specs.Option.{option_map};
 ghost use Rattle.machine.specs.Maps.{domain_of};
 ghost use Rattle.pseudo_lock.specs.declared.region.Region.{Region};
-ghost use Rattle.script_ops.specs.declared.limits.TheConstants.{MOST_WEIGHT};
 ghost use Rattle.script_ops.specs.declared.op.Op.TheVariants.{Touch};
-ghost use Rattle.tree_core.specs.Follows.{IsReady};
+ghost use Rattle.tree_core.specs.Changes.{Takes};
 ghost use Rattle.tree_core.specs.Touched.{region_at};
-ghost use Rattle.tree_law.specs.Refusals.{reply_of};
 ghost use Rattle.tree_law.specs.State.{tasks_of};
-ghost use Rattle.tree_law.specs.Steps.{after, follow_domain, refusal};
 ghost use Rattle.tree_law.specs.commands.Touch.{region_if_locked, region_of, touched};
 
 use super::Tree;
@@ -34,14 +30,8 @@ impl Tree {
     ) -> Reply
         requires task { Contains (tasks_of self.now.state) task }
         requires cpu { cpu < self.now.machine.cpus }
-        requires locks { self.now.state.locks < MOST_WEIGHT }
         requires nothing { follows.old.items ≡ [] }
-        ensures reply { result
-            ≡ reply_of (refusal self.now.machine self.now.state (Touch cpu path task offset)) }
-        ensures after { (k : ℕ) → k + 1 ≡ self.now.epoch
-            → follows.new.items ≡ after self.now.machine self.now.state k (Touch cpu path task offset) }
-        ensures domains { All (λ f. follow_domain f < self.now.machine.domains) follows.new.items }
-        ensures ready { All (IsReady self.now.machine) follows.new.items }
+        ensures { (looks : List ℕ) → Takes self.now (Touch cpu path task offset) looks self.now result follows.new.items }
     {
         let Some(region) = self.touched(path) else {
             return Reply::refused(Why::NoSuchPath, 0);

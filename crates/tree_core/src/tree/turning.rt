@@ -1,17 +1,16 @@
 //! Turning a control group to another mode.
-ghost use Rattle.std.specs.Prelude.{◌≡◌, ◌≢◌, ◌<◌, ◌*◌, None, Some, [], false, find, length, map, true};
-ghost use Rattle.std.specs.List.{All, range_with_len};
+ghost use Rattle.std.specs.Prelude.{◌≡◌, ◌≢◌, ◌*◌, None, Some, [], false, find, length, map, true};
+ghost use Rattle.std.specs.List.{range_with_len};
 ghost use Rattle.group_tree.specs.Records.{has_gid, is_control};
 ghost use Rattle.rc_base.specs.declared.names.Mode.TheVariants as modes;
+ghost use Rattle.tree_core.specs.Changes.{MakesUnless};
 ghost use Rattle.tree_core.specs.CpuFiles.{unless};
-ghost use Rattle.tree_core.specs.Follows.{IsReady};
 ghost use Rattle.tree_core.specs.Modes.{turned};
 ghost use Rattle.tree_law.specs.Freeing.{limbo_after, rmids_of};
 ghost use Rattle.tree_law.specs.Places.{with_record};
 ghost use Rattle.tree_law.specs.Refusals.{reply_of};
 ghost use Rattle.tree_law.specs.Sound.{IsSound};
 ghost use Rattle.tree_law.specs.Space.{free_rmid};
-ghost use Rattle.tree_law.specs.Steps.{follow_domain};
 ghost use Rattle.tree_law.specs.commands.Mode.{against_rmid, freed_by, is_setup, rmid_refusal};
 ghost use Rattle.tree_law.specs.declared.follow.Follow.TheVariants.{Raise};
 
@@ -42,15 +41,9 @@ impl Tree {
         requires sound { against_rmid self.old.machine self.old.state group.now ≡ None
             → IsSound self.old.machine (turned self.old.machine self.old.state group.now mode looks.now) }
         requires nothing { follows.old.items ≡ [] }
-        ensures machine { self.new.machine ≡ self.old.machine }
-        ensures reply { result ≡ reply_of (against_rmid self.old.machine self.old.state group.now) }
-        ensures state { self.new.state ≡ unless (against_rmid self.old.machine self.old.state group.now) self.old.state
-            (turned self.old.machine self.old.state group.now mode looks.now) }
-        ensures epoch { self.new.epoch ≡ self.old.epoch }
-        ensures after { follows.new.items ≡ unless (against_rmid self.old.machine self.old.state group.now) []
-            (map (λ d. Raise d) (range_with_len 0 self.old.machine.domains)) }
-        ensures domains { All (λ f. follow_domain f < self.old.machine.domains) follows.new.items }
-        ensures ready { All (IsReady self.old.machine) follows.new.items }
+        ensures { MakesUnless self.old (against_rmid self.old.machine self.old.state group.now)
+            (turned self.old.machine self.old.state group.now mode looks.now)
+            (map (λ d. Raise d) (range_with_len 0 self.old.machine.domains)) self.new result follows.new.items }
     {
         if mode == Mode::LockSetup {
             self.enter_setup(group, looks, follows);
@@ -74,16 +67,14 @@ impl Tree {
                   = limbo_after self.old.machine self.old.state.threshold self.old.state.limbo (rmids_of group.now) looks.now;
             }) }
         requires nothing { follows.old.items ≡ [] }
-        ensures machine { self.new.machine ≡ self.old.machine }
-        ensures state { self.new.state
-            ≡ record (with_record self.old.state (record group.now { mode = modes.LockSetup; rmid = None })) {
-              limbo
-                  = limbo_after self.old.machine self.old.state.threshold self.old.state.limbo (rmids_of group.now) looks.now;
-            } }
-        ensures epoch { self.new.epoch ≡ self.old.epoch }
+        ensures tree { self.new ≡ record self.old {
+          state
+              = record (with_record self.old.state (record group.now { mode = modes.LockSetup; rmid = None })) {
+                limbo
+                    = limbo_after self.old.machine self.old.state.threshold self.old.state.limbo (rmids_of group.now) looks.now;
+              };
+        } }
         ensures after { follows.new.items ≡ map (λ d. Raise d) (range_with_len 0 self.old.machine.domains) }
-        ensures domains { All (λ f. follow_domain f < self.old.machine.domains) follows.new.items }
-        ensures ready { All (IsReady self.old.machine) follows.new.items }
     {
         raise_all(follows, self.machine.domains);
         let freed = only(group.rmid);
@@ -103,16 +94,10 @@ impl Tree {
         requires sound { rmid_refusal self.old.machine self.old.state ≡ None → IsSound self.old.machine (with_record self.old.state
             (record group.now { mode = mode; rmid = free_rmid self.old.machine self.old.state })) }
         requires nothing { follows.old.items ≡ [] }
-        ensures machine { self.new.machine ≡ self.old.machine }
-        ensures reply { result ≡ reply_of (rmid_refusal self.old.machine self.old.state) }
-        ensures state { self.new.state ≡ unless (rmid_refusal self.old.machine self.old.state) self.old.state
+        ensures { MakesUnless self.old (rmid_refusal self.old.machine self.old.state)
             (with_record self.old.state
-            (record group.now { mode = mode; rmid = free_rmid self.old.machine self.old.state })) }
-        ensures epoch { self.new.epoch ≡ self.old.epoch }
-        ensures after { follows.new.items ≡ unless (rmid_refusal self.old.machine self.old.state) []
-            (map (λ d. Raise d) (range_with_len 0 self.old.machine.domains)) }
-        ensures domains { All (λ f. follow_domain f < self.old.machine.domains) follows.new.items }
-        ensures ready { All (IsReady self.old.machine) follows.new.items }
+            (record group.now { mode = mode; rmid = free_rmid self.old.machine self.old.state }))
+            (map (λ d. Raise d) (range_with_len 0 self.old.machine.domains)) self.new result follows.new.items }
     {
         match take_rmid(&mut self.rmids) {
             Ok(rmid) => {
@@ -133,12 +118,8 @@ impl Tree {
         requires there { find (has_gid group.now.gid) self.old.state.groups ≡ Some group.now }
         requires sound { IsSound self.old.machine (with_record self.old.state (record group.now { mode = mode })) }
         requires nothing { follows.old.items ≡ [] }
-        ensures machine { self.new.machine ≡ self.old.machine }
-        ensures state { self.new.state ≡ with_record self.old.state (record group.now { mode = mode }) }
-        ensures epoch { self.new.epoch ≡ self.old.epoch }
+        ensures tree { self.new ≡ record self.old { state = with_record self.old.state (record group.now { mode = mode }) } }
         ensures after { follows.new.items ≡ map (λ d. Raise d) (range_with_len 0 self.old.machine.domains) }
-        ensures domains { All (λ f. follow_domain f < self.old.machine.domains) follows.new.items }
-        ensures ready { All (IsReady self.old.machine) follows.new.items }
     {
         self.put(*group, mode, group.masks);
         raise_all(follows, self.machine.domains);

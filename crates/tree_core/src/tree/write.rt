@@ -1,17 +1,15 @@
 //! write: by the file.
 ghost use Rattle.std.specs.Prelude.{◌≡◌, ◌<◌, ◌≤◌, [], None, Some, find, length};
-ghost use Rattle.std.specs.List.{All};
 ghost use Rattle.group_tree.specs.Records.{has_gid};
 ghost use Rattle.path_names.specs.declared.path_ref.PathRef.TheVariants.{File};
 ghost use Rattle.script_ops.specs.declared.limits.TheConstants.{MOST_WEIGHT};
 ghost use Rattle.script_ops.specs.declared.op.Op.TheVariants.{Write};
-ghost use Rattle.tree_core.specs.Follows.{IsReady};
+ghost use Rattle.tree_core.specs.Changes.{Takes};
 ghost use Rattle.tree_core.specs.FoundFiles.{FindsFile};
 ghost use Rattle.tree_law.specs.Existing.{directory_gid};
 ghost use Rattle.tree_law.specs.Places.{with_record};
 ghost use Rattle.tree_law.specs.Sound.{IsSound};
-ghost use Rattle.tree_law.specs.Steps.{follow_domain};
-ghost use Rattle.tree_law.specs.Steps.{after, needs, next};
+ghost use Rattle.tree_law.specs.Steps.{needs};
 ghost use Rattle.tree_law.specs.commands.Write.{against, reasons};
 
 use super::Tree;
@@ -36,13 +34,7 @@ impl Tree {
         requires locks { self.old.state.locks < self.old.epoch }
         requires epoch { self.old.epoch ≤ MOST_WEIGHT }
         requires nothing { follows.old.items ≡ [] }
-        ensures machine { self.new.machine ≡ self.old.machine }
-        ensures reply { result ≡ (next self.old.machine self.old.state (Write path text.now) looks.now).reply }
-        ensures state { self.new.state ≡ (next self.old.machine self.old.state (Write path text.now) looks.now).state }
-        ensures epoch { self.new.epoch ≡ self.old.epoch }
-        ensures after { follows.new.items ≡ after self.old.machine self.old.state self.old.epoch (Write path text.now) }
-        ensures domains { All (λ f. follow_domain f < self.old.machine.domains) follows.new.items }
-        ensures ready { All (IsReady self.old.machine) follows.new.items }
+        ensures { Takes self.old (Write path text.now) looks.now self.new result follows.new.items }
     {
         match self.writable_at(path) {
             Ok((at, kind)) => self.write_file(at, kind, text, looks, follows),
@@ -66,16 +58,7 @@ impl Tree {
         requires locks { self.old.state.locks < self.old.epoch }
         requires epoch { self.old.epoch ≤ MOST_WEIGHT }
         requires nothing { follows.old.items ≡ [] }
-        ensures machine { self.new.machine ≡ self.old.machine }
-        ensures reply { result
-            ≡ (next self.old.machine self.old.state (Write (File at.dir kind) text.now) looks.now).reply }
-        ensures state { self.new.state
-            ≡ (next self.old.machine self.old.state (Write (File at.dir kind) text.now) looks.now).state }
-        ensures epoch { self.new.epoch ≡ self.old.epoch }
-        ensures after { follows.new.items
-            ≡ after self.old.machine self.old.state self.old.epoch (Write (File at.dir kind) text.now) }
-        ensures domains { All (λ f. follow_domain f < self.old.machine.domains) follows.new.items }
-        ensures ready { All (IsReady self.old.machine) follows.new.items }
+        ensures { Takes self.old (Write (File at.dir kind) text.now) looks.now self.new result follows.new.items }
     {
         match kind {
             FileKind::Schemata => self.write_schemata(at, text, follows),
@@ -117,9 +100,8 @@ impl Tree {
         requires there { find (has_gid group.gid) self.old.state.groups ≡ Some group }
         requires sound { IsSound self.old.machine
             (with_record self.old.state (record group { mode = mode; masks = masks })) }
-        ensures machine { self.new.machine ≡ self.old.machine }
-        ensures state { self.new.state ≡ with_record self.old.state (record group { mode = mode; masks = masks }) }
-        ensures epoch { self.new.epoch ≡ self.old.epoch }
+        ensures tree { self.new
+            ≡ record self.old { state = with_record self.old.state (record group { mode = mode; masks = masks }) } }
     {
         let mut new = group;
         new.mode = mode;
@@ -129,10 +111,8 @@ impl Tree {
 
     /// Sets the last status.
     pub(crate) fn answer(&mut self, reply: Reply) -> Reply
-        ensures machine { self.new.machine ≡ self.old.machine }
         ensures reply { result ≡ reply }
-        ensures state { self.new.state ≡ record self.old.state { status = reply } }
-        ensures epoch { self.new.epoch ≡ self.old.epoch }
+        ensures tree { self.new ≡ record self.old { state = record self.old.state { status = reply } } }
     {
         self.status = reply;
         reply

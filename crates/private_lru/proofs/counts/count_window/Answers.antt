@@ -3,7 +3,7 @@ use Rattle.std.proofs.lemmas.List.Sums.{length-filter}
 use Rattle.cache_core.specs.declared.entry.SliceEntry.{SliceEntry}
 use Rattle.private_lru.specs.GroupCounts.{hits_of_group}
 use Rattle.private_lru.specs.Covered.{is_own}
-use Rattle.private_lru.proofs.AloneEntries.{hits_of_group-filter}
+use Rattle.private_lru.proofs.laws.AloneEntries.{hits_of_group-filter}
 use Rattle.private_lru.proofs.counts.count_window.Goals as goal
 
 pub returns-clause-covered : goal.returns-clause-covered

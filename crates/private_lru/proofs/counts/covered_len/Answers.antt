@@ -2,7 +2,7 @@ use Rattle.std.proofs.Common.{◌≡◌, true, false, length, take, unwrap_or, s
 use Rattle.std.specs.List.{filter, position}
 use Rattle.cache_core.specs.declared.entry.SliceEntry.{SliceEntry}
 use Rattle.private_lru.specs.Covered.{is_other_use, is_own}
-use Rattle.private_lru.proofs.AloneEntries.{covered-filter}
+use Rattle.private_lru.proofs.laws.AloneEntries.{covered-filter}
 use Rattle.private_lru.proofs.counts.covered_len.Goals as goal
 
 pub returns-then-has_loaded_use-clause-covered : goal.returns-then-has_loaded_use-clause-covered

@@ -1,4 +1,4 @@
-use Rattle.std.proofs.Common.{filter, length, sym, ap, ◌∙◌, arith}
+use Rattle.std.proofs.Common.{Some, filter, length, sym, ap, ◌∙◌, arith}
 use Rattle.std.proofs.lemmas.Option.{slice_get_within}
 use Rattle.group_tree.specs.Records.{has_mode}
 use Rattle.rc_base.specs.declared.names.Mode.TheVariants.{Exclusive}
@@ -6,17 +6,18 @@ use Rattle.run_law.specs.Entries.{entry_value}
 use Rattle.run_windows.proofs.KeptGroups.{filter-next}
 use Rattle.run_windows.proofs.Replays.{Fits-taken, IsReplayed-next, length-looks_taken, op_at-none}
 use Rattle.run_law.proofs.laws.RunSizes.{length-commands}
+use Rattle.script_ops.specs.declared.op.Op.{Op}
 use Rattle.tree_law.specs.State.{State}
 use Rattle.tree_law.specs.Steps.{next}
 use Rattle.run_windows.proofs.changes.take.Goals as goal
 
 pub apply-requires-clause-fits : goal.apply-requires-clause-fits
-apply-requires-clause-fits c = Fits-taken c.args.script.now c.args.journals.now c.requires.lawful c.requires.run c.args.tree.now (entry_value c.args.entry.now) c.in-Some.op.now c.requires.replayed c.requires.next c.in-Some.ensures.op
+apply-requires-clause-fits c = Fits-taken c.args.script.now c.args.journals.now c.requires.lawful c.requires.run c.args.tree.now (entry_value c.args.entry.now) c.get-op.result.now c.requires.replayed c.requires.next (ap (λ (o : Op). Some o) c.get-op.ensures ∙ c.in-Some.ensures.op)
 
 pub apply-requires-clause-looks : goal.apply-requires-clause-looks
 apply-requires-clause-looks c =
     ap length c.items.ensures
-    ∙ length-looks_taken c.args.script.now c.args.journals.now c.requires.lawful c.requires.run c.args.tree.now (entry_value c.args.entry.now) c.in-Some.op.now c.requires.replayed c.requires.next c.in-Some.ensures.op
+    ∙ length-looks_taken c.args.script.now c.args.journals.now c.requires.lawful c.requires.run c.args.tree.now (entry_value c.args.entry.now) c.get-op.result.now c.requires.replayed c.requires.next (ap (λ (o : Op). Some o) c.get-op.ensures ∙ c.in-Some.ensures.op)
 
 pub apply-requires-clause-epoch : goal.apply-requires-clause-epoch
 apply-requires-clause-epoch c =
@@ -30,10 +31,10 @@ unreachable-requires c = op_at-none c.args.script.now c.args.journals.now c.args
 pub returns-clause-replayed : goal.returns-clause-replayed
 returns-clause-replayed c =
     let did = c.apply.ensures in
-    IsReplayed-next c.args.script.now c.args.journals.now c.requires.lawful c.requires.run c.args.tree.now (entry_value c.args.entry.now) c.in-Some.op.now c.requires.replayed c.requires.next c.in-Some.ensures.op
-    c.apply.new.self did.machine (did.state ∙ ap (λ looks. (next c.args.tree.now.machine c.args.tree.now.state c.in-Some.op.now looks).state) c.items.ensures) did.epoch
+    IsReplayed-next c.args.script.now c.args.journals.now c.requires.lawful c.requires.run c.args.tree.now (entry_value c.args.entry.now) c.get-op.result.now c.requires.replayed c.requires.next (ap (λ (o : Op). Some o) c.get-op.ensures ∙ c.in-Some.ensures.op)
+    c.apply.new.self did.machine (did.state ∙ ap (λ looks. (next c.args.tree.now.machine c.args.tree.now.state c.get-op.result.now looks).state) c.items.ensures) did.epoch
 
 pub returns-clause-kept : goal.returns-clause-kept
 returns-clause-kept c = λ no.
     let did = c.apply.ensures in
-    ap (λ (s : State). filter (has_mode Exclusive) s.groups) did.state ∙ filter-next c.args.tree.now.machine c.args.tree.now.state c.in-Some.op.now c.items.result.now (sym c.may_change.ensures ∙ no)
+    ap (λ (s : State). filter (has_mode Exclusive) s.groups) did.state ∙ filter-next c.args.tree.now.machine c.args.tree.now.state c.get-op.result.now c.items.result.now (sym c.may_change.ensures ∙ no)

@@ -1,6 +1,6 @@
 use Rattle.std.proofs.Common.{length, unwrap_or, ap, ◌∙◌}
 use Rattle.run_windows.specs.Windows.{ends_window}
-use Rattle.run_windows.proofs.WindowLengths.{unwrap_or-position}
+use Rattle.window_counts.proofs.laws.FirstPlaces.{unwrap_or-position}
 use Rattle.run_windows.proofs.counting.window_len.Goals as goal
 
 pub returns-clause-len : goal.returns-clause-len

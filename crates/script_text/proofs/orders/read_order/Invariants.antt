@@ -1,6 +1,6 @@
 use Rattle.std.proofs.Common.{◌≡◌, length}
-use Rattle.script_text.specs.Lines.{words}
-use Rattle.script_text.specs.Arguments.{order_of, order_from}
+use Rattle.line_words.specs.Lines.{words}
+use Rattle.script_lines.specs.Arguments.{order_of, order_from}
 use Rattle.script_text.proofs.orders.read_order.Given as goal
 
 abbrev pub invariant-numbers : goal.invariant-numbers

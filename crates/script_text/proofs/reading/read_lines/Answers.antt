@@ -1,8 +1,8 @@
 use Rattle.std.proofs.Common.{List, ℕ, Bor, Option, Ok, Some, None, Result, IfOk, sym, ap, subst, ◌∙◌, arith}
 use Rattle.std.specs.Str.Lines.{lines}
 use Rattle.script_ops.specs.Values.{ScriptValue}
-use Rattle.script_text.specs.declared.fault.ScriptFault.{ScriptFault}
-use Rattle.script_text.specs.declared.fault.LineFault.{LineFault}
+use Rattle.script_lines.specs.declared.fault.ScriptFault.{ScriptFault}
+use Rattle.script_lines.specs.declared.fault.LineFault.{LineFault}
 use Rattle.script_text.specs.States.{ReaderState, state_of, IsReady}
 use Rattle.script_text.specs.Reading.{reading_from, finished, Reads}
 use Rattle.script_text.specs.Usual.{TakesLine}

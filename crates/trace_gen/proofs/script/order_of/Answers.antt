@@ -1,4 +1,4 @@
-use Rattle.std.proofs.Common.{◌≡◌, ℕ, ◌∷◌, ◌++◌, ◌+◌, [], refl, sym, ap, ◌∙◌, arith}
+use Rattle.std.proofs.Common.{ℕ, ◌∷◌, ◌++◌, ◌+◌, [], refl, sym, ap, ◌∙◌, arith}
 use Rattle.trace_gen.specs.Trace.{order_number}
 use Rattle.trace_gen.proofs.Drawn.{AreDrawn-next, AreDrawn-zero}
 use Rattle.trace_gen.proofs.Texts.{number_at-zero}

@@ -1,11 +1,7 @@
-use Rattle.std.specs.List.{range_with_len}
-use Rattle.std.proofs.Common.{ℕ, [], ◌∷◌, refl, sym, ap, ◌∙◌, ◌++◌, List, arith, length-append, zero-add}
+use Rattle.std.proofs.Common.{[], ◌∷◌, sym, ap, ◌∙◌, ◌++◌, List, arith, length-append, zero-add}
 use Rattle.std.proofs.lemmas.List.FromFn.{map-range_with_len_more}
 use Rattle.tree_law.specs.declared.follow.Follow.{Follow}
 use Rattle.tree_law.specs.declared.follow.Follow.TheVariants.{Drop}
-use Rattle.tree_core.proofs.Raises.{All-follow_domain_push}
-use Rattle.std.proofs.lemmas.List.Elements.{All-map}
-use Rattle.tree_core.specs.Follows.{IsReady}
 use Rattle.tree_core.proofs.follow.drop_all.Goals as goal
 
 pub loop-domain-preserved : goal.loop-domain-preserved
@@ -15,8 +11,4 @@ loop-domain-preserved c =
     rw c.push.ensures.items (record {
       drops = ap (λ (fs : List Follow). fs ++ Drop domain c.args.line ∷ []) c.loop-domain.invariant.drops ∙ sym more;
       few = omega (arith, c.loop-domain.invariant.few, length-append c.loop-domain.follows.items (Drop domain c.args.line ∷ []));
-      domains = All-follow_domain_push domain c.loop-domain.follows.items (Drop domain c.args.line) c.loop-domain.invariant.domains refl;
     })
-
-pub returns-clause-ready : goal.returns-clause-ready
-returns-clause-ready c = λ m low. rw c.loop-domain.invariant.drops (All-map (IsReady m) (λ (d : ℕ). Drop d c.args.line) (range_with_len 0 c.loop-domain.domain) (λ k d within. low))

@@ -1,12 +1,10 @@
-use Rattle.std.proofs.Common.{ℕ, ◌≡◌, true, false, List, [], ◌∷◌, ◌++◌, filter, map, refl, sym, ap, ◌∙◌, arith, length-append}
+use Rattle.std.proofs.Common.{◌≡◌, true, false, List, [], ◌∷◌, ◌++◌, filter, map, sym, ap, ◌∙◌, arith, length-append}
 use Rattle.std.specs.List.{range_with_len}
 use Rattle.std.proofs.lemmas.List.{append-nil}
 use Rattle.tree_law.specs.commands.Schemata.{names_domain}
 use Rattle.tree_law.specs.declared.follow.Follow.{Follow}
 use Rattle.tree_law.specs.declared.follow.Follow.TheVariants.{Raise}
-use Rattle.tree_core.proofs.Raises.{All-follow_domain_push, All-follow_domain_suc, map-filter_suc}
-use Rattle.std.proofs.lemmas.List.Elements.{All-map}
-use Rattle.tree_core.specs.Follows.{IsReady}
+use Rattle.tree_core.proofs.Raises.{map-filter_suc}
 use Rattle.tree_core.proofs.follow.raise_named.Goals as goal
 use Rattle.tree_core.proofs.follow.raise_named.Goals.{then-is_named, else-is_named}
 
@@ -21,7 +19,6 @@ loop-domain-preserved c =
           rw pushed (record {
             raises = sym (rw named at more ∙ ap (λ (fs : List Follow). fs ++ Raise domain ∷ []) (sym c.loop-domain.invariant.raises));
             few = omega (arith, c.loop-domain.invariant.few, length-append c.loop-domain.follows.items (Raise domain ∷ []));
-            domains = All-follow_domain_push domain c.loop-domain.follows.items (Raise domain) c.loop-domain.invariant.domains refl;
           })
       | else-is_named w ↦
           let unnamed : names_domain c.args.all.now domain ≡ false = sym c.is_named.ensures ∙ w.if-is_named.false in
@@ -29,9 +26,5 @@ loop-domain-preserved c =
           rw kept (record {
             raises = sym (rw unnamed at more ∙ append-nil (map (λ d. Raise d) (filter (names_domain c.args.all.now) (range_with_len 0 domain))) ∙ sym c.loop-domain.invariant.raises);
             few = omega (arith, c.loop-domain.invariant.few);
-            domains = All-follow_domain_suc domain c.loop-domain.follows.items c.loop-domain.invariant.domains;
           })
     ]
-
-pub returns-clause-ready : goal.returns-clause-ready
-returns-clause-ready c = λ m. rw c.loop-domain.invariant.raises (All-map (IsReady m) (λ (d : ℕ). Raise d) (filter (names_domain c.args.all.now) (range_with_len 0 c.loop-domain.domain)) (λ k d within. tt))

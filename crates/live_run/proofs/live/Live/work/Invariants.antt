@@ -3,9 +3,9 @@ use Rattle.live_law.specs.DoneOps.{AreEnded}
 use Rattle.live_run.proofs.live.Live.work.Given as goal
 use Rattle.live_run.specs.Names.{seen_by}
 
-abbrev pub invariant-loop-op : goal.invariant-loop-op
-invariant-loop-op g l = record {
+abbrev pub invariant-loop-i : goal.invariant-loop-i
+invariant-loop-i g l = record {
   thread : l.p.seen.thread ≡ l.fn.p.seen.thread;
-  next : l.p.next ≡ l.op-index;
+  next : l.p.next ≡ l.i;
   ended : l.p.next ≡ 0 → AreEnded g.N.Named.script (seen_by l.p.seen) l.p.seen.thread;
 }

@@ -6,4 +6,4 @@ use Rattle.path_names.proofs.names.Names.text.Goals as goal
 
 pub returns-clause-only : goal.returns-clause-only
 returns-clause-only c = subst (λ (names : List (List ℕ)). number_of c.get.result.now names ≡ c.args.id.0) c.self.view_is
-    (number_of-only (names_of c.self.inside.list) c.args.id.0 c.get.result.now c.self.invariant.apart c.get.ensures)
+    (number_of-only (names_of c.self.inside.list) c.args.id.0 c.get.result.now c.self.invariant.0.apart c.get.ensures)

@@ -1,11 +1,11 @@
 use Rattle.std.proofs.Common.{◌≡◌, ℕ, List, ◌++◌, All, length, sym, ap, subst, ◌∙◌, arith}
 use Rattle.std.specs.List.Sorted.{IsStrictlyIncreasing}
-use Rattle.script_text.specs.Tasks.{ids_of}
+use Rattle.script_lines.specs.Tasks.{ids_of}
 use Rattle.script_ops.specs.Values.{threads_in}
 use Rattle.script_ops.specs.Canonical.{AreAllShort, AreNamed}
 use Rattle.script_ops.specs.Fits.{AreFit}
 use Rattle.machine.specs.Maps.{parameters_of}
-use Rattle.script_text.proofs.TaskRanges.{IsStrictlyIncreasing-ids_of, length-ids_of}
+use Rattle.script_lines.proofs.laws.TaskRanges.{IsStrictlyIncreasing-ids_of, length-ids_of}
 use Rattle.script_text.proofs.reader.Reader.into_script.Goals as goal
 
 pub new-requires : goal.new-requires

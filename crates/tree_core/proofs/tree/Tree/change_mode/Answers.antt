@@ -1,14 +1,11 @@
-use Rattle.std.proofs.Common.{ℕ, ◌*◌, List, [], length, Option, Ok, sym, subst, ap, ap₂, ◌∙◌}
+use Rattle.std.proofs.Common.{ℕ, ◌*◌, List, length, Option, Ok, refl, sym, subst, ap, ◌∙◌}
 use Rattle.rc_base.specs.declared.names.Mode.{Mode}
+use Rattle.tree_core.proofs.Changes.{MakesUnless-made, MakesUnless-refused, MakesUnless-same}
 use Rattle.tree_core.proofs.Setups.{gid-turning}
 use Rattle.tree_core.proofs.WrittenModes as written
-use Rattle.tree_core.specs.CpuFiles.{unless}
 use Rattle.tree_core.specs.Modes.{AsksMode, Stays, TurnsTo}
-use Rattle.tree_law.specs.Refusals.{Refusal, reply_of}
 use Rattle.tree_law.specs.Sound.{IsSound}
 use Rattle.tree_law.specs.State.{State}
-use Rattle.tree_law.specs.commands.Mode as mode
-use Rattle.tree_law.specs.declared.follow.Follow.{Follow}
 use Rattle.tree_core.proofs.tree.Tree.change_mode.Goals as goal
 
 pub turn-requires-clause-not_default : goal.turn-requires-clause-not_default
@@ -35,51 +32,18 @@ turn-requires-clause-sound c = λ none.
     let turns : TurnsTo m s g c.args.text.now c.in-Ok-Some.mode = subst (λ (o : Option Mode). AsksMode m s g c.args.text.now (Ok o)) c.in-Ok-Some.field-0-is c.in-Ok-Some.ensures in
     subst (IsSound m) (written.accepted-turns m s g c.args.text.now c.in-Ok-Some.mode turns c.args.looks.now) (c.requires.sound (written.refusal-turns m s g c.args.text.now c.in-Ok-Some.mode turns ∙ none))
 
-pub returns-in-Ok-Some-clause-reply : goal.returns-in-Ok-Some-clause-reply
-returns-in-Ok-Some-clause-reply c =
+pub returns-in-Ok-Some : goal.returns-in-Ok-Some
+returns-in-Ok-Some c =
     let m = c.args.self.now.machine in let s = c.args.self.now.state in let g = c.args.group.now in
     let turns : TurnsTo m s g c.args.text.now c.in-Ok-Some.mode = subst (λ (o : Option Mode). AsksMode m s g c.args.text.now (Ok o)) c.in-Ok-Some.field-0-is c.in-Ok-Some.ensures in
-    c.turn.ensures.reply ∙ ap reply_of (sym (written.refusal-turns m s g c.args.text.now c.in-Ok-Some.mode turns))
+    MakesUnless-same (written.refusal-turns m s g c.args.text.now c.in-Ok-Some.mode turns) (written.accepted-turns m s g c.args.text.now c.in-Ok-Some.mode turns c.args.looks.now) (written.after-turns m s g c.args.text.now c.in-Ok-Some.mode turns) c.turn.ensures
 
-pub returns-in-Ok-Some-clause-state : goal.returns-in-Ok-Some-clause-state
-returns-in-Ok-Some-clause-state c =
-    let m = c.args.self.now.machine in let s = c.args.self.now.state in let g = c.args.group.now in
-    let turns : TurnsTo m s g c.args.text.now c.in-Ok-Some.mode = subst (λ (o : Option Mode). AsksMode m s g c.args.text.now (Ok o)) c.in-Ok-Some.field-0-is c.in-Ok-Some.ensures in
-    c.turn.ensures.state ∙ sym (ap₂ (λ (o : Option Refusal) (x : State). unless o s x) (written.refusal-turns m s g c.args.text.now c.in-Ok-Some.mode turns) (written.accepted-turns m s g c.args.text.now c.in-Ok-Some.mode turns c.args.looks.now))
-
-pub returns-in-Ok-Some-clause-after : goal.returns-in-Ok-Some-clause-after
-returns-in-Ok-Some-clause-after c =
-    let m = c.args.self.now.machine in let s = c.args.self.now.state in let g = c.args.group.now in
-    let turns : TurnsTo m s g c.args.text.now c.in-Ok-Some.mode = subst (λ (o : Option Mode). AsksMode m s g c.args.text.now (Ok o)) c.in-Ok-Some.field-0-is c.in-Ok-Some.ensures in
-    c.turn.ensures.after ∙ sym (ap₂ (λ (o : Option Refusal) (fs : List Follow). unless o [] fs) (written.refusal-turns m s g c.args.text.now c.in-Ok-Some.mode turns) (written.after-turns m s g c.args.text.now c.in-Ok-Some.mode turns))
-
-pub returns-in-Ok-None-clause-reply : goal.returns-in-Ok-None-clause-reply
-returns-in-Ok-None-clause-reply c =
-    let m = c.args.self.now.machine in let s = c.args.self.now.state in let g = c.args.group.now in
+pub returns-in-Ok-None : goal.returns-in-Ok-None
+returns-in-Ok-None c =
+    let v = c.args.self.now in let m = v.machine in let s = v.state in let g = c.args.group.now in
     let stays : Stays g c.args.text.now = subst (λ (o : Option Mode). AsksMode m s g c.args.text.now (Ok o)) c.in-Ok-None.field-0-is c.in-Ok-None.ensures in
-    ap reply_of (sym (written.refusal-stays m s g c.args.text.now stays))
+    MakesUnless-made (written.refusal-stays m s g c.args.text.now stays) (ap (λ (x : State). record v { state = x }) (sym (written.accepted-stays m s g c.args.text.now c.args.looks.now stays))) refl
+    (c.requires.nothing ∙ sym (written.after-stays m s g c.args.text.now stays))
 
-pub returns-in-Ok-None-clause-state : goal.returns-in-Ok-None-clause-state
-returns-in-Ok-None-clause-state c =
-    let m = c.args.self.now.machine in let s = c.args.self.now.state in let g = c.args.group.now in
-    let stays : Stays g c.args.text.now = subst (λ (o : Option Mode). AsksMode m s g c.args.text.now (Ok o)) c.in-Ok-None.field-0-is c.in-Ok-None.ensures in
-    sym (ap₂ (λ (o : Option Refusal) (x : State). unless o s x) (written.refusal-stays m s g c.args.text.now stays) (written.accepted-stays m s g c.args.text.now c.args.looks.now stays))
-
-pub returns-in-Ok-None-clause-after : goal.returns-in-Ok-None-clause-after
-returns-in-Ok-None-clause-after c =
-    let m = c.args.self.now.machine in let s = c.args.self.now.state in let g = c.args.group.now in
-    let stays : Stays g c.args.text.now = subst (λ (o : Option Mode). AsksMode m s g c.args.text.now (Ok o)) c.in-Ok-None.field-0-is c.in-Ok-None.ensures in
-    c.requires.nothing ∙ sym (ap₂ (λ (o : Option Refusal) (fs : List Follow). unless o [] fs) (written.refusal-stays m s g c.args.text.now stays) (written.after-stays m s g c.args.text.now stays))
-
-pub returns-in-Err-clause-reply : goal.returns-in-Err-clause-reply
-returns-in-Err-clause-reply c = c.in-Err.ensures.reply_is ∙ ap reply_of (sym c.in-Err.ensures.is)
-
-pub returns-in-Err-clause-state : goal.returns-in-Err-clause-state
-returns-in-Err-clause-state c =
-    let m = c.args.self.now.machine in let s = c.args.self.now.state in let g = c.args.group.now in
-    sym (ap (λ (o : Option Refusal). unless o s (mode.accepted m s g c.args.text.now c.args.looks.now)) c.in-Err.ensures.is)
-
-pub returns-in-Err-clause-after : goal.returns-in-Err-clause-after
-returns-in-Err-clause-after c =
-    let m = c.args.self.now.machine in let s = c.args.self.now.state in let g = c.args.group.now in
-    c.requires.nothing ∙ sym (ap (λ (o : Option Refusal). unless o [] (mode.after m g c.args.text.now)) c.in-Err.ensures.is)
+pub returns-in-Err : goal.returns-in-Err
+returns-in-Err c = MakesUnless-refused c.in-Err.ensures.reason c.in-Err.ensures.is refl c.in-Err.ensures.reply_is c.requires.nothing

@@ -12,10 +12,11 @@ use Rattle.tree_core.proofs.Setups.{MayFree-own}
 use Rattle.tree_core.proofs.RemovedGroups.{table_threshold-lt}
 use Rattle.tree_core.specs.RmidLists.{Frees, MayFree}
 use Rattle.tree_core.specs.Tables.{state_of, tables}
-use Rattle.tree_core.specs.Values.{TreeValue}
+use Rattle.tree_core.specs.Values.{TreeValue, tree_of}
 use Rattle.tree_law.specs.Freeing.{limbo_after, rmids_of}
 use Rattle.tree_law.specs.Places.{with_record}
 use Rattle.tree_law.specs.Sound.{IsSound}
+use Rattle.tree_law.specs.State.{State}
 use Rattle.tree_core.proofs.tree.Tree.enter_setup.Goals as goal
 
 pub free_all-requires : goal.free_all-requires
@@ -55,8 +56,8 @@ invariant_of-self c =
     let is_limbo = after ∙ ap (λ (ids : List ℕ). record (with_record s new) { limbo = ids }) frees.limbo in
     IsKept-from_Keeps (exchanged.Keeps-exchanged keeps g new there refl c.replace.new.self t.classes c.free_all.new.rmids t.regions _ c.replace.ensures.replaced c.replace.ensures.kept taken frees.threshold keeps.stands.locks_left after (subst (IsSound m) (sym is_limbo) sound))
 
-pub returns-clause-state : goal.returns-clause-state
-returns-clause-state c =
+pub returns-clause-tree : goal.returns-clause-tree
+returns-clause-tree c =
     let t = c.self.inside in
     let m = parameters_of t.machine in
     let s = state_of m (tables t.groups t.tasks t.cpus t.classes t.rmids t.regions) t.status t.next_gid in
@@ -66,4 +67,5 @@ returns-clause-state c =
     let frees : Frees m (rmids_of g) c.args.looks.now t.rmids c.free_all.new.rmids = subst (λ (xs : List ℕ). Frees m xs c.args.looks.now t.rmids c.free_all.new.rmids) freed c.free_all.ensures in
     let is = ap₂ (λ (gs : List Group) (n : ℕ). record s { groups = gs; limbo = c.free_all.new.rmids.limbo; threshold = n }) c.replace.ensures.replaced frees.threshold
     ∙ ap (λ (ids : List ℕ). record (with_record s new) { limbo = ids }) frees.limbo in
-    subst (λ (v : TreeValue). state_of m (tables c.replace.new.self t.tasks t.cpus t.classes c.free_all.new.rmids t.regions) t.status t.next_gid ≡ record (with_record v.state new) { limbo = limbo_after v.machine v.state.threshold v.state.limbo (rmids_of g) c.args.looks.now }) c.self.view_is is
+    subst (λ (v : TreeValue). tree_of m (state_of m (tables c.replace.new.self t.tasks t.cpus t.classes c.free_all.new.rmids t.regions) t.status t.next_gid) t.epoch ≡ record v { state = record (with_record v.state new) { limbo = limbo_after v.machine v.state.threshold v.state.limbo (rmids_of g) c.args.looks.now } }) c.self.view_is
+    (ap (λ (x : State). tree_of m x t.epoch) is)

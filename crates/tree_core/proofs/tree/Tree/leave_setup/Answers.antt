@@ -1,21 +1,22 @@
-use Rattle.std.proofs.Common.{◌≡◌, ℕ, List, [], find, map, Option, None, Some, refl, sym, subst, ap, ap₂, ◌∙◌}
+use Rattle.std.proofs.Common.{◌≡◌, ℕ, List, find, map, Option, None, Some, refl, sym, subst, ap, ap₂, ◌∙◌}
 use Rattle.std.specs.List.{range_with_len}
 use Rattle.group_tree.specs.Records.{has_gid}
 use Rattle.group_tree.specs.declared.group.Group.{Group}
 use Rattle.hw_ids.specs.MonitoringIds.{MonitoringIds}
 use Rattle.machine.specs.Maps.{parameters_of}
 use Rattle.rc_base.specs.declared.replies.Reply.TheVariants as replies
+use Rattle.tree_core.proofs.Changes.{MakesUnless-made, MakesUnless-refused}
 use Rattle.tree_core.proofs.ExchangedGroups as exchanged
 use Rattle.tree_core.proofs.FoundGroups.{has_group-found}
 use Rattle.tree_core.proofs.KeptTables.{IsKept-from_Keeps, Keeps-from_IsKept}
 use Rattle.tree_core.proofs.Setups as setups
-use Rattle.tree_core.specs.CpuFiles.{unless}
+use Rattle.tree_core.specs.Changes.{MakesUnless}
 use Rattle.tree_core.specs.Tables.{state_of, tables}
-use Rattle.tree_core.specs.Values.{TreeValue}
+use Rattle.tree_core.specs.Values.{TreeValue, tree_of}
 use Rattle.tree_law.specs.Places.{with_record}
-use Rattle.tree_law.specs.Refusals.{Refusal, reply_of}
 use Rattle.tree_law.specs.Sound.{IsSound}
 use Rattle.tree_law.specs.Space.{free_rmid}
+use Rattle.tree_law.specs.State.{State}
 use Rattle.tree_law.specs.commands.Mode.{rmid_refusal}
 use Rattle.tree_law.specs.declared.follow.Follow.TheVariants.{Raise}
 use Rattle.tree_core.proofs.tree.Tree.leave_setup.Goals as goal
@@ -47,74 +48,25 @@ invariant_of-self c =
     let taken = exchanged.AreTaken-exchanged keeps g new there refl t.classes rmids refl (exchanged.TakesOver-class keeps g new there refl g.class refl) (ap (λ (r : MonitoringIds). r.count) took.taken) (setups.TakesOver-taken keeps rmids rmid g.rmid given took) in
     IsKept-from_Keeps (exchanged.Keeps-exchanged keeps g new there refl c.replace.new.self t.classes rmids t.regions _ c.replace.ensures.replaced c.replace.ensures.kept taken (ap (λ (r : MonitoringIds). r.threshold) took.taken) keeps.stands.locks_left after (subst (IsSound m) (sym is_limbo) sound))
 
-pub returns-in-Ok-clause-reply : goal.returns-in-Ok-clause-reply
-returns-in-Ok-clause-reply c =
+pub returns-in-Ok : goal.returns-in-Ok
+returns-in-Ok c =
     let t = c.self.inside in
     let m = parameters_of t.machine in
     let s = state_of m (tables t.groups t.tasks t.cpus t.classes t.rmids t.regions) t.status t.next_gid in
     let keeps = Keeps-from_IsKept c.self.invariant in
     let g = c.args.group.now in
     let rmids = c.take_rmid.new.rmids in let rmid = c.in-Ok.rmid in let took = c.in-Ok.ensures in
-    let none = setups.rmid_refusal-taken keeps rmids rmid took in
-    subst (λ (v : TreeValue). replies.Ok ≡ reply_of (rmid_refusal v.machine v.state)) c.self.view_is (ap reply_of (sym none))
-
-pub returns-in-Ok-clause-state : goal.returns-in-Ok-clause-state
-returns-in-Ok-clause-state c =
-    let t = c.self.inside in
-    let m = parameters_of t.machine in
-    let s = state_of m (tables t.groups t.tasks t.cpus t.classes t.rmids t.regions) t.status t.next_gid in
-    let keeps = Keeps-from_IsKept c.self.invariant in
-    let g = c.args.group.now in
-    let rmids = c.take_rmid.new.rmids in let rmid = c.in-Ok.rmid in let took = c.in-Ok.ensures in
-    let none = setups.rmid_refusal-taken keeps rmids rmid took in
-    let new = record g { mode = c.args.mode; rmid = Some rmid } in
-    let free = setups.free_rmid-taken keeps rmids rmid took in
     let is = ap₂ (λ (gs : List Group) (r : MonitoringIds). record s { groups = gs; limbo = rmids.limbo; threshold = r.threshold }) c.replace.ensures.replaced took.taken
-    ∙ ap (λ (r : MonitoringIds). record (with_record s new) { limbo = r.limbo }) took.taken
-    ∙ ap (λ (o : Option ℕ). with_record s (record g { mode = c.args.mode; rmid = o })) (sym free) in
-    subst (λ (v : TreeValue). state_of m (tables c.replace.new.self t.tasks t.cpus t.classes rmids t.regions) t.status t.next_gid ≡ unless (rmid_refusal v.machine v.state) v.state (with_record v.state (record g { mode = c.args.mode; rmid = free_rmid v.machine v.state }))) c.self.view_is
-    (is ∙ sym (ap (λ (o : Option Refusal). unless o s (with_record s (record g { mode = c.args.mode; rmid = free_rmid m s }))) none))
+    ∙ ap (λ (r : MonitoringIds). record (with_record s (record g { mode = c.args.mode; rmid = Some rmid })) { limbo = r.limbo }) took.taken
+    ∙ ap (λ (o : Option ℕ). with_record s (record g { mode = c.args.mode; rmid = o })) (sym (setups.free_rmid-taken keeps rmids rmid took)) in
+    subst (λ (v : TreeValue). MakesUnless v (rmid_refusal v.machine v.state) (with_record v.state (record g { mode = c.args.mode; rmid = free_rmid v.machine v.state })) (map (λ d. Raise d) (range_with_len 0 v.machine.domains)) (tree_of m (state_of m (tables c.replace.new.self t.tasks t.cpus t.classes rmids t.regions) t.status t.next_gid) t.epoch) replies.Ok c.raise_all.new.follows.items) c.self.view_is
+    (MakesUnless-made (setups.rmid_refusal-taken keeps rmids rmid took) (ap (λ (x : State). tree_of m x t.epoch) is) refl c.raise_all.ensures.raises)
 
-pub returns-in-Ok-clause-after : goal.returns-in-Ok-clause-after
-returns-in-Ok-clause-after c =
+pub returns-in-Err : goal.returns-in-Err
+returns-in-Err c =
     let t = c.self.inside in
     let m = parameters_of t.machine in
-    let s = state_of m (tables t.groups t.tasks t.cpus t.classes t.rmids t.regions) t.status t.next_gid in
-    let keeps = Keeps-from_IsKept c.self.invariant in
     let g = c.args.group.now in
-    let rmids = c.take_rmid.new.rmids in let rmid = c.in-Ok.rmid in let took = c.in-Ok.ensures in
-    let none = setups.rmid_refusal-taken keeps rmids rmid took in
-    subst (λ (v : TreeValue). c.raise_all.new.follows.items ≡ unless (rmid_refusal v.machine v.state) [] (map (λ d. Raise d) (range_with_len 0 v.machine.domains))) c.self.view_is
-    (c.raise_all.ensures.raises ∙ sym (ap (λ (o : Option Refusal). unless o [] (map (λ d. Raise d) (range_with_len 0 m.domains))) none))
-
-pub returns-in-Err-clause-reply : goal.returns-in-Err-clause-reply
-returns-in-Err-clause-reply c =
-    let t = c.self.inside in
-    let m = parameters_of t.machine in
-    let s = state_of m (tables t.groups t.tasks t.cpus t.classes t.rmids t.regions) t.status t.next_gid in
-    let keeps = Keeps-from_IsKept c.self.invariant in
-    let g = c.args.group.now in
-    let none = setups.rmid_refusal-none keeps c.in-Err.reply c.in-Err.ensures.1 in
-    subst (λ (v : TreeValue). c.in-Err.reply ≡ reply_of (rmid_refusal v.machine v.state)) c.self.view_is (none.2 ∙ ap reply_of (sym none.1))
-
-pub returns-in-Err-clause-state : goal.returns-in-Err-clause-state
-returns-in-Err-clause-state c =
-    let t = c.self.inside in
-    let m = parameters_of t.machine in
-    let s = state_of m (tables t.groups t.tasks t.cpus t.classes t.rmids t.regions) t.status t.next_gid in
-    let keeps = Keeps-from_IsKept c.self.invariant in
-    let g = c.args.group.now in
-    let none = setups.rmid_refusal-none keeps c.in-Err.reply c.in-Err.ensures.1 in
-    subst (λ (v : TreeValue). state_of m (tables t.groups t.tasks t.cpus t.classes c.take_rmid.new.rmids t.regions) t.status t.next_gid ≡ unless (rmid_refusal v.machine v.state) v.state (with_record v.state (record g { mode = c.args.mode; rmid = free_rmid v.machine v.state }))) c.self.view_is
-    (ap (λ (r : MonitoringIds). state_of m (tables t.groups t.tasks t.cpus t.classes r t.regions) t.status t.next_gid) c.in-Err.ensures.0 ∙ sym (ap (λ (o : Option Refusal). unless o s (with_record s (record g { mode = c.args.mode; rmid = free_rmid m s }))) none.1))
-
-pub returns-in-Err-clause-after : goal.returns-in-Err-clause-after
-returns-in-Err-clause-after c =
-    let t = c.self.inside in
-    let m = parameters_of t.machine in
-    let s = state_of m (tables t.groups t.tasks t.cpus t.classes t.rmids t.regions) t.status t.next_gid in
-    let keeps = Keeps-from_IsKept c.self.invariant in
-    let g = c.args.group.now in
-    let none = setups.rmid_refusal-none keeps c.in-Err.reply c.in-Err.ensures.1 in
-    subst (λ (v : TreeValue). c.args.follows.now.items ≡ unless (rmid_refusal v.machine v.state) [] (map (λ d. Raise d) (range_with_len 0 v.machine.domains))) c.self.view_is
-    (c.requires.nothing ∙ sym (ap (λ (o : Option Refusal). unless o [] (map (λ d. Raise d) (range_with_len 0 m.domains))) none.1))
+    let lack = setups.rmid_refusal-none (Keeps-from_IsKept c.self.invariant) c.in-Err.reply c.in-Err.ensures.1 in
+    subst (λ (v : TreeValue). MakesUnless v (rmid_refusal v.machine v.state) (with_record v.state (record g { mode = c.args.mode; rmid = free_rmid v.machine v.state })) (map (λ d. Raise d) (range_with_len 0 v.machine.domains)) (tree_of m (state_of m (tables t.groups t.tasks t.cpus t.classes c.take_rmid.new.rmids t.regions) t.status t.next_gid) t.epoch) c.in-Err.reply c.args.follows.now.items) c.self.view_is
+    (MakesUnless-refused lack.0 lack.1 (ap (λ (r : MonitoringIds). tree_of m (state_of m (tables t.groups t.tasks t.cpus t.classes r t.regions) t.status t.next_gid) t.epoch) c.in-Err.ensures.0) lack.2 c.requires.nothing)

@@ -1,4 +1,4 @@
-use Rattle.std.proofs.Common.{◌≡◌, ◌+◌, ◌*◌, ◌^◌, ◌<◌, ◌≤◌, List, find, take, Option, Some, Ok, refl, sym, subst, ap, ◌∙◌, arith}
+use Rattle.std.proofs.Common.{◌≡◌, ◌+◌, ◌<◌, ◌≤◌, List, find, take, Option, Some, Ok, refl, sym, subst, ap, ◌∙◌, arith}
 use Rattle.group_tree.specs.Lists.{has_group, replaced}
 use Rattle.group_tree.specs.Records.{has_gid}
 use Rattle.group_tree.specs.declared.group.Group.{Group}
@@ -8,23 +8,18 @@ use Rattle.pseudo_lock.specs.Regions.{RegionTable}
 use Rattle.pseudo_lock.specs.declared.region.Region.{Region}
 use Rattle.rc_base.specs.declared.names.Mode.{Mode}
 use Rattle.rc_base.specs.declared.names.Mode.TheVariants.{LockSetup}
-use Rattle.tree_core.proofs.Assignments.{mask-valid}
-use Rattle.cbm.specs.Validity.{checked}
-use Rattle.std.specs.List.{All}
-use Rattle.tree_core.proofs.Touches.{All-only}
-use Rattle.tree_core.specs.Follows.{IsReady}
-use Rattle.tree_law.specs.declared.follow.Follow.TheVariants.{Lock}
 use Rattle.tree_core.proofs.ControlGroups.{IfSome-not_zero}
 use Rattle.tree_core.proofs.ExchangedGroups as exchanged
 use Rattle.tree_core.proofs.FoundGroups.{has_group-found}
 use Rattle.tree_core.proofs.KeptTables.{IsKept-from_Keeps, Keeps-from_IsKept, MayGive-found}
 use Rattle.tree_core.proofs.Locks.{gid-not_default, region_in-free, regions-placed}
 use Rattle.tree_core.specs.Tables.{state_of, tables}
-use Rattle.tree_core.specs.Values.{TreeValue}
+use Rattle.tree_core.specs.Values.{TreeValue, tree_of}
 use Rattle.tree_law.specs.Counted.{is_counted_mode}
 use Rattle.tree_law.specs.Sound.{IsSound}
-use Rattle.tree_law.specs.Space.{geometry_of, used_in}
+use Rattle.tree_law.specs.Space.{used_in}
 use Rattle.tree_law.specs.commands.Schemata.{locked, region_for, with_region}
+use Rattle.tree_law.specs.State.{State}
 use Rattle.tree_core.proofs.tree.Tree.lock.Goals as goal
 
 pub place-region-requires-clause-exists : goal.place-region-requires-clause-exists
@@ -93,8 +88,8 @@ invariant_of-self c =
     let placed = ap (λ (r : RegionTable). r.placed) c.place-region.ensures.placed in
     IsKept-from_Keeps (exchanged.Keeps-exchanged keeps g new there refl c.replace.new.self c.give.new.classes t.rmids c.place-region.new.self _ groups c.replace.ensures.kept taken refl (omega (arith, placed, fewer)) after (subst (IsSound m) (sym is_region) sound))
 
-pub returns-clause-state : goal.returns-clause-state
-returns-clause-state c =
+pub returns-clause-tree : goal.returns-clause-tree
+returns-clause-tree c =
     let t = c.self.inside in
     let m = parameters_of t.machine in
     let s = state_of m (tables t.groups t.tasks t.cpus t.classes t.rmids t.regions) t.status t.next_gid in
@@ -106,20 +101,5 @@ returns-clause-state c =
     let is_region = ap (λ (gs : List Group). record s { groups = gs; regions = take m.domains c.place-region.new.self.places; locks = c.place-region.new.self.placed }) groups
     ∙ ap (λ (r : RegionTable). record s { groups = replaced new s.groups; regions = take m.domains r.places; locks = r.placed }) c.place-region.ensures.placed
     ∙ ap (λ (rs : List (Option Region)). record s { groups = replaced new s.groups; regions = rs; locks = t.regions.placed + 1 }) (regions-placed keeps a.domain (region_for s g a) below) in
-    subst (λ (v : TreeValue). state_of m (tables c.replace.new.self t.tasks t.cpus c.give.new.classes t.rmids c.place-region.new.self) t.status t.next_gid ≡ with_region v.state g a) c.self.view_is is_region
-
-pub returns-clause-ready : goal.returns-clause-ready
-returns-clause-ready c =
-    let t = c.self.inside in
-    let m = parameters_of t.machine in
-    let a = c.args.a.now in
-    let faultless : checked (geometry_of m) a.mask ≡ Ok a.mask = subst (λ (v : TreeValue). checked (geometry_of v.machine) a.mask ≡ Ok a.mask) (sym c.self.view_is) c.requires.faultless in
-    let small = c.locked.ensures.small in
-    let ways = mask-valid m a.mask (c.valid_is_bounded.ensures.checked m a.mask t.machine.in_range (omega arith) faultless) in
-    let region = c.place-region.ensures.region in
-    let fewer : t.regions.placed < t.epoch = subst (λ (v : TreeValue). v.state.locks < v.epoch) (sym c.self.view_is) c.requires.locks in
-    let most : t.epoch ≤ 4000000 = subst (λ (v : TreeValue). v.epoch ≤ 4000000) (sym c.self.view_is) c.requires.epoch in
-    let first : c.place-region.result.first_line ≡ 2 ^ 52 + t.regions.placed * 2 ^ 32 = ap (λ (r : Region). r.first_line) region in
-    let low : c.place-region.result.first_line < 2 ^ 60 = omega arith in
-    subst (λ (v : TreeValue). All (IsReady v.machine) c.push_only.new.follows.items) c.self.view_is
-    (All-only (IsReady m) (Lock a.domain a.mask c.place-region.result.first_line) c.push_only.new.follows.items c.push_only.ensures.only (ways.0, ways.1, low))
+    subst (λ (v : TreeValue). tree_of m (state_of m (tables c.replace.new.self t.tasks t.cpus c.give.new.classes t.rmids c.place-region.new.self) t.status t.next_gid) t.epoch ≡ record v { state = with_region v.state g a }) c.self.view_is
+    (ap (λ (x : State). tree_of m x t.epoch) is_region)

@@ -1,13 +1,9 @@
-use Rattle.std.proofs.Common.{sym, ◌∙◌}
+use Rattle.std.proofs.Common.{refl, sym, ◌∙◌}
+use Rattle.tree_core.proofs.Changes.{MakesUnless-refused}
 use Rattle.tree_core.proofs.Refusals.{IsRefused-spent}
 use Rattle.tree_core.proofs.tree.Tree.make_control.Goals as goal
 
-pub returns-else-has_class-clause-reply : goal.returns-else-has_class-clause-reply
-returns-else-has_class-clause-reply c =
-    let t = c.args.self.now in
-    c.refused.ensures ∙ (IsRefused-spent t.machine t.state c.args.name c.requires.place (sym c.has_class.ensures.free ∙ c.if-has_class.false)).reply
-
-pub returns-else-has_class-clause-state : goal.returns-else-has_class-clause-state
-returns-else-has_class-clause-state c = λ looks.
-    let t = c.args.self.now in
-    c.has_class.ensures.state ∙ sym ((IsRefused-spent t.machine t.state c.args.name c.requires.place (sym c.has_class.ensures.free ∙ c.if-has_class.false)).kept looks)
+pub returns-else-has_class : goal.returns-else-has_class
+returns-else-has_class c =
+    let v = c.args.self.now in let spent = IsRefused-spent v.machine v.state c.args.name c.requires.place (sym c.has_class.ensures.free ∙ c.if-has_class.false) in
+    MakesUnless-refused spent.reason spent.is c.has_class.ensures.tree (c.refused.ensures ∙ spent.reply) refl

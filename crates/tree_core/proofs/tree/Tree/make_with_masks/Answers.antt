@@ -1,4 +1,4 @@
-use Rattle.std.proofs.Common.{◌≡◌, ◌+◌, ◌≤◌, Option, None, find, refl, sym, subst, ap, ◌∙◌, ◌++◌, ◌∷◌, []}
+use Rattle.std.proofs.Common.{◌≡◌, ◌+◌, ◌≤◌, None, find, refl, sym, subst, ap, ◌∙◌, ◌++◌, ◌∷◌, []}
 use Rattle.group_tree.specs.Lists.{has_group}
 use Rattle.group_tree.specs.declared.group.Group.{Group}
 use Rattle.hw_ids.specs.MonitoringIds.{MonitoringIds}
@@ -6,20 +6,19 @@ use Rattle.machine.specs.Maps.{parameters_of}
 use Rattle.path_names.specs.declared.dirs.DirRef.TheVariants.{Ctrl}
 use Rattle.path_names.specs.declared.path_ref.PathRef.TheVariants.{Dir}
 use Rattle.rc_base.specs.declared.replies.Reply.TheVariants as replies
-use Rattle.script_ops.specs.declared.op.Op.TheVariants.{Mkdir}
+use Rattle.tree_core.proofs.Changes.{MakesUnless-made, MakesUnless-refused}
 use Rattle.tree_core.proofs.Creation as creation
 use Rattle.tree_core.proofs.KeptTables.{IsKept-from_Keeps, Keeps-from_IsKept, State-same, contains-default_class}
 use Rattle.tree_core.proofs.Refusals.{IsRefused}
 use Rattle.tree_core.proofs.Returns.{RmidsStay-same}
 use Rattle.tree_core.proofs.Room.{has_group-next_gid, length-groups_lt}
+use Rattle.tree_core.specs.Changes.{MakesGroup}
 use Rattle.tree_core.specs.Kept.{IsKept}
 use Rattle.tree_core.specs.Places.{place_reasons}
 use Rattle.tree_core.specs.Tables.{state_of, tables}
-use Rattle.tree_core.specs.Values.{TreeValue}
-use Rattle.tree_law.specs.Refusals.{Refusal, reply_of}
+use Rattle.tree_core.specs.Values.{TreeValue, tree_of}
 use Rattle.tree_law.specs.Space.{full_domain}
 use Rattle.tree_law.specs.State.{State}
-use Rattle.tree_law.specs.Steps.{next_if, refusal}
 use Rattle.tree_law.specs.commands.Mkdir.{against, initial_masks}
 use Rattle.tree_core.proofs.tree.Tree.make_with_masks.Goals as goal
 
@@ -60,19 +59,8 @@ invariant_of-self-in-Err c =
     (State-same (state_of m (tables t.groups t.tasks t.cpus t.classes t.rmids t.regions) t.status t.next_gid) t.groups.groups t.groups.groups t.rmids.limbo rmids.limbo t.rmids.threshold rmids.threshold refl (sym (ap (λ (r : MonitoringIds). r.limbo) c.in-Err.ensures.1)) (sym (ap (λ (r : MonitoringIds). r.threshold) c.in-Err.ensures.1)))
     (IsKept-from_Keeps (creation.Keeps-same_ids (Keeps-from_IsKept c.self.invariant) c.take_ids.new.classes rmids c.in-Err.ensures.0 (RmidsStay-same t.rmids rmids c.in-Err.ensures.1)))
 
-pub returns-in-Ok-clause-reply : goal.returns-in-Ok-clause-reply
-returns-in-Ok-clause-reply c =
-    let t = c.self.inside in
-    let m = parameters_of t.machine in
-    let s = state_of m (tables t.groups t.tasks t.cpus t.classes t.rmids t.regions) t.status t.next_gid in
-    let path = Dir (Ctrl c.args.name) in
-    let place : find (against m s path) place_reasons ≡ None = subst (λ (v : TreeValue). find (against v.machine v.state path) place_reasons ≡ None) (sym c.self.view_is) c.requires.place in
-    let space : full_domain m s ≡ None = subst (λ (v : TreeValue). full_domain v.machine v.state ≡ None) (sym c.self.view_is) c.requires.space in
-    let accepted : refusal m s (Mkdir path) ≡ None = creation.refusal-none (Keeps-from_IsKept c.self.invariant) c.args.name c.in-Ok.ids.class c.in-Ok.ids.rmid c.take_ids.new.classes c.take_ids.new.rmids place space c.in-Ok.ensures.0 c.in-Ok.ensures.1 in
-    subst (λ (v : TreeValue). replies.Ok ≡ reply_of (refusal v.machine v.state (Mkdir path))) c.self.view_is (ap reply_of (sym accepted))
-
-pub returns-in-Ok-clause-state : goal.returns-in-Ok-clause-state
-returns-in-Ok-clause-state c = λ looks.
+pub returns-in-Ok : goal.returns-in-Ok
+returns-in-Ok c =
     let t = c.self.inside in
     let m = parameters_of t.machine in
     let s = state_of m (tables t.groups t.tasks t.cpus t.classes t.rmids t.regions) t.status t.next_gid in
@@ -83,27 +71,15 @@ returns-in-Ok-clause-state c = λ looks.
     let masks : c.args.masks ≡ initial_masks m s = subst (λ (v : TreeValue). c.args.masks ≡ initial_masks v.machine v.state) (sym c.self.view_is) c.requires.masks in
     let ids = c.in-Ok.ids in
     let rmids = c.take_ids.new.rmids in
-    let accepted : refusal m s (Mkdir path) ≡ None = creation.refusal-none keeps c.args.name ids.class ids.rmid c.take_ids.new.classes rmids place space c.in-Ok.ensures.0 c.in-Ok.ensures.1 in
     let new = creation.control_record keeps c.args.name ids.class ids.rmid c.take_ids.new.classes rmids place space c.in-Ok.ensures.0 c.in-Ok.ensures.1 c.args.masks in
     let after : c.insert.new.self.groups ≡ t.groups.groups ++ new ∷ [] = c.insert.ensures.last ∙ ap (λ (g : Group). t.groups.groups ++ g ∷ []) c.control_group-group.ensures in
-    subst (λ (v : TreeValue). state_of m (tables c.insert.new.self t.tasks t.cpus c.take_ids.new.classes rmids t.regions) t.status (t.next_gid + 1) ≡ next_if v.machine v.state (Mkdir path) looks (refusal v.machine v.state (Mkdir path))) c.self.view_is
-    (State-same (record s { next_gid = s.next_gid + 1 }) c.insert.new.self.groups (t.groups.groups ++ new ∷ []) rmids.limbo t.rmids.limbo rmids.threshold t.rmids.threshold after (ap (λ (r : MonitoringIds). r.limbo) c.in-Ok.ensures.1.taken) (ap (λ (r : MonitoringIds). r.threshold) c.in-Ok.ensures.1.taken)
-    ∙ creation.with_control-accepted keeps c.args.name ids.class ids.rmid c.take_ids.new.classes rmids place space c.in-Ok.ensures.0 c.in-Ok.ensures.1 c.args.masks looks masks
-    ∙ ap (λ (against : Option Refusal). next_if m s (Mkdir path) looks against) (sym accepted))
+    let same = State-same (record s { next_gid = s.next_gid + 1 }) c.insert.new.self.groups (t.groups.groups ++ new ∷ []) rmids.limbo t.rmids.limbo rmids.threshold t.rmids.threshold after (ap (λ (r : MonitoringIds). r.limbo) c.in-Ok.ensures.1.taken) (ap (λ (r : MonitoringIds). r.threshold) c.in-Ok.ensures.1.taken) in
+    subst (λ (v : TreeValue). MakesGroup v path (tree_of m (state_of m (tables c.insert.new.self t.tasks t.cpus c.take_ids.new.classes rmids t.regions) t.status (t.next_gid + 1)) t.epoch) replies.Ok) c.self.view_is
+    (MakesUnless-made (creation.refusal-none keeps c.args.name ids.class ids.rmid c.take_ids.new.classes rmids place space c.in-Ok.ensures.0 c.in-Ok.ensures.1)
+    (ap (λ (x : State). tree_of m x t.epoch) (same ∙ creation.with_control-accepted keeps c.args.name ids.class ids.rmid c.take_ids.new.classes rmids place space c.in-Ok.ensures.0 c.in-Ok.ensures.1 c.args.masks [] masks)) refl refl)
 
-pub returns-in-Err-clause-reply : goal.returns-in-Err-clause-reply
-returns-in-Err-clause-reply c =
-    let t = c.self.inside in
-    let m = parameters_of t.machine in
-    let s = state_of m (tables t.groups t.tasks t.cpus t.classes t.rmids t.regions) t.status t.next_gid in
-    let path = Dir (Ctrl c.args.name) in
-    let place : find (against m s path) place_reasons ≡ None = subst (λ (v : TreeValue). find (against v.machine v.state path) place_reasons ≡ None) (sym c.self.view_is) c.requires.place in
-    let space : full_domain m s ≡ None = subst (λ (v : TreeValue). full_domain v.machine v.state ≡ None) (sym c.self.view_is) c.requires.space in
-    let refused : IsRefused m s path c.in-Err.reply = creation.IsRefused-no_ids (Keeps-from_IsKept c.self.invariant) c.args.name c.in-Err.reply place space c.in-Err.ensures.2 in
-    subst (λ (v : TreeValue). c.in-Err.reply ≡ reply_of (refusal v.machine v.state (Mkdir path))) c.self.view_is refused.reply
-
-pub returns-in-Err-clause-state : goal.returns-in-Err-clause-state
-returns-in-Err-clause-state c = λ looks.
+pub returns-in-Err : goal.returns-in-Err
+returns-in-Err c =
     let t = c.self.inside in
     let m = parameters_of t.machine in
     let s = state_of m (tables t.groups t.tasks t.cpus t.classes t.rmids t.regions) t.status t.next_gid in
@@ -111,7 +87,7 @@ returns-in-Err-clause-state c = λ looks.
     let rmids = c.take_ids.new.rmids in
     let place : find (against m s path) place_reasons ≡ None = subst (λ (v : TreeValue). find (against v.machine v.state path) place_reasons ≡ None) (sym c.self.view_is) c.requires.place in
     let space : full_domain m s ≡ None = subst (λ (v : TreeValue). full_domain v.machine v.state ≡ None) (sym c.self.view_is) c.requires.space in
-    let refused : IsRefused m s path c.in-Err.reply = creation.IsRefused-no_ids (Keeps-from_IsKept c.self.invariant) c.args.name c.in-Err.reply place space c.in-Err.ensures.2 in
-    subst (λ (v : TreeValue). state_of m (tables t.groups t.tasks t.cpus c.take_ids.new.classes rmids t.regions) t.status t.next_gid ≡ next_if v.machine v.state (Mkdir path) looks (refusal v.machine v.state (Mkdir path))) c.self.view_is
-    (State-same s t.groups.groups t.groups.groups rmids.limbo t.rmids.limbo rmids.threshold t.rmids.threshold refl (ap (λ (r : MonitoringIds). r.limbo) c.in-Err.ensures.1) (ap (λ (r : MonitoringIds). r.threshold) c.in-Err.ensures.1)
-    ∙ sym (refused.kept looks))
+    let lack : IsRefused m s path c.in-Err.reply = creation.IsRefused-no_ids (Keeps-from_IsKept c.self.invariant) c.args.name c.in-Err.reply place space c.in-Err.ensures.2 in
+    let same = State-same s t.groups.groups t.groups.groups rmids.limbo t.rmids.limbo rmids.threshold t.rmids.threshold refl (ap (λ (r : MonitoringIds). r.limbo) c.in-Err.ensures.1) (ap (λ (r : MonitoringIds). r.threshold) c.in-Err.ensures.1) in
+    subst (λ (v : TreeValue). MakesGroup v path (tree_of m (state_of m (tables t.groups t.tasks t.cpus c.take_ids.new.classes rmids t.regions) t.status t.next_gid) t.epoch) c.in-Err.reply) c.self.view_is
+    (MakesUnless-refused lack.reason lack.is (ap (λ (x : State). tree_of m x t.epoch) same) lack.reply refl)

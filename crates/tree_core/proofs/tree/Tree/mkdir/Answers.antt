@@ -1,5 +1,5 @@
-use Rattle.tree_core.proofs.KeptTables.{IsKept-status, Keeps-from_IsKept}
+use Rattle.tree_core.proofs.Commands.{Takes-mkdir}
 use Rattle.tree_core.proofs.tree.Tree.mkdir.Goals as goal
 
-pub invariant_of-self : goal.invariant_of-self
-invariant_of-self c = IsKept-status c.make-reply.result (Keeps-from_IsKept c.self.invariant)
+pub returns : goal.returns
+returns c = λ looks. Takes-mkdir c.make-reply.ensures c.answer.ensures.tree c.answer.ensures.reply

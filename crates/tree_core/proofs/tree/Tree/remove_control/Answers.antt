@@ -9,21 +9,22 @@ use Rattle.tree_core.proofs.ControlGroups.{ControlAt-found}
 use Rattle.tree_core.proofs.KeptTables.{IsKept-from_Keeps, Keeps-from_IsKept, MayGive-found}
 use Rattle.tree_core.proofs.RemovedControl as removed
 use Rattle.tree_core.proofs.RemovedGroups.{State-parts, table_threshold-lt}
-use Rattle.tree_core.proofs.tree.Tree.remove_control.Goals.{After-self}
 use Rattle.tree_core.specs.Found.{IsControl}
 use Rattle.tree_core.specs.Kept.{Keeps}
 use Rattle.tree_core.specs.Removals.{MayLeave}
 use Rattle.tree_core.specs.Tables.{state_of, tables}
-use Rattle.tree_core.specs.Values.{TreeValue}
+use Rattle.tree_core.specs.Values.{TreeValue, tree_of}
+use Rattle.tree_law.specs.State.{State}
 use Rattle.tree_law.specs.Steps.{accepted}
 use Rattle.tree_law.specs.commands.Rmdir as rmdir
+use Rattle.tree_core.proofs.tree.Tree.remove_control.Goals.{After-self}
 use Rattle.tree_core.proofs.tree.Tree.remove_control.Goals as goal
 
 -- the tree before, by its fields
 abbrev before : After-self → TreeValue
 before c =
     let t = c.self.inside in let m = parameters_of t.machine in
-    record { machine = m; state = state_of m (tables t.groups t.tasks t.cpus t.classes t.rmids t.regions) t.status t.next_gid; epoch = t.epoch }
+    tree_of m (state_of m (tables t.groups t.tasks t.cpus t.classes t.rmids t.regions) t.status t.next_gid) t.epoch
 
 keeps : (c : After-self) → (let t = c.self.inside in Keeps (before c).machine (tables t.groups t.tasks t.cpus t.classes t.rmids t.regions) (before c).state t.epoch)
 keeps c = Keeps-from_IsKept c.self.invariant
@@ -68,11 +69,13 @@ invariant_of-self c =
     let after = State-parts (record (before o).state { regions = take (before o).machine.domains c.remove-2.new.self.places; locks = c.remove-2.new.self.placed }) c.remove.new.self.groups _ c.unbind_ctrl.new.self c.unbind_ctrl.new.self c.remove_ctrl.new.self c.remove_ctrl.new.self c.free_all.new.rmids.limbo c.free_all.new.rmids.threshold t.rmids.threshold (groups ∙ removed.without-off_monitors f.gid t.groups.groups) refl refl c.free_all.ensures.threshold in
     IsKept-from_Keeps (removed.Keeps-control (keeps o) f.name f (group o).named (group o) l.accepted c.args.freed.now l.freed c.args.looks.now c.remove.new.self c.unbind_ctrl.new.self c.remove_ctrl.new.self c.give.new.classes c.free_all.new.rmids c.remove-2.new.self t.machine.in_range l.looks groups shareable c.unbind_ctrl.ensures c.remove_ctrl.ensures c.give.ensures c.free_all.ensures c.remove-2.ensures _ after)
 
-pub returns-clause-state : goal.returns-clause-state
-returns-clause-state c =
-    let o = (goal.at.returns-clause-state c).After-self in let f = c.args.found in let l = leaves o in let t = c.self.inside in
+pub returns : goal.returns
+returns c =
+    let o = (goal.at.returns c).After-self in let f = c.args.found in let l = leaves o in let t = c.self.inside in
     let groups = c.remove.ensures.without ∙ ap (λ (gs : List Group). without f.gid gs) c.remove_monitors.ensures.groups in
     let shareable = c.remove.ensures.kept ∙ c.remove_monitors.ensures.shareable in
     let after = State-parts (record (before o).state { regions = take (before o).machine.domains c.remove-2.new.self.places; locks = c.remove-2.new.self.placed }) c.remove.new.self.groups _ c.unbind_ctrl.new.self c.unbind_ctrl.new.self c.remove_ctrl.new.self c.remove_ctrl.new.self c.free_all.new.rmids.limbo c.free_all.new.rmids.threshold t.rmids.threshold (groups ∙ removed.without-off_monitors f.gid t.groups.groups) refl refl c.free_all.ensures.threshold in
-    subst (λ (v : TreeValue). state_of (before o).machine (tables c.remove.new.self c.unbind_ctrl.new.self c.remove_ctrl.new.self c.give.new.classes c.free_all.new.rmids c.remove-2.new.self) t.status t.next_gid ≡ accepted v.machine v.state (Rmdir (Dir (Ctrl f.name))) c.args.looks.now) c.self.view_is
-    (after ∙ removed.left_control-accepted (keeps o) f.name f (group o).named (group o) l.accepted c.args.freed.now l.freed c.args.looks.now c.remove.new.self c.unbind_ctrl.new.self c.remove_ctrl.new.self c.give.new.classes c.free_all.new.rmids c.remove-2.new.self t.machine.in_range l.looks groups shareable c.unbind_ctrl.ensures c.remove_ctrl.ensures c.give.ensures c.free_all.ensures c.remove-2.ensures)
+    record {
+      tree = subst (λ (v : TreeValue). tree_of (before o).machine (state_of (before o).machine (tables c.remove.new.self c.unbind_ctrl.new.self c.remove_ctrl.new.self c.give.new.classes c.free_all.new.rmids c.remove-2.new.self) t.status t.next_gid) t.epoch ≡ record v { state = accepted v.machine v.state (Rmdir (Dir (Ctrl f.name))) c.args.looks.now }) c.self.view_is
+          (ap (λ (x : State). tree_of (before o).machine x t.epoch) (after ∙ removed.left_control-accepted (keeps o) f.name f (group o).named (group o) l.accepted c.args.freed.now l.freed c.args.looks.now c.remove.new.self c.unbind_ctrl.new.self c.remove_ctrl.new.self c.give.new.classes c.free_all.new.rmids c.remove-2.new.self t.machine.in_range l.looks groups shareable c.unbind_ctrl.ensures c.remove_ctrl.ensures c.give.ensures c.free_all.ensures c.remove-2.ensures));
+    }

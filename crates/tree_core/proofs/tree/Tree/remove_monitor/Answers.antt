@@ -1,4 +1,4 @@
-use Rattle.std.proofs.Common.{◌≡◌, Some, find, refl, sym, subst, ◌∙◌}
+use Rattle.std.proofs.Common.{ap, ◌≡◌, Some, find, refl, sym, subst, ◌∙◌}
 use Rattle.std.specs.Option.{option_map}
 use Rattle.group_tree.specs.Records.{has_gid, is_monitor_named}
 use Rattle.group_tree.specs.declared.group.Group.{Group}
@@ -8,22 +8,23 @@ use Rattle.path_names.specs.declared.path_ref.PathRef.TheVariants.{Dir}
 use Rattle.script_ops.specs.declared.op.Op.TheVariants.{Rmdir}
 use Rattle.tree_core.proofs.KeptTables.{IsKept-from_Keeps, Keeps-from_IsKept}
 use Rattle.tree_core.proofs.MonitorGroups.{gid-named_monitor, has_group-named_monitor}
-use Rattle.tree_core.proofs.RemovedMonitor as removed
 use Rattle.tree_core.proofs.RemovedGroups.{State-parts, table_threshold-lt}
-use Rattle.tree_core.proofs.tree.Tree.remove_monitor.Goals.{After-self}
+use Rattle.tree_core.proofs.RemovedMonitor as removed
+use Rattle.tree_core.specs.Found.{IsMonitor}
 use Rattle.tree_core.specs.Kept.{Keeps}
 use Rattle.tree_core.specs.Removals.{MayLeave}
-use Rattle.tree_core.specs.Found.{IsMonitor}
 use Rattle.tree_core.specs.Tables.{state_of, tables}
-use Rattle.tree_core.specs.Values.{TreeValue}
+use Rattle.tree_core.specs.Values.{TreeValue, tree_of}
+use Rattle.tree_law.specs.State.{State}
 use Rattle.tree_law.specs.Steps.{accepted}
+use Rattle.tree_core.proofs.tree.Tree.remove_monitor.Goals.{After-self}
 use Rattle.tree_core.proofs.tree.Tree.remove_monitor.Goals as goal
 
 -- the tree before, by its fields
 abbrev before : After-self → TreeValue
 before c =
     let t = c.self.inside in let m = parameters_of t.machine in
-    record { machine = m; state = state_of m (tables t.groups t.tasks t.cpus t.classes t.rmids t.regions) t.status t.next_gid; epoch = t.epoch }
+    tree_of m (state_of m (tables t.groups t.tasks t.cpus t.classes t.rmids t.regions) t.status t.next_gid) t.epoch
 
 keeps : (c : After-self) → (let t = c.self.inside in Keeps (before c).machine (tables t.groups t.tasks t.cpus t.classes t.rmids t.regions) (before c).state t.epoch)
 keeps c = Keeps-from_IsKept c.self.invariant
@@ -63,9 +64,11 @@ invariant_of-self c =
     let after = State-parts (before o).state c.remove.new.self.groups _ c.unbind_mon.new.self c.unbind_mon.new.self c.remove_mon.new.self c.remove_mon.new.self c.free_all.new.rmids.limbo c.free_all.new.rmids.threshold t.rmids.threshold c.remove.ensures.without refl refl c.free_all.ensures.threshold in
     IsKept-from_Keeps (removed.Keeps-monitor (keeps o) f.owner f.name f.parent f.gid (group o).is_owner (named o) l.accepted c.args.freed.now l.freed c.args.looks.now c.remove.new.self c.unbind_mon.new.self c.remove_mon.new.self c.free_all.new.rmids t.machine.in_range l.looks c.remove.ensures.without c.remove.ensures.kept c.unbind_mon.ensures c.remove_mon.ensures c.free_all.ensures _ after)
 
-pub returns-clause-state : goal.returns-clause-state
-returns-clause-state c =
-    let o = (goal.at.returns-clause-state c).After-self in let f = c.args.found in let l = leaves o in let t = c.self.inside in
+pub returns : goal.returns
+returns c =
+    let o = (goal.at.returns c).After-self in let f = c.args.found in let l = leaves o in let t = c.self.inside in
     let after = State-parts (before o).state c.remove.new.self.groups _ c.unbind_mon.new.self c.unbind_mon.new.self c.remove_mon.new.self c.remove_mon.new.self c.free_all.new.rmids.limbo c.free_all.new.rmids.threshold t.rmids.threshold c.remove.ensures.without refl refl c.free_all.ensures.threshold in
-    subst (λ (v : TreeValue). state_of (before o).machine (tables c.remove.new.self c.unbind_mon.new.self c.remove_mon.new.self t.classes c.free_all.new.rmids t.regions) t.status t.next_gid ≡ accepted v.machine v.state (Rmdir (Dir (Mon f.owner f.name))) c.args.looks.now) c.self.view_is
-    (after ∙ removed.left_monitor-accepted (keeps o) f.owner f.name f.parent f.gid (group o).is_owner (named o) l.accepted c.args.freed.now l.freed c.args.looks.now c.remove.new.self c.unbind_mon.new.self c.remove_mon.new.self c.free_all.new.rmids t.machine.in_range l.looks c.remove.ensures.without c.remove.ensures.kept c.unbind_mon.ensures c.remove_mon.ensures c.free_all.ensures)
+    record {
+      tree = subst (λ (v : TreeValue). tree_of (before o).machine (state_of (before o).machine (tables c.remove.new.self c.unbind_mon.new.self c.remove_mon.new.self t.classes c.free_all.new.rmids t.regions) t.status t.next_gid) t.epoch ≡ record v { state = accepted v.machine v.state (Rmdir (Dir (Mon f.owner f.name))) c.args.looks.now }) c.self.view_is
+          (ap (λ (x : State). tree_of (before o).machine x t.epoch) (after ∙ removed.left_monitor-accepted (keeps o) f.owner f.name f.parent f.gid (group o).is_owner (named o) l.accepted c.args.freed.now l.freed c.args.looks.now c.remove.new.self c.unbind_mon.new.self c.remove_mon.new.self c.free_all.new.rmids t.machine.in_range l.looks c.remove.ensures.without c.remove.ensures.kept c.unbind_mon.ensures c.remove_mon.ensures c.free_all.ensures));
+    }

@@ -1,24 +1,17 @@
-use Rattle.std.proofs.Common.{sym, subst, ap₂, ◌∙◌}
+use Rattle.std.proofs.Common.{refl, sym, subst, ap, ◌∙◌}
 use Rattle.machine.specs.Ranges.{InRange}
-use Rattle.rc_base.specs.declared.replies.Reply.{Reply}
+use Rattle.tree_core.proofs.Commands.{Takes-leaves}
 use Rattle.tree_core.proofs.KeptTables.{Keeps-of}
 use Rattle.tree_core.proofs.WrittenCpus as written
 use Rattle.tree_core.specs.Tables.{tables}
 use Rattle.tree_core.specs.Values.{TreeValue}
-use Rattle.tree_law.specs.State.{State}
 use Rattle.tree_core.proofs.tree.Tree.write_cpus.Goals as goal
 
-pub returns-in_default-clause-reply : goal.returns-in_default-clause-reply
-returns-in_default-clause-reply c = λ looks.
+pub returns-in_default : goal.returns-in_default
+returns-in_default c = λ looks.
     let m = c.args.self.now.machine in let s = c.args.self.now.state in
-    let leaves = written.Leaves-nowhere m s c.args.at.dir c.args.kind c.args.text.now c.requires.kind c.requires.writable looks (sym c.group_in.ensures ∙ c.in_default.is) in
-    c.answer.ensures.reply ∙ sym leaves.reply
-
-pub returns-in_default-clause-state : goal.returns-in_default-clause-state
-returns-in_default-clause-state c = λ looks.
-    let m = c.args.self.now.machine in let s = c.args.self.now.state in
-    let leaves = written.Leaves-nowhere m s c.args.at.dir c.args.kind c.args.text.now c.requires.kind c.requires.writable looks (sym c.group_in.ensures ∙ c.in_default.is) in
-    c.answer.ensures.state ∙ sym leaves.state
+    Takes-leaves (written.Leaves-nowhere m s c.args.at.dir c.args.kind c.args.text.now c.requires.kind c.requires.writable looks (sym c.group_in.ensures ∙ c.in_default.is)) c.answer.ensures.tree refl c.answer.ensures.reply
+    (λ k. sym (written.after-cpus m s c.args.at.dir c.args.kind c.args.text.now c.requires.kind c.requires.writable k))
 
 pub join_cpus-reply-requires : goal.join_cpus-reply-requires
 join_cpus-reply-requires c =
@@ -27,14 +20,9 @@ join_cpus-reply-requires c =
     let range : InRange m = subst (λ (v : TreeValue). InRange v.machine) c.self.view_is t.machine.in_range in
     record { sound = written.StaysSound-cpus m s c.args.at.dir c.args.kind c.args.text.now c.requires.kind c.requires.writable c.in-Some.group (sym c.in-Some.ensures) range keeps.sound c.requires.short }
 
-pub returns-clause-reply : goal.returns-clause-reply
-returns-clause-reply c = λ looks.
-    let m = c.args.self.now.machine in let s = c.args.self.now.state in
-    let leaves = written.Leaves-cpus m s c.args.at.dir c.args.kind c.args.text.now c.requires.kind c.requires.writable c.in-Some.group (sym c.in-Some.ensures) looks in
-    c.answer-2.ensures.reply ∙ c.join_cpus-reply.ensures.reply ∙ sym leaves.reply
-
-pub returns-clause-state : goal.returns-clause-state
-returns-clause-state c = λ looks.
-    let m = c.args.self.now.machine in let s = c.args.self.now.state in
-    let leaves = written.Leaves-cpus m s c.args.at.dir c.args.kind c.args.text.now c.requires.kind c.requires.writable c.in-Some.group (sym c.in-Some.ensures) looks in
-    c.answer-2.ensures.state ∙ ap₂ (λ (x : State) (r : Reply). record x { status = r }) c.join_cpus-reply.ensures.state c.join_cpus-reply.ensures.reply ∙ sym leaves.state
+pub returns : goal.returns
+returns c = λ looks.
+    let m = c.args.self.now.machine in let s = c.args.self.now.state in let reply = c.join_cpus-reply.result in let decides = c.join_cpus-reply.ensures in
+    Takes-leaves (written.Leaves-cpus m s c.args.at.dir c.args.kind c.args.text.now c.requires.kind c.requires.writable c.in-Some.group (sym c.in-Some.ensures) looks)
+    (c.answer-2.ensures.tree ∙ ap (λ (v : TreeValue). record v { state = record v.state { status = reply } }) decides.tree) decides.reply c.answer-2.ensures.reply
+    (λ k. sym (written.after-cpus m s c.args.at.dir c.args.kind c.args.text.now c.requires.kind c.requires.writable k))

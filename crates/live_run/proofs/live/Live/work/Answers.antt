@@ -1,0 +1,28 @@
+use Rattle.std.proofs.Common.{rules, ◌≡◌, ◌<◌, ℕ, List, Some, length, slice_index_or, ap, sym, ◌∙◌, arith}
+use Rattle.std.specs.List.{slice_get}
+use Rattle.std.proofs.lemmas.Option.{slice_get-get_or}
+use Rattle.script_ops.specs.Values.{ScriptValue, op_at, ops_of}
+use Rattle.script_ops.specs.declared.op.Op.{Op}
+use Rattle.live_run.proofs.live.Live.work.Goals as goal
+
+-- the op that was found by its number is the thread's next
+op_at-next : (script : ScriptValue) (thread next i : ℕ) (ops : List Op) (op : Op) → ops ≡ ops_of script thread → next ≡ i → i < length ops → ((d : Op) → op ≡ slice_index_or ops i d)
+    → op_at script thread next ≡ Some op
+op_at-next script thread next i ops op are is within at =
+    ap (λ (n : ℕ). slice_get (ops_of script thread) n) is ∙ ap (λ (os : List Op). slice_get os i) (sym are) ∙ slice_get-get_or ops i op within ∙ ap (λ (o : Op). Some o) (sym (at op))
+
+pub access-requires-clause-op : goal.access-requires-clause-op
+access-requires-clause-op g c κs within =
+    op_at-next g.N.Named.script c.loop-i.p.seen.thread c.loop-i.p.next c.loop-i.i c.ops-ops.result.now c.get-op.result.now
+    (c.ops-ops.ensures.ops ∙ ap (λ (s : ScriptValue). ops_of s c.thread-thread.result) c.requires.script ∙ ap (λ (t : ℕ). ops_of g.N.Named.script t) (c.thread-thread.ensures.thread ∙ ap (λ p. p.seen.thread) c.p.view_is ∙ sym c.loop-i.invariant.thread))
+    c.loop-i.invariant.next (omega (arith, c.loop-i-test.true, c.len-i-end.ensures)) (λ d. c.get-op.ensures ∙ c.at-op.ensures d)
+
+pub command-requires : goal.command-requires
+command-requires g c = record {
+  script = c.requires.script;
+  op = op_at-next g.N.Named.script c.loop-i.p.seen.thread c.loop-i.p.next c.loop-i.i c.ops-ops.result.now c.get-op.result.now
+      (c.ops-ops.ensures.ops ∙ ap (λ (s : ScriptValue). ops_of s c.thread-thread.result) c.requires.script ∙ ap (λ (t : ℕ). ops_of g.N.Named.script t) (c.thread-thread.ensures.thread ∙ ap (λ p. p.seen.thread) c.p.view_is ∙ sym c.loop-i.invariant.thread))
+      c.loop-i.invariant.next (omega (arith, c.loop-i-test.true, c.len-i-end.ensures)) (λ d. c.get-op.ensures ∙ c.at-op.ensures d);
+  command = search rules;
+  ended = c.loop-i.invariant.ended;
+}

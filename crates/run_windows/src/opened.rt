@@ -1,0 +1,149 @@
+//! The windows that begin at one flush or lock.
+ghost use Rattle.std.specs.Prelude.{◌≡◌, ◌+◌, ◌<◌, ◌≤◌, length, slice_index_or, IfOk, OnOk};
+ghost use Rattle.std.specs.List.{position, position_or_len};
+ghost use Rattle.cache_core.specs.Filled.{empties};
+ghost use Rattle.cache_core.specs.declared.entry.SliceEntry.{SliceEntry};
+ghost use Rattle.machine.specs.Slices.{slice_number};
+ghost use Rattle.run_law.specs.Journals.{slice_at};
+ghost use Rattle.run_law.specs.Runs.{IsRun};
+ghost use Rattle.run_windows.specs.AllWindows.{AreWindowsBefore, IsOpening, with_used};
+ghost use Rattle.window_counts.specs.Ends.{RiseByGroup};
+ghost use Rattle.run_windows.specs.Stays.{AreStays};
+ghost use Rattle.run_windows.specs.Fronts.{front_of};
+ghost use Rattle.window_counts.specs.Tallies.{AreCounted, IsCounted};
+ghost use Rattle.run_windows.specs.Windows.{StaysExclusive};
+ghost use Rattle.script_ops.specs.Values.{IsLawful};
+
+use crate::counting::{Place, empties, window_of};
+use cache_core::SliceEntry;
+use private_lru::WindowCounts;
+use rc_base::NoMemory;
+use run_law::{Journals, Window};
+use script_ops::Script;
+use std::alloc::Global;
+use window_counts::{Stay, counts_of};
+
+/// A flush or a lock: the domain, the slice in it, and the position there.
+#[derive(Clone, Copy, Debug, PartialEq, Eq)]
+pub(crate) struct Opening {
+    /// The domain, from 0.
+    pub domain: u8,
+    /// The slice in its domain, from 0.
+    pub slice: u8,
+    /// The position, from 0.
+    pub from: u32,
+}
+
+// Adds a window in which its group has an access.
+fn push_used(windows: &mut Vec<Window>, window: Window) -> Result<(), NoMemory>
+    ensures { OnOk result (windows.new.items ≡ with_used windows.old.items window) }
+{
+    if 0 < window.accesses {
+        windows.push(window)?;
+    }
+    Ok(())
+}
+
+// The first of these entries that empties the slice.
+fn first_empty(entries: &[SliceEntry]) -> Option<usize>
+    ensures { result ≡ position (λ (e : SliceEntry). empties e.what) entries.now }
+{
+    entries.iter().position(|e| empties(e.what))
+}
+
+// How many of these entries stand before it.
+fn front_len(entries: &[SliceEntry]) -> usize
+    ensures len { result ≡ position_or_len (λ (e : SliceEntry). empties e.what) entries.now }
+    ensures within { result ≤ length entries.now }
+{
+    first_empty(entries).unwrap_or(entries.len())
+}
+
+// The entries after a place, up to the first that empties the slice.
+fn front_of(entries: &[SliceEntry], from: usize) -> &[SliceEntry]
+    requires { from < length entries.now }
+    ensures { result.now ≡ front_of from entries.now }
+{
+    let rest = &entries[from + 1..];
+    &rest[..front_len(rest)]
+}
+
+// What is counted of the windows of these groups that begin at a flush or a lock.
+fn counts_at(
+    alloc: Global,
+    script: &Script,
+    journals: &Journals,
+    opening: Opening,
+    stays: &[Stay],
+) -> Result<Vec<WindowCounts>, NoMemory>
+    requires within { opening.from < length (slice_at journals.now (slice_number script.now.machine opening.domain opening.slice)) }
+    requires rising { RiseByGroup stays.now }
+    ensures { IfOk result (λ counts. (d : SliceEntry) → AreCounted script.now.machine.sets (slice_index_or (slice_at journals.now (slice_number script.now.machine opening.domain opening.slice)) opening.from d).what (front_of opening.from (slice_at journals.now (slice_number script.now.machine opening.domain opening.slice))) stays.now counts.items) }
+{
+    let machine = script.machine();
+    let number = u32::from(opening.domain) * u32::from(machine.slices) + u32::from(opening.slice);
+    let entries = journals.slice(number);
+    let from = opening.from as usize;
+    counts_of(
+        alloc,
+        stays,
+        machine.sets,
+        entries[from].what,
+        front_of(entries, from),
+    )
+}
+
+// Adds the window of an exclusive group that begins at a flush or a lock, where the group has an access in it.
+fn push_window(
+    script: &Script,
+    journals: &Journals,
+    opening: Opening,
+    stay: Stay,
+    counts: WindowCounts,
+    windows: &mut Vec<Window>,
+) -> Result<(), NoMemory>
+    requires lawful { IsLawful script.now }
+    requires run { IsRun script.now journals.now }
+    requires domain { opening.domain < script.now.machine.domains }
+    requires slice { opening.slice < script.now.machine.slices }
+    requires opens { IsOpening script.now journals.now opening.domain opening.slice opening.from }
+    requires exclusive { (d : SliceEntry) → StaysExclusive script.now journals.now opening.domain stay.gid stay.mask (slice_index_or (slice_at journals.now (slice_number script.now.machine opening.domain opening.slice)) opening.from d).epoch stay.last }
+    requires counted { (d : SliceEntry) → IsCounted script.now.machine.sets (slice_index_or (slice_at journals.now (slice_number script.now.machine opening.domain opening.slice)) opening.from d).what (front_of opening.from (slice_at journals.now (slice_number script.now.machine opening.domain opening.slice))) stay counts }
+    requires before { AreWindowsBefore script.now journals.now (record { domain = opening.domain; slice = opening.slice; from = opening.from; gid = stay.gid.0 }) windows.old.items }
+    ensures { OnOk result (AreWindowsBefore script.now journals.now (record { domain = opening.domain; slice = opening.slice; from = opening.from; gid = stay.gid.0 + 1 }) windows.new.items) }
+{
+    let place = Place {
+        domain: opening.domain,
+        slice: opening.slice,
+        from: opening.from,
+        gid: stay.gid,
+        mask: stay.mask,
+        last: stay.last,
+    };
+    push_used(windows, window_of(place, counts))
+}
+
+/// Adds the windows that begin at a flush or a lock, of the groups that are exclusive then.
+pub(crate) fn push_opened(
+    alloc: Global,
+    script: &Script,
+    journals: &Journals,
+    opening: Opening,
+    stays: &[Stay],
+    windows: &mut Vec<Window>,
+) -> Result<(), NoMemory>
+    requires lawful { IsLawful script.now }
+    requires run { IsRun script.now journals.now }
+    requires domain { opening.domain < script.now.machine.domains }
+    requires slice { opening.slice < script.now.machine.slices }
+    requires opens { IsOpening script.now journals.now opening.domain opening.slice opening.from }
+    requires stays { (d : SliceEntry) → AreStays script.now journals.now opening.domain (slice_index_or (slice_at journals.now (slice_number script.now.machine opening.domain opening.slice)) opening.from d).epoch stays.now }
+    requires before { AreWindowsBefore script.now journals.now (record { domain = opening.domain; slice = opening.slice; from = opening.from; gid = 0 }) windows.old.items }
+    ensures { OnOk result (AreWindowsBefore script.now journals.now (record { domain = opening.domain; slice = opening.slice; from = opening.from + 1; gid = 0 }) windows.new.items) }
+{
+    let counts = counts_at(alloc, script, journals, opening, stays)?;
+    for i in 0..stays.len() {
+        push_window(script, journals, opening, stays[i], counts[i], windows)?;
+    }
+    Ok(())
+}

@@ -1,7 +1,0 @@
-use Rattle.std.proofs.Common.{rules}
-use Rattle.std.proofs.lemmas.List.Sorted.{IsNonDecreasingBy-from_sort_by_key}
-use Rattle.script_text.specs.declared.tasks.TaskRange.{TaskRange}
-use Rattle.script_text.proofs.tasks.sort.Goals as goal
-
-pub returns-clause-sorted : goal.returns-clause-sorted
-returns-clause-sorted c = IsNonDecreasingBy-from_sort_by_key (λ (t : TaskRange). t.first) _ c.sort_unstable_by_key.ensures.sorted (λ a r q k. search rules)

@@ -1,0 +1,2 @@
+pub mod BestChoices
+pub mod BestRows
