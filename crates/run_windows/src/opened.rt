@@ -1,5 +1,5 @@
 //! The windows that begin at one flush or lock.
-ghost use Rattle.std.specs.Prelude.{◌≡◌, ◌+◌, ◌<◌, ◌≤◌, length, slice_index_or, IfOk, OnOk};
+ghost use Rattle.std.specs.Prelude.{◌≡◌, ◌+◌, ◌^◌, ◌<◌, ◌≤◌, length, slice_index_or, IfOk, OnOk};
 ghost use Rattle.std.specs.List.{position, position_or_len};
 ghost use Rattle.cache_core.specs.Filled.{empties};
 ghost use Rattle.cache_core.specs.declared.entry.SliceEntry.{SliceEntry};
@@ -77,6 +77,7 @@ fn counts_at(
     stays: &[Stay],
 ) -> Result<Vec<WindowCounts>, NoMemory>
     requires within { opening.from < length (slice_at journals.now (slice_number script.now.machine opening.domain opening.slice)) }
+    requires few { length (slice_at journals.now (slice_number script.now.machine opening.domain opening.slice)) < 2 ^ 32 }
     requires rising { RiseByGroup stays.now }
     ensures { IfOk result (λ counts. (d : SliceEntry) → AreCounted script.now.machine.sets (slice_index_or (slice_at journals.now (slice_number script.now.machine opening.domain opening.slice)) opening.from d).what (front_of opening.from (slice_at journals.now (slice_number script.now.machine opening.domain opening.slice))) stays.now counts.items) }
 {

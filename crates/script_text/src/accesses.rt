@@ -13,9 +13,6 @@ use script_lines::tasks::declared_task;
 use script_lines::{LineError, LineFault};
 use script_ops::{Op, Ops};
 
-// What an access weighs on any machine.
-const ACCESS_WEIGHT: u64 = 1;
-
 impl Reader {
     /// `access TASK CPU ADDR`
     #[tactic(auto, unfolding(crate::specs::Meaning::means))]
@@ -42,9 +39,7 @@ impl Reader {
         let Some(task) = declared_task(&self.tasks, used.task) else {
             return Err(LineError::Fault(LineFault::UnknownTask));
         };
-        let cpu = used.cpu;
-        let addr = used.at;
-        self.push_weighing(Op::Access { task, cpu, addr }, ACCESS_WEIGHT)
+        self.push_use(task, used.cpu, used.at)
     }
 
     /// `sweep TASK CPU ADDR COUNT STRIDE`

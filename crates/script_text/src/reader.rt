@@ -4,7 +4,7 @@ ghost use Rattle.script_text.specs.States.{state_of, close_thread, close_phase, 
 ghost use Rattle.script_text.specs.Reading.{Reads, finished, nothing_read, script_in};
 ghost use Rattle.path_names.specs.NamesIn.{AreKnown};
 ghost use Rattle.script_ops.specs.Canonical.{op_ids};
-ghost use Rattle.script_ops.specs.Weights.{weight_of as op_weight};
+ghost use Rattle.script_ops.specs.declared.op.Op.TheVariants.{Access};
 ghost use Rattle.machine.specs.Maps.{parameters_of};
 ghost use Rattle.script_text.specs.Meaning.{with_op, with_ops, sweep_ops, Means};
 ghost use Rattle.path_names.specs.declared.paths.TheConstants.{MOST_PATH_NAMES};
@@ -20,6 +20,9 @@ use script_lines::{LineError, LineFault, ScriptError, ScriptFault};
 use script_ops::{MOST_WEIGHT, Op, Ops, Phase, Script, weight_of};
 use std::alloc::Global;
 use std::mem;
+
+// What an access weighs on any machine.
+const ACCESS_WEIGHT: u64 = 1;
 
 /// What was read so far: the closed phases, the order and the closed threads of the open phase, and the ops of the open thread.
 #[derive(Drop)]
@@ -105,31 +108,35 @@ impl Reader {
     }
 
     /// Adds an op to the open thread.
+    #[tactic(auto, using(crate::proofs::Limits::keeping))]
     pub fn push(&mut self, op: Op) -> Result<(), LineError>
         requires limits { InLimits 1 1 MOST_PATH_NAMES (state_of self.old) }
         requires known { AreKnown (length self.old.names) (op_ids op) }
         ensures said { Means result (state_of self.new) (with_op (state_of self.old) op) }
         ensures sound { OnOk result (IsSound (state_of self.new)) }
     {
-        let weight = weight_of(&self.machine, &op);
-        self.push_weighing(op, weight)
-    }
-
-    /// The same of an op whose weight is known.
-    #[inline(always)]
-    #[tactic(auto, using(crate::proofs::Limits::keeping))]
-    pub fn push_weighing(&mut self, op: Op, weight: u64) -> Result<(), LineError>
-        requires limits { InLimits 1 1 MOST_PATH_NAMES (state_of self.old) }
-        requires known { AreKnown (length self.old.names) (op_ids op) }
-        requires weight { weight ≡ op_weight (parameters_of self.old.machine) op }
-        ensures said { Means result (state_of self.new) (with_op (state_of self.old) op) }
-        ensures sound { OnOk result (IsSound (state_of self.new)) }
-    {
-        let total = match self.weight.checked_add(weight) {
+        let total = match self.weight.checked_add(weight_of(&self.machine, &op)) {
             Some(total) if total <= MOST_WEIGHT => total,
             _ => return Err(LineError::Fault(LineFault::TooLarge)),
         };
         self.ops.push(op)?;
+        self.weight = total;
+        Ok(())
+    }
+
+    /// Adds an access to the open thread.
+    #[inline(always)]
+    #[tactic(auto, using(crate::proofs::Limits::keeping))]
+    pub fn push_use(&mut self, task: u32, cpu: u8, addr: u64) -> Result<(), LineError>
+        requires limits { InLimits 1 1 MOST_PATH_NAMES (state_of self.old) }
+        ensures said { Means result (state_of self.new) (with_op (state_of self.old) (Access task cpu addr)) }
+        ensures sound { OnOk result (IsSound (state_of self.new)) }
+    {
+        let total = match self.weight.checked_add(ACCESS_WEIGHT) {
+            Some(total) if total <= MOST_WEIGHT => total,
+            _ => return Err(LineError::Fault(LineFault::TooLarge)),
+        };
+        self.ops.push_access(task, cpu, addr)?;
         self.weight = total;
         Ok(())
     }

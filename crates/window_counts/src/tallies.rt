@@ -116,6 +116,7 @@ pub fn counts_of(
     entries: &[SliceEntry],
 ) -> Result<Vec<WindowCounts>, NoMemory>
     requires rising { RiseByGroup stays.now }
+    requires few { length entries.now < 2 ^ 32 }
     ensures { IfOk result (λ counts. AreCounted sets opening entries.now stays.now counts.items) }
 {
     let uses = uses_of(alloc, entries)?;

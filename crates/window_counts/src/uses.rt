@@ -1,5 +1,5 @@
 //! The first accesses to each line among some entries of a slice.
-ghost use Rattle.std.specs.Prelude.{◌≡◌, ℕ, ◌+◌, ◌<◌, IfOk, None, OnOk, Some, length, slice_get};
+ghost use Rattle.std.specs.Prelude.{◌≡◌, ℕ, ◌+◌, ◌<◌, ◌^◌, IfOk, None, OnOk, Some, length, slice_get};
 ghost use Rattle.std.specs.BTreeMap.{get};
 ghost use Rattle.std.specs.Ordering.{nat_cmp};
 ghost use Rattle.cache_core.specs.declared.entry.SliceEntry.{SliceEntry};
@@ -23,9 +23,9 @@ pub(crate) struct Access {
 #[derive(Clone, Copy, Debug, PartialEq, Eq, Drop)]
 pub(crate) struct LineUse {
     /// The position of the first one, from 0.
-    pub at: usize,
+    pub at: u32,
     /// The position of the first one by another group, or the number of all entries.
-    pub other: usize,
+    pub other: u32,
     /// The group of the first one.
     pub owner: Gid,
 }
@@ -52,9 +52,9 @@ fn other_use(first: LineUse, gid: Gid) -> usize
     ensures { (none : ℕ) → result ≡ first_foreign gid.0 none (Some first) }
 {
     if first.owner.0 == gid.0 {
-        first.other
+        first.other as usize
     } else {
-        first.at
+        first.at as usize
     }
 }
 
@@ -84,11 +84,12 @@ fn note_first(
     requires fresh { get nat_cmp uses.old access.line ≡ None }
     requires access { (e : SliceEntry) → slice_get entries.now at ≡ Some e → access_of e.what ≡ Some access }
     requires within { at < length entries.now }
+    requires few { length entries.now < 2 ^ 32 }
     ensures { OnOk result (AreUses entries.now (at + 1) uses.new) }
 {
     let first = LineUse {
-        at,
-        other: entries.len(),
+        at: at as u32,
+        other: entries.len() as u32,
         owner: access.owner,
     };
     uses.insert(access.line, first)?;
@@ -107,17 +108,18 @@ fn note_later(
     requires first { get nat_cmp uses.old access.line ≡ Some first }
     requires access { (e : SliceEntry) → slice_get entries.now at ≡ Some e → access_of e.what ≡ Some access }
     requires within { at < length entries.now }
+    requires few { length entries.now < 2 ^ 32 }
     ensures { OnOk result (AreUses entries.now (at + 1) uses.new) }
 {
     if first.owner.0 == access.owner.0 {
         return Ok(());
     }
-    if first.other < entries.len() {
+    if (first.other as usize) < entries.len() {
         return Ok(());
     }
     let both = LineUse {
         at: first.at,
-        other: at,
+        other: at as u32,
         owner: first.owner,
     };
     uses.insert(access.line, both)?;
@@ -134,6 +136,7 @@ fn note_access(
     requires uses { AreUses entries.now at uses.old }
     requires access { (e : SliceEntry) → slice_get entries.now at ≡ Some e → access_of e.what ≡ Some access }
     requires within { at < length entries.now }
+    requires few { length entries.now < 2 ^ 32 }
     ensures { OnOk result (AreUses entries.now (at + 1) uses.new) }
 {
     match use_of(uses, access.line) {
@@ -150,6 +153,7 @@ fn note(
 ) -> Result<(), NoMemory>
     requires uses { AreUses entries.now at uses.old }
     requires within { at < length entries.now }
+    requires few { length entries.now < 2 ^ 32 }
     ensures { OnOk result (AreUses entries.now (at + 1) uses.new) }
 {
     match access_of(entries[at].what) {
@@ -163,6 +167,7 @@ pub(crate) fn uses_of(
     alloc: Global,
     entries: &[SliceEntry],
 ) -> Result<BTreeMap<u64, LineUse>, NoMemory>
+    requires few { length entries.now < 2 ^ 32 }
     ensures { IfOk result (λ uses. AreUses entries.now (length entries.now) uses) }
 {
     let mut uses: BTreeMap<u64, LineUse> = BTreeMap::new(alloc);

@@ -1,7 +1,9 @@
 use Rattle.std.proofs.Common.{get_or, sym, subst, arith}
 use Rattle.std.proofs.lemmas.List.{get_or_default, get_or_read}
 use Rattle.std.proofs.lemmas.Option.{slice_get_within}
+use Rattle.machine.proofs.laws.Slices.{slice_number-lt}
 use Rattle.machine.specs.Slices.{slice_number}
+use Rattle.run_law.proofs.laws.RunSizes.{length-slice}
 use Rattle.run_law.specs.Journals.{slice_at}
 use Rattle.run_windows.proofs.Openings.{IsOpening-entry}
 use Rattle.run_windows.proofs.SiteOrder.{site}
@@ -22,6 +24,13 @@ counts_at-requires-clause-within c =
     let o = c.args.opening in
     let e = IsOpening-entry script c.args.journals.now o.domain o.slice o.from c.requires.opens in
     slice_get_within (slice_at c.args.journals.now (slice_number script.machine o.domain o.slice)) o.from e.0 e.1
+
+pub counts_at-requires-clause-few : goal.counts_at-requires-clause-few
+counts_at-requires-clause-few c =
+    let script = c.args.script.now in
+    let o = c.args.opening in
+    let m = script.machine in
+    length-slice script c.args.journals.now c.requires.lawful c.requires.run (slice_number m o.domain o.slice) (slice_number-lt m o.domain o.slice c.requires.domain c.requires.slice)
 
 pub counts_at-requires-clause-rising : goal.counts_at-requires-clause-rising
 counts_at-requires-clause-rising c = (c.requires.stays no_entry).rising
