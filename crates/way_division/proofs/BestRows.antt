@@ -203,48 +203,48 @@ module _ (free : List Bool) (least : ℕ) (some : 1 ≤ least) where
   -- ---- what the code asks of rows
 
   -- there is a row
-  pub length-rows : (groups : List (List ℕ)) (rows : List (List (Option Choice))) → AreRows free least groups rows → 1 ≤ length rows
-  length-rows [] rows are = rw are (omega arith)
+  pub length-rows : (groups : List (List ℕ)) (table : List (List (Option Choice))) → AreRows free least groups table → 1 ≤ length table
+  length-rows [] table are = rw are (omega arith)
   length-rows (group ∷ groups) [] are = absurd are
-  length-rows (group ∷ groups) (row ∷ rows) are = omega arith
+  length-rows (group ∷ groups) (front ∷ table) are = omega arith
 
   -- its choices have so few misses that one group more may be added
-  pub misses-few : (groups : List (List ℕ)) (rows : List (List (Option Choice))) (row : List (Option Choice)) → AreRows free least groups rows → length groups ≤ 64 → All (All (λ n. n ≤ 2 ^ 48)) groups
-      → row ≡ get_or rows 0 row → (way : ℕ) → IfSome (at row way) (λ choice. choice.misses ≤ 2 ^ 60)
-  misses-few groups rows row are few counts first way =
-      rw (first ∙ get_or_default rows 0 row [] (omega (arith, length-rows groups rows are))) (fewer (at (first_row rows) way) (misses-bounded (2 ^ 48) groups rows are counts way))
+  pub misses-few : (groups : List (List ℕ)) (table : List (List (Option Choice))) (front : List (Option Choice)) → AreRows free least groups table → length groups ≤ 64 → All (All (λ n. n ≤ 2 ^ 48)) groups
+      → front ≡ get_or table 0 front → (way : ℕ) → IfSome (at front way) (λ choice. choice.misses ≤ 2 ^ 60)
+  misses-few groups table front are few counts first way =
+      rw (first ∙ get_or_default table 0 front [] (omega (arith, length-rows groups table are))) (fewer (at (first_row table) way) (misses-bounded (2 ^ 48) groups table are counts way))
     where
       fewer : (best : Option Choice) → IfSome best (λ choice. choice.misses ≤ length groups * 2 ^ 48) → IfSome best (λ choice. choice.misses ≤ 2 ^ 60)
       fewer None h = tt
       fewer (Some choice) h = omega (arith, h, few)
 
   -- a row more in front
-  pub AreRows-cons : (groups : List (List ℕ)) (rows : List (List (Option Choice))) (row next : List (Option Choice)) → 1 ≤ length groups → AreRows free least (take (length groups - 1) (drop 1 groups)) rows
-      → next ≡ get_or rows 0 next → ((way : ℕ) → IsBestFrom free least (get_or groups 0 []) next way (at row way)) → AreRows free least groups (row ∷ rows)
-  AreRows-cons [] rows row next within are first best = absurd (omega (arith, within))
-  AreRows-cons (group ∷ groups) rows row next within are first best =
+  pub AreRows-cons : (groups : List (List ℕ)) (table : List (List (Option Choice))) (front next : List (Option Choice)) → 1 ≤ length groups → AreRows free least (take (length groups - 1) (drop 1 groups)) table
+      → next ≡ get_or table 0 next → ((way : ℕ) → IsBestFrom free least (get_or groups 0 []) next way (at front way)) → AreRows free least groups (front ∷ table)
+  AreRows-cons [] table front next within are first best = absurd (omega (arith, within))
+  AreRows-cons (group ∷ groups) table front next within are first best =
       let later : take (length (group ∷ groups) - 1) groups ≡ groups = take_all (length (group ∷ groups) - 1) groups (omega arith) in
-      let here : next ≡ first_row rows = first ∙ get_or_default rows 0 next [] (omega (arith, length-rows _ rows are)) in
-      (subst (λ (n : List (Option Choice)). (way : ℕ) → IsBestFrom free least group n way (at row way)) here best, subst (λ (gs : List (List ℕ)). AreRows free least gs rows) later are)
+      let here : next ≡ first_row table = first ∙ get_or_default table 0 next [] (omega (arith, length-rows _ table are)) in
+      (subst (λ (n : List (Option Choice)). (way : ℕ) → IsBestFrom free least group n way (at front way)) here best, subst (λ (gs : List (List ℕ)). AreRows free least gs table) later are)
 
   -- ---- the best division of all
 
-  module _ (ways : length free ≤ 32) (groups : List (List ℕ)) (rows : List (List (Option Choice))) (row : List (Option Choice)) (are : AreRows free least groups rows) (first : row ≡ get_or rows 0 row) where
-    told : Tells groups rows 0 (at row 0)
-    told = rw (first ∙ get_or_default rows 0 row [] (omega (arith, length-rows groups rows are))) (Tells-rows ways groups rows are 0 (omega arith))
+  module _ (ways : length free ≤ 32) (groups : List (List ℕ)) (table : List (List (Option Choice))) (front : List (Option Choice)) (are : AreRows free least groups table) (first : front ≡ get_or table 0 front) where
+    told : Tells groups table 0 (at front 0)
+    told = rw (first ∙ get_or_default table 0 front [] (omega (arith, length-rows groups table are))) (Tells-rows ways groups table are 0 (omega arith))
 
     -- the rows tell none where there is none
-    pub no-division : is_some (at row 0) ≡ false → (spans : List Span) → IsDivision free least 0 groups spans → ⊥
-    no-division none = by (at row 0) told none
+    pub no-division : is_some (at front 0) ≡ false → (spans : List Span) → IsDivision free least 0 groups spans → ⊥
+    no-division none = by (at front 0) told none
       where
-        by : (best : Option Choice) → Tells groups rows 0 best → is_some best ≡ false → (spans : List Span) → IsDivision free least 0 groups spans → ⊥
+        by : (best : Option Choice) → Tells groups table 0 best → is_some best ≡ false → (spans : List Span) → IsDivision free least 0 groups spans → ⊥
         by None h none = h
         by (Some choice) h none = absurd cc
 
     -- and else tell the best
-    pub best-division : is_some (at row 0) ≡ true → IsBestDivision free least groups (spans_from groups rows 0)
-    best-division some_row = by (at row 0) told some_row
+    pub best-division : is_some (at front 0) ≡ true → IsBestDivision free least groups (spans_from groups table 0)
+    best-division some_row = by (at front 0) told some_row
       where
-        by : (best : Option Choice) → Tells groups rows 0 best → is_some best ≡ true → IsBestDivision free least groups (spans_from groups rows 0)
+        by : (best : Option Choice) → Tells groups table 0 best → is_some best ≡ true → IsBestDivision free least groups (spans_from groups table 0)
         by None h is = absurd cc
         by (Some choice) h is = record { division = h.division; best = λ others other. omega (arith, h.same, h.best others other) }

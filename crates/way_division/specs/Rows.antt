@@ -41,7 +41,7 @@ nothing = record { span = record { first = 0; count = 0 }; misses = 0 }
 
 -- the first row, or none
 abbrev pub first_row : List (List (Option Choice)) → List (Option Choice)
-first_row rows = get_or rows 0 []
+first_row table = get_or table 0 []
 
 -- the rows of some groups: of all, of those after the first, and so on; the last is that of no group
 abbrev pub AreRows : List Bool → ℕ → List (List ℕ) → List (List (Option Choice)) → Type 0
