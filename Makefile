@@ -1,11 +1,14 @@
 # make demo      plays the example of a tenant that loses lines when its mask is rewritten: by a run of the sources, and by the program when it is proved and built
-# make test      the gate: proves every crate, tries the must-fail edits, runs the tests and the program, compares the examples and docs/BELIEVE.md, and sees each exit status
+# make test      the gate: proves every crate, tries the must-fail edits, runs the tests and the program, compares the examples and docs/BELIEVE.md, sees each exit status, and runs the tests of the Python package
 # make clients   runs real clients on the mounted tree: a shell, pqos and goresctrl (needs root, FUSE and Debian packages, and is no part of the gate)
-# make install   puts the program and its manual page below PREFIX (default: /usr/local)
+# make cluster   sweeps ways on a Dask cluster of two workers on this machine (needs python3-distributed, and is no part of the gate)
+# make install   puts the program, the planner, manual pages, documents, examples and tools below PREFIX (default: /usr/local)
+# make deb       builds a Debian package of the same in out/
 # make help      prints these lines
 
 PROGRAM = crates/resctrl_sim/out/resctrl_sim
-# It has the time at which make began, once the program was proved and built from these sources: what is edited meanwhile is newer.
+PLANNER = crates/resctrl_plan/out/resctrl_plan
+# It has the time at which make began, once both programs were proved and built from these sources: what is edited meanwhile is newer.
 BUILT = crates/resctrl_sim/out/built
 BEGAN := $(shell date +%s.%N)
 SOURCES = crates.txt HANDLES $(shell find crates -name out -prune -o -type f -print)
@@ -19,30 +22,43 @@ build: $(BUILT)
 
 $(BUILT): $(SOURCES)
 	@echo "Proving what is not proved yet, on $(PROCESSORS) processors. From nothing this is some 43 processor minutes."
-	@sh tools/progress -q -p resctrl_sim sh tools/prove resctrl_sim
+	@sh tools/progress -q -p resctrl_sim -p resctrl_plan sh tools/prove resctrl_sim resctrl_plan
 	@touch -d @$(BEGAN) $(BUILT)
 
 test:
 	@echo "The gate proves every crate with its tests, tries the must-fail edits, runs the tests and builds the program."
 	sh tools/progress rt ci
-	@# The gate leaves the program that it proved, built and ran.
-	@[ ! -x $(PROGRAM) ] || touch -d @$(BEGAN) $(BUILT)
+	@# The gate leaves the programs that it proved, built and ran.
+	@[ ! -x $(PROGRAM) ] || [ ! -x $(PLANNER) ] || touch -d @$(BEGAN) $(BUILT)
 	@$(MAKE) -s build
 	sh examples/compare $(PROGRAM)
 	sh tools/compare
 	sh tools/compare_sweep $(PROGRAM)
+	sh tools/compare_explain $(PROGRAM)
+	sh tools/compare_timeline $(PROGRAM)
+	sh tools/compare_progress
+	sh tools/compare_manual
+	sh tools/compare_deb $(PROGRAM) $(PLANNER)
+	python3 tools/compare_curve $(PROGRAM) --scripts 20
+	python3 tools/compare_plan $(PROGRAM) $(PLANNER) --scripts 20
 	sh tools/statuses $(PROGRAM)
+	sh tools/python/test $(PROGRAM)
 	@tools/believe | cmp -s - docs/BELIEVE.md || { echo "docs/BELIEVE.md is not what tools/believe prints"; exit 1; }
 
 clients: build
-	sh tools/clients $(PROGRAM)
+	@# What is not there is said, and is no fault.
+	@sh tools/clients $(PROGRAM) || [ $$? -eq 77 ]
+
+cluster: build
+	sh tools/compare_cluster $(PROGRAM)
 
 install: build
-	install -d $(DESTDIR)$(PREFIX)/bin $(DESTDIR)$(PREFIX)/share/man/man1
-	install -m 755 $(PROGRAM) $(DESTDIR)$(PREFIX)/bin/resctrl_sim
-	install -m 644 docs/resctrl_sim.1 $(DESTDIR)$(PREFIX)/share/man/man1/resctrl_sim.1
+	sh tools/install $(PROGRAM) $(PLANNER) $(DESTDIR)$(PREFIX)
+
+deb: build
+	sh tools/deb $(PROGRAM) $(PLANNER) out
 
 help:
 	@sed -n 's/^# make/make/p' Makefile
 
-.PHONY: demo build test clients install help
+.PHONY: demo build test clients cluster install deb help

@@ -6,9 +6,10 @@ ghost use Rattle.file_view.specs.Texts.{of_group};
 ghost use Rattle.tree_law.specs.commands.Mode.{mode_name as name_of};
 
 use crate::find::find_group;
+use command_parts::mode_name;
 use path_names::DirRef;
 use rc_base::{Mode, TextBuf};
-use tree_core::{Tree, mode_name};
+use tree_core::Tree;
 
 // Adds the name of a mode, on its line.
 fn push_mode_name(mode: Mode, out: &mut TextBuf)

@@ -1,11 +1,11 @@
 -- What a line of a trace says. The format is that of Valgrind's lackey with `--trace-mem=yes`.
--- (For functions and proofs: no promise of the program stands on it.)
-use Rattle.std.specs.Prelude.{ℕ, ◌<◌, ◌≤◌, ◌+◌, ◌^◌, Bool, ◌==◌, nat_eq, nat_le, if◌then◌else◌, List, [], ◌∷◌, codes, Option, None, Some}
+use Rattle.std.specs.Prelude.{ℕ, ◌<◌, ◌≤◌, ◌+◌, Bool, ◌==◌, nat_eq, nat_le, if◌then◌else◌, List, [], ◌∷◌, codes, Option, None, Some}
 use Rattle.std.specs.List.{after_first, before_first, list_any, starts_with}
 use Rattle.std.specs.Option.{option_and_then}
 use Rattle.rc_base.specs.Texts.{is_text}
 use Rattle.num_text.specs.Numbers.{below, dec_of, number_of}
 use Rattle.line_words.specs.Lines.{words}
+use Rattle.lackey_text.specs.declared.limits.TheConstants.{MEMORY_BYTES, MOST_SIZE}
 use Rattle.lackey_text.specs.declared.line.LackeyKind.{LackeyKind}
 use Rattle.lackey_text.specs.declared.line.LackeyKind.TheVariants.{Code, Load, Store, Modify}
 use Rattle.lackey_text.specs.declared.line.LackeyLine.{LackeyLine}
@@ -27,17 +27,17 @@ kind_of word =
     if is_text word (codes "S") then Some Store else
     if is_text word (codes "M") then Some Modify else None
 
--- an address: hexadecimal digits of either case, without a prefix
+-- an address in memory: hexadecimal digits of either case, without a prefix
 abbrev pub addr_of : List ℕ → Option ℕ
-addr_of text = below (2 ^ 48) (number_of 16 text)
+addr_of text = below MEMORY_BYTES (number_of 16 text)
 
--- a size: from 1 to 4,096, in decimal digits
+-- a size: from 1 to the most, in decimal digits
 abbrev pub size_of : List ℕ → Option ℕ
-size_of text = option_and_then (λ n. if n == 0 then None else Some n) (below 4097 (dec_of text))
+size_of text = option_and_then (λ n. if n == 0 then None else Some n) (below (MOST_SIZE + 1) (dec_of text))
 
 -- a use, where each of its bytes has an address
 abbrev pub use_at : LackeyKind → ℕ → ℕ → Option LackeyLine
-use_at kind addr size = if nat_le (addr + size) (2 ^ 48) then Some (Use kind addr size) else None
+use_at kind addr size = if nat_le (addr + size) MEMORY_BYTES then Some (Use kind addr size) else None
 
 -- the use that a kind and a word `ADDR,SIZE` are
 abbrev pub use_of : LackeyKind → List ℕ → Option LackeyLine
@@ -56,7 +56,7 @@ said_by words = None
 abbrev pub line_of : List ℕ → Option LackeyLine
 line_of line = if is_message line then Some Skip else said_by (words line)
 
--- A use has from 1 to 4,096 bytes, and each has an address.
+-- (For proofs.) A use has from 1 to the most bytes, and each has an address.
 abbrev pub IsInMemory : LackeyLine → Type 0
 IsInMemory Skip = Unit {0}
-IsInMemory (Use kind addr size) = (0 < size) × (size ≤ 4096) × (addr + size ≤ 2 ^ 48)
+IsInMemory (Use kind addr size) = (0 < size) × (size ≤ MOST_SIZE) × (addr + size ≤ MEMORY_BYTES)

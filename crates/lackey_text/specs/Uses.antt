@@ -1,5 +1,4 @@
 -- The lines of memory that a line of a trace uses.
--- (For functions and proofs: no promise of the program stands on it.)
 use Rattle.std.specs.Prelude.{ℕ, ◌+◌, ◌-◌, ◌/◌, Bool, true, false, if◌then◌else◌, List, [], ◌++◌, map}
 use Rattle.std.specs.List.{range_with_len}
 use Rattle.lackey_text.specs.declared.line.LackeyKind.{LackeyKind}
@@ -32,6 +31,6 @@ abbrev pub uses_of : LackeyLine → List LineUse
 uses_of Skip = []
 uses_of (Use kind addr size) = uses_by kind addr size
 
--- the uses that are left
+-- (For proofs.) the uses that are left
 abbrev pub uses_left : LineUses → List LineUse
 uses_left u = if u.again then uses_between u.code u.next u.end ++ uses_between u.code u.first u.end else uses_between u.code u.next u.end

@@ -6,10 +6,13 @@
 //! Valgrind says of itself, and lines of blanks are skipped; no other line is one of a trace.
 #![tactic(auto)]
 
+pub mod limits;
 pub mod line;
 mod reading;
+pub mod theorems;
 pub mod uses;
 
+pub use limits::{MEMORY_BYTES, MOST_SIZE};
 pub use line::{BadLine, LackeyKind, LackeyLine};
 pub use reading::read_line;
 pub use uses::{LineUse, LineUses};

@@ -1,8 +1,10 @@
 //! Reading a line.
 ghost use Rattle.std.specs.Prelude.{◌≡◌, ◌<◌, ◌≤◌, IfOk, IfSome, Some, None, MatchResult};
 ghost use Rattle.line_words.specs.Lines.{words};
+ghost use Rattle.lackey_text.specs.declared.limits.TheConstants.{MOST_SIZE};
 ghost use Rattle.lackey_text.specs.Lines.{IsInMemory, addr_of, is_message, kind_of as kind_named, line_of, said_by, size_of, use_of};
 
+use crate::limits::{MEMORY_BYTES, MOST_SIZE};
 use crate::line::{BadLine, LackeyKind, LackeyLine};
 use line_words::{next_word, two_words};
 use num_text::{cut, read_dec, read_digits};
@@ -25,21 +27,23 @@ fn kind_of(word: &[u8]) -> Option<LackeyKind>
     }
 }
 
+// The address that hexadecimal digits of either case are.
 fn addr_of(text: &[u8]) -> Option<u64>
     ensures { result ≡ addr_of text.now }
 {
     match read_digits(text, 16) {
-        Some(n) if n < 1 << 48 => Some(n),
+        Some(n) if n < MEMORY_BYTES => Some(n),
         _ => None,
     }
 }
 
+// The size that decimal digits are.
 fn size_of(text: &[u8]) -> Option<u32>
     ensures said { result ≡ size_of text.now }
-    ensures range { IfSome result (λ n. (0 < n) × (n ≤ 4096)) }
+    ensures range { IfSome result (λ n. (0 < n) × (n ≤ MOST_SIZE)) }
 {
     match read_dec(text) {
-        Some(n) if 1 <= n && n <= 4_096 => Some(n as u32),
+        Some(n) if 1 <= n && n <= MOST_SIZE => Some(n as u32),
         _ => None,
     }
 }
@@ -57,7 +61,7 @@ fn use_of(kind: LackeyKind, word: &[u8]) -> Option<LackeyLine>
         return None;
     };
     match size_of(size) {
-        Some(size) if addr + u64::from(size) <= 1 << 48 => {
+        Some(size) if addr + u64::from(size) <= MEMORY_BYTES => {
             Some(LackeyLine::Use { kind, addr, size })
         }
         _ => None,

@@ -1,6 +1,7 @@
 //! The lines of memory that a line of a trace uses.
-ghost use Rattle.std.specs.Prelude.{◌≡◌, ◌<◌, ◌+◌, ◌≤◌, ◌^◌};
+ghost use Rattle.std.specs.Prelude.{◌≡◌, ◌<◌, ◌+◌, ◌≤◌};
 ghost use Rattle.std.specs.Iterator.{YieldsFirst, item_count};
+ghost use Rattle.lackey_text.specs.declared.limits.TheConstants.{MEMORY_BYTES};
 ghost use Rattle.lackey_text.specs.Lines.{IsInMemory};
 ghost use Rattle.lackey_text.specs.Uses.{uses_by, uses_left, uses_of};
 
@@ -76,7 +77,7 @@ impl LackeyLine {
 // The uses of lines by bytes from an address on.
 fn uses_by(kind: LackeyKind, addr: u64, size: u32) -> LineUses
     requires some { 0 < size }
-    requires memory { addr + size ≤ 2 ^ 48 }
+    requires memory { addr + size ≤ MEMORY_BYTES }
     ensures { uses_left result ≡ uses_by kind addr size }
 {
     let first = addr / LINE_BYTES;

@@ -8,9 +8,10 @@ use rc_base::is_text;
 /// How many bytes the name of a component has at most (this project's profile).
 pub const MOST_NAME_BYTES: usize = 255;
 
-/// Whether the text is components, each after a slash.
+/// Whether the text is components, each after a slash. A component is 1 to 255 bytes from `!` to `~` without `/`, and neither `.` nor
+/// `..` (this project's profile).
 #[tactic(auto, unfolding(crate::specs::Components::is_well_formed))]
-pub(crate) fn is_well_formed(text: &[u8]) -> bool
+pub fn is_well_formed(text: &[u8]) -> bool
     ensures { result ≡ is_well_formed text.now }
 {
     text.first() == Some(&b'/') && are_components(text)
@@ -30,8 +31,9 @@ fn are_components(text: &[u8]) -> bool
     true
 }
 
-/// The part after the first byte, up to the next slash, and what is left from that slash on.
-pub(crate) fn next_component(text: &[u8]) -> Option<(&[u8], &[u8])>
+/// The part after the first byte, up to the next slash, and what is left from that slash on. None of an empty text. In a well-formed
+/// text the first byte is a slash, and so is that of what is left.
+pub fn next_component(text: &[u8]) -> Option<(&[u8], &[u8])>
     ensures { MatchOption result (components text.now ≡ []) (λ p. (components text.now ≡ p.0.now ∷ components p.1.now) × (length p.1.now < length text.now)) }
 {
     match text {

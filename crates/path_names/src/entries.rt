@@ -41,9 +41,10 @@ fn is_name(name: &[u8], known: &[u8]) -> bool
     name.len() == known.len() && is_text(name, known)
 }
 
-// The fixed entry of this name, of a directory that has no domains.
+/// The fixed entry of this name in a directory, its domains aside. None of a name that a group may have, or that nothing has (kernel
+/// documentation, "Info directory", "Resource alloc and monitor groups").
 #[tactic(auto, using(crate::proofs::FixedEntries::looking))]
-fn fixed_entry(dir: DirRef, name: &[u8]) -> Option<PathRef>
+pub fn fixed_entry(dir: DirRef, name: &[u8]) -> Option<PathRef>
     ensures { result ≡ entry_among dir name.now (fixed_in dir) }
 {
     for fixed in fixed_in(dir) {

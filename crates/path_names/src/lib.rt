@@ -18,8 +18,9 @@ pub mod paths;
 mod tests;
 pub mod theorems;
 
-pub use components::MOST_NAME_BYTES;
+pub use components::{MOST_NAME_BYTES, is_well_formed, next_component};
 pub use dirs::{DirRef, Holder, Owner};
+pub use entries::fixed_entry;
 pub use files::FileKind;
 pub use fixed::{FixedEntry, domain_name, fixed_in};
 pub use names::{NameId, Names};

@@ -1,7 +1,8 @@
 -- What each status of the top call says.
 use Rattle.std.specs.Prelude.{◌≡◌, ℕ, ◌<◌, ◌⊎◌, false, true, List, Option, Some, None, Result, Ok, Err}
-use Rattle.resctrl_top.specs.declared.ended.Status.{Status}
-use Rattle.resctrl_top.specs.declared.ended.Status.TheVariants.{Done, Refused, Usage, ReadFault, WriteFault, NoMemory}
+use Rattle.call_rim.specs.Outside.{IsToTheEnd, Reading, TakesAll, TakesNone, TakesSome, Writing}
+use Rattle.call_rim.specs.declared.status.Status.{Status}
+use Rattle.call_rim.specs.declared.status.Status.TheVariants.{Done, Refused, Usage, ReadFault, WriteFault, NoMemory}
 use Rattle.top_parts.specs.declared.command.Command.{Command}
 use Rattle.top_parts.specs.declared.command.Command.TheVariants.{Gen, Run, Step}
 use Rattle.top_parts.specs.declared.form.Form.{Form}
@@ -9,7 +10,7 @@ use Rattle.top_parts.specs.Forms.{input_of, is_of_source, reads_source, usage_li
 use Rattle.resctrl_top.specs.Isolation.{BeginsLockWindows, HoldsRegions, IsolatesGroups}
 use Rattle.top_parts.specs.Meaning.{meaning, refusal_line}
 use Rattle.resctrl_top.specs.Outputs.{IsOutput}
-use Rattle.top_parts.specs.Outside.{IsToTheEnd, LeavesPlayed, LeavesRefused, Reading, TakesAll, TakesNone, TakesSome, Writing}
+use Rattle.resctrl_top.specs.Leaving.{LeavesPlayed, LeavesRefused}
 use Rattle.top_parts.specs.declared.refusal.Refusal.{Refusal}
 use Rattle.run_law.specs.Runs.{IsRun}
 use Rattle.run_law.specs.Journals.{JournalsValue}
@@ -122,21 +123,3 @@ pub record IsComplete (c : Call) (status : Status) : Type 0 where
   pub by_bytes : (form : Form) (bytes : List ℕ) → c.form ≡ Some form → input_of form c.source.left ≡ Some bytes → ReadsWell c → WritesWell c → IsDue (meaning bytes) status
   pub by_number : (form : Form) → c.form ≡ Some form → is_of_source form.command ≡ false → WritesWell c → (status ≡ Done) ⊎ (status ≡ NoMemory)
   pub by_words : c.form ≡ None → WritesWell c → status ≡ Usage
-
--- ---- the parts of a call
-
--- (For proofs.) the sink took the text, or it failed and took a beginning of it
-abbrev pub Says : Status → Option JournalsValue → List ℕ → Writing → Status → Option JournalsValue → Type 0
-Says said told text sink status journals = (journals ≡ told) × (((status ≡ said) × TakesAll sink text) ⊎ ((status ≡ WriteFault) × TakesSome sink text))
-
--- (For proofs.) memory ran out, and the sink took nothing
-abbrev pub SaysNothing : Writing → Status → Option JournalsValue → Type 0
-SaysNothing sink status journals = (journals ≡ None) × (status ≡ NoMemory) × TakesNone sink
-
--- (For proofs.) the script was played, and the sink took the report, or it failed and took a beginning of it
-pub record Reports (form : Form) (script : ScriptValue) (sink : Writing) (status : Status) (journals : Option JournalsValue) : Type 0 where
-  pub run : JournalsValue
-  pub promised : IsPromised form.command script run
-  pub text : List ℕ
-  pub output : IsOutput script run form.flags text
-  pub report : Says Done (Some run) text sink status journals

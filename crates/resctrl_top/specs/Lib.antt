@@ -1,4 +1,6 @@
 pub mod Codes
 pub mod Endings
 pub mod Isolation
+pub mod Leaving
 pub mod Outputs
+pub mod Performances

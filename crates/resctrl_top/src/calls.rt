@@ -1,30 +1,69 @@
 //! The top calls.
-ghost use Rattle.std.specs.Prelude.{◌≡◌, ◌-◌, ◌<◌, ◌^◌, ◌⊎◌, false, true};
-ghost use Rattle.resctrl_top.specs.Endings.{Ends, IsComplete, Reports, SaysNothing, call_of};
-ghost use Rattle.top_parts.specs.Forms.{IsInRange, form_of as form_in, is_run, reads_source};
-ghost use Rattle.top_parts.specs.Outside.{reading_of, writing_of};
+ghost use Rattle.std.specs.Prelude.{◌≡◌, ◌-◌, ◌<◌, ◌≤◌, ◌^◌, Some, None, false, true};
+ghost use Rattle.call_rim.specs.Endings.{Says};
+ghost use Rattle.call_rim.specs.Outside.{Reading, reading_of, writing_of};
+ghost use Rattle.resctrl_top.specs.Endings.{Ends, IsComplete, call_of};
+ghost use Rattle.top_parts.specs.Forms.{IsInRange, form_of as form_in, is_of_source, reads_source, usage_line};
+ghost use Rattle.call_rim.specs.declared.status.Status.TheVariants.{Usage};
+ghost use Rattle.top_parts.specs.declared.command.Command.TheVariants.{Gen, Run};
 
-use crate::ended::{Ended, Status, without_journals};
-use crate::telling::{refuse, say, tell};
-use rc_base::NoMemory;
+use crate::ended::{Ended, with_journals, without_journals};
+use crate::playing::{play_trace, run_bytes};
+use crate::programs::StepProgram;
+use call_rim::{ReadError, Status, call, read_all, tell};
 use rc_stream::{Gate, Sink, Source};
-use script_ops::Script;
+use script_ops::MOST_SCRIPT_BYTES;
 use std::alloc::Global;
 use std::sync::Wait;
 use std::thread::Threads;
-use top_parts::{Form, InputError, begin_with_run, form_of, input_of, usage};
+use top_parts::{Command, Form, form_of, usage};
+use trace_gen::MOST_THREAD_ACCESSES;
 
-// Plays a script by its order lines, and writes its report.
-fn perform<K: Sink>(alloc: Global, form: Form, script: &Script, sink: &mut K) -> Ended
-    requires { K.faults sink.old < 2 ^ 64 - 1 }
-    ensures { let told = writing_of K.taken K.held K.faults sink.old sink.new in
-        Reports form script.now told result.status result.journals ⊎
-        SaysNothing told result.status result.journals }
+// Plays the script that the source holds, by its order lines.
+fn step_source<S: Source, K: Sink>(alloc: Global, form: Form, source: &mut S, sink: &mut K) -> Ended
+    requires command { is_of_source form.command ≡ true }
+    requires source { S.faults source.old < 2 ^ 64 - 1 }
+    requires sink { K.faults sink.old < 2 ^ 64 - 1 }
+    ensures { Ends (call_of (Some form)
+        (reading_of S.left S.faults source.old source.new)
+        (writing_of K.taken K.held K.faults sink.old sink.new)) result.status result.journals }
 {
-    match step_world::play(alloc, script) {
-        Ok(journals) => tell(alloc, form, script, journals, sink),
-        Err(NoMemory) => without_journals(Status::NoMemory),
+    with_journals(call(alloc, &StepProgram { form }, source, sink))
+}
+
+// Plays the script that the source holds, with a worker for each thread.
+fn run_source<R: Threads + Wait + Sync, S: Source, K: Sink, G: Gate>(
+    rt: &R,
+    alloc: Global,
+    form: Form,
+    source: &mut S,
+    sink: &mut K,
+    gate: &G,
+) -> Ended
+    requires command { form.command ≡ Run }
+    requires source { S.faults source.old < 2 ^ 64 - 1 }
+    requires sink { K.faults sink.old < 2 ^ 64 - 1 }
+    ensures { Ends (call_of (Some form)
+        (reading_of S.left S.faults source.old source.new)
+        (writing_of K.taken K.held K.faults sink.old sink.new)) result.status result.journals }
+{
+    match read_all(alloc, source, MOST_SCRIPT_BYTES) {
+        Ok(bytes) => with_journals(tell(run_bytes(rt, alloc, form.flags, bytes, gate), sink)),
+        Err(ReadError::Failed) => without_journals(Status::ReadFault),
+        Err(ReadError::NoMemory) => without_journals(Status::NoMemory),
     }
+}
+
+// Plays the script that the generator makes of a number, and calls no source.
+fn step_trace<K: Sink>(alloc: Global, form: Form, n: u32, sink: &mut K) -> Ended
+    requires command { form.command ≡ Gen n }
+    requires low { 1 ≤ n }
+    requires high { n ≤ MOST_THREAD_ACCESSES }
+    requires sink { K.faults sink.old < 2 ^ 64 - 1 }
+    ensures { (source : Reading) → source.left_now ≡ source.left → source.faults_now ≡ source.faults → Ends (call_of (Some form) source
+        (writing_of K.taken K.held K.faults sink.old sink.new)) result.status result.journals }
+{
+    with_journals(tell(play_trace(alloc, form, n), sink))
 }
 
 // Plays what a form asks for, by its order lines.
@@ -37,12 +76,19 @@ fn obey<S: Source, K: Sink>(alloc: Global, form: Form, source: &mut S, sink: &mu
         (writing_of K.taken K.held K.faults sink.old sink.new)) result.status result.journals }
     ensures unread { reads_source (Some form) ≡ false → source.new ≡ source.old }
 {
-    match input_of(alloc, form, source) {
-        Ok(script) => perform(alloc, form, &script, sink),
-        Err(InputError::Bad(refusal)) => refuse(alloc, refusal, sink),
-        Err(InputError::Failed) => without_journals(Status::ReadFault),
-        Err(InputError::NoMemory) => without_journals(Status::NoMemory),
+    match form.command {
+        Command::Step | Command::Run => step_source(alloc, form, source, sink),
+        Command::Gen(n) => step_trace(alloc, form, n, sink),
     }
+}
+
+// Writes the usage line.
+fn refuse_words<K: Sink>(sink: &mut K) -> Ended
+    requires { K.faults sink.old < 2 ^ 64 - 1 }
+    ensures { Says Usage None usage_line
+        (writing_of K.taken K.held K.faults sink.old sink.new) result.status result.journals }
+{
+    with_journals(call_rim::usage(sink, usage()))
 }
 
 /// Plays a script, writes its report to the sink and flushes it, and waits for nobody. The words are those after the program's
@@ -71,54 +117,7 @@ pub fn top_step<S: Source, K: Sink>(
 {
     match form_of(words) {
         Some(form) => obey(alloc, form, source, sink),
-        None => say(sink, usage(), Status::Usage),
-    }
-}
-
-// Plays a script with a worker for each thread, and writes its report.
-fn perform_run<R: Threads + Wait + Sync, K: Sink, G: Gate>(
-    rt: &R,
-    alloc: Global,
-    form: Form,
-    script: &Script,
-    sink: &mut K,
-    gate: &G,
-) -> Ended
-    requires command { is_run form.command ≡ true }
-    requires sink { K.faults sink.old < 2 ^ 64 - 1 }
-    ensures { let told = writing_of K.taken K.held K.faults sink.old sink.new in
-        Reports form script.now told result.status result.journals ⊎
-        SaysNothing told result.status result.journals }
-{
-    match live_run::play(rt, alloc, script, gate) {
-        Ok(journals) => tell(alloc, form, script, journals, sink),
-        Err(NoMemory) => without_journals(Status::NoMemory),
-    }
-}
-
-// Plays what a `run` form asks for.
-fn obey_run<R: Threads + Wait + Sync, S: Source, K: Sink, G: Gate>(
-    rt: &R,
-    alloc: Global,
-    form: Form,
-    source: &mut S,
-    sink: &mut K,
-    gate: &G,
-) -> Ended
-    requires command { is_run form.command ≡ true }
-    requires source { S.faults source.old < 2 ^ 64 - 1 }
-    requires sink { K.faults sink.old < 2 ^ 64 - 1 }
-    requires range { IsInRange form.command }
-    ensures ends { Ends (call_of (Some form)
-        (reading_of S.left S.faults source.old source.new)
-        (writing_of K.taken K.held K.faults sink.old sink.new)) result.status result.journals }
-    ensures unread { reads_source (Some form) ≡ false → source.new ≡ source.old }
-{
-    match input_of(alloc, form, source) {
-        Ok(script) => perform_run(rt, alloc, form, &script, sink, gate),
-        Err(InputError::Bad(refusal)) => refuse(alloc, refusal, sink),
-        Err(InputError::Failed) => without_journals(Status::ReadFault),
-        Err(InputError::NoMemory) => without_journals(Status::NoMemory),
+        None => refuse_words(sink),
     }
 }
 
@@ -147,11 +146,11 @@ pub fn top<R: Threads + Wait + Sync, S: Source, K: Sink, G: Gate>(
         (writing_of K.taken K.held K.faults sink.old sink.new)) result.status }
     ensures unread { reads_source (form_in words.now) ≡ false → source.new ≡ source.old }
 {
-    if !begin_with_run(words) {
-        return top_step(alloc, words, source, sink);
-    }
     match form_of(words) {
-        Some(form) => obey_run(rt, alloc, form, source, sink, gate),
-        None => say(sink, usage(), Status::Usage),
+        Some(form) => match form.command {
+            Command::Run => run_source(rt, alloc, form, source, sink, gate),
+            Command::Step | Command::Gen(_) => obey(alloc, form, source, sink),
+        },
+        None => refuse_words(sink),
     }
 }

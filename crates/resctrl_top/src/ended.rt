@@ -1,34 +1,8 @@
 //! How a call ended.
-ghost use Rattle.std.specs.Prelude.{◌≡◌, Some, None};
-ghost use Rattle.resctrl_top.specs.Codes.{code_of};
+ghost use Rattle.std.specs.Prelude.{◌≡◌, None};
 
+use call_rim::Status;
 use run_law::Journals;
-
-/// How a call ended. The number of each is the program's exit status.
-#[derive(Clone, Copy, Debug, PartialEq, Eq)]
-pub enum Status {
-    /// The script was read to its end or generated, and played, and the sink took its report and holds none of it back.
-    Done,
-    /// The bytes are no script; the sink took the line that says so, and holds none of it back.
-    Refused,
-    /// The command line is not valid; the sink took the usage line, and holds none of it back.
-    Usage,
-    /// The source failed; nothing was written.
-    ReadFault,
-    /// The sink failed, and took a beginning of what was due.
-    WriteFault,
-    /// Memory ran out; nothing was written.
-    NoMemory,
-}
-
-impl Status {
-    /// The exit status of the program, from 0 to 5.
-    pub fn code(self) -> u8
-        ensures { result ≡ code_of self }
-    {
-        self as u8
-    }
-}
 
 /// How a call ended, and what happened in the run where there was one.
 #[derive(Drop)]
@@ -39,13 +13,13 @@ pub struct Ended {
     pub journals: Option<Journals>,
 }
 
-/// An end with journals.
-pub(crate) fn with_journals(status: Status, journals: Journals) -> Ended
-    ensures { result ≡ record { status = status; journals = Some journals } }
+/// The end of a call whose outcome is the journals of a run.
+pub(crate) fn with_journals(ended: call_rim::Ended<Journals>) -> Ended
+    ensures { result ≡ record { status = ended.status; journals = ended.outcome } }
 {
     Ended {
-        status,
-        journals: Some(journals),
+        status: ended.status,
+        journals: ended.outcome,
     }
 }
 

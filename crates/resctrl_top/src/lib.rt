@@ -4,12 +4,14 @@
 
 pub mod calls;
 pub mod ended;
+mod playing;
 pub mod program;
+mod programs;
 mod report;
-mod telling;
 
+pub use call_rim::Status;
 pub use calls::{top, top_step};
-pub use ended::{Ended, Status};
+pub use ended::Ended;
 pub use program::run_program;
 
 #[cfg(test)]

@@ -1,14 +1,15 @@
 //! The program, but for where its words and its streams come from.
 ghost use Rattle.std.specs.Prelude.{◌≡◌, ◌-◌, ◌<◌, ◌^◌, IfOk, OnErr, false};
 ghost use Rattle.std.specs.Process.{exit_status};
-ghost use Rattle.resctrl_top.specs.Codes.{EndsWith, code_of};
+ghost use Rattle.call_rim.specs.Codes.{code_of};
+ghost use Rattle.call_rim.specs.Outside.{reading_of, writing_of};
+ghost use Rattle.call_rim.specs.declared.status.Status.TheVariants.{NoMemory as OutOfMemory};
+ghost use Rattle.resctrl_top.specs.Codes.{EndsWith};
 ghost use Rattle.resctrl_top.specs.Endings.{call_of};
-ghost use Rattle.resctrl_top.specs.declared.ended.Status.TheVariants.{NoMemory as OutOfMemory};
 ghost use Rattle.top_parts.specs.Forms.{form_of as form_in, reads_source};
-ghost use Rattle.top_parts.specs.Outside.{reading_of, writing_of};
 
 use crate::calls::top;
-use crate::ended::Status;
+use call_rim::Status;
 use rc_base::NoMemory;
 use rc_stream::{Gate, Sink, Source};
 use std::alloc::Global;

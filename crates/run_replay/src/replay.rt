@@ -62,7 +62,7 @@ impl Replay {
     }
 
     /// The tree as it is now.
-    pub(crate) fn tree(&self) -> &Tree
+    pub fn tree(&self) -> &Tree
         ensures { result.now ≡ self.now.tree }
     {
         &self.tree

@@ -23,7 +23,7 @@ use Rattle.num_text.proofs.laws.Digits.{eqb-digit, is_blank-digit, list_any-digi
 use Rattle.num_text.proofs.laws.Pieces.{Cut-append, list_any-join_with_byte, slice_split-join_with_byte}
 use Rattle.lists.proofs.Cuts.{slice_split-none}
 use Rattle.num_text.proofs.laws.Prints.{decimal_reads_back, hexadecimal_reads_back}
-use Rattle.schemata_text.proofs.Items.{reading_from-entry, reading_from-line, reading_from-nil}
+use Rattle.schemata_text.proofs.laws.Items.{reading_from-entry, reading_from-line, reading_from-nil}
 
 -- a test that passes no digit passes nothing of an entry, if not its `=`
 list_any-entry_text : (q : ℕ → Bool) (ways : ℕ) (a : Assignment) → ((c : ℕ) → digit_value c < 16 → q c ≡ false) → q 61 ≡ false → a.domain < 8 → a.mask < 2 ^ 32 → list_any q (entry_text ways a) ≡ false

@@ -10,7 +10,7 @@ pub mod theorems;
 pub use assignment::{Assignment, Assignments};
 pub use fault::TextFault;
 pub use printing::print;
-pub use reading::read;
+pub use reading::{entries, entry, read};
 
 #[cfg(test)]
 mod tests;

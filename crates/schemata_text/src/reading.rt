@@ -28,9 +28,11 @@ fn is_named(domain: u8, before: &[Assignment]) -> bool
     before.iter().any(|a| domain == a.domain)
 }
 
-// What an entry says, where these assignments stand before it.
+/// What an entry `id=mask` says, where these assignments stand before it, for masks of this geometry and domains from 0 to below
+/// `domains`. An error is the first fault that it has (kernel documentation, the format of `schemata`; the order is this project's
+/// profile).
 #[tactic(auto, unfolding(crate::specs::Reading::entry_of))]
-fn entry(
+pub fn entry(
     text: &[u8],
     g: &Geometry,
     domains: u8,
@@ -96,8 +98,14 @@ fn add_entry(text: &[u8], g: &Geometry, domains: u8, all: &mut Assignments) -> R
     }
 }
 
-// Adds what the entries of a line say.
-fn entries(rest: &[u8], g: &Geometry, domains: u8, all: &mut Assignments) -> Result<(), TextFault>
+/// Adds what the entries of a line say, from left to right. They are separated by `;`, and `rest` is what stands after the line's colon.
+/// An error is the fault of the first bad one, and then what the good ones before it say has been added.
+pub fn entries(
+    rest: &[u8],
+    g: &Geometry,
+    domains: u8,
+    all: &mut Assignments,
+) -> Result<(), TextFault>
     requires len { g.now.len ≤ 32 }
     requires domains { domains ≤ 8 }
     requires lawful { AreLawful g.now domains all.old.items }

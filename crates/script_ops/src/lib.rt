@@ -15,7 +15,7 @@ mod slot;
 pub mod text_lines;
 pub mod theorems;
 pub mod weights;
-mod written;
+pub mod written;
 
 pub use bytes::Bytes;
 pub use growing_text::GrowingText;
@@ -31,3 +31,4 @@ pub use printing::push_op;
 pub use script::Script;
 pub use text_lines::next_line;
 pub use weights::weight_of;
+pub use written::push_written;

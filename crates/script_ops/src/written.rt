@@ -6,7 +6,8 @@ ghost use Rattle.script_ops.specs.Canonical.{escaped, text_after};
 use crate::growing_text::GrowingText;
 use rc_base::NoMemory;
 
-/// Adds a written text after a space and with its escapes, and nothing where it is empty.
+/// Adds a written text after a space and with its escapes, and nothing where it is empty (this project's profile). An error is out of
+/// memory, after which a part of it may have been added.
 pub fn push_written(text: &mut GrowingText, written: &[u8]) -> Result<(), NoMemory>
     ensures { OnOk result (text.new ≡ text.old ++ text_after written.now) }
 {

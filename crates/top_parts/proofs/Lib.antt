@@ -1,6 +1,3 @@
-pub mod FirstWords
-pub mod Generated
+pub mod FewBytes
 pub mod GivenWords
-pub mod InputBytes
 pub mod Others
-pub mod WrittenBytes

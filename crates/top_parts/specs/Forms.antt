@@ -78,17 +78,6 @@ abbrev pub form_of : List (String Global) → Option Form
 form_of [] = None
 form_of (first ∷ more) = if has_flags_once more then option_map (with_flags more) (command_of first (others_in more)) else None
 
--- (For proofs.) whether the first word is `run`
-abbrev pub begin_with_run : List (String Global) → Bool
-begin_with_run [] = false
-begin_with_run (first ∷ more) = is_word (codes "run") first
-
--- (For proofs.) the command is `run`
-abbrev pub is_run : Command → Bool
-is_run Step = false
-is_run Run = true
-is_run (Gen n) = false
-
 -- the line for a command line that is not valid
 abbrev pub usage_line : List ℕ
 usage_line = codes "usage: resctrl_sim step|run|gen N [--journal] [--json] [--windows] [--quiet]" ++ 10 ∷ []

@@ -1,4 +1,3 @@
 pub mod Arguments
 pub mod Forms
 pub mod Meaning
-pub mod Outside

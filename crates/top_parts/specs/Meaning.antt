@@ -52,9 +52,8 @@ refusal_line refusal = codes "line " ++ decimal (line_number refusal) ++ codes "
 
 -- ---- what the reader of an input answers
 
--- (For proofs.) the answer is what these bytes mean, or memory ran out; no source failed, for none was called
+-- (For proofs.) the answer is what these bytes mean, or memory ran out
 abbrev pub MeansAs : Result ScriptValue InputError → Result ScriptValue Refusal → Type 0
 MeansAs (Ok script) answer = answer ≡ Ok script
 MeansAs (Err (inputs.Bad refusal)) answer = answer ≡ Err refusal
 MeansAs (Err inputs.NoMemory) answer = Unit {0}
-MeansAs (Err inputs.Failed) answer = ⊥

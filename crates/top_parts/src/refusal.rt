@@ -60,8 +60,8 @@ fn text_of(fault: LineFault) -> &'static str
 }
 
 /// The line that tells a refusal.
-pub fn line_of(alloc: Global, refusal: Refusal) -> Result<TextBuf, NoMemory>
-    ensures { IfOk result (λ line. line.bytes ≡ refusal_line refusal) }
+pub fn line_of(alloc: Global, refusal: Refusal) -> Result<Vec<u8>, NoMemory>
+    ensures { IfOk result (λ line. line.items ≡ refusal_line refusal) }
 {
     let mut line = TextBuf::with_room(alloc, 64)?;
     line.push_all(b"line ".as_slice());
@@ -69,5 +69,6 @@ pub fn line_of(alloc: Global, refusal: Refusal) -> Result<TextBuf, NoMemory>
     line.push_all(b": ".as_slice());
     line.push_all(refusal.text().as_bytes());
     line.push(b'\n');
+    let line = Vec::from_slice(alloc, line.bytes())?;
     Ok(line)
 }

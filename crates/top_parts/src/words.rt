@@ -1,6 +1,6 @@
 //! The words after the program's name.
 ghost use Rattle.std.specs.Prelude.{◌≡◌, ◌≤◌, ◌∷◌, IfSome, [], codes, find, length, not, option_copied};
-ghost use Rattle.top_parts.specs.Forms.{IsInRange, begin_with_run as is_run_first, command_of as command_in, flags_in, form_of as form_in, has_flags_once as are_flags_once, is_run, is_flag as is_flag_word, is_word as is_this_word, number_in, others_in, stands_in, stands_once, usage_line};
+ghost use Rattle.top_parts.specs.Forms.{IsInRange, command_of as command_in, flags_in, form_of as form_in, has_flags_once as are_flags_once, is_flag as is_flag_word, is_word as is_this_word, number_in, others_in, stands_in, stands_once, usage_line};
 
 use crate::command::Command;
 use crate::form::Form;
@@ -81,7 +81,6 @@ fn number_of(word: &String) -> Option<u32>
 // `step` or `run`, which have no other words but flags.
 fn bare_command(first: &String) -> Option<Command>
     ensures command { result ≡ command_in first.now [] }
-    ensures run { IfSome result (λ c. is_run c ≡ is_this_word (codes "run") first.now) }
     ensures range { IfSome result (λ c. IsInRange c) }
 {
     if is_word(first, b"step".as_slice()) {
@@ -96,7 +95,6 @@ fn bare_command(first: &String) -> Option<Command>
 // `gen` with its number.
 fn gen_of(first: &String, number: &String) -> Option<Command>
     ensures command { result ≡ command_in first.now (number.now ∷ []) }
-    ensures run { IfSome result (λ c. is_run c ≡ is_this_word (codes "run") first.now) }
     ensures range { IfSome result (λ c. IsInRange c) }
 {
     if is_word(first, b"gen".as_slice()) {
@@ -123,7 +121,6 @@ fn count_others(words: &[String]) -> usize
 // The command that the first word names with those of the others that are no flags.
 fn command_of(first: &String, words: &[String]) -> Option<Command>
     ensures command { result ≡ command_in first.now (others_in words.now) }
-    ensures run { IfSome result (λ c. is_run c ≡ is_this_word (codes "run") first.now) }
     ensures range { IfSome result (λ c. IsInRange c) }
 {
     match first_other(words) {
@@ -133,21 +130,10 @@ fn command_of(first: &String, words: &[String]) -> Option<Command>
     }
 }
 
-/// Whether the first word is `run`.
-pub fn begin_with_run(words: &[String]) -> bool
-    ensures { result ≡ is_run_first words.now }
-{
-    match words {
-        [first, ..] => is_word(first, b"run".as_slice()),
-        [] => false,
-    }
-}
-
 /// The form of a command line, and None where it is not valid: `step`, `run`, or `gen` and its number, with any of the flags, each at
 /// most once, in any order after the first word. (This project's profile.)
 pub fn form_of(words: &[String]) -> Option<Form>
     ensures form { result ≡ form_in words.now }
-    ensures run { IfSome result (λ form. is_run form.command ≡ is_run_first words.now) }
     ensures range { IfSome result (λ form. IsInRange form.command) }
 {
     match words {

@@ -9,7 +9,7 @@ use Rattle.group_tree.specs.declared.group.Group.{Group}
 use Rattle.machine.specs.declared.parameters.Parameters.{Parameters}
 use Rattle.mode_rules.specs.Overlaps.{leaving_overlap}
 use Rattle.rc_base.specs.declared.replies.Reply.{Reply}
-use Rattle.tree_core.specs.Overlaps.{reply_to}
+use Rattle.command_parts.specs.Replies.{reply_to}
 use Rattle.tree_law.specs.Refusals.{Refusal}
 use Rattle.tree_law.specs.Space.{used_in}
 use Rattle.tree_law.specs.State.{State}

@@ -38,7 +38,6 @@ pub mod Setups
 pub mod Soundness
 pub mod StayingIds
 pub mod TakenIds
-pub mod TaskElements
 pub mod Ticks
 pub mod Touched
 pub mod Touches

@@ -8,13 +8,11 @@ pub mod Given
 pub mod Kept
 pub mod Modes
 pub mod Named
-pub mod Overlaps
 pub mod Places
 pub mod Removals
 pub mod RmidLists
 pub mod Tables
 pub mod Taking
-pub mod TaskMoves
 pub mod Touched
 pub mod Uses
 pub mod Values

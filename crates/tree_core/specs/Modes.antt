@@ -6,7 +6,7 @@ use Rattle.group_tree.specs.declared.group.Group.{Group}
 use Rattle.machine.specs.declared.parameters.Parameters.{Parameters}
 use Rattle.rc_base.specs.declared.names.Mode.{Mode}
 use Rattle.rc_base.specs.declared.replies.Reply.{Reply}
-use Rattle.tree_core.specs.Overlaps.{reply_to}
+use Rattle.command_parts.specs.Replies.{reply_to}
 use Rattle.tree_law.specs.Refusals.{Refusal}
 use Rattle.tree_law.specs.State.{State}
 use Rattle.tree_law.specs.commands.Mode.{against_entry, against_exclusive, against_leaving, freed_by, is_present, mode_in, refusal, with_mode}

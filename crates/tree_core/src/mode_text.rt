@@ -1,19 +1,10 @@
 //! What a written mode says.
 ghost use Rattle.std.specs.Prelude.{◌≡◌};
-ghost use Rattle.num_text.specs.Blanks.{trim};
-ghost use Rattle.tree_law.specs.commands.Mode.{is_named, mode_in};
+ghost use Rattle.tree_law.specs.commands.Mode.{mode_in};
 ghost use Rattle.tree_law.specs.commands.Schemata.{is_locked};
 
-use crate::mode_names::mode_name;
-use num_text::trim;
-use rc_base::{Mode, is_text};
-
-/// Whether a text is the name of this mode, but for blanks at both ends.
-pub(crate) fn is_named(text: &[u8], mode: Mode) -> bool
-    ensures { result ≡ is_named (trim text.now) mode }
-{
-    is_text(trim(text), mode_name(mode).as_bytes())
-}
+use command_parts::is_named;
+use rc_base::Mode;
 
 /// The mode that a text asks for, and None where it is the name of none that may be written.
 #[tactic(auto, unfolding(tree_law::specs::commands::Mode::mode_in))]

@@ -1,5 +1,4 @@
 pub mod Cpus
-pub mod FreeIds
 pub mod GroupKinds
 pub mod Groups
 pub mod KeptGroups
@@ -13,17 +12,13 @@ pub mod NewGroup
 pub mod NewMasks
 pub mod NewRecords
 pub mod Owners
-pub mod Readings
 pub mod RemovedControl
 pub mod RemovedMonitor
 pub mod Rows
 pub mod Schemata
 pub mod ScriptRows
-pub mod StartMasks
 pub mod TaskMoves
 pub mod Tasks
 pub mod Tick
-pub mod Unions
-pub mod ValidMasks
 pub mod Writes
 pub mod laws

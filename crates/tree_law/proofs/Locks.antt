@@ -27,10 +27,10 @@ use Rattle.rc_base.specs.declared.names.Mode.{Mode}
 use Rattle.rc_base.specs.declared.names.Mode.TheVariants.{Shareable, Exclusive, LockSetup, Locked}
 use Rattle.schemata_text.specs.declared.assignment.Assignment.{Assignment}
 use Rattle.tree_law.proofs.Groups.{has_gid-own, gid_number}
-use Rattle.tree_law.proofs.Masks.{cond-Ok}
+use Rattle.tree_law.proofs.laws.Refusals.{cond-Ok}
 use Rattle.tree_law.proofs.ModeTests.{HasIds-control}
 use Rattle.tree_law.proofs.NewRecords.{AreBound-replaced, HaveMasks-replaced, AreNamed-replaced, AreNumbered-replaced, AreServed-replaced}
-use Rattle.tree_law.proofs.Unions.{AreApart-each, has_mode-counted, is_other_in-mode}
+use Rattle.tree_law.proofs.laws.Unions.{AreApart-each, has_mode-counted, is_other_in-mode}
 use Rattle.tree_law.specs.Counted.{is_counted, is_counted_mode}
 use Rattle.tree_law.specs.Masks.{AreApart, IsValid}
 use Rattle.tree_law.specs.Regions.{HasNoOther, HasOneRegion, HaveLines, HaveRegions, IsPlaced, IsRegion, LinesDiffer, OffCounted, has_region_of, holds_region}

@@ -1,5 +1,5 @@
 -- A counted group with other masks, in one of the counted modes: what the tests of overlaps give.
-use Rattle.std.proofs.Common.{◌≡◌, ◌≢◌, ℕ, suc, ◌<◌, Bool, true, false, not, ◌&&◌, ◌||◌, cond, eqb, List, [], ◌∷◌, length, find, get_or, set, Option, Some, Result, Ok, Err, ◌⊎◌, inl, inr, refl, sym, subst, ap, ◌∙◌, arith, length-set}
+use Rattle.std.proofs.Common.{◌≡◌, ◌≢◌, ℕ, suc, ◌<◌, Bool, true, false, not, ◌&&◌, ◌||◌, eqb, List, [], ◌∷◌, length, find, get_or, set, Option, Some, Ok, ◌⊎◌, inl, inr, refl, sym, subst, ap, ◌∙◌, arith, length-set}
 use Rattle.std.specs.List.{slice_get}
 use Rattle.std.proofs.lemmas.Bool.{eqb-true, eqb-false, or_parts}
 use Rattle.std.proofs.lemmas.List.{get_or-set_same, get_or-set_other}
@@ -16,7 +16,8 @@ use Rattle.rc_base.specs.declared.names.Mode.TheVariants.{Shareable, Exclusive, 
 use Rattle.schemata_text.specs.declared.assignment.Assignment.{Assignment}
 use Rattle.tree_law.proofs.Groups.{gid_number}
 use Rattle.tree_law.proofs.NewRecords.{after, KeepApart-turned, HaveMasks-replaced, new_record, HaveRegions-replaced}
-use Rattle.tree_law.proofs.Unions.{AreApart-each, AreApart-region, has_mode-counted, has_mode-exclusive, is_other_in-mode}
+use Rattle.tree_law.proofs.laws.Refusals.{cond-Ok}
+use Rattle.tree_law.proofs.laws.Unions.{AreApart-each, AreApart-region, has_mode-counted, has_mode-exclusive, is_other_in-mode}
 use Rattle.tree_law.specs.Counted.{is_counted}
 use Rattle.tree_law.specs.Masks.{AreApart, HasValid, HaveMasks, IsValid, KeepApart, OffShareable}
 use Rattle.tree_law.specs.Regions.{HaveRegions, OffCounted}
@@ -26,12 +27,6 @@ use Rattle.tree_law.specs.State.{State}
 use Rattle.pseudo_lock.specs.declared.region.Region.{Region}
 use Rattle.tree_law.specs.commands.Schemata.{assigned}
 use Rattle.mode_rules.specs.declared.overlap.Overlap.TheVariants as overlap
-
-module _ {E : Type 0} where
-  -- the first of the tests does not hold, and then those after it
-  pub cond-Ok : (b : Bool) (e : E) (rest : Result (Unit {0}) E) (u : Unit {0}) → cond b (Err e) rest ≡ Ok u → (b ≡ false) × (rest ≡ Ok u)
-  cond-Ok true e rest u is = absurd (let f : Err e ≡ Ok u = is in cc)
-  cond-Ok false e rest u is = (refl, is)
 
 -- masks that are assigned one by one are each as they should be
 pub get_or-assigned : (P : ℕ → ℕ → Type 0) (n : ℕ) (all : List Assignment) (masks : List ℕ) → length masks ≡ 8

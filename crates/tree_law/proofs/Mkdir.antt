@@ -24,7 +24,7 @@ use Rattle.path_names.specs.declared.path_ref.PathRef.TheVariants.{Dir}
 use Rattle.rc_base.specs.declared.names.Gid.{Gid}
 use Rattle.rc_base.specs.declared.names.Mode.TheVariants.{Exclusive, Shareable}
 use Rattle.rc_base.specs.declared.replies.Why.TheVariants.{NoSuchPath, NotAPlace, Exists, OutOfClosids, NoSpace, OutOfRmids, RmidsBusy, Locking}
-use Rattle.tree_law.proofs.FreeIds.{free_class-some, free_rmid-some, All-range}
+use Rattle.tree_law.proofs.laws.FreeIds.{free_class-some, free_rmid-some, All-range}
 use Rattle.tree_law.proofs.Groups.{IsCounted-found, IsCounted-default, is_counted-open}
 use Rattle.tree_law.proofs.NewGroup.{with_group-sound, IsCounted-push}
 use Rattle.tree_law.proofs.NewMasks.{IsValid-new, AreApart-new_exclusive, AreApart-new_region}

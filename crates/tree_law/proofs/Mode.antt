@@ -19,12 +19,12 @@ use Rattle.rc_base.specs.declared.names.Gid.{Gid}
 use Rattle.rc_base.specs.declared.names.Mode.{Mode}
 use Rattle.rc_base.specs.declared.names.Mode.TheVariants.{Shareable, Exclusive, LockSetup, Locked}
 use Rattle.rc_base.specs.declared.replies.Why.TheVariants.{GroupLocked, OutOfRmids, RmidsBusy, SchemataOverlap, UnknownMode}
-use Rattle.tree_law.proofs.FreeIds.{free_rmid-some, All-range}
+use Rattle.tree_law.proofs.laws.FreeIds.{free_rmid-some, All-range}
 use Rattle.tree_law.proofs.Groups.{gid_number}
 use Rattle.tree_law.proofs.Limbo.{HasNone, AreNumbered-limbo_after}
 use Rattle.tree_law.proofs.Masks.{FitsBeside, FitsBeside-exclusive, FitsBeside-leaving, FitsBeside-old, FitsBeside-shared, HaveMasks-fitting, HaveRegions-fitting}
 use Rattle.tree_law.proofs.NewRecords.{after, AreBound-replaced, IdsDiffer-turned, HaveMasks-replaced, AreNamed-replaced, new_record, AreNumbered-replaced, HaveRegions-replaced, AreServed-replaced}
-use Rattle.tree_law.proofs.Schemata.{against_overlap-none}
+use Rattle.tree_law.proofs.laws.Refusals.{against_overlap-none}
 use Rattle.tree_law.specs.Counted.{is_counted, is_counted_mode}
 use Rattle.tree_law.specs.Freeing.{limbo_after}
 use Rattle.tree_law.specs.Masks.{HasValid}

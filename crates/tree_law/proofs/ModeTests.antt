@@ -11,7 +11,7 @@ use Rattle.rc_base.specs.declared.names.Mode.{Mode}
 use Rattle.rc_base.specs.declared.names.Mode.TheVariants.{Shareable, Exclusive, LockSetup, Locked}
 use Rattle.rc_base.specs.declared.replies.Why.{Why}
 use Rattle.rc_base.specs.declared.replies.Why.TheVariants.{DefaultGroup, HasMonGroups, HasTasks, HasCpus}
-use Rattle.tree_law.proofs.Masks.{cond-Ok}
+use Rattle.tree_law.proofs.laws.Refusals.{cond-Ok}
 use Rattle.tree_law.specs.Counted.{is_counted_mode}
 use Rattle.tree_law.specs.Refusals.{plain}
 use Rattle.tree_law.specs.Sound.{HasIds, HasIdsOf}

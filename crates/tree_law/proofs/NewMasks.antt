@@ -22,15 +22,15 @@ use Rattle.mode_rules.specs.StartingWays.{initial_ways, may_start_with}
 use Rattle.mode_rules.specs.declared.domain_use.DomainUse.{DomainUse}
 use Rattle.rc_base.specs.declared.names.Mode.{Mode}
 use Rattle.rc_base.specs.declared.names.Mode.TheVariants.{Exclusive, Locked, Shareable, LockSetup}
-use Rattle.tree_law.proofs.Unions.{has_mode-exclusive, IsUnion-union_of}
-use Rattle.tree_law.proofs.ValidMasks.{IsValid-checked}
+use Rattle.tree_law.proofs.laws.Unions.{has_mode-exclusive, IsUnion-union_of}
+use Rattle.tree_law.proofs.laws.ValidMasks.{IsValid-checked}
 use Rattle.tree_law.specs.Counted.{is_counted, is_counted_mode}
 use Rattle.tree_law.specs.Masks.{AreApart, IsValid}
 use Rattle.tree_law.specs.Sound.{IsSound}
 use Rattle.tree_law.specs.Space.{geometry_of, initial_mask, mask_of, region_mask, union_of, used_in}
 use Rattle.tree_law.specs.State.{State}
 use Rattle.pseudo_lock.specs.declared.region.Region.{Region}
-use Rattle.tree_law.proofs.StartMasks.{IsStartMask, IsStartMask-mask_of}
+use Rattle.tree_law.proofs.laws.StartMasks.{IsStartMask, IsStartMask-mask_of}
 
 -- ---- apart from the others
 

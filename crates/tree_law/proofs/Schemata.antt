@@ -1,5 +1,5 @@
 -- A write of `schemata` to a counted group keeps a sound tree.
-use Rattle.std.proofs.Common.{◌≡◌, ◌≢◌, ℕ, zero, suc, ◌<◌, true, false, ◌&&◌, cond, List, [], ◌∷◌, length, find, get_or, None, Some, IfSome, Result, Ok, Err, inl, refl, sym, subst, ◌∙◌, arith}
+use Rattle.std.proofs.Common.{◌≡◌, ◌≢◌, ℕ, zero, suc, ◌<◌, true, false, ◌&&◌, cond, List, [], ◌∷◌, length, find, get_or, None, Some, IfSome, Ok, inl, refl, sym, subst, ◌∙◌, arith}
 use Rattle.group_tree.specs.Records.{has_gid, has_mode, is_control, is_mode}
 use Rattle.group_tree.specs.declared.group.Group.{Group}
 use Rattle.group_tree.specs.declared.group_kind.GroupKind.{GroupKind}
@@ -9,24 +9,19 @@ use Rattle.lists.proofs.Options.{option_or-none}
 use Rattle.machine.specs.Ranges.{InRange}
 use Rattle.machine.specs.declared.parameters.Parameters.{Parameters}
 use Rattle.mode_rules.specs.Overlaps.{write_overlap}
-use Rattle.mode_rules.specs.declared.overlap.Overlap.{Overlap}
 use Rattle.rc_base.specs.declared.names.Mode.{Mode}
 use Rattle.rc_base.specs.declared.names.Mode.TheVariants.{Shareable, Exclusive, LockSetup, Locked}
 use Rattle.schemata_text.specs.declared.assignment.Assignment.{Assignment}
 use Rattle.tree_law.proofs.Masks.{FitsBeside, get_or-assigned, length-assigned, FitsBeside-old, FitsBeside-written, HaveMasks-fitting, HaveRegions-fitting}
 use Rattle.tree_law.proofs.NewRecords.{after, AreBound-replaced, AreNamed-replaced, new_record, AreNumbered-replaced, HasIdsOf-same, AreServed-replaced}
+use Rattle.tree_law.proofs.laws.Refusals.{against_overlap-none}
 use Rattle.tree_law.specs.Counted.{is_counted, is_counted_mode}
 use Rattle.tree_law.specs.Masks.{IsValid}
 use Rattle.tree_law.specs.Places.{with_record}
 use Rattle.tree_law.specs.Sound.{HasIds, HasIdsOf, IsSound, IsUsed}
 use Rattle.tree_law.specs.Space.{used_in}
 use Rattle.tree_law.specs.State.{State}
-use Rattle.tree_law.specs.commands.Schemata.{against_entries, against_entry, against_overlap, assigned, overlap_refusal}
-
--- nothing stands against a mask
-pub against_overlap-none : (domain : ℕ) (r : Result (Unit {0}) Overlap) → against_overlap domain r ≡ None → r ≡ Ok tt
-against_overlap-none domain (Ok u) e = refl
-against_overlap-none domain (Err o) e = absurd (let f : Some (overlap_refusal domain o) ≡ None = e in cc)
+use Rattle.tree_law.specs.commands.Schemata.{against_entries, against_entry, assigned}
 
 -- where no assignment is refused, nothing stands against the mask of any
 pub against_entries-none : (m : Parameters) (s : State) (g : Group) (all : List Assignment) → against_entries m s g all ≡ None → (k : ℕ) (d : Assignment) → k < length all

@@ -1,5 +1,5 @@
 -- A write of `tasks` keeps a sound tree.
-use Rattle.std.proofs.Common.{◌≡◌, ℕ, suc, ◌<◌, Bool, true, false, cond, List, [], ◌∷◌, length, find, get_or, Option, Some, None, inl, refl, sym, subst, ◌∙◌, arith}
+use Rattle.std.proofs.Common.{◌≡◌, ℕ, suc, ◌<◌, Bool, true, false, cond, List, [], ◌∷◌, length, find, get_or, Option, Some, None, inl, refl, sym, ◌∙◌, arith}
 use Rattle.std.specs.List.{All}
 use Rattle.std.proofs.lemmas.Bool.{eqb-true}
 use Rattle.std.proofs.lemmas.List.Elements.{All-cons, All-map}
@@ -7,25 +7,14 @@ use Rattle.group_tree.specs.declared.group.Group.{Group}
 use Rattle.group_tree.specs.declared.group_kind.GroupKind.{GroupKind}
 use Rattle.group_tree.specs.declared.group_kind.GroupKind.TheVariants.{Control, Monitor}
 use Rattle.lists.proofs.Choices.{cond-case}
-use Rattle.lists.proofs.Pairs.{AllPairs-map}
 use Rattle.rc_base.specs.declared.names.Gid.{Gid}
 use Rattle.rc_base.specs.declared.replies.Why.TheVariants.{NoTask, OtherControl}
 use Rattle.task_binding.specs.Bindings.{AreRising, binding_of, changed, is_of}
 use Rattle.task_binding.specs.declared.binding.Binding.{Binding}
+use Rattle.tree_law.proofs.laws.DeclaredTasks.{AreRising-changed}
 use Rattle.tree_law.specs.Refusals.{Refusal}
 use Rattle.tree_law.specs.Sound.{AreBound, IsBound, IsCounted, IsOf}
 use Rattle.tree_law.specs.commands.Tasks.{against_binding, against_task, in_group, may_join, moved, moves, or_ended, task_in}
-
--- the same tasks, with other groups
-pub AreRising-changed : (which : Binding → Bool) (how : Binding → Binding) (tasks : List Binding) → ((b : Binding) → (how b).task ≡ b.task) → AreRising tasks → AreRising (changed which how tasks)
-AreRising-changed which how tasks same rising =
-    AllPairs-map (λ (a b : Binding). a.task < b.task) (λ (b : Binding). cond (which b) (how b) b) tasks
-    (λ i j d below within. subst (λ (n : ℕ). n < (cond (which (get_or tasks j d)) (how (get_or tasks j d)) (get_or tasks j d)).task) (sym (at (which (get_or tasks i d)) (get_or tasks i d)))
-    (subst (λ (n : ℕ). (get_or tasks i d).task < n) (sym (at (which (get_or tasks j d)) (get_or tasks j d))) (rising i j d below within)))
-  where
-    at : (c : Bool) (b : Binding) → (cond c (how b) b).task ≡ b.task
-    at true b = same b
-    at false b = refl
 
 module _ (groups : List Group) (gid : Gid) where
   -- a group that tasks may join: a control group that is counted, or a monitor group of its parent

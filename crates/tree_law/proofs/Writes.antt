@@ -28,7 +28,7 @@ use Rattle.tree_law.proofs.Cpus.{cpus-sound}
 use Rattle.tree_law.proofs.Groups.{group_at-found}
 use Rattle.tree_law.proofs.Locks.{with_region-sound}
 use Rattle.tree_law.proofs.Mode.{mode-sound}
-use Rattle.tree_law.proofs.Readings.{reading-valid}
+use Rattle.tree_law.proofs.laws.Readings.{reading-valid}
 use Rattle.tree_law.proofs.GroupKinds.{is_control-counted, gid-not_default}
 use Rattle.tree_law.proofs.RemovedControl.{without_control-sound}
 use Rattle.tree_law.proofs.RemovedMonitor.{without_monitor-sound}

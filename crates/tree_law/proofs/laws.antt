@@ -5,10 +5,15 @@ pub mod Counts
 pub mod DeclaredTasks
 pub mod DistinctCounts
 pub mod Follows
+pub mod FreeIds
 pub mod Lines
 pub mod Opening
+pub mod Readings
 pub mod Refusals
 pub mod Regions
 pub mod RisingGroups
+pub mod StartMasks
 pub mod Steps
+pub mod Unions
+pub mod ValidMasks
 pub mod WayMasks

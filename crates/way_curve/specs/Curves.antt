@@ -1,5 +1,4 @@
 -- How many uses of lines hit in private caches, one for each set, of so many ways.
--- (For functions and proofs: no promise of the program stands on it.)
 use Rattle.std.specs.Prelude.{ℕ, ◌+◌, ◌%◌, Bool, ◌==◌, List, [], ◌∷◌, ◌++◌, map}
 use Rattle.std.specs.List.{filter}
 use Rattle.lists.specs.Sums.{one_if}

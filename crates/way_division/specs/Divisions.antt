@@ -1,5 +1,4 @@
 -- Divisions of the ways of a cache among groups.
--- (For functions and proofs: no promise of the program stands on it.)
 use Rattle.std.specs.Prelude.{◌≡◌, ℕ, ◌+◌, ◌<◌, ◌≤◌, Bool, true, false, List, [], ◌∷◌, get_or}
 use Rattle.way_division.specs.declared.span.Span.{Span}
 

@@ -1,9 +1,10 @@
 //! The best division.
-ghost use Rattle.std.specs.Prelude.{◌≡◌, ℕ, ◌^◌, ◌≤◌, All, IfOk, IfSome, List, None, length};
+ghost use Rattle.std.specs.Prelude.{◌≡◌, ℕ, ◌≤◌, All, IfOk, IfSome, List, None, length};
 ghost use Rattle.way_division.specs.Divisions.{IsBestDivision, IsDivision};
+ghost use Rattle.way_division.specs.declared.limits.TheConstants.{MOST_GROUPS, MOST_MISSES, MOST_WAYS};
 ghost use Rattle.way_division.specs.declared.span.Span.{Span};
 
-use crate::row::MOST_WAYS;
+use crate::limits::MOST_WAYS;
 use crate::span::Span;
 use crate::table::{push_spans, rows_of};
 use rc_base::NoMemory;
@@ -14,8 +15,8 @@ use std::alloc::Global;
 /// begins lowest, of these the one where it has the fewest ways, and then the same of the second group, and so on; no clause says
 /// that.
 ///
-/// `groups` has for each group its misses with each number of ways from 0 to 32; at most 64 groups, with at most 2^48 misses
-/// each. `free` says of each way, 32 at most, whether it may be given to a group. Each group gets `least` ways or more (this
+/// `groups` has for each group its misses with each number of ways from 0 to 32; at most `MOST_GROUPS` groups, with at most
+/// `MOST_MISSES` misses each. `free` says of each way, `MOST_WAYS` at most, whether it may be given to a group. Each group gets `least` ways or more (this
 /// project's profile). NoMemory where the allocator gives no room for a row for each group and for the spans.
 pub fn divide(
     alloc: Global,
@@ -24,9 +25,9 @@ pub fn divide(
     least: u8,
 ) -> Result<Option<Vec<Span>>, NoMemory>
     requires least { 1 ≤ least }
-    requires ways { length free.now ≤ 32 }
-    requires few { length groups.now ≤ 64 }
-    requires counts { All (All (λ n. n ≤ 2 ^ 48)) groups.now }
+    requires ways { length free.now ≤ MOST_WAYS }
+    requires few { length groups.now ≤ MOST_GROUPS }
+    requires counts { All (All (λ n. n ≤ MOST_MISSES)) groups.now }
     ensures best { IfOk result (λ found. IfSome found (λ spans. IsBestDivision free.now least groups.now spans.items)) }
     ensures none { IfOk result (λ found. found ≡ None → (spans : List Span) → IsDivision free.now least 0 groups.now spans → ⊥) }
 {

@@ -9,10 +9,12 @@
 
 mod choice;
 mod division;
+pub mod limits;
 mod row;
 mod span;
 mod table;
+pub mod theorems;
 
 pub use division::divide;
-pub use row::MOST_WAYS;
+pub use limits::{MOST_GROUPS, MOST_MISSES, MOST_WAYS};
 pub use span::Span;

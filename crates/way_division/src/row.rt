@@ -5,10 +5,8 @@ ghost use Rattle.way_division.specs.Rows.{IsBestFrom, IsNoBetter, at, choice_of}
 ghost use Rattle.way_division.specs.declared.span.Span.{Span};
 
 use crate::choice::{Choice, better};
+use crate::limits::MOST_WAYS;
 use crate::span::Span;
-
-/// How many ways a cache has at most.
-pub const MOST_WAYS: usize = 32;
 
 /// What is best for the groups from one on, from each way on, and from behind the last.
 pub(crate) type Row = [Option<Choice>; MOST_WAYS + 1];

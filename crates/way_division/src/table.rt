@@ -3,7 +3,8 @@ ghost use Rattle.std.specs.Prelude.{◌≡◌, ℕ, ◌^◌, ◌≤◌, ◌++◌
 ghost use Rattle.way_division.specs.Rows.{AreRows, AreWithin, spans_from};
 
 use crate::choice::Choice;
-use crate::row::{MOST_WAYS, Row, row_of};
+use crate::limits::MOST_WAYS;
+use crate::row::{Row, row_of};
 use crate::span::Span;
 use rc_base::NoMemory;
 use std::alloc::Global;

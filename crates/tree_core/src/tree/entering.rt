@@ -3,7 +3,7 @@ ghost use Rattle.std.specs.Prelude.{◌≡◌, if◌then◌else◌, is_some, len
 ghost use Rattle.std.specs.Option.{option_map};
 ghost use Rattle.mode_rules.specs.Setup.{entry_refusal};
 ghost use Rattle.task_binding.specs.Bindings.{control_members};
-ghost use Rattle.tree_core.specs.Overlaps.{reply_to};
+ghost use Rattle.command_parts.specs.Replies.{reply_to};
 ghost use Rattle.tree_law.specs.Freeing.{monitors_of};
 ghost use Rattle.tree_law.specs.commands.Mode.{against_entry, holdings, reason_of};
 

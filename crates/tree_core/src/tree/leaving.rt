@@ -4,14 +4,14 @@ ghost use Rattle.std.specs.List.{range_with_len};
 ghost use Rattle.std.specs.Option.{option_map};
 ghost use Rattle.mode_rules.specs.Overlaps.{leaving_overlap};
 ghost use Rattle.group_tree.specs.Records.{mask_in};
-ghost use Rattle.tree_core.specs.Overlaps.{reply_to};
+ghost use Rattle.command_parts.specs.Replies.{reply_to};
 ghost use Rattle.tree_law.specs.Space.{used_in};
 ghost use Rattle.tree_law.specs.commands.Mode.{against_masks};
 ghost use Rattle.tree_law.specs.commands.Schemata.{against_overlap};
 
 use super::Tree;
 use crate::masks::mask_in;
-use crate::schemata::overlap_refusal;
+use command_parts::overlap_refusal;
 use group_tree::Group;
 use mode_rules::may_leave_setup;
 use rc_base::Reply;

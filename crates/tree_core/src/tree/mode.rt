@@ -9,7 +9,7 @@ ghost use Rattle.rc_base.specs.declared.names.Mode.TheVariants as modes;
 ghost use Rattle.script_ops.specs.declared.op.Op.TheVariants.{Write};
 ghost use Rattle.tree_core.specs.Changes.{MakesUnless, Takes};
 ghost use Rattle.tree_core.specs.Modes.{AsksMode, against_turn};
-ghost use Rattle.tree_core.specs.Overlaps.{reply_to};
+ghost use Rattle.command_parts.specs.Replies.{reply_to};
 ghost use Rattle.tree_law.specs.Existing.{directory_gid};
 ghost use Rattle.tree_law.specs.Sound.{IsSound};
 ghost use Rattle.tree_law.specs.Steps.{needs};
@@ -20,7 +20,8 @@ ghost use Rattle.tree_law.specs.commands.Write.{against, reasons};
 use super::Tree;
 use crate::follow::After;
 use crate::found_dir::FoundDir;
-use crate::mode_text::{is_locked, is_named, mode_in};
+use crate::mode_text::{is_locked, mode_in};
+use command_parts::is_named;
 use group_tree::Group;
 use rc_base::{Mode, Reply, Why};
 

@@ -3,13 +3,13 @@ ghost use Rattle.std.specs.Prelude.{◌≡◌, ◌<◌, false};
 ghost use Rattle.std.specs.List.{All, list_any, range_with_len};
 ghost use Rattle.std.specs.Option.{option_map};
 ghost use Rattle.schemata_text.specs.declared.assignment.Assignment.{Assignment};
-ghost use Rattle.tree_core.specs.Overlaps.{reply_to};
+ghost use Rattle.command_parts.specs.Replies.{reply_to};
 ghost use Rattle.tree_law.specs.commands.Mode.{overlaps_some};
 ghost use Rattle.tree_law.specs.commands.Schemata.{against_entries, against_entry, is_locked};
 
 use super::Tree;
 use crate::masks::mask_in;
-use crate::schemata::overlap_refusal;
+use command_parts::overlap_refusal;
 use group_tree::Group;
 use mode_rules::{may_turn_exclusive, may_write_mask};
 use rc_base::Reply;

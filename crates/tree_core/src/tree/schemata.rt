@@ -23,7 +23,8 @@ use crate::follow::{After, raise_named};
 use crate::found_dir::FoundDir;
 use crate::masks::assign;
 use crate::mode_text::is_locked;
-use crate::schemata::{names_many, read_schemata, refusal};
+use crate::schemata::{names_many, read_schemata};
+use command_parts::text_refusal;
 use group_tree::{Group, GroupKind};
 use rc_base::{Mode, Reply, Why};
 use schemata_text::Assignment;
@@ -80,7 +81,7 @@ impl Tree {
         }
         match read_schemata(&self.machine, text) {
             Ok(all) => self.take_masks(group, all.as_slice(), follows),
-            Err(fault) => refusal(fault),
+            Err(fault) => text_refusal(fault),
         }
     }
 

@@ -12,7 +12,7 @@ ghost use Rattle.tree_law.specs.commands.Write.{against, reasons};
 
 use super::Tree;
 use crate::found_dir::FoundDir;
-use crate::task_moves::move_tasks;
+use command_parts::move_tasks;
 use group_tree::Group;
 use rc_base::{Reply, Why};
 

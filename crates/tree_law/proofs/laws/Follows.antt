@@ -33,7 +33,7 @@ use Rattle.schemata_text.specs.declared.fault.TextFault.{TextFault}
 use Rattle.script_ops.specs.Fits.{Fits}
 use Rattle.script_ops.specs.declared.op.Op.{Op}
 use Rattle.script_ops.specs.declared.op.Op.TheVariants as ops
-use Rattle.tree_law.proofs.Readings.{reading-valid}
+use Rattle.tree_law.proofs.laws.Readings.{reading-valid}
 use Rattle.tree_law.specs.LawsFollows.{IsLawful, IsLineOf, lines_of}
 use Rattle.tree_law.specs.Places.{control_at, group_at}
 use Rattle.tree_law.specs.Refusals.{Refusal, plain}

@@ -12,7 +12,7 @@ use Rattle.machine.specs.Ranges.{InRange}
 use Rattle.machine.specs.declared.parameters.Parameters.{Parameters}
 use Rattle.rc_base.specs.declared.names.Mode.TheVariants.{Exclusive, Shareable}
 use Rattle.task_binding.specs.declared.binding.Binding.{Binding}
-use Rattle.tree_law.proofs.ValidMasks.{IsValid-full_mask}
+use Rattle.tree_law.proofs.laws.ValidMasks.{IsValid-full_mask}
 use Rattle.tree_law.specs.Masks.{HasValid, IsValid, KeepApart, OffShareable}
 use Rattle.tree_law.specs.Regions.{HasNoOther, HasOneRegion, IsPlaced, LinesDiffer}
 use Rattle.tree_law.specs.Sound.{HasIds, IdsDiffer, IsBound, IsCounted, IsServed, IsSound, IsUsed, NamesDiffer}

@@ -1,9 +1,10 @@
--- What a refused command leaves.
-use Rattle.std.proofs.Common.{◌≡◌, ℕ, true, false, List, Option, None, Some, refl, ap}
+-- Why a command is refused, and what a refused one leaves.
+use Rattle.std.proofs.Common.{◌≡◌, ℕ, Bool, true, false, cond, List, Option, None, Some, Result, Ok, Err, refl, ap}
 use Rattle.std.specs.Option.{option_map_or}
 use Rattle.group_tree.specs.declared.group.Group.{Group}
 use Rattle.lists.proofs.Choices.{cond-both}
 use Rattle.machine.specs.declared.parameters.Parameters.{Parameters}
+use Rattle.mode_rules.specs.declared.overlap.Overlap.{Overlap}
 use Rattle.path_names.specs.declared.dirs.DirRef.TheVariants.{Ctrl, Mon}
 use Rattle.path_names.specs.declared.path_ref.PathRef.{PathRef}
 use Rattle.path_names.specs.declared.path_ref.PathRef.TheVariants.{Dir, File}
@@ -16,6 +17,7 @@ use Rattle.tree_law.specs.Places.{controlling, group_at, is_closed}
 use Rattle.tree_law.specs.Refusals.{Refusal, reply_of}
 use Rattle.tree_law.specs.State.{State}
 use Rattle.tree_law.specs.Steps.{left, next, next_if, refusal, with_status}
+use Rattle.tree_law.specs.commands.Schemata.{against_overlap, overlap_refusal}
 use Rattle.path_names.specs.declared.files.FileKind.TheVariants as kinds
 use Rattle.script_ops.specs.declared.op.Op.TheVariants as ops
 use Rattle.rc_base.specs.declared.replies.Reply.TheVariants as replies
@@ -93,3 +95,14 @@ refusal-ok m s op looks ok = at (refusal m s op) ok
     at : (o : Option Refusal) → reply_of o ≡ replies.Ok → o ≡ None
     at None e = refl
     at (Some r) e = absurd cc
+
+-- nothing stands against a mask
+pub against_overlap-none : (domain : ℕ) (r : Result (Unit {0}) Overlap) → against_overlap domain r ≡ None → r ≡ Ok tt
+against_overlap-none domain (Ok u) e = refl
+against_overlap-none domain (Err o) e = absurd (let f : Some (overlap_refusal domain o) ≡ None = e in cc)
+
+module _ {E : Type 0} where
+  -- the first of the tests does not hold, and then those after it
+  pub cond-Ok : (b : Bool) (e : E) (rest : Result (Unit {0}) E) (u : Unit {0}) → cond b (Err e) rest ≡ Ok u → (b ≡ false) × (rest ≡ Ok u)
+  cond-Ok true e rest u is = absurd (let f : Err e ≡ Ok u = is in cc)
+  cond-Ok false e rest u is = (refl, is)

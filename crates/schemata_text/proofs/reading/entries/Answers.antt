@@ -3,7 +3,7 @@ use Rattle.std.specs.List.{list_any, after_first}
 use Rattle.std.proofs.lemmas.Bool.{eqb-true}
 use Rattle.std.proofs.lemmas.List.{nil_from_length}
 use Rattle.schemata_text.specs.Items.{semicolon}
-use Rattle.schemata_text.proofs.Items.{Continues-last, Continues-closed, reading_from-more_entries, Continues-fault}
+use Rattle.schemata_text.proofs.laws.Items.{Continues-last, Continues-closed, reading_from-more_entries, Continues-fault}
 use Rattle.schemata_text.proofs.reading.entries.Goals as goal
 
 pub returns-in-Err-clause-said : goal.returns-in-Err-clause-said

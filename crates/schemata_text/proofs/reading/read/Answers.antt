@@ -2,7 +2,7 @@ use Rattle.std.proofs.Common.{◌≡◌, ◌<◌, ℕ, true, false, List, [], �
 use Rattle.std.specs.List.{list_any, after_first, before_first}
 use Rattle.schemata_text.specs.Items.{Item, newline, colon, items_of, items_of_rest}
 use Rattle.schemata_text.specs.Reading.{reading_from, line_of}
-use Rattle.schemata_text.proofs.Items.{reading_from-line, reading_from-line_fault, items_of-first_line, items_of-last_line, items_of-more_lines, reading_from-nil}
+use Rattle.schemata_text.proofs.laws.Items.{reading_from-line, reading_from-line_fault, items_of-first_line, items_of-last_line, items_of-more_lines, reading_from-nil}
 use Rattle.schemata_text.proofs.laws.Lawful.{AreLawful-none}
 use Rattle.schemata_text.proofs.reading.read.Goals as goal
 

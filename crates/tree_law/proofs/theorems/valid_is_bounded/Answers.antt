@@ -1,4 +1,4 @@
-use Rattle.tree_law.proofs.ValidMasks.{IsValid-checked}
+use Rattle.tree_law.proofs.laws.ValidMasks.{IsValid-checked}
 use Rattle.tree_law.proofs.theorems.valid_is_bounded.Goals as goal
 
 pub returns : goal.returns

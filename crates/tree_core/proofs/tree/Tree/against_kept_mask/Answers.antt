@@ -4,7 +4,7 @@ use Rattle.group_tree.specs.Records.{mask_in}
 use Rattle.mode_rules.specs.Overlaps.{leaving_overlap}
 use Rattle.mode_rules.specs.declared.overlap.Overlap.{Overlap}
 use Rattle.tree_core.proofs.Uses.{leaving_overlap-same}
-use Rattle.tree_core.specs.Overlaps.{reply_to}
+use Rattle.command_parts.specs.Replies.{reply_to}
 use Rattle.tree_law.specs.Space.{used_in}
 use Rattle.tree_law.specs.commands.Schemata.{against_overlap}
 use Rattle.tree_core.proofs.tree.Tree.against_kept_mask.Goals as goal

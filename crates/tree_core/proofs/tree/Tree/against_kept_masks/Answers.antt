@@ -1,7 +1,7 @@
 use Rattle.std.proofs.Common.{sym, ap, ◌∙◌, arith}
 use Rattle.std.specs.Option.{option_map}
 use Rattle.tree_core.proofs.KeptMasks.{from-all, from-none, from-some}
-use Rattle.tree_core.specs.Overlaps.{reply_to}
+use Rattle.command_parts.specs.Replies.{reply_to}
 use Rattle.tree_core.specs.Values.{TreeValue}
 use Rattle.tree_core.proofs.tree.Tree.against_kept_masks.Goals as goal
 

@@ -3,7 +3,7 @@ use Rattle.std.specs.Option.{option_map}
 use Rattle.mode_rules.specs.declared.overlap.Overlap.{Overlap}
 use Rattle.std.proofs.Common.{Result}
 use Rattle.tree_core.proofs.Uses.{against_entry-same}
-use Rattle.tree_core.specs.Overlaps.{reply_to}
+use Rattle.command_parts.specs.Replies.{reply_to}
 use Rattle.tree_law.specs.commands.Schemata.{against_overlap}
 use Rattle.tree_core.proofs.tree.Tree.against_mask.Goals as goal
 

@@ -3,7 +3,7 @@ use Rattle.lists.proofs.Options.{option_map-none, option_map-some}
 use Rattle.rc_base.specs.declared.replies.Why.TheVariants.{GroupLocked, UnknownMode}
 use Rattle.tree_core.proofs.WrittenModes.{is_present-is, refusal-locked, refusal-turn_some, refusal-unknown}
 use Rattle.tree_core.specs.Modes.{against_turn}
-use Rattle.tree_core.specs.Overlaps.{reply_to}
+use Rattle.command_parts.specs.Replies.{reply_to}
 use Rattle.tree_law.specs.Refusals.{plain}
 use Rattle.tree_law.specs.commands.Mode.{mode_in}
 use Rattle.tree_core.proofs.tree.Tree.asked_mode.Goals as goal

@@ -33,4 +33,4 @@ returns-in-Err c =
     let m = c.args.self.now.machine in let s = c.args.self.now.state in let g = c.args.group.now in
     let read : schemata_read m c.args.text.now ≡ Err c.in-Err.fault = ap (λ (v : TreeValue). schemata_read v.machine c.args.text.now) (sym c.self.view_is) ∙ c.in-Err.ensures.exact in
     let against = refusal-unlocked m s g (schemata_read m c.args.text.now) (sym c.is_locked.ensures ∙ c.if-is_locked.false) ∙ ap (schemata.against_read m s g) read in
-    MakesUnless-refused (schemata.text_refusal c.in-Err.fault) against refl c.refusal.ensures c.requires.nothing
+    MakesUnless-refused (schemata.text_refusal c.in-Err.fault) against refl c.text_refusal.ensures c.requires.nothing

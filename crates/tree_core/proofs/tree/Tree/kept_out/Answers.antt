@@ -7,7 +7,7 @@ use Rattle.rc_base.specs.Gids.{is_default}
 use Rattle.rc_base.specs.declared.replies.Why.{Why}
 use Rattle.task_binding.specs.Bindings as bindings
 use Rattle.tree_core.proofs.Setups.{IsSetOf-empty, any_task-empty, entry_refusal-same}
-use Rattle.tree_core.specs.Overlaps.{reply_to}
+use Rattle.command_parts.specs.Replies.{reply_to}
 use Rattle.tree_core.specs.Values.{TreeValue}
 use Rattle.tree_law.specs.Freeing.{monitors_of}
 use Rattle.tree_law.specs.commands.Mode.{reason_of}

@@ -1,7 +1,7 @@
 use Rattle.std.proofs.Common.{arith, sym, subst}
 use Rattle.tree_core.proofs.KeptTables.{IsKept-from_Keeps, Keeps-from_IsKept}
 use Rattle.tree_core.proofs.WrittenTasks.{Keeps-with_tasks}
-use Rattle.tree_core.proofs.TaskElements.{length-moves}
+use Rattle.command_parts.proofs.laws.TaskElements.{length-moves}
 use Rattle.tree_core.specs.Values.{TreeValue}
 use Rattle.tree_law.specs.Sound.{IsSound}
 use Rattle.tree_law.specs.commands.Tasks.{elements, moves, moves_in}

@@ -1,0 +1,3 @@
+mod Fed
+mod WrittenBytes
+pub mod laws

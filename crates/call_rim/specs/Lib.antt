@@ -1,0 +1,6 @@
+pub mod Codes
+pub mod Endings
+pub mod Feeding
+pub mod Outside
+pub mod Performing
+pub mod Within

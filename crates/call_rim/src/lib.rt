@@ -1,0 +1,29 @@
+//! The rim that the top calls share: input is read, a program makes its report of it, and the report is written. A call that runs
+//! out of memory answers NoMemory, and writes nothing.
+#![tactic(auto)]
+
+pub mod calls;
+pub mod ended;
+mod feeding;
+pub mod performed;
+pub mod program;
+pub mod reading;
+pub mod status;
+pub mod stream_program;
+pub mod telling;
+mod within;
+pub mod writing;
+
+pub use calls::{call, stream, usage};
+pub use ended::Ended;
+pub use performed::Performed;
+pub use program::Program;
+pub use reading::{ReadError, read_all};
+pub use status::Status;
+pub use stream_program::{MOST_STREAM_BYTES, StreamProgram, Taken};
+pub use telling::tell;
+pub use within::TOO_LARGE;
+pub use writing::write_all;
+
+#[cfg(test)]
+mod tests;

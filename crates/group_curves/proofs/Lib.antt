@@ -1,0 +1,3 @@
+mod Emptied
+mod Lines
+mod Uses

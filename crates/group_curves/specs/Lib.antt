@@ -1,0 +1,2 @@
+pub mod GroupLines
+pub mod Noted

@@ -1,0 +1,10 @@
+mod AskLists
+mod FoundSums
+mod LegalTrees
+mod MatchedCounts
+mod OwedEntries
+mod PaidAccesses
+mod PaidEntries
+mod RestLists
+mod StandingOps
+mod TrueOthers

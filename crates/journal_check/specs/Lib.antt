@@ -1,0 +1,7 @@
+pub mod Asks
+pub mod FirstLooks
+pub mod Payments
+pub mod Replays
+pub mod Tags
+pub mod Traces
+pub mod Verdicts

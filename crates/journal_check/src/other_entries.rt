@@ -1,0 +1,83 @@
+//! Whether every entry but those of accesses is one that its command owes.
+ghost use Rattle.std.specs.Prelude.{◌≡◌, ◌<◌, ◌↔◌, IsTrue, length};
+ghost use Rattle.journal_tables.specs.Places.{ArePlaces};
+ghost use Rattle.journal_tables.specs.Tables.{AreTakenOnce};
+ghost use Rattle.run_law.specs.Clauses.{OthersAreTrue};
+ghost use Rattle.journal_tables.specs.Places.{AreOwnPlaces};
+ghost use Rattle.journal_tables.specs.Tables.{IsTableOf};
+ghost use Rattle.journal_check.specs.Traces.{AreTrueOthers, IsTrace, IsTrueOther};
+ghost use Rattle.machine.specs.Slices.{slice_count};
+ghost use Rattle.run_law.specs.Journals.{slice_at};
+
+use crate::owed::{is_access, is_owed};
+use crate::trace::Step;
+use cache_core::SliceEntry;
+use journal_tables::{OpTable, is_access_at};
+use run_law::Journals;
+use script_ops::Script;
+
+// Whether an entry of slice i is an access of an access, one that its command owes, or of no op of the script.
+fn is_true_other(
+    script: &Script,
+    j: &Journals,
+    i: u32,
+    steps: &[Step],
+    places: &OpTable,
+    entry: &SliceEntry,
+) -> bool
+    requires once { AreTakenOnce script.now j.now.tree }
+    requires trace { IsTrace script.now j.now.tree (length j.now.tree) steps.now }
+    requires table { IsTableOf script.now places.now }
+    requires places { ArePlaces script.now places.now j.now.tree }
+    requires own { AreOwnPlaces places.now }
+    ensures { IsTrue result ↔ IsTrueOther script.now j.now.tree i entry.now }
+{
+    let _journals = j;
+    if is_access_at(script, entry.thread, entry.op) {
+        return is_access(entry.what);
+    }
+    match places.get(entry.thread, entry.op) {
+        Some(place) => {
+            let k = place - 1;
+            is_owed(script.machine(), i as usize, k, &steps[k as usize], entry)
+        }
+        None => true,
+    }
+}
+
+// Whether each of these entries of slice i is.
+fn are_true_others(script: &Script, j: &Journals, i: u32, steps: &[Step], places: &OpTable) -> bool
+    requires slice { i < length j.now.slices }
+    requires once { AreTakenOnce script.now j.now.tree }
+    requires trace { IsTrace script.now j.now.tree (length j.now.tree) steps.now }
+    requires table { IsTableOf script.now places.now }
+    requires places { ArePlaces script.now places.now j.now.tree }
+    requires own { AreOwnPlaces places.now }
+    ensures { IsTrue result ↔ AreTrueOthers script.now j.now.tree i (slice_at j.now i) }
+{
+    for entry in j.slice(i) {
+        if !is_true_other(script, j, i, steps, places, entry) {
+            return false;
+        }
+    }
+    true
+}
+
+/// Whether in every slice each entry of a command is one that it owes, and each of an access an access, in the time of the entries,
+/// each with a walk through what its command needed or what followed it.
+pub fn are_owed(script: &Script, j: &Journals, steps: &[Step], places: &OpTable) -> bool
+    requires all { length j.now.slices ≡ slice_count script.now.machine }
+    requires once { AreTakenOnce script.now j.now.tree }
+    requires trace { IsTrace script.now j.now.tree (length j.now.tree) steps.now }
+    requires table { IsTableOf script.now places.now }
+    requires places { ArePlaces script.now places.now j.now.tree }
+    requires own { AreOwnPlaces places.now }
+    ensures { IsTrue result ↔ OthersAreTrue script.now j.now }
+{
+    for i in 0..script.machine().slice_count() {
+        if !are_true_others(script, j, u32::from(i), steps, places) {
+            return false;
+        }
+    }
+    true
+}

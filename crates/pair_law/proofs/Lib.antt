@@ -1,0 +1,11 @@
+pub mod Fits
+pub mod Keeping
+pub mod Mkdir
+pub mod NewMasks
+pub mod Places
+pub mod Readings
+pub mod Removed
+pub mod Replaced
+pub mod Unions
+pub mod Written
+pub mod laws

@@ -1,0 +1,13 @@
+//! The ops of a pair script, which is one on groups with two masks for each domain: commands on files, and uses of lines.
+//!
+//! The two masks are those of data and of code in the same caches (Intel SDM volume 3, code and data prioritization), or those of an
+//! L2 and of an L3.
+#![tactic(auto)]
+
+pub mod file;
+pub mod op;
+pub mod side;
+
+pub use file::PairFile;
+pub use op::PairOp;
+pub use side::Side;

@@ -1,0 +1,45 @@
+-- The windows in which a group has the ways of one side's mask for itself.
+-- (For functions and proofs: no promise of the program stands on it.)
+use Rattle.std.specs.Prelude.{◌≡◌, ℕ, ◌+◌, ◌<◌, ◌≤◌, ◌⊎◌, true, false, IfSome, IsSomeAnd, length, slice_get}
+use Rattle.cache_core.specs.Filled.{empties}
+use Rattle.cache_core.specs.declared.entry.SliceEntry.{SliceEntry}
+use Rattle.cache_core.specs.declared.entry.What.TheVariants.{Flush}
+use Rattle.cbm.specs.Masks.{overlaps}
+use Rattle.pair_law.specs.Epochs.{state_at}
+use Rattle.pair_law.specs.State.{PairState, group_of, mask_in}
+use Rattle.pair_ops.specs.Values.{PairScriptValue, commands_of}
+use Rattle.pair_ops.specs.declared.side.Side.{Side}
+use Rattle.pair_ops.specs.declared.side.Side.TheVariants.{First, Second}
+use Rattle.pair_runs.specs.CdpRuns.{CdpJournalsValue}
+use Rattle.pair_runs.specs.Entries.{slice_in}
+use Rattle.run_law.specs.Journals.{At}
+use Rattle.rc_base.specs.declared.names.Gid.{Gid}
+use Rattle.rc_base.specs.declared.names.Mode.TheVariants.{Exclusive}
+
+abbrev pub other_side : Side → Side
+other_side First = Second
+other_side Second = First
+
+-- the group is exclusive, has this mask on a side of a domain, and its mask on the other side does not meet it
+abbrev pub IsAlone : ℕ → Gid → Side → ℕ → PairState → Type 0
+IsAlone domain group side mask s =
+    IsSomeAnd (group_of s group) (λ g. (g.mode ≡ Exclusive) × (mask_in side domain g ≡ mask) × (overlaps mask (mask_in (other_side side) domain g) ≡ false))
+
+-- From the first of these epochs to the last it stays so, and no longer.
+pub record StaysAlone (script : PairScriptValue) (domain : ℕ) (group : Gid) (side : Side) (mask first last : ℕ) : Type 0 where
+  pub from_first : first ≤ last
+  pub to_last : last ≤ length (commands_of script)
+  pub always : (epoch : ℕ) → first ≤ epoch → epoch ≤ last → IsAlone domain group side mask (state_at script epoch)
+  pub no_longer : last < length (commands_of script) → IsAlone domain group side mask (state_at script (last + 1)) → ⊥
+
+-- A window in a domain: it begins after the flush at `from`, and holds the entries up to and without that at `to`, the first that
+-- is a flush or of a later epoch than the last, or all where none is.
+pub record IsCdpWindow (script : PairScriptValue) (j : CdpJournalsValue) (domain from to : ℕ) (opening : SliceEntry) (group : Gid) (side : Side) (mask last : ℕ) : Type 0 where
+  pub domain_exists : domain < script.machines.machine.domains
+  pub opens : At (slice_in j.slices domain) from opening
+  pub flush : opening.what ≡ Flush
+  pub alone : StaysAlone script domain group side mask opening.epoch last
+  pub after_opening : from < to
+  pub within : to ≤ length (slice_in j.slices domain)
+  pub goes_over : (p : ℕ) (e : SliceEntry) → At (slice_in j.slices domain) p e → from < p → p < to → (empties e.what ≡ false) × (e.epoch ≤ last)
+  pub ends : IfSome (slice_get (slice_in j.slices domain) to) (λ e. (empties e.what ≡ true) ⊎ (last < e.epoch))

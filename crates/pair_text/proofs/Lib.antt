@@ -1,0 +1,4 @@
+pub mod AddedUses
+pub mod NextPairLine
+pub mod Readiness
+pub mod ReadyLines

@@ -1,0 +1,4 @@
+pub mod Masks
+pub mod PlanTexts
+pub mod Planned
+pub mod Values

@@ -1,0 +1,3 @@
+pub mod CurveForms
+pub mod Forms
+pub mod Plans

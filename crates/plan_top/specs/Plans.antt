@@ -1,0 +1,86 @@
+-- What the program writes of its input, by what its words ask for.
+use Rattle.std.specs.Prelude.{◌≡◌, ℕ, Bool, true, false, List, Option, Some, None, Ok, Err, String}
+use Rattle.std.specs.declared.alloc.Global.{Global}
+use Rattle.lackey_text.specs.declared.uses.LineUse.{LineUse}
+use Rattle.run_law.specs.Journals.{JournalsValue}
+use Rattle.run_law.specs.Runs.{IsRun}
+use Rattle.script_ops.specs.Values.{ScriptValue}
+use Rattle.step_world.specs.Play.{IsPlay}
+use Rattle.trace_curves.specs.TraceTexts.{trace_of}
+use Rattle.curve_report.specs.CurveTexts.{bad_line_text, report_of}
+use Rattle.plan_report.specs.Planned.{TellsPlan}
+use Rattle.top_parts.specs.Meaning.{meaning, refusal_line}
+use Rattle.top_parts.specs.declared.refusal.Refusal.{Refusal}
+use Rattle.call_rim.specs.Codes.{code_of}
+use Rattle.call_rim.specs.Endings.{Ends, call_of}
+use Rattle.call_rim.specs.Outside.{Reading, Writing}
+use Rattle.call_rim.specs.declared.status.Status.{Status}
+use Rattle.plan_top.specs.CurveForms.{CurveWords}
+use Rattle.plan_top.specs.Forms.{form_of, usage_line}
+use Rattle.plan_top.specs.declared.form.Form.{Form}
+use Rattle.plan_top.specs.declared.form.Form.TheVariants.{Curve, Divide}
+
+-- ---- `curve`
+
+-- a line of these bytes is none of a trace, and the text tells the first such
+pub record RefusesTrace (bytes text : List ℕ) : Type 0 where
+  pub line : ℕ
+  pub bad : trace_of bytes ≡ Err line
+  pub told : text ≡ bad_line_text line
+
+-- these bytes are a trace, and the text is the report of its uses
+pub record ReportsCurves (form : CurveWords) (bytes text : List ℕ) : Type 0 where
+  pub uses : List LineUse
+  pub trace : trace_of bytes ≡ Ok uses
+  pub report : text ≡ report_of form.sets form.ways uses
+
+-- (For proofs.) what a form reports of bytes, beside which it hands nothing back
+abbrev pub reports_of : CurveWords → List ℕ → Unit {0} → List ℕ → Type 0
+reports_of form bytes nothing text = ReportsCurves form bytes text
+
+-- ---- `divide`
+
+-- these bytes are no script, and the text tells why
+pub record RefusesScript (bytes text : List ℕ) : Type 0 where
+  pub refusal : Refusal
+  pub no_script : meaning bytes ≡ Err refusal
+  pub told : text ≡ refusal_line refusal
+
+-- these bytes are a script, and the text tells a plan of it by the journals of its play
+pub record ReportsPlan (bytes text : List ℕ) : Type 0 where
+  pub script : ScriptValue
+  pub journals : JournalsValue
+  pub is_script : meaning bytes ≡ Ok script
+  pub is_run : IsRun script journals
+  pub plays : IsPlay script journals
+  pub plan : TellsPlan script journals text
+
+-- (For proofs.) what is reported of bytes that are a script, beside which nothing is handed back
+abbrev pub reports_plan : List ℕ → Unit {0} → List ℕ → Type 0
+reports_plan bytes nothing text = ReportsPlan bytes text
+
+-- ---- a command line
+
+-- what a command line refuses: nothing, where it is not valid
+abbrev pub refuses_by : Option Form → List ℕ → List ℕ → Type 0
+refuses_by None bytes text = ⊥
+refuses_by (Some (Curve form)) bytes text = RefusesTrace bytes text
+refuses_by (Some Divide) bytes text = RefusesScript bytes text
+
+-- what it reports: nothing, where it is not valid
+abbrev pub reports_by : Option Form → List ℕ → Unit {0} → List ℕ → Type 0
+reports_by None bytes nothing text = ⊥
+reports_by (Some (Curve form)) bytes nothing text = ReportsCurves form bytes text
+reports_by (Some Divide) bytes nothing text = ReportsPlan bytes text
+
+-- whether a command line is valid
+abbrev pub is_valid : Option Form → Bool
+is_valid None = false
+is_valid (Some form) = true
+
+-- a call with these words ended as this exit status says
+pub record EndsWith (words : List (String Global)) (source : Reading) (sink : Writing) (code : ℕ) : Type 0 where
+  pub status : Status
+  pub outcome : Option (Unit {0})
+  pub ends : Ends (refuses_by (form_of words)) (reports_by (form_of words)) (call_of (is_valid (form_of words)) usage_line source sink) status outcome
+  pub is_code : code ≡ code_of status

@@ -1,0 +1,62 @@
+//! The top call.
+ghost use Rattle.std.specs.Prelude.{◌≡◌, ◌-◌, ◌<◌, ◌^◌, IfOk, OnErr};
+ghost use Rattle.std.specs.Process.{exit_status};
+ghost use Rattle.call_rim.specs.Codes.{code_of};
+ghost use Rattle.call_rim.specs.Endings.{Ends, call_of};
+ghost use Rattle.call_rim.specs.Outside.{reading_of, writing_of};
+ghost use Rattle.call_rim.specs.declared.status.Status.TheVariants.{NoMemory as OutOfMemory};
+ghost use Rattle.plan_top.specs.Forms.{form_of as form_in, usage_line};
+ghost use Rattle.plan_top.specs.Plans.{EndsWith, is_valid, refuses_by, reports_by};
+
+use crate::divide::divide;
+use crate::form::Form;
+use crate::words::{form_of, usage_bytes};
+use call_rim::{Ended, Status, stream, usage};
+use rc_base::NoMemory;
+use rc_stream::{Sink, Source};
+use std::alloc::Global;
+use std::process::ExitCode;
+
+/// Reads the trace or the script that the source holds, and writes to the sink what the words ask for, or the line that says why
+/// there is none. What each status says is in `Ends`.
+pub fn top_plan<S: Source, K: Sink>(
+    alloc: Global,
+    words: &[String],
+    source: &mut S,
+    sink: &mut K,
+) -> Ended<()>
+    requires source { S.faults source.old < 2 ^ 64 - 1 }
+    requires sink { K.faults sink.old < 2 ^ 64 - 1 }
+    ensures { Ends (refuses_by (form_in words.now)) (reports_by (form_in words.now)) (call_of (is_valid (form_in words.now)) usage_line
+        (reading_of S.left S.faults source.old source.new)
+        (writing_of K.taken K.held K.faults sink.old sink.new)) result.status result.outcome }
+{
+    match form_of(words) {
+        Some(Form::Curve(form)) => stream(alloc, &form, source, sink),
+        Some(Form::Divide) => divide(alloc, source, sink),
+        None => usage(sink, usage_bytes()),
+    }
+}
+
+/// Does what `top_plan` does with the words after the program's name, and ends with the exit status that says how that ended.
+/// Where memory ran out for the words, nothing is read or written, and the exit status is that of NoMemory.
+pub fn run_plan<S: Source, K: Sink>(
+    alloc: Global,
+    words: Result<Vec<String>, NoMemory>,
+    source: &mut S,
+    sink: &mut K,
+) -> ExitCode
+    requires source { S.faults source.old < 2 ^ 64 - 1 }
+    requires sink { K.faults sink.old < 2 ^ 64 - 1 }
+    ensures ends { IfOk words (λ words. EndsWith words.items
+        (reading_of S.left S.faults source.old source.new)
+        (writing_of K.taken K.held K.faults sink.old sink.new) (exit_status result)) }
+    ensures memory { OnErr words (exit_status result ≡ code_of OutOfMemory) }
+    ensures untouched { OnErr words ((source.new ≡ source.old) × (sink.new ≡ sink.old)) }
+{
+    let status = match words {
+        Ok(words) => top_plan(alloc, &words, source, sink).status,
+        Err(NoMemory) => Status::NoMemory,
+    };
+    ExitCode::from(status.code())
+}

@@ -1,0 +1,21 @@
+//! The top call of `resctrl_plan`: reads a trace of any length piece by piece, or a script, and writes the report that the words ask
+//! for.
+#![tactic(auto)]
+
+pub mod calls;
+mod divide;
+pub mod form;
+pub mod limits;
+mod program;
+pub mod theorems;
+mod words;
+
+pub use calls::{run_plan, top_plan};
+pub use form::{CurveForm, Form};
+pub use limits::{MOST_SETS, MOST_WAYS};
+pub use words::{USAGE, form_of};
+
+#[cfg(test)]
+mod divide_tests;
+#[cfg(test)]
+mod tests;

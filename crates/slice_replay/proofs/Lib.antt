@@ -1,0 +1,10 @@
+mod AddedEntries
+mod ChangedLines
+mod ChosenWays
+mod EmptiedLines
+mod LegalLists
+mod SameOutcomes
+mod StampedCounts
+mod StandingPlaces
+mod Told
+mod WrittenPlaces

@@ -1,0 +1,4 @@
+pub mod Outcomes
+pub mod Replays
+pub mod RmidCounts
+pub mod Slots

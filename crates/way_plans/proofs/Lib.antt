@@ -1,0 +1,3 @@
+mod FewGroups
+mod FewMisses
+mod Lists

@@ -1,0 +1,66 @@
+"""Shows the simulated tree as a directory, until it is unmounted, or while a command runs."""
+import os
+import sys
+
+from ..program import Broken, NoScript, Program
+from . import record
+from .recording import Recording, head_of
+from .words import Stopped, check, say, words_of
+
+
+def recording_of(given):
+    """The recording that is asked for. What the program does not take as a script is told before anything is mounted."""
+    program = Program(given.program and os.path.abspath(given.program))
+    name = given.record or given.resume
+    file = record.Record(os.path.abspath(name)) if name else record.Unrecorded()
+    head = record.lines_of(given.resume) if given.resume else head_of(given.machine, given.tasks)
+    recording = Recording(program, head, file)
+    (file.replace if given.resume else file.begin)(recording.script())
+    return recording
+
+
+def serve(given):
+    """Mounts, and answers until the end."""
+    try:
+        import fusepy
+        from .files import Files
+        from .processes import Processes
+    except ImportError as why:
+        raise Stopped("the Python library fusepy is not here (Debian: python3-fusepy)") from why
+    recording = recording_of(given)
+    processes = Processes(recording) if given.pids else None
+    shown = []
+
+    def ready():
+        shown.append(given.directory)
+        say(f"{given.directory} shows the tree")
+
+    files = Files(recording, ready, given.strict, processes)
+    options = {"fsname": "resctrl_sim", "direct_io": True, "big_writes": True, "use_ino": True}
+    options |= {"attr_timeout": 0, "entry_timeout": 0}
+    try:
+        fusepy.FUSE(files, given.directory, foreground=True, nothreads=True, **options)
+    except RuntimeError as why:
+        if given.record and not shown:
+            os.unlink(given.record)
+        raise Stopped(f"{given.directory} could not be mounted") from why
+
+
+def run(given):
+    """The status of a command that sees the tree where a kernel has it."""
+    from .namespace import run_within
+
+    return run_within(given)
+
+
+def main(arguments=None):
+    given = words_of(arguments)
+    try:
+        check(given)
+        return run(given) if given.run else serve(given)
+    except (Stopped, record.NoRecord, NoScript, Broken, UnicodeEncodeError, OSError) as why:
+        sys.exit(f"mount: {why}")
+
+
+if __name__ == "__main__":
+    sys.exit(main())

@@ -1,0 +1,107 @@
+"""Open files: reads and writes of their texts."""
+import errno
+import os
+
+from fusepy import FuseOSError
+
+from . import extras, texts
+from .kinds import Kind
+from .texts import Handle, Refused
+
+LAST_STATUS = "/info/last_cmd_status"
+
+
+class Opens:
+    """The operations on open files and directories, by their handles."""
+
+    def open(self, path, flags):
+        """A handle. As in a kernel's tree, also for root the permissions have to allow what it is opened for."""
+        needed = {os.O_RDONLY: 0o444, os.O_WRONLY: 0o222, os.O_RDWR: 0o666}[flags & os.O_ACCMODE]
+        mode = self.mode(path)
+        if needed & 0o444 and not mode & 0o444 or needed & 0o222 and not self.is_writable(path, mode):
+            raise FuseOSError(errno.EACCES)
+        return self.opened(path)
+
+    def opendir(self, path):
+        return self.opened(path)
+
+    def opened(self, path):
+        handle = self.next_handle
+        self.handles[handle] = Handle(path, self.getattr(path))
+        self.next_handle += 1
+        return handle
+
+    def release(self, path, fh):
+        del self.handles[fh]
+
+    releasedir = release
+
+    def is_writable(self, path, mode):
+        kind = Kind.WRITABLE if path == extras.ACCESS else self.kinds.known.get(path)
+        return bool(mode & 0o222) and kind is Kind.WRITABLE
+
+    def truncate(self, path, length, fh=None):
+        self.there(path)
+        if not self.is_writable(path, self.mode(path)):
+            raise FuseOSError(errno.EACCES)
+
+    def there(self, path):
+        """Refuses what is done to a file that was removed, as a kernel does."""
+        if path is None:
+            raise FuseOSError(errno.ENODEV)
+
+    def read(self, path, size, offset, fh):
+        """A read from the beginning is a command; what follows it reads on in the same text."""
+        self.there(path)
+        handle = self.handles[fh]
+        if offset == 0:
+            handle.text = self.text(path).encode("ascii")
+        return handle.text[offset : offset + size]
+
+    def text(self, path):
+        if extras.is_extra(path):
+            return extras.read(self.recording, path)
+        if path == LAST_STATUS and self.cause:
+            return self.cause + "\n"
+        return self.command(f"read {path}").text
+
+    def write(self, path, data, offset, fh):
+        """A write is a command. One that goes on where the last of this open file ended, within a line, is the rest of it."""
+        self.there(path)
+        handle = self.handles[fh]
+        goes_on = offset != 0 and offset == handle.offset
+        if offset != 0 and not goes_on:
+            raise FuseOSError(errno.EINVAL)
+        if extras.is_extra(path):
+            handle.written = extras.write(self.recording, handle.written + data)
+        else:
+            self.write_text(handle, path, data, goes_on and handle.is_cut)
+        self.table.modify(path)
+        handle.offset = offset + len(data)
+        return len(data)
+
+    def flush(self, path, fh):
+        """The last line of accesses may lack its newline."""
+        handle = self.handles[fh]
+        if path and extras.is_extra(path) and handle.written:
+            handle.written, last = b"", handle.written
+            extras.play(self.recording, last)
+
+    def write_text(self, handle, path, data, is_rest):
+        """Writes a text, or the rest of one, which takes its place if no other operation came between."""
+        again = is_rest and handle.count == self.recording.count
+        written = handle.written + data if again else data
+        try:
+            if self.strict:
+                texts.require_whole(path, written, is_rest)
+            op = texts.op_of(path, written)
+        except Refused as why:
+            self.cause = why.cause or self.cause
+            raise
+        if self.processes:
+            self.processes.declare(path, written)
+        handle.written = written
+        try:
+            self.command(op, self.recording.do_again if again else self.recording.do)
+        finally:
+            handle.count = self.recording.count

@@ -1,0 +1,68 @@
+"""Files and directories of the mounted tree, as tools meet them."""
+import errno
+import os
+import subprocess
+import time
+
+from resctrl_sim import mounted
+from mounts import MACHINE, TASKS, Mounts
+
+
+class Files(Mounts):
+    def test_file_held_open_while_its_group_is_removed(self):
+        with mounted(MACHINE, TASKS) as tree:
+            (tree / "p0").mkdir()
+            schemata = os.open(tree / "p0/schemata", os.O_RDWR)
+            directory = os.open(tree / "p0", os.O_RDONLY)
+            (tree / "p0").rmdir()
+            self.errs(errno.ENODEV, os.read, schemata, 100)
+            self.errs(errno.ENODEV, os.write, schemata, b"L3:0=3\n")
+            self.errs(errno.ENOENT, os.listdir, directory)
+            (tree / "p0").mkdir()
+            self.errs(errno.ENODEV, os.pwrite, schemata, b"L3:0=3\n", 0)
+            os.close(schemata)
+            os.close(directory)
+            self.assertEqual(self.ops(tree), ["mkdir /p0", "rmdir /p0", "mkdir /p0"])
+
+    def test_modes_owners_and_times(self):
+        with mounted(MACHINE, TASKS) as tree:
+            before = time.time()
+            os.mkdir(tree / "p0", 0o750)
+            self.assertEqual((tree / "p0").stat().st_mode & 0o777, 0o750 & ~umask())
+            self.assertGreaterEqual(tree.stat().st_mtime, before)
+            file = tree / "p0/schemata"
+            file.chmod(0o444)
+            self.errs(errno.EACCES, os.open, file, os.O_WRONLY)
+            file.chmod(0o640)
+            os.chown(file, os.getuid(), 5)
+            self.assertEqual((file.stat().st_mode & 0o777, file.stat().st_gid), (0o640, 5))
+            os.utime(file, ns=(10**18, 2 * 10**18))
+            self.assertEqual((file.stat().st_atime_ns, file.stat().st_mtime_ns), (10**18, 2 * 10**18))
+            subprocess.run(["touch", "-m", file], check=True)
+            self.assertEqual(file.stat().st_atime_ns, 10**18)
+            self.assertGreaterEqual(file.stat().st_mtime, before)
+            os.utime(file, ns=(0, 0))
+            file.write_text("L3:0=3\n")
+            self.assertGreaterEqual(file.stat().st_mtime, before)
+            self.errs(errno.ENOENT, os.chmod, tree / "p1", 0o700)
+            (tree / "p0").rmdir()
+            (tree / "p0").mkdir()
+            self.assertEqual(file.stat().st_mode & 0o777, 0o644)
+
+    def test_name_lengths(self):
+        with mounted(MACHINE) as tree:
+            self.assertEqual(os.statvfs(tree).f_namemax, 255)
+            (tree / ("n" * 255)).mkdir()
+            self.errs(errno.ENAMETOOLONG, os.mkdir, tree / ("n" * 256))
+
+    def test_accesses(self):
+        with mounted(MACHINE, TASKS) as tree:
+            (tree / ".sim/access").write_text("sweep 1000 0 0 100 64\n")
+            self.assertEqual((tree / "mon_data/mon_L3_00/llc_occupancy").read_text(), "6400\n")
+            self.errs(errno.EINVAL, (tree / ".sim/access").write_text, "access 1 0 0\n")
+
+
+def umask():
+    mask = os.umask(0)
+    os.umask(mask)
+    return mask
