@@ -1,2 +1,4 @@
+mod NoWays
 pub mod PartLists
+mod PlanMasks
 pub mod Powers

@@ -9,6 +9,7 @@ mod masks;
 pub mod plan;
 mod report;
 mod schemata;
+pub mod theorems;
 mod writes;
 
 pub use plan::{Plan, plan_of};
