@@ -2,13 +2,15 @@
 # make test      the gate: proves every crate, tries the must-fail edits, runs the tests and the program, compares the examples and docs/BELIEVE.md, sees each exit status, and runs the tests of the Python package
 # make clients   runs real clients on the mounted tree: a shell, pqos and goresctrl (needs root, FUSE and Debian packages, and is no part of the gate)
 # make cluster   sweeps ways on a Dask cluster of two workers on this machine (needs python3-distributed, and is no part of the gate)
-# make install   puts the program, the planner, manual pages, documents, examples and tools below PREFIX (default: /usr/local)
+# make install   puts the programs, manual pages, documents, examples and tools below PREFIX (default: /usr/local)
 # make deb       builds a Debian package of the same in out/
 # make help      prints these lines
 
 PROGRAM = crates/resctrl_sim/out/resctrl_sim
 PLANNER = crates/resctrl_plan/out/resctrl_plan
-# It has the time at which make began, once both programs were proved and built from these sources: what is edited meanwhile is newer.
+CHECKER = crates/resctrl_check/out/resctrl_check
+PROGRAMS = $(PROGRAM) $(PLANNER) $(CHECKER)
+# It has the time at which make began, once all programs were proved and built from these sources: what is edited meanwhile is newer.
 BUILT = crates/resctrl_sim/out/built
 BEGAN := $(shell date +%s.%N)
 SOURCES = crates.txt HANDLES $(shell find crates -name out -prune -o -type f -print)
@@ -21,15 +23,15 @@ demo:
 build: $(BUILT)
 
 $(BUILT): $(SOURCES)
-	@echo "Proving what is not proved yet, on $(PROCESSORS) processors. From nothing the simulator alone took some 43 processor minutes; the planner comes on top."
-	@sh tools/progress -q -p resctrl_sim -p resctrl_plan sh tools/prove resctrl_sim resctrl_plan
+	@echo "Proving what is not proved yet, on $(PROCESSORS) processors. From nothing the simulator alone took some 43 processor minutes; the others come on top."
+	@sh tools/progress -q $(patsubst %,-p %,$(notdir $(PROGRAMS))) sh tools/prove $(notdir $(PROGRAMS))
 	@touch -d @$(BEGAN) $(BUILT)
 
 test:
 	@echo "The gate proves every crate with its tests, tries the must-fail edits, runs the tests and builds the program."
 	sh tools/progress rt ci
 	@# The gate leaves the programs that it proved, built and ran.
-	@[ ! -x $(PROGRAM) ] || [ ! -x $(PLANNER) ] || touch -d @$(BEGAN) $(BUILT)
+	@for program in $(PROGRAMS); do [ -x $$program ] || exit 0; done; touch -d @$(BEGAN) $(BUILT)
 	@$(MAKE) -s build
 	sh examples/compare $(PROGRAM)
 	sh tools/compare
@@ -38,10 +40,14 @@ test:
 	sh tools/compare_timeline $(PROGRAM)
 	sh tools/compare_progress
 	sh tools/compare_manual
-	sh tools/compare_deb $(PROGRAM) $(PLANNER)
+	sh tools/compare_promises
+	sh tools/compare_deb $(PROGRAMS)
 	python3 tools/compare_curve $(PROGRAM) --scripts 20
 	python3 tools/compare_plan $(PROGRAM) $(PLANNER) --scripts 20
 	sh tools/statuses $(PROGRAM)
+	sh tools/plan_statuses $(PLANNER)
+	sh tools/check_statuses $(CHECKER)
+	python3 tools/compare_journals $(CHECKER)
 	sh tools/python/test $(PROGRAM)
 	@tools/believe | cmp -s - docs/BELIEVE.md || { echo "docs/BELIEVE.md is not what tools/believe prints"; exit 1; }
 
@@ -53,10 +59,10 @@ cluster: build
 	sh tools/compare_cluster $(PROGRAM)
 
 install: build
-	sh tools/install $(PROGRAM) $(PLANNER) $(DESTDIR)$(PREFIX)
+	sh tools/install $(DESTDIR)$(PREFIX) $(PROGRAMS)
 
 deb: build
-	sh tools/deb $(PROGRAM) $(PLANNER) out
+	sh tools/deb out $(PROGRAMS)
 
 help:
 	@sed -n 's/^# make/make/p' Makefile

@@ -13,9 +13,9 @@ Measured = namedtuple("Measured", "user system memory faults instructions status
 HEAD = "script              count     bytes   user  system   MB   faults  M instructions  status"
 
 
-def count_instructions(program, path, flags):
-    """Millions of instructions of one play of a script, by `perf stat`, and None where that is not there or does not count them."""
-    words = ["perf", "stat", "-x", ",", "-e", "instructions:u", program, "step", *flags]
+def count_instructions(command, path):
+    """Millions of instructions of a command on a file, by `perf stat`, and None where that is not there or does not count them."""
+    words = ["perf", "stat", "-x", ",", "-e", "instructions:u", *command]
     try:
         with open(path) as script:
             told = subprocess.run(words, stdin=script, stdout=subprocess.DEVNULL, stderr=subprocess.PIPE, text=True).stderr
@@ -27,15 +27,20 @@ def count_instructions(program, path, flags):
 
 def measure(program, path, flags=()):
     """One play of a script with these flags, and a second one that counts instructions."""
+    return measure_words([program, "step", *flags], path)
+
+
+def measure_words(command, path):
+    """One run of a command on a file, and a second one that counts instructions."""
     with open(path) as script:
-        child = subprocess.Popen([program, "step", *flags], stdin=script, stdout=subprocess.DEVNULL)
+        child = subprocess.Popen(command, stdin=script, stdout=subprocess.DEVNULL)
         _, status, used = os.wait4(child.pid, 0)
     return Measured(
         used.ru_utime,
         used.ru_stime,
         used.ru_maxrss / 1024,
         used.ru_minflt,
-        count_instructions(program, path, flags),
+        count_instructions(command, path),
         os.waitstatus_to_exitcode(status),
     )
 

@@ -65,9 +65,9 @@ def changed_lines(rng, data, others):
 CHANGES = (changed_bytes, changed_words, changed_words, changed_lines, changed_lines)
 
 
-def mutant_of(seed, scripts):
-    """The flags and the script of a seed."""
-    rng = random.Random(seed)
+def mutant_of(number, scripts):
+    """The flags and the script of a number."""
+    rng = random.Random(number)
     data = rng.choice(scripts)
     for _ in range(rng.choice((1, 1, 1, 2, 3, 6))):
         data = rng.choice(CHANGES)(rng, data, scripts)

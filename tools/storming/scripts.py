@@ -143,9 +143,9 @@ def opening_of(rng, machine):
     return lines
 
 
-def script_of(seed):
-    """The script of a seed, always the same: a machine, an opening, and one or two phases of 2 to 16 threads."""
-    rng = random.Random(f"storm {seed}")
+def script_of(number):
+    """The script of a number, always the same: a machine, an opening, and one or two phases of 2 to 16 threads."""
+    rng = random.Random(f"storm {number}")
     machine = machine_of(rng)
     lines = machine.lines() + (opening_of(rng, machine) if rng.random() < 0.8 else [])
     for _ in range(rng.choice((1, 1, 2))):

@@ -2,6 +2,7 @@ mod AskLists
 mod FoundSums
 mod LegalTrees
 mod MatchedCounts
+mod NeedKeys
 mod OwedEntries
 mod PaidAccesses
 mod PaidEntries

@@ -1,6 +1,5 @@
 -- The counts that a command was given, and the sums of its first looks.
 use Rattle.std.proofs.Common.{◌≡◌, ◌↔◌, ℕ, zero, suc, ◌+◌, ◌*◌, ◌<◌, ◌≤◌, List, [], ◌∷◌, length, map, take, Option, Some, None, refl, sym, ap, ◌∙◌, subst, arith}
-use Rattle.std.specs.BTreeMap.{get_by}
 use Rattle.std.specs.List.{range_with_len}
 use Rattle.std.specs.Prelude.{option_and_then, slice_get}
 use Rattle.std.specs.declared.alloc.Global.{Global}
@@ -9,9 +8,8 @@ use Rattle.std.proofs.lemmas.Option.{get_or_from_slice_get, slice_get_within}
 use Rattle.journal_check.proofs.LegalTrees.{CommandMayFollow-at, IsCommandThat-to}
 use Rattle.journal_tables.proofs.laws.TakenPlaces.{command-legal}
 use Rattle.journal_tables.proofs.laws.Told.{IsSome-some, number_at-op, slice_at-nil}
-use Rattle.journal_tables.specs.Places.{ArePlaces}
-use Rattle.journal_tables.specs.Places.{AreOwnPlaces}
-use Rattle.journal_check.specs.FirstLooks.{AreAllFirstLooks, AreCounted, found_in, look_key, looked_in, noted_for, sum_found}
+use Rattle.journal_tables.specs.Places.{AreOwnPlaces, ArePlaces}
+use Rattle.journal_check.specs.FirstLooks.{AreAllFirstLooks, AreCounted, found_in, look_key, looked_in, noted_for}
 use Rattle.journal_tables.specs.Tables.{IsTableOf, number_at}
 use Rattle.journal_check.specs.Traces.{IsTrace}
 use Rattle.journal_check.specs.declared.trace.Step.{Step}
@@ -22,9 +20,6 @@ use Rattle.run_law.specs.Journals.{At, JournalsValue, slice_at}
 use Rattle.run_law.specs.Looks.{first_look, lines_looked, needs_of, sum_of_all}
 use Rattle.run_law.specs.TreeHistory.{IsLegalTree, TreeEntryValue, tree_after}
 use Rattle.script_ops.specs.Values.{ScriptValue, op_at}
-use Rattle.script_ops.specs.declared.op.Op.{Op}
-use Rattle.tree_law.specs.State.{State}
-use Rattle.tree_law.specs.Steps.{needs}
 
 -- ---- lists
 
@@ -101,7 +96,7 @@ module _ (script : ScriptValue) (j : JournalsValue) (steps : List Step) (places 
       (range_with_len 0 script.machine.slices) (λ x. found_in-first k (need.0 * script.machine.slices + x) need.1 h at small))
 
   -- how many counts a command was given
-  pub length-counts : (k : ℕ) (h : TreeEntryValue) (step : Step) → At j.tree k h → At steps k step → length h.looks ≡ length step.needs.items
+  pub length-counts : (k : ℕ) (h : TreeEntryValue) (step : Step) → At j.tree k h → At steps k step → length h.looks ≡ length step.needs
   length-counts k h step at there =
       let it = command-legal script j.tree k h legal at in
       let told = IsCommandThat-to _ (op_at script h.thread h.op) it.0 it.1 (CommandMayFollow-at script j.tree k h legal at) in
@@ -110,18 +105,18 @@ module _ (script : ScriptValue) (j : JournalsValue) (steps : List Step) (places 
 
   -- a command was given what its looks counted
   pub counted-command : (k : ℕ) (h : TreeEntryValue) (step : Step) → At j.tree k h → At steps k step
-      → AreCounted looks script.machine.slices (k + 1) step.needs.items h.looks ↔ (map (λ n. Some n) h.looks ≡ map (lines_looked script j h) (needs_of script.machine (tree_after script (take k j.tree)) (op_at script h.thread h.op)))
+      → AreCounted looks script.machine.slices (k + 1) step.needs h.looks ↔ (map (λ n. Some n) h.looks ≡ map (lines_looked script j h) (needs_of script.machine (tree_after script (take k j.tree)) (op_at script h.thread h.op)))
   counted-command k h step at there =
       let it = command-legal script j.tree k h legal at in
       let step_of = trace.each k h it.0 step at it.1 there in
-      let its : needs_of script.machine (tree_after script (take k j.tree)) (op_at script h.thread h.op) ≡ step.needs.items = ap (needs_of script.machine (tree_after script (take k j.tree))) it.1 ∙ sym step_of.needs in
-      let few : (i : ℕ) (need : ℕ × ℕ) → slice_get step.needs.items i ≡ Some need → need.1 < 65536 =
-      λ i need is. (let within = slice_get_within step.needs.items i need is in
-      let can = subst (λ (p : ℕ × ℕ). p.1 < script.machine.rmids) (get_or_from_slice_get step.needs.items i need need is) (step_of.exist i need within).1 in
+      let its : needs_of script.machine (tree_after script (take k j.tree)) (op_at script h.thread h.op) ≡ step.needs = ap (needs_of script.machine (tree_after script (take k j.tree))) it.1 ∙ sym step_of.needs in
+      let few : (i : ℕ) (need : ℕ × ℕ) → slice_get step.needs i ≡ Some need → need.1 < 65536 =
+      λ i need is. (let within = slice_get_within step.needs i need is in
+      let can = subst (λ (p : ℕ × ℕ). p.1 < script.machine.rmids) (get_or_from_slice_get step.needs i need need is) (step_of.exist i need within).1 in
       let limit = range.rmid_limit in
       omega arith) in (
-        λ counted. counts-same (lines_looked script j h) step.needs.items h.looks (length-counts k h step at there)
+        λ counted. counts-same (lines_looked script j h) step.needs h.looks (length-counts k h step at there)
             (λ i n need is has. sym (looked_in-lines k h need at (few i need is)) ∙ counted i n need is has)
             ∙ ap (map (lines_looked script j h)) (sym its),
-        λ same i n need is has. looked_in-lines k h need at (few i need is) ∙ same-counts (lines_looked script j h) step.needs.items h.looks (same ∙ ap (map (lines_looked script j h)) its) i n need is has,
+        λ same i n need is has. looked_in-lines k h need at (few i need is) ∙ same-counts (lines_looked script j h) step.needs h.looks (same ∙ ap (map (lines_looked script j h)) its) i n need is has,
       )

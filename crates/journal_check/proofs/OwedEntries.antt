@@ -1,5 +1,5 @@
 -- The entries that a command owes, by what it needed and what followed it.
-use Rattle.std.proofs.Common.{◌≡◌, ◌↔◌, ℕ, zero, suc, ◌+◌, ◌/◌, ◌<◌, ◌⊎◌, ◌==◌, inl, inr, Bool, true, false, List, [], ◌∷◌, ◌++◌, length, Option, Some, None, refl, sym, ap, ◌∙◌, subst, arith}
+use Rattle.std.proofs.Common.{◌≡◌, ℕ, zero, suc, ◌+◌, ◌==◌, inl, inr, Bool, true, false, List, [], ◌∷◌, Some, refl, sym, ap, ◌∙◌, subst, arith}
 use Rattle.std.specs.List.{flat_map}
 use Rattle.std.specs.Prelude.{Contains, IsTrue, slice_get}
 use Rattle.std.proofs.lemmas.Bool.{cases_Bool, eq-eqb, eqb-true}
@@ -87,21 +87,21 @@ what_of-no_look (follows.Drop domain line) = refl
 
 module _ (m : Parameters) (i k : ℕ) (step : Step) where
   -- a look is owed where it is needed
-  pub look-owed : (epoch rmid : ℕ) → (epoch ≡ k) × Contains step.needs.items (domain_in m i, rmid) → Contains (owed_by_step m i k step) (record { epoch = epoch; what = whats.Look rmid 0 })
+  pub look-owed : (epoch rmid : ℕ) → (epoch ≡ k) × Contains step.needs (domain_in m i, rmid) → Contains (owed_by_step m i k step) (record { epoch = epoch; what = whats.Look rmid 0 })
   look-owed epoch rmid is =
       let b : Owed = record { epoch = epoch; what = whats.Look rmid 0 } in
       let has = is.1 in
-      let at : slice_get step.needs.items has.0 ≡ Some (domain_in m i, rmid) = slice_get-get_or step.needs.items has.0 (domain_in m i, rmid) has.1 ∙ ap (λ (p : ℕ × ℕ). Some p) has.2 in
+      let at : slice_get step.needs has.0 ≡ Some (domain_in m i, rmid) = slice_get-get_or step.needs has.0 (domain_in m i, rmid) has.1 ∙ ap (λ (p : ℕ × ℕ). Some p) has.2 in
       let same : b ≡ (record { epoch = k; what = whats.Look rmid 0 }) = ap (λ (n : ℕ). record { epoch = n; what = whats.Look rmid 0 }) is.0 in
-      Contains-append_left (flat_map (look_in m i k) step.needs.items) (flat_map (follow_in m i (k + 1)) step.follows.items) b
-      (contains-flat_map (look_in m i k) (IsLookOf m i k) (look_in-to m i k) (look_in-back m i k) step.needs.items has.0 (domain_in m i, rmid) b at (refl, same))
+      Contains-append_left (flat_map (look_in m i k) step.needs) (flat_map (follow_in m i (k + 1)) step.follows.items) b
+      (contains-flat_map (look_in m i k) (IsLookOf m i k) (look_in-to m i k) (look_in-back m i k) step.needs has.0 (domain_in m i, rmid) b at (refl, same))
 
   -- and only there
   pub owed-look : (epoch rmid : ℕ) → Contains (owed_by_step m i k step) (record { epoch = epoch; what = whats.Look rmid 0 })
-      → (epoch ≡ k) × ((n : ℕ) × (need : ℕ × ℕ) × (slice_get step.needs.items n ≡ Some need) × (need.0 ≡ domain_in m i) × (need.1 ≡ rmid))
-  owed-look epoch rmid has = elim (Contains-append_cases (flat_map (look_in m i k) step.needs.items) (flat_map (follow_in m i (k + 1)) step.follows.items) (record { epoch = epoch; what = whats.Look rmid 0 }) has) [
+      → (epoch ≡ k) × ((n : ℕ) × (need : ℕ × ℕ) × (slice_get step.needs n ≡ Some need) × (need.0 ≡ domain_in m i) × (need.1 ≡ rmid))
+  owed-look epoch rmid has = elim (Contains-append_cases (flat_map (look_in m i k) step.needs) (flat_map (follow_in m i (k + 1)) step.follows.items) (record { epoch = epoch; what = whats.Look rmid 0 }) has) [
     | inl look ↦
-        let it = flat_map-contains (look_in m i k) (IsLookOf m i k) (look_in-to m i k) (look_in-back m i k) step.needs.items (record { epoch = epoch; what = whats.Look rmid 0 }) look in
+        let it = flat_map-contains (look_in m i k) (IsLookOf m i k) (look_in-to m i k) (look_in-back m i k) step.needs (record { epoch = epoch; what = whats.Look rmid 0 }) look in
         let same = it.3.1 in
         (ap (λ (o : Owed). o.epoch) same, (it.0, it.1, it.2, it.3.0, (let w : whats.Look rmid 0 ≡ whats.Look it.1.1 0 = ap (λ (o : Owed). o.what) same in let e : rmid ≡ it.1.1 = cc in sym e)))
     | inr follow ↦ absurd (
@@ -117,14 +117,14 @@ module _ (m : Parameters) (i k : ℕ) (step : Step) where
       let b : Owed = record { epoch = epoch; what = what } in
       let has = is.1 in
       let same : b ≡ (record { epoch = k + 1; what = what_of has.1 }) = ap (λ (n : ℕ). record { epoch = n; what = what }) is.0 ∙ ap (λ (w : What). record { epoch = k + 1; what = w }) (sym has.4) in
-      Contains-append_right (flat_map (look_in m i k) step.needs.items) (flat_map (follow_in m i (k + 1)) step.follows.items) b
+      Contains-append_right (flat_map (look_in m i k) step.needs) (flat_map (follow_in m i (k + 1)) step.follows.items) b
       (contains-flat_map (follow_in m i (k + 1)) (IsFollowOf m i (k + 1)) (follow_in-to m i (k + 1)) (follow_in-back m i (k + 1)) step.follows.items has.0 has.1 b has.2 (has.3, same))
 
   -- and only there
   pub owed-follow : (epoch : ℕ) (what : What) → is_look what ≡ false → Contains (owed_by_step m i k step) (record { epoch = epoch; what = what }) → (epoch ≡ k + 1) × HasFollow m i step.follows.items what
-  owed-follow epoch what other has = elim (Contains-append_cases (flat_map (look_in m i k) step.needs.items) (flat_map (follow_in m i (k + 1)) step.follows.items) (record { epoch = epoch; what = what }) has) [
+  owed-follow epoch what other has = elim (Contains-append_cases (flat_map (look_in m i k) step.needs) (flat_map (follow_in m i (k + 1)) step.follows.items) (record { epoch = epoch; what = what }) has) [
     | inl look ↦ absurd (
-        let it = flat_map-contains (look_in m i k) (IsLookOf m i k) (look_in-to m i k) (look_in-back m i k) step.needs.items (record { epoch = epoch; what = what }) look in
+        let it = flat_map-contains (look_in m i k) (IsLookOf m i k) (look_in-to m i k) (look_in-back m i k) step.needs (record { epoch = epoch; what = what }) look in
         let w : is_look what ≡ true = ap (λ (o : Owed). is_look o.what) it.3.1 in
         let wrong : true ≡ false = sym w ∙ other in
         cc)

@@ -1,6 +1,5 @@
 -- Entries of accesses that are true to them.
-use Rattle.std.proofs.Common.{◌≡◌, ◌↔◌, ℕ, ◌+◌, ◌<◌, ◌≤◌, inl, inr, true, false, List, length, get_or, take, Option, Some, None, refl, sym, ap, ◌∙◌, subst, arith}
-use Rattle.std.specs.Prelude.{All, Contains, IsSome, IsTrue, slice_get}
+use Rattle.std.proofs.Common.{◌≡◌, ◌↔◌, ℕ, ◌≤◌, inl, inr, true, false, List, length, take, Some, refl, sym, ap, ◌∙◌, subst}
 use Rattle.std.proofs.lemmas.Bool.{cases_lt}
 use Rattle.std.proofs.lemmas.Option.{get_or_from_slice_get, slice_get-get_or, slice_get_within}
 use Rattle.cache_core.specs.declared.entry.SliceEntry.{SliceEntry}
@@ -14,11 +13,10 @@ use Rattle.journal_check.specs.declared.asks.Ask.{Ask}
 use Rattle.journal_tables.proofs.laws.OpKinds.{is_access_of-some, is_access_of-true}
 use Rattle.journal_tables.proofs.laws.Told.{slice_at-past}
 use Rattle.journal_tables.specs.OpKinds.{is_access_of}
-use Rattle.machine.specs.Maps.{line_of}
 use Rattle.run_law.specs.Clauses.{AccessesAreTrue}
 use Rattle.run_law.specs.Journals.{At, JournalsValue, slice_at}
 use Rattle.run_law.specs.Ops.{is_command}
-use Rattle.run_law.specs.Owed.{Owed, owed_by_access, paid_by, undecided}
+use Rattle.run_law.specs.Owed.{Owed, owed_by_access}
 use Rattle.run_law.specs.TreeHistory.{TreeEntryValue, tree_after}
 use Rattle.run_law.specs.Truth.{IsTrueAccess, is_of_access}
 use Rattle.script_ops.specs.Values.{ScriptValue, op_at}

@@ -71,23 +71,23 @@ module _ {A B C : Type 0} (f : A → List C) (g : B → List C) where
 module _ (m : Parameters) (i k : ℕ) (step : Step) where
   -- all of it
   pub owed-rest : owed_by_step m i k step ≡ rest m i k step 0
-  owed-rest = flat-both (look_in m i k) (follow_in m i (k + 1)) step.needs.items step.follows.items
+  owed-rest = flat-both (look_in m i k) (follow_in m i (k + 1)) step.needs step.follows.items
 
   -- the next
   pub rest-next : (c : ℕ) → rest m i k step c ≡ due m i k step c ++ rest m i k step (c + 1)
   rest-next c = flat-next (dues m i k step) c
 
   -- the end
-  pub rest-end : (c : ℕ) → length step.needs.items + length step.follows.items ≤ c → rest m i k step c ≡ []
-  rest-end c past = flat-end (dues m i k step) c (omega (arith, past, length-both (look_in m i k) (follow_in m i (k + 1)) step.needs.items step.follows.items))
+  pub rest-end : (c : ℕ) → length step.needs + length step.follows.items ≤ c → rest m i k step c ≡ []
+  rest-end c past = flat-end (dues m i k step) c (omega (arith, past, length-both (look_in m i k) (follow_in m i (k + 1)) step.needs step.follows.items))
 
   -- for a need
-  pub due-need : (c : ℕ) (need : ℕ × ℕ) → slice_get step.needs.items c ≡ Some need → due m i k step c ≡ look_in m i k need
-  due-need c need at = pick-first (look_in m i k) (follow_in m i (k + 1)) step.needs.items step.follows.items c need at
+  pub due-need : (c : ℕ) (need : ℕ × ℕ) → slice_get step.needs c ≡ Some need → due m i k step c ≡ look_in m i k need
+  due-need c need at = pick-first (look_in m i k) (follow_in m i (k + 1)) step.needs step.follows.items c need at
 
   -- for a follow-up
-  pub due-follow : (c : ℕ) (f : Follow) → length step.needs.items ≤ c → slice_get step.follows.items (c - length step.needs.items) ≡ Some f → due m i k step c ≡ follow_in m i (k + 1) f
-  due-follow c f past at = pick-second (look_in m i k) (follow_in m i (k + 1)) step.needs.items step.follows.items c f past at
+  pub due-follow : (c : ℕ) (f : Follow) → length step.needs ≤ c → slice_get step.follows.items (c - length step.needs) ≡ Some f → due m i k step c ≡ follow_in m i (k + 1) f
+  due-follow c f past at = pick-second (look_in m i k) (follow_in m i (k + 1)) step.needs step.follows.items c f past at
 
 -- ---- the first that is owed
 

@@ -3,7 +3,7 @@ use Rattle.std.proofs.Common.{◌≡◌, ℕ, List, length, filter, map, Some, r
 use Rattle.std.specs.Prelude.{IsTrue, slice_get}
 use Rattle.std.proofs.lemmas.Option.{slice_get_within}
 use Rattle.journal_check.proofs.TrueOthers.{owed_by_command-step}
-use Rattle.journal_check.specs.Payments.{AreAllPaid, EachStandsOnce}
+use Rattle.journal_check.specs.Payments.{AreAllPaid}
 use Rattle.journal_check.specs.Traces.{IsTrace}
 use Rattle.journal_check.specs.declared.trace.Step.{Step}
 use Rattle.journal_tables.proofs.laws.TakenPlaces.{command-legal}
@@ -20,6 +20,10 @@ use Rattle.run_law.specs.TreeHistory.{IsLegalTree}
 use Rattle.script_ops.specs.Values.{ScriptValue, op_at}
 use Rattle.script_ops.specs.declared.op.Op.{Op}
 use Rattle.script_ops.specs.declared.op.Op.TheVariants.{Access}
+
+-- in slice i the entries of each op are those that it makes there
+abbrev pub EachStandsOnce : ScriptValue → JournalsValue → ℕ → Type 0
+EachStandsOnce script j i = (thread op : ℕ) (c : Op) → op_at script thread op ≡ Some c → Makes script j i thread op c (filter (is_made_by thread op) (slice_at j i))
 
 -- what is said of a command
 of_kind : (A : ℕ → ℕ → ℕ → Type 0) (C : Type 0) (op : Op) → IsTrue (is_command op) → ByKind A C op → C

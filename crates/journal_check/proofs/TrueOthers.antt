@@ -1,5 +1,5 @@
 -- Entries that are one that their command owes.
-use Rattle.std.proofs.Common.{◌≡◌, ◌↔◌, ℕ, ◌+◌, ◌-◌, ◌<◌, inl, inr, true, false, List, length, take, Option, Some, None, refl, sym, ap, ◌∙◌, subst, arith}
+use Rattle.std.proofs.Common.{◌≡◌, ◌↔◌, ℕ, ◌+◌, inl, inr, true, false, List, length, take, Some, None, refl, sym, ap, ◌∙◌, subst, arith}
 use Rattle.std.specs.List.{flat_map}
 use Rattle.std.specs.Prelude.{Contains, IsTrue, ◌++◌}
 use Rattle.std.proofs.lemmas.Bool.{cases_Bool}
@@ -7,8 +7,7 @@ use Rattle.cache_core.specs.declared.entry.SliceEntry.{SliceEntry}
 use Rattle.cache_core.specs.declared.entry.What.{What}
 use Rattle.cache_core.specs.declared.entry.What.TheVariants as whats
 use Rattle.journal_tables.specs.Places.{ArePlaces}
-use Rattle.journal_tables.specs.Tables.{AreTakenOnce}
-use Rattle.journal_tables.specs.Tables.{number_at}
+use Rattle.journal_tables.specs.Tables.{AreTakenOnce, number_at}
 use Rattle.journal_check.specs.Traces.{IsStepOf, IsTrace, IsTrueOther, is_access, owed_by_step}
 use Rattle.journal_check.specs.declared.trace.Step.{Step}
 use Rattle.journal_tables.proofs.laws.TakenPlaces.{At-filter_some}
@@ -29,7 +28,7 @@ pub owed_by_command-step : (script : ScriptValue) (tree : List TreeEntryValue) (
 unfolding owed_by_command
 owed_by_command-step script tree i k op step told =
     ap (λ (ns : List (ℕ × ℕ)). flat_map (look_in script.machine i k) ns ++ flat_map (follow_in script.machine i (k + 1)) (after script.machine (tree_after script (take k tree)) k op)) (sym told.needs)
-    ∙ ap (λ fs. flat_map (look_in script.machine i k) step.needs.items ++ flat_map (follow_in script.machine i (k + 1)) fs) (sym told.follows)
+    ∙ ap (λ fs. flat_map (look_in script.machine i k) step.needs ++ flat_map (follow_in script.machine i (k + 1)) fs) (sym told.follows)
 
 -- an entry of no op
 pub IsTrueOther-none : (script : ScriptValue) (tree : List TreeEntryValue) (i : ℕ) (e : SliceEntry) → op_at script e.thread e.op ≡ None → IsTrueOther script tree i e

@@ -1,6 +1,6 @@
 -- The first looks of the commands in a slice, by a key for each command and RMID.
 -- (For functions and proofs: no promise of the program stands on it.)
-use Rattle.std.specs.Prelude.{◌≡◌, ℕ, ◌+◌, ◌*◌, ◌<◌, ◌≤◌, ◌==◌, if◌then◌else◌, List, Option, Some, None, map, option_and_then, slice_get, length}
+use Rattle.std.specs.Prelude.{◌≡◌, ℕ, ◌+◌, ◌*◌, ◌<◌, ◌==◌, if◌then◌else◌, List, Option, Some, None, map, option_and_then, slice_get, length}
 use Rattle.std.specs.BTreeMap.{get_by}
 use Rattle.std.specs.List.{range_with_len}
 use Rattle.std.specs.Ordering.{nat_cmp}

@@ -1,5 +1,6 @@
 pub mod Asks
 pub mod FirstLooks
+pub mod Needs
 pub mod Payments
 pub mod Replays
 pub mod Tags

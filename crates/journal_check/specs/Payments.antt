@@ -1,22 +1,19 @@
 -- What a command owes to a slice, one thing after the other, and how far its entries there have paid it.
 -- (For functions and proofs: no promise of the program stands on it.)
 use Rattle.std.specs.List.{flat_map}
-use Rattle.std.specs.Prelude.{◌≡◌, ℕ, ◌+◌, ◌++◌, List, [], ◌∷◌, drop, filter, map, slice_index, slice_index_or, slice_set, Some}
+use Rattle.std.specs.Prelude.{◌≡◌, ℕ, ◌+◌, ◌<◌, ◌++◌, List, [], ◌∷◌, drop, filter, length, map, slice_index, slice_index_or, slice_set}
 use Rattle.cache_core.specs.declared.entry.SliceEntry.{SliceEntry}
 use Rattle.journal_check.specs.Traces.{owed_by_step}
 use Rattle.journal_check.specs.declared.trace.Step.{Step}
 use Rattle.machine.specs.declared.parameters.Parameters.{Parameters}
 use Rattle.run_law.specs.Journals.{At, JournalsValue, slice_at}
-use Rattle.run_law.specs.Order.{Makes}
 use Rattle.run_law.specs.Owed.{Owed, follow_in, look_in, paid_by}
 use Rattle.run_law.specs.TreeHistory.{TreeEntryValue}
 use Rattle.run_law.specs.Truth.{is_made_by}
-use Rattle.script_ops.specs.Values.{ScriptValue, op_at}
-use Rattle.script_ops.specs.declared.op.Op.{Op}
 
 -- what a command at position k owes to slice i for each need, and then for each follow-up: one entry or none
 abbrev pub dues : Parameters → ℕ → ℕ → Step → List (List Owed)
-dues m i k step = map (look_in m i k) step.needs.items ++ map (follow_in m i (k + 1)) step.follows.items
+dues m i k step = map (look_in m i k) step.needs ++ map (follow_in m i (k + 1)) step.follows.items
 
 -- what it owes for one of these
 abbrev pub due : Parameters → ℕ → ℕ → Step → ℕ → List Owed
@@ -47,6 +44,6 @@ AreAllPaid m i tree steps entries =
 abbrev pub AreEnded : Parameters → ℕ → List Step → List ℕ → Type 0
 AreEnded m i steps cursors = (k c : ℕ) (step : Step) → At steps k step → At cursors k c → rest m i k step c ≡ []
 
--- in slice i the entries of each op are those that it makes there
-abbrev pub EachStandsOnce : ScriptValue → JournalsValue → ℕ → Type 0
-EachStandsOnce script j i = (thread op : ℕ) (c : Op) → op_at script thread op ≡ Some c → Makes script j i thread op c (filter (is_made_by thread op) (slice_at j i))
+-- in each slice the entries are what each command owes
+abbrev pub AreSlicesPaid : Parameters → JournalsValue → List Step → Type 0
+AreSlicesPaid m j steps = (i : ℕ) → i < length j.slices → AreAllPaid m i j.tree steps (slice_at j i)

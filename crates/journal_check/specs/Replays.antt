@@ -1,6 +1,6 @@
 -- A tree that is taken through its history anew.
 -- (For functions and proofs: no promise of the program stands on it.)
-use Rattle.std.specs.Prelude.{◌≡◌, ℕ, List, length}
+use Rattle.std.specs.Prelude.{◌≡◌, List, length}
 use Rattle.machine.specs.declared.parameters.Parameters.{Parameters}
 use Rattle.run_law.specs.TreeHistory.{IsLegalTree, TreeEntryValue, tree_after}
 use Rattle.script_ops.specs.Values.{ScriptValue}

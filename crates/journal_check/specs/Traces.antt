@@ -27,8 +27,8 @@ pub record Takes (old new : TreeValue) (op : Op) (h : TreeEntryValue) (step : St
   pub machine : new.machine ≡ old.machine
   pub state : new.state ≡ (next old.machine old.state op h.looks).state
   pub epoch : new.epoch ≡ old.epoch + 1
-  pub needs : step.needs.items ≡ needs old.machine old.state op
-  pub exist : All (CanLook old.machine) step.needs.items
+  pub needs : step.needs ≡ needs old.machine old.state op
+  pub exist : All (CanLook old.machine) step.needs
   pub follows : step.follows.items ≡ after old.machine old.state old.epoch op
 
 -- a tree has taken an op, which is a command
@@ -37,8 +37,8 @@ TakesCommand old new op h step = IsTrue (is_command op) × Takes old new op h st
 
 -- this is what the op of a command at this position needed, and what followed it
 pub record IsStepOf (script : ScriptValue) (tree : List TreeEntryValue) (k : ℕ) (op : Op) (step : Step) : Type 0 where
-  pub needs : step.needs.items ≡ needs script.machine (tree_after script (take k tree)) op
-  pub exist : All (CanLook script.machine) step.needs.items
+  pub needs : step.needs ≡ needs script.machine (tree_after script (take k tree)) op
+  pub exist : All (CanLook script.machine) step.needs
   pub follows : step.follows.items ≡ after script.machine (tree_after script (take k tree)) k op
 
 -- the same of the first n commands, which are so many steps
@@ -53,7 +53,7 @@ pub record TakesEntry (script : ScriptValue) (tree : List TreeEntryValue) (k : �
 
 -- what a command at position k owes to slice i, by what it needed and what followed it
 abbrev pub owed_by_step : Parameters → ℕ → ℕ → Step → List Owed
-owed_by_step m i k step = flat_map (look_in m i k) step.needs.items ++ flat_map (follow_in m i (k + 1)) step.follows.items
+owed_by_step m i k step = flat_map (look_in m i k) step.needs ++ flat_map (follow_in m i (k + 1)) step.follows.items
 
 -- one of these follow-ups enters this content in slice i
 abbrev pub HasFollow : Parameters → ℕ → List Follow → What → Type 0

@@ -1,5 +1,4 @@
 -- What a check says of journals: that they are a run, or which clause is the first that is false.
--- (For functions and proofs: no promise of the program stands on it.)
 use Rattle.std.specs.Prelude.{ℕ, ◌<◌}
 use Rattle.journal_check.specs.declared.verdict.Clause.{Clause}
 use Rattle.journal_check.specs.declared.verdict.Clause.TheVariants as clauses
@@ -14,29 +13,29 @@ use Rattle.script_ops.specs.Values.{ScriptValue}
 
 -- a clause holds of these journals
 abbrev pub Holds : ScriptValue → JournalsValue → Clause → Type 0
-Holds script j clauses.D15_1 = CommandsStandOnce script j
-Holds script j clauses.D9 = TreeIsLegal script j
-Holds script j clauses.D11 = SlicesAreLegal script j
-Holds script j clauses.D13_1 = AccessesAreTrue script j
-Holds script j clauses.D13_2 = OthersAreTrue script j
-Holds script j clauses.D13_3 = StandAfterCommands script j
-Holds script j clauses.D14 = AreMatched script j
-Holds script j clauses.D15_2 = EntriesStandOnce script j
-Holds script j clauses.D15_3 = MarksInOrder script j
-Holds script j clauses.D15_4 = EntriesInOrder script j
+Holds script j clauses.CommandsStandOnce = CommandsStandOnce script j
+Holds script j clauses.TreeIsLegal = TreeIsLegal script j
+Holds script j clauses.SlicesAreLegal = SlicesAreLegal script j
+Holds script j clauses.AccessesAreTrue = AccessesAreTrue script j
+Holds script j clauses.OthersAreTrue = OthersAreTrue script j
+Holds script j clauses.StandAfterCommands = StandAfterCommands script j
+Holds script j clauses.LooksAreMatched = AreMatched script j
+Holds script j clauses.EntriesStandOnce = EntriesStandOnce script j
+Holds script j clauses.MarksInOrder = MarksInOrder script j
+Holds script j clauses.EntriesInOrder = EntriesInOrder script j
 
 -- the place of a clause in their order
 abbrev pub rank : Clause → ℕ
-rank clauses.D15_1 = 0
-rank clauses.D9 = 1
-rank clauses.D11 = 2
-rank clauses.D13_1 = 3
-rank clauses.D13_2 = 4
-rank clauses.D13_3 = 5
-rank clauses.D14 = 6
-rank clauses.D15_2 = 7
-rank clauses.D15_3 = 8
-rank clauses.D15_4 = 9
+rank clauses.CommandsStandOnce = 0
+rank clauses.TreeIsLegal = 1
+rank clauses.SlicesAreLegal = 2
+rank clauses.AccessesAreTrue = 3
+rank clauses.OthersAreTrue = 4
+rank clauses.StandAfterCommands = 5
+rank clauses.LooksAreMatched = 6
+rank clauses.EntriesStandOnce = 7
+rank clauses.MarksInOrder = 8
+rank clauses.EntriesInOrder = 9
 
 -- all clauses before this one hold
 abbrev pub HoldBefore : ScriptValue → JournalsValue → Clause → Type 0

@@ -26,19 +26,19 @@ use std::alloc::Global;
 // What a check says of journals of which the clauses before the order of marks hold.
 fn check_order(alloc: Global, script: &Script, j: &Journals) -> Result<Verdict, NoMemory>
     requires all { length j.now.slices ≡ slice_count script.now.machine }
-    requires before { HoldBefore script.now j.now clauses.D15_3 }
+    requires before { HoldBefore script.now j.now clauses.MarksInOrder }
     ensures { IfOk result (λ v. IsVerdict script.now j.now v) }
 {
     let starts = starts_of(alloc, script, j)?;
     if !are_marks_in_order(script, j, &starts) {
         return Ok(Verdict::No {
-            clause: Clause::D15_3,
+            clause: Clause::MarksInOrder,
         });
     }
     let ordered = are_entries_in_order(alloc, script, j)?;
     if !ordered {
         return Ok(Verdict::No {
-            clause: Clause::D15_4,
+            clause: Clause::EntriesInOrder,
         });
     }
     run_law::theorems::runs_by_clauses();
@@ -54,7 +54,7 @@ fn check_counts(
     places: &OpTable,
 ) -> Result<Verdict, NoMemory>
     requires all { length j.now.slices ≡ slice_count script.now.machine }
-    requires before { HoldBefore script.now j.now clauses.D14 }
+    requires before { HoldBefore script.now j.now clauses.LooksAreMatched }
     requires trace { IsTrace script.now j.now.tree (length j.now.tree) steps.now }
     requires table { IsTableOf script.now places.now }
     requires places { ArePlaces script.now places.now j.now.tree }
@@ -66,13 +66,13 @@ fn check_counts(
     let matched = are_matched(alloc, script, j, steps, places)?;
     if !matched {
         return Ok(Verdict::No {
-            clause: Clause::D14,
+            clause: Clause::LooksAreMatched,
         });
     }
     let once = are_made_once(alloc, script, j, steps, places)?;
     if !once {
         return Ok(Verdict::No {
-            clause: Clause::D15_2,
+            clause: Clause::EntriesStandOnce,
         });
     }
     check_order(alloc, script, j)
@@ -86,19 +86,19 @@ fn check_others(
     steps: &[Step],
 ) -> Result<Verdict, NoMemory>
     requires all { length j.now.slices ≡ slice_count script.now.machine }
-    requires before { HoldBefore script.now j.now clauses.D13_2 }
+    requires before { HoldBefore script.now j.now clauses.OthersAreTrue }
     requires trace { IsTrace script.now j.now.tree (length j.now.tree) steps.now }
     ensures { IfOk result (λ v. IsVerdict script.now j.now v) }
 {
     let places = places_of(alloc, script, j.tree())?;
     if !are_owed(script, j, steps, &places) {
         return Ok(Verdict::No {
-            clause: Clause::D13_2,
+            clause: Clause::OthersAreTrue,
         });
     }
     if !are_after_commands(script, &places, j) {
         return Ok(Verdict::No {
-            clause: Clause::D13_3,
+            clause: Clause::StandAfterCommands,
         });
     }
     check_counts(alloc, script, j, steps, &places)
@@ -112,20 +112,20 @@ fn check_slices(
     steps: &[Step],
 ) -> Result<Verdict, NoMemory>
     requires all { length j.now.slices ≡ slice_count script.now.machine }
-    requires before { HoldBefore script.now j.now clauses.D11 }
+    requires before { HoldBefore script.now j.now clauses.SlicesAreLegal }
     requires trace { IsTrace script.now j.now.tree (length j.now.tree) steps.now }
     ensures { IfOk result (λ v. IsVerdict script.now j.now v) }
 {
     let legal = are_slices_legal(alloc, script, j)?;
     if !legal {
         return Ok(Verdict::No {
-            clause: Clause::D11,
+            clause: Clause::SlicesAreLegal,
         });
     }
     let held = are_accesses_true(alloc, script, j)?;
     if !held {
         return Ok(Verdict::No {
-            clause: Clause::D13_1,
+            clause: Clause::AccessesAreTrue,
         });
     }
     check_others(alloc, script, j, steps)
@@ -140,11 +140,13 @@ pub fn check(alloc: Global, script: &Script, journals: &Journals) -> Result<Verd
     let once = are_taken_once(alloc, script, journals.tree())?;
     if !once {
         return Ok(Verdict::No {
-            clause: Clause::D15_1,
+            clause: Clause::CommandsStandOnce,
         });
     }
     match trace(alloc, script, journals.tree())? {
         Some(steps) => check_slices(alloc, script, journals, &steps),
-        None => Ok(Verdict::No { clause: Clause::D9 }),
+        None => Ok(Verdict::No {
+            clause: Clause::TreeIsLegal,
+        }),
     }
 }

@@ -51,36 +51,36 @@ fn pays_follow(m: &Machine, i: usize, epoch: u64, follow: &Follow, entry: &Slice
 
 // How many needs and follow-ups a command has.
 fn count_of(step: &Step) -> usize
-    ensures { result ≡ length step.now.needs.items + length step.now.follows.items }
+    ensures { result ≡ length step.now.needs + length step.now.follows.items }
 {
-    step.needs.len() + step.follows.len()
+    step.needs.as_slice().len() + step.follows.len()
 }
 
 // Whether something is owed to slice i for the need or follow-up of this number.
 fn is_due(m: &Machine, i: usize, step: &Step, c: usize) -> bool
-    requires { c < length step.now.needs.items + length step.now.follows.items }
+    requires { c < length step.now.needs + length step.now.follows.items }
     ensures none { result ≡ false → (k : ℕ) → due (parameters_of m.now) i k step.now c ≡ [] }
     ensures one { IsTrue result → (k : ℕ) → length (due (parameters_of m.now) i k step.now c) ≡ 1 }
 {
-    let needs = step.needs.len();
-    if c < needs {
-        is_here(m, i, step.needs[c].0)
+    let needs = step.needs.as_slice();
+    if c < needs.len() {
+        is_here(m, i, needs[c].0)
     } else {
-        is_entered_in(m, i, &step.follows[c - needs])
+        is_entered_in(m, i, &step.follows[c - needs.len()])
     }
 }
 
 // Whether an entry pays what a command at position k owes to slice i for the need or follow-up of this number.
 fn pays(m: &Machine, i: usize, k: u64, step: &Step, c: usize, entry: &SliceEntry) -> bool
     requires place { k ≤ 4000000 }
-    requires within { c < length step.now.needs.items + length step.now.follows.items }
+    requires within { c < length step.now.needs + length step.now.follows.items }
     ensures { IsTrue result ↔ (due (parameters_of m.now) i k step.now c ≡ paid_by entry.now ∷ []) }
 {
-    let needs = step.needs.len();
-    if c < needs {
-        pays_look(m, i, k, step.needs[c], entry)
+    let needs = step.needs.as_slice();
+    if c < needs.len() {
+        pays_look(m, i, k, needs[c], entry)
     } else {
-        pays_follow(m, i, k + 1, &step.follows[c - needs], entry)
+        pays_follow(m, i, k + 1, &step.follows[c - needs.len()], entry)
     }
 }
 

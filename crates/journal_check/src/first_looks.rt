@@ -1,5 +1,5 @@
 //! The first look of each command for each RMID in a slice.
-ghost use Rattle.std.specs.Prelude.{◌≡◌, ◌+◌, ◌≤◌, ◌↔◌, IfOk, IsTrue, OnOk, Some, length, unwrap_or};
+ghost use Rattle.std.specs.Prelude.{◌≡◌, ℕ, ◌+◌, ◌<◌, ◌≤◌, ◌↔◌, IfOk, IsTrue, MatchOption, OnOk, Some, length, unwrap_or};
 ghost use Rattle.std.specs.BTreeMap.{Updates, get_by};
 ghost use Rattle.std.specs.Ordering.{nat_cmp};
 ghost use Rattle.journal_tables.specs.Places.{AreOwnPlaces};
@@ -44,13 +44,11 @@ fn note(
     requires { AreOwnPlaces places.now }
     ensures { OnOk result (NotesLook places.now looks.old looks.new entry.now) }
 {
-    match (places.get(entry.thread, entry.op), entry.what) {
-        (Some(place), What::Look { rmid, lines }) => {
-            if place == 0 {
-                return Ok(());
-            }
-            note_first(looks, key_of(place, rmid), lines)
-        }
+    match entry.what {
+        What::Look { rmid, lines } => match places.get(entry.thread, entry.op) {
+            None | Some(0) => Ok(()),
+            Some(place) => note_first(looks, key_of(place, rmid), lines),
+        },
         _ => Ok(()),
     }
 }
@@ -82,6 +80,24 @@ fn found(looks: &[BTreeMap<u64, u64>], i: usize, key: u64) -> Option<u64>
     }
 }
 
+// What is left of a number after so many lines, and None where none are given, or more than that.
+fn less(left: u64, lines: Option<u64>) -> Option<u64>
+    ensures { MatchOption result
+        ((n : ℕ) → lines ≡ Some n → left < n)
+        (λ rest. (n : ℕ) × (lines ≡ Some n) × (rest + n ≡ left)) }
+{
+    match lines {
+        Some(lines) => {
+            if lines <= left {
+                Some(left - lines)
+            } else {
+                None
+            }
+        }
+        None => None,
+    }
+}
+
 // Whether the counts of so many slices from a first one on are all there for a key, and sum to this number.
 fn are_summed(looks: &[BTreeMap<u64, u64>], first: usize, slices: u8, key: u64, count: u64) -> bool
     requires { first ≤ 65535 }
@@ -89,13 +105,8 @@ fn are_summed(looks: &[BTreeMap<u64, u64>], first: usize, slices: u8, key: u64, 
 {
     let mut left = count;
     for x in 0..slices {
-        match found(looks, first + x as usize, key) {
-            Some(lines) => {
-                if left < lines {
-                    return false;
-                }
-                left -= lines;
-            }
+        match less(left, found(looks, first + x as usize, key)) {
+            Some(rest) => left = rest,
             None => return false,
         }
     }

@@ -9,11 +9,14 @@ mod first_looks;
 mod legal_slices;
 mod made_once;
 mod matched;
+pub mod needs;
 mod other_entries;
 mod owed;
 mod payments;
 mod replies;
 mod tags;
+#[cfg(test)]
+mod tests;
 pub mod trace;
 pub mod verdict;
 

@@ -1,7 +1,6 @@
 //! Whether each command was given what its looks counted.
 ghost use Rattle.std.specs.Prelude.{◌≡◌, ◌↔◌, IfOk, IsTrue, length};
-ghost use Rattle.journal_tables.specs.Places.{ArePlaces};
-ghost use Rattle.journal_tables.specs.Places.{AreOwnPlaces};
+ghost use Rattle.journal_tables.specs.Places.{AreOwnPlaces, ArePlaces};
 ghost use Rattle.journal_check.specs.FirstLooks.{AreAllFirstLooks};
 ghost use Rattle.journal_tables.specs.Tables.{IsTableOf};
 ghost use Rattle.journal_check.specs.Traces.{IsTrace};

@@ -1,10 +1,8 @@
 //! Whether every entry but those of accesses is one that its command owes.
 ghost use Rattle.std.specs.Prelude.{◌≡◌, ◌<◌, ◌↔◌, IsTrue, length};
-ghost use Rattle.journal_tables.specs.Places.{ArePlaces};
-ghost use Rattle.journal_tables.specs.Tables.{AreTakenOnce};
+ghost use Rattle.journal_tables.specs.Places.{AreOwnPlaces, ArePlaces};
+ghost use Rattle.journal_tables.specs.Tables.{AreTakenOnce, IsTableOf};
 ghost use Rattle.run_law.specs.Clauses.{OthersAreTrue};
-ghost use Rattle.journal_tables.specs.Places.{AreOwnPlaces};
-ghost use Rattle.journal_tables.specs.Tables.{IsTableOf};
 ghost use Rattle.journal_check.specs.Traces.{AreTrueOthers, IsTrace, IsTrueOther};
 ghost use Rattle.machine.specs.Slices.{slice_count};
 ghost use Rattle.run_law.specs.Journals.{slice_at};
@@ -20,7 +18,7 @@ use script_ops::Script;
 fn is_true_other(
     script: &Script,
     j: &Journals,
-    i: u32,
+    i: u8,
     steps: &[Step],
     places: &OpTable,
     entry: &SliceEntry,
@@ -39,14 +37,14 @@ fn is_true_other(
     match places.get(entry.thread, entry.op) {
         Some(place) => {
             let k = place - 1;
-            is_owed(script.machine(), i as usize, k, &steps[k as usize], entry)
+            is_owed(script.machine(), i, k, &steps[k as usize], entry)
         }
         None => true,
     }
 }
 
 // Whether each of these entries of slice i is.
-fn are_true_others(script: &Script, j: &Journals, i: u32, steps: &[Step], places: &OpTable) -> bool
+fn are_true_others(script: &Script, j: &Journals, i: u8, steps: &[Step], places: &OpTable) -> bool
     requires slice { i < length j.now.slices }
     requires once { AreTakenOnce script.now j.now.tree }
     requires trace { IsTrace script.now j.now.tree (length j.now.tree) steps.now }
@@ -55,7 +53,7 @@ fn are_true_others(script: &Script, j: &Journals, i: u32, steps: &[Step], places
     requires own { AreOwnPlaces places.now }
     ensures { IsTrue result ↔ AreTrueOthers script.now j.now.tree i (slice_at j.now i) }
 {
-    for entry in j.slice(i) {
+    for entry in j.slice(u32::from(i)) {
         if !is_true_other(script, j, i, steps, places, entry) {
             return false;
         }
@@ -64,7 +62,7 @@ fn are_true_others(script: &Script, j: &Journals, i: u32, steps: &[Step], places
 }
 
 /// Whether in every slice each entry of a command is one that it owes, and each of an access an access, in the time of the entries,
-/// each with a walk through what its command needed or what followed it.
+/// each with a search among what its command needed, or a walk through the few follow-ups of it.
 pub fn are_owed(script: &Script, j: &Journals, steps: &[Step], places: &OpTable) -> bool
     requires all { length j.now.slices ≡ slice_count script.now.machine }
     requires once { AreTakenOnce script.now j.now.tree }
@@ -75,7 +73,7 @@ pub fn are_owed(script: &Script, j: &Journals, steps: &[Step], places: &OpTable)
     ensures { IsTrue result ↔ OthersAreTrue script.now j.now }
 {
     for i in 0..script.machine().slice_count() {
-        if !are_true_others(script, j, u32::from(i), steps, places) {
+        if !are_true_others(script, j, i, steps, places) {
             return false;
         }
     }

@@ -75,19 +75,6 @@ pub(crate) fn what_of(follow: &Follow) -> What
     }
 }
 
-// Whether an RMID of a domain is among these needs.
-fn is_needed(needs: &[(u8, u16)], domain: usize, rmid: u16) -> bool
-    ensures yes { IsTrue result → Contains needs.now (domain, rmid) }
-    ensures none { result ≡ false → (k : ℕ) (need : ℕ × ℕ) → slice_get needs.now k ≡ Some need → need.0 ≡ domain → need.1 ≡ rmid → ⊥ }
-{
-    for k in 0..needs.len() {
-        if usize::from(needs[k].0) == domain && needs[k].1 == rmid {
-            return true;
-        }
-    }
-    false
-}
-
 // The slice of a line in a domain, by its number over all domains.
 fn slice_of_line(m: &Machine, domain: u8, line: u64) -> usize
     ensures { result ≡ slice_of_line (parameters_of m.now) domain line }
@@ -121,14 +108,13 @@ fn is_followed(m: &Machine, i: usize, follows: &[Follow], what: What) -> bool
 }
 
 /// Whether an entry of slice i is one that a command at position k owes there, by what it needed and what followed it.
-pub(crate) fn is_owed(m: &Machine, i: usize, k: u64, step: &Step, entry: &SliceEntry) -> bool
+pub(crate) fn is_owed(m: &Machine, i: u8, k: u64, step: &Step, entry: &SliceEntry) -> bool
     requires { k ≤ 4000000 }
     ensures { IsTrue result ↔ Contains (owed_by_step (parameters_of m.now) i k step.now) (paid_by entry.now) }
 {
     match entry.what {
-        What::Look { rmid, .. } => {
-            entry.epoch == k && is_needed(&step.needs, i / usize::from(m.slices), rmid)
-        }
-        what => entry.epoch == k + 1 && is_followed(m, i, &step.follows, undecided(what)),
+        What::Look { rmid, .. } => { entry.epoch == k && step.needs.has(i / m.slices, rmid) }
+        what => entry.epoch == k + 1
+            && is_followed(m, usize::from(i), &step.follows, undecided(what)),
     }
 }

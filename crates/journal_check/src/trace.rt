@@ -12,6 +12,7 @@ ghost use Rattle.tree_law.specs.LawsCounts.{CanLook};
 ghost use Rattle.tree_law.specs.State.{tasks_of};
 ghost use Rattle.tree_law.specs.Steps.{needs};
 
+use crate::needs::Needs;
 use crate::replies::is_same;
 use journal_tables::is_command;
 use rc_base::NoMemory;
@@ -23,22 +24,18 @@ use tree_core::{After, Follow, Tree};
 /// What a command needed and what followed it.
 #[derive(Drop)]
 pub struct Step {
-    pub needs: Vec<(u8, u16)>,
+    pub needs: Needs,
     pub follows: Vec<Follow>,
 }
 
 // The counts that a command needs.
-fn needs_of(alloc: Global, tree: &Tree, op: &Op) -> Result<Vec<(u8, u16)>, NoMemory>
+fn needs_of(alloc: Global, tree: &Tree, op: &Op) -> Result<Needs, NoMemory>
     requires { Fits tree.now.machine (tasks_of tree.now.state) op.now }
-    ensures needs { IfOk result (λ v. v.items ≡ needs tree.now.machine tree.now.state op.now) }
-    ensures exist { IfOk result (λ v. All (CanLook tree.now.machine) v.items) }
+    ensures needs { IfOk result (λ v. v ≡ needs tree.now.machine tree.now.state op.now) }
+    ensures exist { IfOk result (λ v. All (CanLook tree.now.machine) v) }
 {
     let counts = tree.counts(op);
-    let mut all = Vec::new(alloc);
-    for i in 0..counts.len() {
-        all.push(counts.at(i))?;
-    }
-    Ok(all)
+    Ok(Needs::of(alloc, &counts)?)
 }
 
 // The follow-ups of a command as a list of its own.
@@ -67,7 +64,7 @@ fn take_step(
 {
     let needed = needs_of(alloc, tree, op)?;
     let looks = entry.looks.items();
-    if looks.len() != needed.len() {
+    if looks.len() != needed.as_slice().len() {
         return Ok(None);
     }
     let (reply, after) = tree.apply(op, looks);

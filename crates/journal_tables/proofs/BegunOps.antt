@@ -1,5 +1,5 @@
 -- When ops began, entry by entry.
-use Rattle.std.proofs.Common.{◌≡◌, ℕ, zero, suc, ◌+◌, ◌<◌, ◌≤◌, ◌⊎◌, ◌↔◌, ◌%◌, ◌==◌, inl, inr, Bool, true, false, List, [], ◌∷◌, length, filter, get_or, Some, refl, sym, ap, ◌∙◌, subst, arith}
+use Rattle.std.proofs.Common.{◌≡◌, ℕ, zero, suc, ◌+◌, ◌<◌, ◌≤◌, ◌⊎◌, ◌↔◌, ◌%◌, ◌==◌, inl, inr, true, false, List, [], ◌∷◌, length, filter, get_or, Some, refl, sym, ap, ◌∙◌, subst, arith}
 use Rattle.std.specs.Prelude.{All, IsTrue}
 use Rattle.std.proofs.Math.Nat.{add-zero}
 use Rattle.std.proofs.lemmas.Bool.{cases_Bool, cases_lt, eq-eqb, eqb-false, eqb-true}
@@ -7,12 +7,11 @@ use Rattle.std.proofs.lemmas.Option.{get_or_from_slice_get, slice_get-get_or, sl
 use Rattle.cache_core.specs.declared.entry.SliceEntry.{SliceEntry}
 use Rattle.journal_tables.proofs.TableNumbers.{changed, number_at-other, number_at-own}
 use Rattle.journal_tables.proofs.laws.TakenPlaces.{At-filter_one, At-filter_some, command-legal, length-filter_some}
-use Rattle.journal_tables.proofs.laws.Told.{IsSome-some, number_at-op, op_at-number, slice_at-past, some-IsSome}
+use Rattle.journal_tables.proofs.laws.Told.{op_at-number, slice_at-past, some-IsSome}
 use Rattle.journal_tables.specs.Begun.{AreBegun, IsSeen}
-use Rattle.journal_tables.specs.Tables.{AreTakenOnce}
+use Rattle.journal_tables.specs.Tables.{AreTakenOnce, IsTableOf, number_at, row_of}
 use Rattle.run_law.specs.Clauses.{AccessesAreTrue, EntriesStandOnce, OthersAreTrue}
 use Rattle.journal_tables.specs.Marks.{AreStarts, stop_of}
-use Rattle.journal_tables.specs.Tables.{IsTableOf, number_at, row_of}
 use Rattle.lists.proofs.Sums.{one_if-le}
 use Rattle.lists.specs.Sums.{one_if}
 use Rattle.machine.proofs.laws.Domains.{domain_of-lt}
@@ -211,7 +210,7 @@ marks-made j t o (ops.Access task cpu addr) start stop kind = ((λ x. x), (λ x.
 marks-made j t o c start stop kind = absurd cc
 
 -- an op of a script fits it
-Fits-op : (script : ScriptValue) (t o : ℕ) (c : Op) → IsLawful script → op_at script t o ≡ Some c → Fits script.machine script.tasks c
+pub Fits-op : (script : ScriptValue) (t o : ℕ) (c : Op) → IsLawful script → op_at script t o ≡ Some c → Fits script.machine script.tasks c
 Fits-op script t o c lawful is =
     let each : All (Fits script.machine script.tasks) (ops_of script t) = All-threads (Fits script.machine script.tasks) (threads_of script) t lawful.fit in
     subst (Fits script.machine script.tasks) (get_or_from_slice_get (ops_of script t) o c c is) (each o c (slice_get_within (ops_of script t) o c is))

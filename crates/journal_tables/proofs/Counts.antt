@@ -1,22 +1,17 @@
 -- How often each op stands among the entries of the tree, and in the table.
-use Rattle.std.proofs.Common.{◌≡◌, ◌↔◌, ℕ, ◌+◌, ◌<◌, ◌≤◌, Bool, true, false, ◌==◌, inl, inr, List, [], ◌∷◌, ◌++◌, length, filter, map, take, get_or, Some, refl, sym, ap, ◌∙◌, subst, arith}
-use Rattle.std.specs.Prelude.{IsTrue, slice_get}
-use Rattle.std.proofs.lemmas.Bool.{cases_Bool, cases_eq, eq-eqb}
+use Rattle.std.proofs.Common.{◌≡◌, ◌↔◌, ℕ, ◌+◌, ◌<◌, ◌≤◌, Bool, true, false, inl, inr, List, [], ◌∷◌, ◌++◌, length, filter, map, take, get_or, Some, sym, ap, ◌∙◌, subst, arith}
+use Rattle.std.proofs.lemmas.Bool.{cases_Bool}
 use Rattle.std.proofs.lemmas.List.{length-map, length-take-le, map_more}
-use Rattle.std.proofs.lemmas.Option.{slice_get_within}
 use Rattle.journal_tables.proofs.TableNumbers.{changed, number_at-other, number_at-own}
 use Rattle.journal_tables.proofs.laws.Told.{number_at-op, IsSome-some}
-use Rattle.journal_tables.specs.Tables.{AreTakenOnce}
-use Rattle.journal_tables.specs.Tables.{AllOnes, AreCounts, CountsOne, HasOnes, IsTableOf, number_at, row_of}
+use Rattle.journal_tables.specs.Tables.{AllOnes, AreCounts, AreTakenOnce, CountsOne, IsTableOf, number_at, row_of}
 use Rattle.lists.specs.Sums.{one_if}
 use Rattle.run_law.proofs.laws.Pairs.{both_eqb-same, both_eqb-true}
 use Rattle.run_law.specs.Entries.{entry_value}
-use Rattle.run_law.specs.Ops.{is_command}
 use Rattle.run_law.specs.Truth.{is_taken_from}
 use Rattle.run_law.specs.TreeHistory.{TreeEntryValue}
 use Rattle.run_law.specs.declared.journals.TreeEntry.{TreeEntry}
-use Rattle.script_ops.specs.Values.{ScriptValue, op_at, ops_of}
-use Rattle.script_ops.specs.declared.op.Op.{Op}
+use Rattle.script_ops.specs.Values.{ScriptValue, op_at}
 
 -- a filter of one element more
 length-filter_push : (p : TreeEntryValue → Bool) (xs : List TreeEntryValue) (x : TreeEntryValue) → length (filter p (xs ++ x ∷ [])) ≡ length (filter p xs) + one_if (p x)

@@ -1,12 +1,11 @@
 -- The greatest epochs of the entries so far, with one more.
-use Rattle.std.proofs.Common.{◌≡◌, ℕ, ◌+◌, ◌-◌, ◌<◌, ◌≤◌, ◌⊎◌, inl, inr, max, Bool, true, false, cond, List, length, Option, Some, None, refl, sym, ap, ◌∙◌, subst, arith}
+use Rattle.std.proofs.Common.{◌≡◌, ℕ, ◌+◌, ◌-◌, ◌<◌, ◌≤◌, ◌⊎◌, inl, inr, max, true, false, List, length, Some, refl, sym, ap, ◌∙◌, subst, arith}
 use Rattle.std.specs.Prelude.{IsSome, IsTrue}
 use Rattle.std.proofs.lemmas.Bool.{cases_Bool, cases_lt, lt-ltb, le-ltb}
 use Rattle.std.proofs.lemmas.Option.{slice_get_within}
 use Rattle.cache_core.specs.declared.entry.SliceEntry.{SliceEntry}
-use Rattle.journal_tables.specs.AfterCommands.{AreAfterUpTo, IsLatest, IsOther, IsPassed, noted, other_epoch}
+use Rattle.journal_tables.specs.AfterCommands.{AreAfterUpTo, IsAfterCommands, IsLatest, IsOther, IsPassed, noted, other_epoch}
 use Rattle.journal_tables.specs.Places.{ArePlaces}
-use Rattle.journal_tables.specs.AfterCommands.{IsAfterCommands}
 use Rattle.journal_tables.specs.Tables.{number_at}
 use Rattle.journal_tables.specs.declared.after_commands.Latest.{Latest}
 use Rattle.run_law.proofs.laws.Pairs.{both_eqb-same, both_eqb-true}

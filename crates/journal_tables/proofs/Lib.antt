@@ -1,6 +1,6 @@
 mod BegunOps
 mod Counts
-mod EntryCounts
+mod HomeMarks
 mod Latest
 mod Ordered
 mod PhaseThreads

@@ -1,15 +1,13 @@
 -- Ops that end before others begin, thread by thread and phase by phase.
-use Rattle.std.proofs.Common.{◌≡◌, ℕ, ◌+◌, ◌<◌, ◌≤◌, ◌⊎◌, ◌↔◌, inl, inr, max, List, length, Option, Some, refl, sym, ap, ◌∙◌, subst, arith}
-use Rattle.std.specs.Prelude.{slice_get}
+use Rattle.std.proofs.Common.{◌≡◌, ℕ, ◌+◌, ◌<◌, ◌≤◌, ◌⊎◌, ◌↔◌, inl, inr, max, List, length, Some, refl, ap, ◌∙◌, subst, arith}
 use Rattle.std.proofs.lemmas.Bool.{cases_lt}
 use Rattle.std.proofs.lemmas.Option.{slice_get_within}
 use Rattle.journal_tables.proofs.laws.Told.{IsSome-some, number_at-op, op_at-number, some-IsSome}
 use Rattle.journal_tables.specs.Marks.{AreInOrderUpTo, AreStarts, BeforePhase, EndsAt, IsEndOf, IsThreadEnd, IsThreadInOrder, IsThreadInOrderUpTo, OfPhase, PhaseInOrder, StartsInOrder, stop_of}
 use Rattle.journal_tables.specs.Tables.{IsTableOf, number_at, row_of}
-use Rattle.lists.specs.Sums.{one_if}
 use Rattle.run_law.specs.Growth.{MarksInOrder}
 use Rattle.run_law.specs.Journals.{At, JournalsValue}
-use Rattle.run_law.specs.Ops.{Precedes, is_command, phase_in}
+use Rattle.run_law.specs.Ops.{Precedes, phase_in}
 use Rattle.script_ops.specs.Values.{ScriptValue, op_at, ops_of}
 use Rattle.script_ops.specs.declared.op.Op.{Op}
 

@@ -1,11 +1,11 @@
 -- Numbers of a table after a change of one.
-use Rattle.std.proofs.Common.{◌≡◌, ◌≢◌, ℕ, zero, suc, ◌+◌, ◌<◌, ◌⊎◌, inl, inr, cond, List, [], ◌∷◌, length, set, get_or, filter, take, Option, Some, None, refl, sym, ap, ◌∙◌, subst, arith}
-use Rattle.std.specs.Prelude.{slice_get, IsTrue}
-use Rattle.std.proofs.lemmas.Bool.{cases_Bool, cases_eq, cases_lt}
+use Rattle.std.proofs.Common.{◌≡◌, ◌≢◌, ℕ, zero, suc, ◌<◌, inl, inr, List, [], ◌∷◌, length, set, Some, sym, ap, ◌∙◌, arith}
+use Rattle.std.specs.Prelude.{slice_get}
+use Rattle.std.proofs.lemmas.Bool.{cases_eq}
 use Rattle.std.proofs.lemmas.List.{get_or-set_other, get_or-set_same, length-set}
 use Rattle.lists.proofs.Updates.{slice_get-set_same, slice_get-set_other}
 use Rattle.journal_tables.specs.Tables.{IsTableOf, number_at, row_of}
-use Rattle.script_ops.specs.Values.{ScriptValue, ops_of}
+use Rattle.script_ops.specs.Values.{ScriptValue}
 
 -- a table with another number for one op
 abbrev pub changed : List (List ℕ) → ℕ → ℕ → ℕ → List (List ℕ)

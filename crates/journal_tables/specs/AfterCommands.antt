@@ -1,10 +1,10 @@
 -- Entries of a slice after all entries of other commands before their epoch, and how far a walk through them has come.
 -- (For functions and proofs: no promise of the program stands on it.)
-use Rattle.std.specs.Prelude.{◌≡◌, ℕ, ◌+◌, ◌<◌, ◌≤◌, ◌⊎◌, IsSome, IsTrue, List, Some, if◌then◌else◌, nat_lt, max}
+use Rattle.std.specs.Prelude.{◌≡◌, ℕ, ◌<◌, ◌≤◌, ◌⊎◌, IsSome, IsTrue, List, None, Option, Some, if◌then◌else◌, nat_lt, max}
 use Rattle.cache_core.specs.declared.entry.SliceEntry.{SliceEntry}
 use Rattle.journal_tables.specs.declared.after_commands.Latest.{Latest}
 use Rattle.run_law.specs.Journals.{At}
-use Rattle.run_law.specs.Truth.{is_made_by, is_taken_from}
+use Rattle.run_law.specs.Truth.{is_made_by}
 use Rattle.run_law.specs.TreeHistory.{TreeEntryValue}
 use Rattle.script_ops.specs.Values.{ScriptValue, op_at}
 
@@ -52,3 +52,18 @@ noted l e =
     if is_made_by l.thread l.op e
     then record l { epoch = max l.epoch e.epoch }
     else (if nat_lt l.epoch e.epoch then record { thread = e.thread; op = e.op; epoch = e.epoch; other = l.epoch } else record l { other = max l.other e.epoch })
+
+-- an entry of a command at this place, counted from 1, or of no command where that is 0, stands after one of another op of a
+-- later epoch
+abbrev pub IsLate : Latest → ℕ → SliceEntry → Type 0
+IsLate l place e = (0 < place) × (place ≤ other_epoch l e)
+
+-- an entry of an op at this place, if it is of one, is late
+abbrev pub IsRefused : Latest → Option ℕ → SliceEntry → Type 0
+IsRefused l None e = ⊥
+IsRefused l (Some place) e = IsLate l place e
+
+-- it is not, and these are the epochs with it; one of no op is passed over
+abbrev pub IsAccepted : Latest → Option ℕ → SliceEntry → Latest → Type 0
+IsAccepted l None e next = next ≡ l
+IsAccepted l (Some place) e next = (IsLate l place e → ⊥) × (next ≡ noted l e)

@@ -1,6 +1,6 @@
 -- The marks of ops, by a table of when each began, and their order.
 -- (For functions and proofs: no promise of the program stands on it.)
-use Rattle.std.specs.Prelude.{◌≡◌, ℕ, ◌+◌, ◌<◌, ◌≤◌, ◌⊎◌, List, length, Some, slice_get}
+use Rattle.std.specs.Prelude.{◌≡◌, ℕ, ◌+◌, ◌<◌, ◌≤◌, ◌⊎◌, List, Some}
 use Rattle.lists.specs.Sums.{one_if}
 use Rattle.journal_tables.specs.Tables.{IsTableOf, number_at, row_of}
 use Rattle.run_law.specs.Journals.{At, JournalsValue}

@@ -1,8 +1,7 @@
 //! Whether entries stand after all entries of other commands before their epoch.
-ghost use Rattle.std.specs.Prelude.{◌≡◌, ℕ, ◌↔◌, ◌<◌, ◌≤◌, IsTrue, length};
-ghost use Rattle.journal_tables.specs.AfterCommands.{noted, other_epoch};
+ghost use Rattle.std.specs.Prelude.{◌≡◌, ◌↔◌, ◌<◌, IsTrue, MatchOption, length};
+ghost use Rattle.journal_tables.specs.AfterCommands.{IsAccepted, IsAfterCommands, IsLate, IsRefused, noted, other_epoch};
 ghost use Rattle.journal_tables.specs.Places.{ArePlaces};
-ghost use Rattle.journal_tables.specs.AfterCommands.{IsAfterCommands};
 ghost use Rattle.run_law.specs.Clauses.{StandAfterCommands};
 ghost use Rattle.journal_tables.specs.Tables.{IsTableOf};
 ghost use Rattle.machine.specs.Slices.{slice_count};
@@ -60,9 +59,25 @@ fn noted(latest: &Latest, entry: &SliceEntry) -> Latest
 // Whether an entry of a command that the tree took at this place, counted from 1, or of no command where that is 0, stands
 // behind one of another op of a later epoch.
 fn is_late(latest: &Latest, place: u64, entry: &SliceEntry) -> bool
-    ensures { IsTrue result ↔ (0 < place) × (place ≤ other_epoch latest.now entry.now) }
+    ensures { IsTrue result ↔ IsLate latest.now place entry.now }
 {
     0 < place && place <= other_epoch(latest, entry)
+}
+
+// The epochs with one entry more, and None where it is late. `place` is None for an entry of no op, which is passed over.
+fn pass(latest: &Latest, place: Option<u64>, entry: &SliceEntry) -> Option<Latest>
+    ensures { MatchOption result (IsRefused latest.now place entry.now) (λ next. IsAccepted latest.now place entry.now next) }
+{
+    match place {
+        Some(place) => {
+            if is_late(latest, place, entry) {
+                None
+            } else {
+                Some(noted(latest, entry))
+            }
+        }
+        None => Some(*latest),
+    }
 }
 
 // Whether the entries of a slice stand after all entries of other commands before their epoch. `places` says where the tree
@@ -81,14 +96,9 @@ fn is_after_commands(script: &Script, places: &OpTable, j: &Journals, i: u32) ->
         other: 0,
     };
     for entry in entries {
-        match places.get(entry.thread, entry.op) {
-            Some(place) => {
-                if is_late(&latest, place, entry) {
-                    return false;
-                }
-                latest = noted(&latest, entry);
-            }
-            None => {}
+        match pass(&latest, places.get(entry.thread, entry.op), entry) {
+            Some(next) => latest = next,
+            None => return false,
         }
     }
     true

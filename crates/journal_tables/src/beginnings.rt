@@ -1,10 +1,9 @@
 //! When each op began.
 ghost use Rattle.std.specs.Prelude.{◌≡◌, ℕ, ◌+◌, ◌<◌, ◌≤◌, All, IfOk, length};
 ghost use Rattle.journal_tables.specs.Begun.{AreBegun};
-ghost use Rattle.journal_tables.specs.Tables.{AreTakenOnce};
+ghost use Rattle.journal_tables.specs.Tables.{AreTakenOnce, IsTableOf, row_of};
 ghost use Rattle.run_law.specs.Clauses.{AccessesAreTrue, EntriesStandOnce, OthersAreTrue};
 ghost use Rattle.journal_tables.specs.Marks.{AreStarts};
-ghost use Rattle.journal_tables.specs.Tables.{IsTableOf, row_of};
 ghost use Rattle.machine.specs.Slices.{slice_count};
 ghost use Rattle.script_ops.specs.declared.limits.TheConstants.{MOST_WEIGHT};
 ghost use Rattle.run_law.specs.TreeHistory.{IsLegalTree};

@@ -1,7 +1,6 @@
 //! Whether each command of a script stands in the tree's history exactly once.
 ghost use Rattle.std.specs.Prelude.{◌≡◌, ℕ, ◌+◌, ◌^◌, ◌<◌, ◌↔◌, ◌-◌, IfOk, IsTrue, Some, length, map, []};
-ghost use Rattle.journal_tables.specs.Tables.{AreTakenOnce};
-ghost use Rattle.journal_tables.specs.Tables.{AllOnes, AreCounts, CountsOne, HasOnes, IsTableOf, number_at};
+ghost use Rattle.journal_tables.specs.Tables.{AllOnes, AreCounts, AreTakenOnce, CountsOne, HasOnes, IsTableOf, number_at};
 ghost use Rattle.run_law.specs.Entries.{entry_value};
 
 use crate::op_kinds::is_command_at;

@@ -1,9 +1,7 @@
 //! Where the tree took each command.
 ghost use Rattle.std.specs.Prelude.{◌≡◌, IfOk, map};
-ghost use Rattle.journal_tables.specs.Places.{ArePlaces};
-ghost use Rattle.journal_tables.specs.Tables.{AreTakenOnce};
-ghost use Rattle.journal_tables.specs.Places.{AreOwnPlaces};
-ghost use Rattle.journal_tables.specs.Tables.{IsTableOf};
+ghost use Rattle.journal_tables.specs.Places.{AreOwnPlaces, ArePlaces};
+ghost use Rattle.journal_tables.specs.Tables.{AreTakenOnce, IsTableOf};
 ghost use Rattle.run_law.specs.Entries.{entry_value};
 ghost use Rattle.run_law.specs.TreeHistory.{IsLegalTree};
 

@@ -1,7 +1,7 @@
 //! A trace whose text comes in pieces.
-ghost use Rattle.std.specs.Prelude.{◌≡◌, ◌+◌, ◌≤◌, ◌<◌, ℕ, List, [], ◌∷◌, ◌++◌, length, IsTrue, IfOk, IfSome, MatchResult, Err, false};
+ghost use Rattle.std.specs.Prelude.{◌≡◌, ◌+◌, ◌≤◌, ◌<◌, ℕ, List, [], ◌∷◌, ◌++◌, length, IsTrue, IfOk, IfSome, MatchResult, Err, None, false};
 ghost use Rattle.std.specs.Int.{is_power_of_two};
-ghost use Rattle.trace_curves.specs.Reading.{AreOf, HasRead, ReadsOn};
+ghost use Rattle.trace_curves.specs.Reading.{AreOf, HasRead, IsGood, ReadsOn};
 ghost use Rattle.trace_curves.specs.TraceTexts.{trace_of};
 ghost use Rattle.trace_curves.specs.declared.limits.TheConstants.{MOST_TRACE_BYTES};
 
@@ -107,17 +107,18 @@ impl Trace {
         }
     }
 
-    /// The first line that is none of a trace, whatever follows; None where there is none so far.
+    /// The first line that is none of a trace, whatever follows. None where each line that has ended is one of a trace, and the
+    /// next one is not too long so far.
     pub fn bad_line(&self) -> Option<BadTrace>
-        ensures { IfSome result (λ bad. (sets : ℕ) (text more : List ℕ) → HasRead sets self.now text → trace_of (text ++ more) ≡ Err bad.line) }
+        ensures told { IfSome result (λ bad. (sets : ℕ) (text more : List ℕ) → HasRead sets self.now text → trace_of (text ++ more) ≡ Err bad.line) }
+        ensures none { result ≡ None → (sets : ℕ) (text : List ℕ) → HasRead sets self.now text → IsGood sets self.now text }
     {
-        if self.is_bad {
-            Some(BadTrace {
-                line: self.ended + 1,
-            })
-        } else {
-            None
+        if !self.is_bad {
+            return None;
         }
+        Some(BadTrace {
+            line: self.ended + 1,
+        })
     }
 
     /// The curves of the whole text, whose last line may lack its newline; or the first line that is none of a trace.

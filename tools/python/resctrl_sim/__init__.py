@@ -10,11 +10,12 @@
 """
 from .machine import Machine
 from .mounting import NotMounted, mounted
-from .program import Broken, NoScript, Program, play
+from .program import Broken, Checker, NoScript, Program, play
 from .report import Command, Domain, Group, Report, Slice, Total, Window
 
 __all__ = [
     "Broken",
+    "Checker",
     "Command",
     "Domain",
     "Group",

@@ -1,11 +1,11 @@
-"""The program, and the plays of scripts by it."""
+"""The program and the checker, the plays of scripts by the one and the journals of the other."""
 import os
 import shutil
 import subprocess
 
 from .report import Report
 
-BUILT_HERE = os.path.join(os.path.dirname(os.path.abspath(__file__)), *[".."] * 3, "crates", "resctrl_sim", "out", "resctrl_sim")
+CRATES = os.path.join(os.path.dirname(os.path.abspath(__file__)), *[".."] * 3, "crates")
 
 
 class NoScript(ValueError):
@@ -21,30 +21,52 @@ class Broken(RuntimeError):
     """There is no program, or it ended with a status that no script explains."""
 
 
-class Program:
-    """`resctrl_sim`, by its path: the one that is named, that of RESCTRL_SIM in the environment, the one built here, or that of PATH."""
+class Built:
+    """A built program, by its path: the one that is named, that of its variable in the environment, the one of this repository, or
+    that of PATH."""
+
+    name = variable = None
 
     def __init__(self, path=None):
-        self.path = path or os.environ.get("RESCTRL_SIM") or built_here() or shutil.which("resctrl_sim")
+        here = os.path.normpath(os.path.join(CRATES, self.name, "out", self.name))
+        built = here if os.access(here, os.X_OK) else None
+        self.path = path or os.environ.get(self.variable) or built or shutil.which(self.name)
         if not self.path or not os.access(self.path, os.X_OK):
-            raise Broken(f"{self.path or BUILT_HERE} is no program; `make demo` builds it")
+            raise Broken(f"{self.path or here} is no program; `make demo` builds it")
 
-    def play(self, script, *words):
-        """The report of a script, as text, by `step` or the words that are given."""
-        done = subprocess.run(
-            [self.path, *(words or ["step"])], input=script.encode("ascii"), stdout=subprocess.PIPE, check=False
-        )
+    def answer(self, text, *words, statuses=(0,)):
+        """What is written for a text by these words. A NoScript tells why it is refused."""
+        done = subprocess.run([self.path, *words], input=text.encode("ascii"), stdout=subprocess.PIPE, check=False)
         written = done.stdout.decode("ascii")
         if done.returncode == 1:
             raise NoScript(written.rstrip("\n"))
-        if done.returncode != 0:
+        if done.returncode not in statuses:
             raise Broken(f"{self.path} ended with status {done.returncode}")
         return written
 
 
-def built_here():
-    """The program of this repository, where it is built."""
-    return os.path.normpath(BUILT_HERE) if os.access(BUILT_HERE, os.X_OK) else None
+class Program(Built):
+    """`resctrl_sim`; its variable is RESCTRL_SIM."""
+
+    name, variable = "resctrl_sim", "RESCTRL_SIM"
+
+    def play(self, script, *words):
+        """The report of a script, as text, by `step` or the words that are given."""
+        return self.answer(script, *(words or ["step"]))
+
+
+class Checker(Built):
+    """`resctrl_check`; its variable is RESCTRL_CHECK."""
+
+    name, variable = "resctrl_check", "RESCTRL_CHECK"
+
+    def export(self, script, *, run=False):
+        """A script with the journals of its play, which with `run` is one of real threads."""
+        return self.answer(script, "export", "run" if run else "step")
+
+    def check(self, journal):
+        """`yes` where the journals of a text are a run of its script, else `no` and the first clause that is false."""
+        return self.answer(journal, "check", statuses=(0, 6)).rstrip("\n")
 
 
 def play(script, *, program=None, run=False, quiet=False, journal=False, windows=False):

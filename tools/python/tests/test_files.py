@@ -4,7 +4,7 @@ import os
 import subprocess
 import time
 
-from resctrl_sim import mounted
+from resctrl_sim import Checker, mounted
 from mounts import MACHINE, TASKS, Mounts
 
 
@@ -60,6 +60,9 @@ class Files(Mounts):
             (tree / ".sim/access").write_text("sweep 1000 0 0 100 64\n")
             self.assertEqual((tree / "mon_data/mon_L3_00/llc_occupancy").read_text(), "6400\n")
             self.errs(errno.EINVAL, (tree / ".sim/access").write_text, "access 1 0 0\n")
+            script, journal = ((tree / ".sim" / name).read_text() for name in ("script", "journal"))
+            self.assertTrue(journal.startswith(script + "journal 1\n"))
+            self.assertEqual(Checker().check(journal), "yes")
 
 
 def umask():

@@ -1,7 +1,7 @@
 """Plays of scripts whose reports were worked out by hand, and the machine's line."""
 import unittest
 
-from resctrl_sim import Domain, Group, Machine, NoScript, Total, play
+from resctrl_sim import Checker, Domain, Group, Machine, NoScript, Total, play
 
 LINES = ["machine sets=1 ways=4", "tasks 1-2", "phase", "thread"]
 
@@ -47,6 +47,21 @@ class Plays(unittest.TestCase):
         with self.assertRaises(NoScript) as fault:
             play([*LINES, "access 3 0 0"])
         self.assertEqual((fault.exception.line, fault.exception.what), (5, "unknown task"))
+
+
+class Journals(unittest.TestCase):
+    def test_export_and_check(self):
+        script = "machine sets=1 ways=4\ntasks 1\nphase\nthread\naccess 1 0 64\n"
+        journal = "journal 1\nslice 0 0 1\naccess 0 0 0 0 0 15 1 0 0\nend\n"
+        checker = Checker()
+        self.assertEqual(checker.export(script), script + journal)
+        self.assertEqual(checker.check(script + journal), "yes")
+        # The mask of the default group is f, and line 1 is the one of address 64.
+        self.assertEqual(checker.check(script + journal.replace(" 15 ", " 12 ")), "no D11")
+        self.assertEqual(checker.check(script + journal.replace(" 15 1 ", " 15 2 ")), "no D13.1")
+        with self.assertRaises(NoScript) as fault:
+            checker.check(script + "journal 1\n")
+        self.assertEqual((fault.exception.line, fault.exception.what), (7, "bad journal"))
 
 
 class Machines(unittest.TestCase):

@@ -1,14 +1,12 @@
 -- The places of the commands in the tree's history, one after the other.
-use Rattle.std.proofs.Common.{◌≡◌, ℕ, zero, suc, ◌+◌, ◌-◌, ◌<◌, ◌≤◌, Bool, true, false, inl, inr, List, [], ◌∷◌, length, filter, map, take, get_or, Option, Some, None, refl, sym, ap, ◌∙◌, subst, arith}
-use Rattle.std.specs.Prelude.{IsSome, IsTrue, slice_get}
+use Rattle.std.proofs.Common.{◌≡◌, ℕ, zero, suc, ◌+◌, ◌-◌, ◌<◌, ◌≤◌, Bool, true, false, inl, inr, List, [], ◌∷◌, length, filter, take, Option, Some, None, refl, sym, ap, ◌∙◌, subst, arith}
+use Rattle.std.specs.Prelude.{IsTrue}
 use Rattle.std.proofs.lemmas.Bool.{cases_Bool, cases_lt}
 use Rattle.std.proofs.lemmas.Option.{get_or_from_slice_get, slice_get_within}
 use Rattle.journal_tables.proofs.TableNumbers.{changed, number_at-other, number_at-own}
-use Rattle.journal_tables.proofs.laws.Told.{IsSome-some, some-IsSome}
-use Rattle.journal_tables.specs.Places.{ArePlaces, ArePlacesUpTo}
-use Rattle.journal_tables.specs.Tables.{AreTakenOnce}
-use Rattle.journal_tables.specs.Places.{AreOwnPlaces}
-use Rattle.journal_tables.specs.Tables.{AreZero, IsTableOf, number_at, row_of}
+use Rattle.journal_tables.proofs.laws.Told.{IsSome-some}
+use Rattle.journal_tables.specs.Places.{AreOwnPlaces, ArePlaces, ArePlacesUpTo}
+use Rattle.journal_tables.specs.Tables.{AreTakenOnce, AreZero, number_at, row_of}
 use Rattle.rc_base.proofs.laws.Histories.{EachFollows-at}
 use Rattle.run_law.proofs.laws.Pairs.{both_eqb-same, both_eqb-true}
 use Rattle.run_law.specs.Journals.{At}

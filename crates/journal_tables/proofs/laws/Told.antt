@@ -1,13 +1,13 @@
 -- What an answer says of a fact, and entries by their position.
-use Rattle.std.proofs.Common.{◌≡◌, ◌↔◌, ℕ, zero, suc, ◌<◌, ◌≤◌, true, false, List, [], ◌∷◌, length, get_or, map, Option, Some, None, refl, sym, ap, ◌∙◌, subst, arith}
+use Rattle.std.proofs.Common.{◌≡◌, ◌↔◌, ℕ, zero, suc, ◌<◌, ◌≤◌, true, false, List, [], ◌∷◌, length, map, Option, Some, None, refl, ap, subst, arith}
 use Rattle.std.specs.Prelude.{IsSome, IsTrue, slice_get, slice_index_or}
-use Rattle.std.proofs.lemmas.Option.{slice_get_past, slice_get_within}
+use Rattle.std.proofs.lemmas.Option.{slice_get_within}
 use Rattle.cache_core.specs.declared.entry.SliceEntry.{SliceEntry}
 use Rattle.cache_core.specs.declared.entry.What.TheVariants.{Access}
 use Rattle.journal_tables.specs.Tables.{IsTableOf, number_at, row_of}
 use Rattle.run_law.proofs.laws.Positions.{slice_get-within}
 use Rattle.run_law.specs.Journals.{At, JournalsValue, slice_at}
-use Rattle.script_ops.specs.Values.{ScriptValue, op_at, ops_of, threads_of}
+use Rattle.script_ops.specs.Values.{ScriptValue, op_at, ops_of}
 use Rattle.script_ops.specs.declared.op.Op.{Op}
 
 -- no

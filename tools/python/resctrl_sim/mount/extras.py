@@ -1,21 +1,23 @@
-"""The files below `.sim`, which are not listed: the script, its report, and the accesses of tasks."""
+"""The files below `.sim`, which are not listed: the script, its report, its journals, and the accesses of tasks."""
 import errno
 import stat
 
 from fusepy import FuseOSError
 
-from ..program import NoScript
+from ..program import Broken, Checker, NoScript
 from .kinds import below
 
 FOLDER = "/.sim"
 SCRIPT = "/.sim/script"
 REPORT = "/.sim/report"
+JOURNAL = "/.sim/journal"
 ACCESS = "/.sim/access"
 
 MODES = {
     FOLDER: stat.S_IFDIR | 0o755,
     SCRIPT: stat.S_IFREG | 0o444,
     REPORT: stat.S_IFREG | 0o444,
+    JOURNAL: stat.S_IFREG | 0o444,
     ACCESS: stat.S_IFREG | 0o644,
 }
 
@@ -30,7 +32,16 @@ def is_extra(path):
 
 def read(recording, path):
     """The text of such a file."""
-    return {SCRIPT: recording.script, REPORT: lambda: recording.report, ACCESS: str}[path]()
+    texts = {SCRIPT: recording.script, REPORT: lambda: recording.report, JOURNAL: lambda: journal(recording), ACCESS: str}
+    return texts[path]()
+
+
+def journal(recording):
+    """The script with its journals, by the checker."""
+    try:
+        return Checker().export(recording.script())
+    except Broken as why:
+        raise FuseOSError(errno.ENOSYS) from why
 
 
 def write(recording, data):

@@ -1,4 +1,4 @@
-use Rattle.std.proofs.Common.{◌≡◌, ◌≤◌, List, length, sym, ap, ◌∙◌, subst, arith}
+use Rattle.std.proofs.Common.{◌≡◌, List, length, sym, ap, subst, arith}
 use Rattle.journal_check.proofs.AskLists.{AreAsks-zero}
 use Rattle.journal_check.specs.Asks.{AreAsks}
 use Rattle.journal_check.specs.declared.asks.Ask.{Ask}

@@ -1,5 +1,4 @@
-use Rattle.std.proofs.Common.{◌≡◌, ◌↔◌, ℕ, ◌+◌, ◌<◌, ◌≤◌, true, false, below_more, sym, ap, ◌∙◌, arith}
-use Rattle.std.specs.Prelude.{IsTrue}
+use Rattle.std.proofs.Common.{◌≡◌, true, false, below_more, sym, ap, ◌∙◌, arith}
 use Rattle.cache_core.specs.History.{IsLegal}
 use Rattle.journal_tables.proofs.laws.Told.{is_false, is_true}
 use Rattle.machine.specs.Slices.{slice_count}

@@ -1,9 +1,15 @@
-use Rattle.std.proofs.Common.{◌≡◌, ◌<◌, true, false, below_more, sym, ap, ◌∙◌, subst, arith}
-use Rattle.journal_check.specs.Payments.{EachStandsOnce}
-use Rattle.journal_tables.proofs.laws.Told.{is_false, is_true}
+use Rattle.std.proofs.Common.{◌≡◌, ℕ, ◌<◌, length, true, false, sym, ◌∙◌, arith}
+use Rattle.journal_check.proofs.StandingOps.{EachStandsOnce, EachStandsOnce-accesses, EachStandsOnce-both, EachStandsOnce-commands}
+use Rattle.journal_tables.proofs.laws.Told.{is_false}
 use Rattle.machine.specs.Slices.{slice_count}
 use Rattle.run_law.specs.Clauses.{EntriesStandOnce}
+use Rattle.run_law.specs.Journals.{JournalsValue}
+use Rattle.script_ops.specs.Values.{ScriptValue}
 use Rattle.journal_check.proofs.made_once.are_made_once.Goals as goal
+
+-- where all is made once, it is in each slice
+once-each : (script : ScriptValue) (j : JournalsValue) → length j.slices ≡ slice_count script.machine → EntriesStandOnce script j → (i : ℕ) → i < length j.slices → EachStandsOnce script j i
+once-each script j all once i within t o op is = once.each i t o op (omega arith) is
 
 pub returns-then-not-are_known : goal.returns-then-not-are_known
 returns-then-not-are_known c =
@@ -13,28 +19,26 @@ returns-then-not-are_known c =
     let wrong : true ≡ false = sym shown ∙ c.if-not-are_known.true in
     cc)
 
-pub loop-i-preserved : goal.loop-i-preserved
-loop-i-preserved c =
-    let script = c.args.script.now in
-    let j = c.args.j.now in
-    below_more (λ k. EachStandsOnce script j k) c.loop-i.i c.loop-i.invariant
-    (subst (λ i. EachStandsOnce script j i) c.from.ensures (c.in_ok-holds.ensures.0 c.if-not-holds.false))
-
-pub returns-then-not-holds : goal.returns-then-not-holds
-returns-then-not-holds c =
+pub returns-then-not-accesses : goal.returns-then-not-accesses
+returns-then-not-accesses c =
     let script = c.args.script.now in
     let j = c.args.j.now in
     is_false (EntriesStandOnce script j)
     (λ once.
-    let within : c.loop-i.i < slice_count script.machine = omega (arith, c.loop-i-test.true, c.slice_count-i-end.ensures.count, ap slice_count c.machine.ensures) in
-    let here : EachStandsOnce script j c.loop-i.i = λ t o op is. once.each c.loop-i.i t o op within is in
-    let shown = c.in_ok-holds.ensures.1 (subst (λ i. EachStandsOnce script j i) (sym c.from.ensures) here) in
-    let wrong : true ≡ false = sym shown ∙ c.if-not-holds.true in
+    let shown = c.in_ok-accesses.ensures.1 (λ i within. EachStandsOnce-accesses script j i c.args.steps.now c.requires.legal c.requires.trace (once-each script j c.requires.all once i within)) in
+    let wrong : true ≡ false = sym shown ∙ c.if-not-accesses.true in
     cc)
 
 pub returns : goal.returns
 returns c =
-    is_true (EntriesStandOnce c.args.script.now c.args.j.now) (record {
-      each = λ i t o op less is. c.loop-i.invariant i (omega (arith, less, c.loop-i-test.false, c.slice_count-i-end.ensures.count, ap slice_count c.machine.ensures)) t o op is;
-      no_others = c.are_known.ensures.0 c.if-not-are_known.false;
-    })
+    let script = c.args.script.now in
+    let j = c.args.j.now in
+    let steps = c.args.steps.now in (
+      λ shown. record {
+        each = λ i t o op less is.
+            let within : i < length j.slices = omega (arith, less, c.requires.all) in
+            EachStandsOnce-both script j i steps c.requires.legal c.requires.trace (c.in_ok-accesses.ensures.0 c.if-not-accesses.false i within) (c.in_ok-paid.ensures.0 shown i within) t o op is;
+        no_others = c.are_known.ensures.0 c.if-not-are_known.false;
+      },
+      λ once. c.in_ok-paid.ensures.1 (λ i within. EachStandsOnce-commands script j i steps c.requires.legal c.requires.trace (once-each script j c.requires.all once i within)),
+    )

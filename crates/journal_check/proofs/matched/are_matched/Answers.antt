@@ -1,12 +1,10 @@
-use Rattle.std.proofs.Common.{◌≡◌, ◌↔◌, ℕ, ◌+◌, ◌<◌, ◌≤◌, inl, inr, true, false, List, length, map, take, Some, refl, sym, ap, ◌∙◌, subst, arith}
+use Rattle.std.proofs.Common.{◌≡◌, ℕ, ◌+◌, inl, inr, true, false, List, length, map, take, Some, refl, sym, ap, ◌∙◌, subst, arith}
 use Rattle.std.proofs.lemmas.Bool.{cases_lt}
 use Rattle.std.proofs.lemmas.List.{length-map}
 use Rattle.std.proofs.lemmas.Option.{slice_get_read, slice_get_within}
 use Rattle.journal_check.proofs.MatchedCounts.{AreCounted-same, counted-command, length-counts, place-command}
 use Rattle.journal_tables.proofs.laws.Told.{At-map, is_false, is_true}
-use Rattle.journal_check.specs.FirstLooks.{AreCounted}
 use Rattle.journal_check.specs.declared.trace.Step.{Step}
-use Rattle.machine.specs.Maps.{parameters_of}
 use Rattle.machine.specs.declared.parameters.Parameters.{Parameters}
 use Rattle.run_law.specs.Entries.{entry_value}
 use Rattle.run_law.specs.Journals.{At}
@@ -39,7 +37,7 @@ are_counted-requires-clause-counts c =
     let count = c.requires.trace.count in
     let there : At steps k step = slice_get_read steps (length steps) k step refl (omega (arith, count, slice_get_within j.tree k (entry_value e) at)) c.index-steps-k.is in
     let same = length-counts script j steps c.args.places.now c.in_ok-looks.looks.items c.requires.range c.requires.legal c.requires.trace c.requires.table c.requires.places c.requires.own c.in_ok-looks.ensures k (entry_value e) step at there in
-    ap (λ (ns : List ℕ). length ns) (c.items-counts.ensures ∙ ap (λ (x : TreeEntry). x.looks.numbers) (sym c.index-tree-k.is)) ∙ (same ∙ ap (λ (ns : List (ℕ × ℕ)). length ns) (sym (c.as_slice-needs.ensures.value ∙ ap (λ (x : Step). x.needs.items) (sym c.index-steps-k.is))))
+    ap (λ (ns : List ℕ). length ns) (c.items-counts.ensures ∙ ap (λ (x : TreeEntry). x.looks.numbers) (sym c.index-tree-k.is)) ∙ (same ∙ ap (λ (ns : List (ℕ × ℕ)). length ns) (sym (c.as_slice-needs.ensures ∙ ap (λ (x : Step). x.needs) (sym c.index-steps-k.is))))
 
 pub returns-then-not-are_counted : goal.returns-then-not-are_counted
 returns-then-not-are_counted c =
@@ -54,8 +52,8 @@ returns-then-not-are_counted c =
     let count = c.requires.trace.count in
     let there : At steps k step = slice_get_read steps (length steps) k step refl (omega (arith, count, slice_get_within j.tree k (entry_value e) at)) c.index-steps-k.is in
     let command = counted-command script j steps c.args.places.now c.in_ok-looks.looks.items c.requires.range c.requires.legal c.requires.trace c.requires.table c.requires.places c.requires.own c.in_ok-looks.ensures k (entry_value e) step at there in
-    let told = AreCounted-same c.deref.result.now c.in_ok-looks.looks.items c.machine.result.now.slices script.machine.slices (k + 1) c.as_slice-needs.result.now step.needs.items c.items-counts.result.now e.looks.numbers c.deref.ensures.value
-    (ap (λ (m : Parameters). m.slices) c.machine.ensures) (c.as_slice-needs.ensures.value ∙ ap (λ (x : Step). x.needs.items) (sym c.index-steps-k.is)) (c.items-counts.ensures ∙ ap (λ (x : TreeEntry). x.looks.numbers) (sym c.index-tree-k.is)) in
+    let told = AreCounted-same c.deref.result.now c.in_ok-looks.looks.items c.machine.result.now.slices script.machine.slices (k + 1) c.as_slice-needs.result.now step.needs c.items-counts.result.now e.looks.numbers c.deref.ensures.value
+    (ap (λ (m : Parameters). m.slices) c.machine.ensures) (c.as_slice-needs.ensures ∙ ap (λ (x : Step). x.needs) (sym c.index-steps-k.is)) (c.items-counts.ensures ∙ ap (λ (x : TreeEntry). x.looks.numbers) (sym c.index-tree-k.is)) in
     is_false (AreMatched script j)
     (λ matched. let passes = c.are_counted.ensures.1 (told.1 (command.1 (matched k (entry_value e) at))) in let failed = c.if-not-are_counted.true in let wrong : true ≡ false = sym passes ∙ failed in cc)
 
@@ -72,8 +70,8 @@ loop-k-preserved c i h below here =
     let count = c.requires.trace.count in
     let there : At steps k step = slice_get_read steps (length steps) k step refl (omega (arith, count, slice_get_within j.tree k (entry_value e) at)) c.index-steps-k.is in
     let command = counted-command script j steps c.args.places.now c.in_ok-looks.looks.items c.requires.range c.requires.legal c.requires.trace c.requires.table c.requires.places c.requires.own c.in_ok-looks.ensures k in
-    let told = AreCounted-same c.deref.result.now c.in_ok-looks.looks.items c.machine.result.now.slices script.machine.slices (k + 1) c.as_slice-needs.result.now step.needs.items c.items-counts.result.now e.looks.numbers c.deref.ensures.value
-    (ap (λ (m : Parameters). m.slices) c.machine.ensures) (c.as_slice-needs.ensures.value ∙ ap (λ (x : Step). x.needs.items) (sym c.index-steps-k.is)) (c.items-counts.ensures ∙ ap (λ (x : TreeEntry). x.looks.numbers) (sym c.index-tree-k.is)) in
+    let told = AreCounted-same c.deref.result.now c.in_ok-looks.looks.items c.machine.result.now.slices script.machine.slices (k + 1) c.as_slice-needs.result.now step.needs c.items-counts.result.now e.looks.numbers c.deref.ensures.value
+    (ap (λ (m : Parameters). m.slices) c.machine.ensures) (c.as_slice-needs.ensures ∙ ap (λ (x : Step). x.needs) (sym c.index-steps-k.is)) (c.items-counts.ensures ∙ ap (λ (x : TreeEntry). x.looks.numbers) (sym c.index-tree-k.is)) in
     elim (cases_lt i k) [
       | inl before ↦ c.loop-k.invariant i h before here
       | inr after ↦

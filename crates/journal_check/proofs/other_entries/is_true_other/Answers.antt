@@ -1,11 +1,11 @@
-use Rattle.std.proofs.Common.{◌≡◌, ◌↔◌, ℕ, ◌+◌, ◌-◌, ◌<◌, ◌≤◌, true, false, List, length, Some, None, refl, sym, ap, ◌∙◌, subst, arith}
+use Rattle.std.proofs.Common.{◌≡◌, ◌↔◌, ℕ, ◌+◌, ◌-◌, false, List, length, Some, None, refl, sym, ap, ◌∙◌, subst, arith}
 use Rattle.std.specs.Prelude.{Contains, IsTrue}
 use Rattle.std.proofs.lemmas.Option.{slice_get_read, slice_get_within}
 use Rattle.journal_tables.proofs.laws.OpKinds.{is_access_of-false, is_access_of-true}
 use Rattle.journal_tables.proofs.laws.Told.{IsSome-some, is_true, number_at-op, op_at-number, some-IsSome}
 use Rattle.cache_core.specs.declared.entry.SliceEntry.{SliceEntry}
 use Rattle.journal_tables.specs.OpKinds.{is_access_of}
-use Rattle.script_ops.specs.Values.{ScriptValue}
+use Rattle.script_ops.specs.Values.{ScriptValue, op_at}
 use Rattle.script_ops.specs.declared.op.Op.{Op}
 use Rattle.journal_check.proofs.TrueOthers.{other-access, other-command, owed-step, place-once}
 use Rattle.journal_tables.specs.Tables.{IsTableOf, number_at}
@@ -14,7 +14,6 @@ use Rattle.machine.specs.declared.parameters.Parameters.{Parameters}
 use Rattle.run_law.specs.Journals.{At}
 use Rattle.run_law.specs.Ops.{is_command}
 use Rattle.run_law.specs.Owed.{paid_by}
-use Rattle.script_ops.specs.Values.{op_at}
 use Rattle.journal_check.proofs.other_entries.is_true_other.Goals as goal
 
 pub returns-then-is_access_at : goal.returns-then-is_access_at

@@ -1,4 +1,4 @@
-use Rattle.std.proofs.Common.{◌≡◌, ℕ, ◌<◌, ◌≤◌, inl, inr, true, false, length, get_or, Some, sym, ap, ◌∙◌, subst, arith}
+use Rattle.std.proofs.Common.{◌≡◌, inl, inr, true, false, get_or, Some, sym, ap, ◌∙◌, subst, arith}
 use Rattle.std.specs.Prelude.{slice_get}
 use Rattle.std.proofs.lemmas.Bool.{cases_lt}
 use Rattle.std.proofs.lemmas.Option.{get_or_from_slice_get, slice_get_within}
@@ -6,7 +6,6 @@ use Rattle.journal_tables.proofs.laws.Told.{is_false}
 use Rattle.journal_check.specs.Traces.{HasFollow}
 use Rattle.machine.specs.Maps.{parameters_of}
 use Rattle.run_law.specs.Owed.{is_entered_in, what_of}
-use Rattle.tree_law.specs.declared.follow.Follow.{Follow}
 use Rattle.tree_law.specs.declared.follow.Follow.TheVariants.{Raise}
 use Rattle.journal_check.proofs.owed.is_followed.Goals as goal
 use Rattle.journal_check.proofs.owed.is_followed.Goals.{else-is_entered_in-via-then-is_entered_in+else-is_same, else-is_entered_in-via-else-is_entered_in}

@@ -1,4 +1,4 @@
-use Rattle.std.proofs.Common.{◌≡◌, ◌≤◌, take, subst, arith}
+use Rattle.std.proofs.Common.{◌≡◌, take, subst, arith}
 use Rattle.journal_check.specs.Replays.{IsReplayed}
 use Rattle.journal_check.proofs.tags.advance.Goals as goal
 

@@ -1,4 +1,4 @@
-use Rattle.std.proofs.Common.{◌≡◌, ap, ◌∙◌}
+use Rattle.std.proofs.Common.{ap, ◌∙◌}
 use Rattle.journal_check.proofs.LegalTrees.{IsReplayed-zero}
 use Rattle.journal_tables.proofs.laws.FewCommands.{length-commands}
 use Rattle.tree_law.specs.State.{opening}

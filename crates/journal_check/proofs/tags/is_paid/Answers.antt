@@ -1,7 +1,5 @@
-use Rattle.std.proofs.Common.{◌≡◌, ◌↔◌, ℕ, true, false, take, Some, None, sym, ap, ◌∙◌, subst}
-use Rattle.std.specs.Prelude.{IsTrue}
+use Rattle.std.proofs.Common.{◌≡◌, true, false, take, Some, None, sym, ap, ◌∙◌, subst}
 use Rattle.journal_check.proofs.PaidAccesses.{IsPaid-tag}
-use Rattle.journal_check.specs.Tags.{IsTagOf}
 use Rattle.journal_tables.specs.OpKinds.{is_access_of}
 use Rattle.run_law.proofs.laws.Tasks.{tasks_of-tree_after}
 use Rattle.script_ops.specs.Fits.{Fits}

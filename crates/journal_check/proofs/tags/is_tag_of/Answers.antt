@@ -1,4 +1,4 @@
-use Rattle.std.proofs.Common.{◌≡◌, ◌↔◌, ℕ, true, refl, sym, subst}
+use Rattle.std.proofs.Common.{◌≡◌, ◌↔◌, ℕ, refl, sym, subst}
 use Rattle.std.specs.Prelude.{IsTrue}
 use Rattle.cache_core.specs.declared.entry.What.{What}
 use Rattle.journal_check.specs.Tags.{IsTagOf}

@@ -1,4 +1,4 @@
-use Rattle.std.proofs.Common.{◌≡◌, ℕ, true, false, length, map, Some, refl, sym, ap, ◌∙◌, subst, arith}
+use Rattle.std.proofs.Common.{◌≡◌, length, map, Some, refl, sym, ap, ◌∙◌, subst}
 use Rattle.std.specs.Prelude.{IsTrue}
 use Rattle.std.proofs.lemmas.Option.{slice_get_read}
 use Rattle.journal_check.proofs.LegalTrees.{CommandMayFollow-at, Fits-replayed, IfOk-steps, IsAnswer-legal, IsCommandThat-none, TakesEntry-takes}

@@ -1,61 +1,60 @@
-use Rattle.std.proofs.Common.{◌≡◌, ℕ, ◌+◌, ◌<◌, ◌≤◌, true, false, length, get_or, Some, None, sym, ◌∙◌, subst, arith}
+use Rattle.std.proofs.Common.{◌≡◌, ℕ, ◌+◌, List, get_or, Option, Some, None, sym, ◌∙◌, subst}
 use Rattle.std.specs.Prelude.{IsSome}
 use Rattle.std.proofs.lemmas.Option.{slice_get-get_or}
 use Rattle.cache_core.specs.declared.entry.SliceEntry.{SliceEntry}
 use Rattle.journal_tables.proofs.Latest.{AreAfterUpTo-skip, AreAfterUpTo-suc, IsAfterCommands-all, IsLatest-noted, IsLatest-skip, late-not_after}
-use Rattle.journal_tables.proofs.laws.Told.{is_false, is_true, no_entry, none-IsSome, number_at-op, op_at-number}
-use Rattle.journal_tables.specs.AfterCommands.{AreAfterUpTo, IsLatest, noted, other_epoch}
-use Rattle.journal_tables.specs.AfterCommands.{IsAfterCommands}
-use Rattle.journal_tables.specs.Tables.{number_at}
+use Rattle.journal_tables.proofs.laws.Told.{is_false, is_true, no_entry, number_at-op, op_at-number}
+use Rattle.journal_tables.specs.AfterCommands.{AreAfterUpTo, IsAccepted, IsAfterCommands, IsLatest, IsRefused}
+use Rattle.journal_tables.specs.Places.{ArePlaces}
+use Rattle.journal_tables.specs.Tables.{IsTableOf, number_at}
 use Rattle.journal_tables.specs.declared.after_commands.Latest.{Latest}
 use Rattle.run_law.specs.Journals.{At, slice_at}
-use Rattle.script_ops.specs.Values.{op_at}
+use Rattle.run_law.specs.TreeHistory.{TreeEntryValue}
+use Rattle.script_ops.specs.Values.{ScriptValue, op_at}
 use Rattle.journal_tables.proofs.after_commands.is_after_commands.Goals as goal
-use Rattle.journal_tables.proofs.after_commands.is_after_commands.Goals.{in-Some+else-is_late, in-None}
 
-pub returns-then-is_late : goal.returns-then-is_late
-returns-then-is_late c =
+module _ (script : ScriptValue) (tree : List TreeEntryValue) (entries : List SliceEntry) (places : List (List ℕ)) (n : ℕ) (l : Latest) (e : SliceEntry) (at : At entries n e) (are : ArePlaces script places tree) (latest : IsLatest script entries n l) where
+  -- an entry that is refused shows that the entries do not stand so
+  refused-not_after : (place : Option ℕ) → number_at places e.thread e.op ≡ place → IsRefused l place e → IsAfterCommands script tree entries → ⊥
+  refused-not_after None is refused after = refused
+  refused-not_after (Some place) is refused after = late-not_after script tree entries places n l e at are place is latest refused after
+
+  -- with an entry that is accepted the walk has come one further
+  accepted-more : IsTableOf script places → (next : Latest) (place : Option ℕ) → number_at places e.thread e.op ≡ place → IsAccepted l place e next → AreAfterUpTo script tree entries n
+      → IsLatest script entries (n + 1) next × AreAfterUpTo script tree entries (n + 1)
+  accepted-more table next None is same behind =
+      let no_op : IsSome (op_at script e.thread e.op) → ⊥ = λ some. (let it = number_at-op script places e.thread e.op table some in let wrong : None ≡ Some it.0 = sym is ∙ it.1 in cc) in
+      (subst (λ (x : Latest). IsLatest script entries (n + 1) x) (sym same) (IsLatest-skip script entries n l e at no_op latest), AreAfterUpTo-skip script tree entries places n l e at are no_op behind)
+  accepted-more table next (Some place) is accepted behind =
+      let of_op : IsSome (op_at script e.thread e.op) = op_at-number script places e.thread e.op place table is in (
+        subst (λ (x : Latest). IsLatest script entries (n + 1) x) (sym accepted.1) (IsLatest-noted script entries n l e at of_op latest),
+        AreAfterUpTo-suc script tree entries places n l e at are place is latest (λ late. accepted.0 late) behind,
+      )
+
+pub returns-in-None : goal.returns-in-None
+returns-in-None c =
     let script = c.args.script.now in
     let tree = c.args.j.now.tree in
     let entries = c.slice-entries.result.now in
     let n = c.loop-entry.entry-index in
     let e = get_or entries n no_entry in
-    let at : At entries n e = slice_get-get_or entries n no_entry c.loop-entry-test.true in
     is_false (IsAfterCommands script tree (slice_at c.args.j.now c.args.i))
-    (λ behind. late-not_after script tree entries c.args.places.now n c.loop-entry.latest e at c.requires.places c.in-Some.place (sym c.in-Some.ensures) c.loop-entry.invariant.latest
-    (c.is_late.ensures.0 c.if-is_late.true)
-    (subst (λ es. IsAfterCommands script tree es) (sym c.slice-entries.ensures) behind))
+    (λ after. refused-not_after script tree entries c.args.places.now n c.loop-entry.latest e (slice_get-get_or entries n no_entry c.loop-entry-test.true) c.requires.places c.loop-entry.invariant.latest
+    c.get.result (sym c.get.ensures) c.in-None.ensures (subst (λ es. IsAfterCommands script tree es) (sym c.slice-entries.ensures) after))
 
 pub loop-entry-preserved : goal.loop-entry-preserved
 loop-entry-preserved c =
     let script = c.args.script.now in
     let tree = c.args.j.now.tree in
     let entries = c.slice-entries.result.now in
-    let places = c.args.places.now in
     let n = c.loop-entry.entry-index in
-    let l = c.loop-entry.latest in
     let e = get_or entries n no_entry in
-    let at : At entries n e = slice_get-get_or entries n no_entry c.loop-entry-test.true in
-    elim c.match-get.branch [
-      | in-Some+else-is_late w ↦
-          let number : number_at places e.thread e.op ≡ Some w.in-Some.place = sym w.in-Some.ensures in
-          let is : c.match-get.latest ≡ noted l e = w.latest-is ∙ w.noted-latest.ensures in
-          let of_op : IsSome (op_at script e.thread e.op) = op_at-number script places e.thread e.op w.in-Some.place c.requires.table number in
-          record {
-            latest = subst (λ (x : Latest). IsLatest script entries (n + 1) x) (sym is) (IsLatest-noted script entries n l e at of_op c.loop-entry.invariant.latest);
-            behind =
-                AreAfterUpTo-suc script tree entries places n l e at c.requires.places w.in-Some.place number c.loop-entry.invariant.latest
-                (λ late. absurd (let yes : w.is_late.result ≡ true = w.is_late.ensures.1 late in let no : w.is_late.result ≡ false = w.if-is_late.false in let wrong : true ≡ false = sym yes ∙ no in cc))
-                c.loop-entry.invariant.behind;
-          }
-      | in-None w ↦
-          let number : number_at places e.thread e.op ≡ None = sym c.get.ensures ∙ w.in-None.is in
-          let no_op : IsSome (op_at script e.thread e.op) → ⊥ = λ some. (let it = number_at-op script places e.thread e.op c.requires.table some in let wrong : None ≡ Some it.0 = sym number ∙ it.1 in cc) in
-          record {
-            latest = subst (λ (x : Latest). IsLatest script entries (n + 1) x) (sym w.latest-is) (IsLatest-skip script entries n l e at no_op c.loop-entry.invariant.latest);
-            behind = AreAfterUpTo-skip script tree entries places n l e at c.requires.places no_op c.loop-entry.invariant.behind;
-          }
-    ]
+    let more = accepted-more script tree entries c.args.places.now n c.loop-entry.latest e (slice_get-get_or entries n no_entry c.loop-entry-test.true) c.requires.places c.loop-entry.invariant.latest
+    c.requires.table c.in-Some.next c.get.result (sym c.get.ensures) c.in-Some.ensures c.loop-entry.invariant.behind in
+    record {
+      latest = more.0;
+      behind = more.1;
+    }
 
 pub returns : goal.returns
 returns c =

@@ -1,4 +1,4 @@
-use Rattle.std.proofs.Common.{◌≡◌, ℕ, ◌≤◌, length, ap, arith}
+use Rattle.std.proofs.Common.{ap, arith}
 use Rattle.journal_tables.proofs.BegunOps.{AreStarts-begun, few-rows, few-starts}
 use Rattle.journal_tables.proofs.laws.FewCommands.{length-commands}
 use Rattle.machine.specs.Slices.{slice_count}

@@ -1,4 +1,4 @@
-use Rattle.std.proofs.Common.{◌≡◌, ℕ, ◌<◌, ◌≤◌, inl, inr, length, sym, ap, ◌∙◌, subst, below_more, arith}
+use Rattle.std.proofs.Common.{inl, inr, ap, subst, below_more, arith}
 use Rattle.std.proofs.lemmas.Bool.{cases_lt}
 use Rattle.journal_tables.proofs.laws.Told.{is_true, slice_at-past}
 use Rattle.journal_tables.specs.Orders.{AreOrdered}

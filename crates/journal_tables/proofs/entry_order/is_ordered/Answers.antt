@@ -1,8 +1,7 @@
-use Rattle.std.proofs.Common.{◌≡◌, ℕ, ◌+◌, ◌<◌, ◌≤◌, length, get_or, set, refl, sym, ap, ◌∙◌, subst, arith}
+use Rattle.std.proofs.Common.{◌≡◌, ◌+◌, get_or, set, sym, ◌∙◌, subst, arith}
 use Rattle.std.specs.Prelude.{slice_index}
 use Rattle.std.proofs.lemmas.List.{length-set}
 use Rattle.std.proofs.lemmas.Option.{slice_get-get_or, slice_get_within}
-use Rattle.cache_core.specs.declared.entry.SliceEntry.{SliceEntry}
 use Rattle.journal_tables.proofs.Ordered.{AreOrdered-passed, HasPassed-suc, early_op-not_ordered, early_phase-not_ordered}
 use Rattle.journal_tables.proofs.laws.Told.{is_false, is_true, no_entry, thread-op}
 use Rattle.journal_tables.specs.Orders.{AreOrdered, HasPassed}

@@ -1,4 +1,4 @@
-use Rattle.std.proofs.Common.{◌≡◌, ℕ, ◌+◌, ◌<◌, below_more, subst}
+use Rattle.std.proofs.Common.{below_more, subst}
 use Rattle.journal_tables.specs.Orders.{AreOfOps}
 use Rattle.run_law.specs.Journals.{slice_at}
 use Rattle.journal_tables.proofs.known_ops.are_known.Goals as goal

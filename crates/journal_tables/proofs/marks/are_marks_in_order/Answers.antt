@@ -1,10 +1,8 @@
-use Rattle.std.proofs.Common.{◌≡◌, ℕ, ◌<◌, ◌≤◌, length, Some, arith}
+use Rattle.std.proofs.Common.{arith}
 use Rattle.journal_tables.proofs.Starts.{AreInOrderUpTo-suc, IsEndOf-phase, PhaseInOrder-all, StartsInOrder-all}
 use Rattle.journal_tables.proofs.laws.Told.{is_false, is_true, op_at-number, some-IsSome}
 use Rattle.journal_tables.specs.Marks.{StartsInOrder}
-use Rattle.journal_tables.specs.Tables.{number_at}
 use Rattle.run_law.proofs.laws.Endings.{op_phase}
-use Rattle.run_law.specs.Ops.{phase_in}
 use Rattle.script_ops.specs.Values.{op_at}
 use Rattle.journal_tables.proofs.marks.are_marks_in_order.Goals as goal
 

@@ -1,8 +1,8 @@
-use Rattle.std.proofs.Common.{◌≡◌, ℕ, ◌+◌, ◌<◌, ◌≤◌, ◌⊎◌, inl, inr, List, length, refl, sym, ap, ◌∙◌, subst, arith}
+use Rattle.std.proofs.Common.{◌≡◌, ℕ, ◌+◌, ◌<◌, ◌≤◌, inl, inr, List, length, sym, subst, arith}
 use Rattle.std.proofs.lemmas.Bool.{cases_lt}
 use Rattle.journal_tables.proofs.PhaseThreads.{in_phase, of_phase}
 use Rattle.journal_tables.proofs.Starts.{IsEndOf-more, IsEndOf-same}
-use Rattle.journal_tables.specs.Marks.{IsEndOf, IsThreadEnd, IsThreadInOrder, OfPhase, PhaseInOrder}
+use Rattle.journal_tables.specs.Marks.{IsEndOf, IsThreadEnd, IsThreadInOrder, OfPhase}
 use Rattle.journal_tables.specs.Tables.{row_of}
 use Rattle.script_ops.specs.Values.{ops_of}
 use Rattle.script_ops.specs.declared.op.Op.{Op}

@@ -1,7 +1,7 @@
-use Rattle.std.proofs.Common.{◌≡◌, ℕ, ◌+◌, ◌<◌, ◌≤◌, length, get_or, refl, sym, ap, ◌∙◌, subst, arith}
-use Rattle.std.proofs.lemmas.Option.{slice_get-get_or, slice_get_read, slice_get_within}
+use Rattle.std.proofs.Common.{◌≡◌, ◌+◌, ◌<◌, length, get_or, sym, subst, arith}
+use Rattle.std.proofs.lemmas.Option.{slice_get-get_or, slice_get_within}
 use Rattle.journal_tables.proofs.Starts.{IsThreadEnd-suc, IsThreadInOrder-all, IsThreadInOrder-suc}
-use Rattle.journal_tables.specs.Marks.{IsThreadEnd, IsThreadInOrder, IsThreadInOrderUpTo, stop_of}
+use Rattle.journal_tables.specs.Marks.{IsThreadEnd}
 use Rattle.run_law.specs.Journals.{At}
 use Rattle.script_ops.specs.declared.op.Op.TheVariants.{Tick}
 use Rattle.journal_tables.proofs.marks.end_thread.Goals as goal

@@ -1,10 +1,7 @@
-use Rattle.std.proofs.Common.{◌≡◌, ℕ, ◌<◌, List, [], Vec, Global, length, map, set, get_or, sym, ap, ◌∙◌, subst, arith}
-use Rattle.std.specs.Prelude.{slice_set}
+use Rattle.std.proofs.Common.{◌≡◌, ℕ, ◌<◌, List, [], Vec, Global, length, map, set, get_or, sym, ap, ◌∙◌, arith}
 use Rattle.std.specs.Vec.{with_item}
 use Rattle.std.proofs.lemmas.List.{get_or-map, length-map, map-set}
 use Rattle.journal_tables.specs.Tables.{numbers_of, row_of}
-use Rattle.journal_tables.specs.contracts.op_table.OpTable.{the_view}
-use Rattle.journal_tables.specs.declared.op_table.OpTable.TheInside.{Inside}
 use Rattle.journal_tables.proofs.op_table.OpTable.set.Goals as goal
 
 -- the view of a table with another number

@@ -1,0 +1,6 @@
+pub mod BadInputs
+pub mod Division
+pub mod Exports
+pub mod Forms
+pub mod Inputs
+pub mod VerdictLines

@@ -1,0 +1,25 @@
+//! The parts of the call of `resctrl_check` that play nothing: its words, the division of an input into a script and journals, what
+//! is wrong with an input, and the texts that are written. A call that runs out of memory answers NoMemory.
+#![tactic(auto)]
+
+pub mod bad_input;
+pub mod division;
+pub mod exports;
+pub mod form;
+pub mod input;
+pub mod limits;
+pub mod theorems;
+pub mod verdicts;
+pub mod words;
+
+pub use bad_input::{BadInput, bad_line_of};
+pub use division::{Division, divide};
+pub use exports::export_text;
+pub use form::{Form, Play};
+pub use input::{Held, InputError, held_in, script_in};
+pub use limits::MOST_CHECK_BYTES;
+pub use verdicts::verdict_line;
+pub use words::{USAGE, form_of, usage_bytes};
+
+#[cfg(test)]
+mod tests;

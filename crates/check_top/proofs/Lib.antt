@@ -1,0 +1,4 @@
+pub mod Alone
+pub mod Complete
+pub mod MadeOf
+pub mod RimEndings

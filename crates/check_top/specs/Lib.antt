@@ -1,0 +1,4 @@
+pub mod Codes
+pub mod Endings
+pub mod Performances
+pub mod Statuses

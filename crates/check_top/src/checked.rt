@@ -1,0 +1,13 @@
+//! What a check found.
+
+use journal_check::Verdict;
+use run_law::Journals;
+
+/// The journals that an input holds, and whether they are a run.
+#[derive(Drop)]
+pub struct Checked {
+    /// The journals.
+    pub journals: Journals,
+    /// Whether they are a run of the script, and the first clause that is false where they are none.
+    pub verdict: Verdict,
+}

@@ -1,0 +1,60 @@
+//! How a call ended.
+ghost use Rattle.std.specs.Prelude.{◌≡◌, None, Some};
+ghost use Rattle.check_top.specs.Statuses.{check_ended, export_ended};
+
+use crate::checked::Checked;
+use crate::status::{CheckStatus, status_of, status_with};
+use call_rim::{Ended, Status};
+use run_law::Journals;
+
+/// How a call ended, and the journals that were exported or checked.
+#[derive(Drop)]
+pub struct CheckEnded {
+    /// How it ended.
+    pub status: CheckStatus,
+    /// The journals of an export, or those that the input of a check holds; None where the input is bad, the source failed or
+    /// memory ran out.
+    pub journals: Option<Journals>,
+}
+
+/// The end of a call whose outcome is the journals of an export.
+pub(crate) fn exported(ended: Ended<Journals>) -> CheckEnded
+    ensures { result ≡ export_ended ended.status ended.outcome }
+{
+    CheckEnded {
+        status: status_of(ended.status),
+        journals: ended.outcome,
+    }
+}
+
+// The end of a call that found these journals and this verdict.
+fn with_verdict(status: Status, found: Checked) -> CheckEnded
+    ensures { result ≡ check_ended status (Some found) }
+{
+    let Checked { journals, verdict } = found;
+    CheckEnded {
+        status: status_with(status, verdict),
+        journals: Some(journals),
+    }
+}
+
+/// The end of a call whose outcome is what a check found.
+pub(crate) fn checked(ended: Ended<Checked>) -> CheckEnded
+    ensures { result ≡ check_ended ended.status ended.outcome }
+{
+    let Ended { status, outcome } = ended;
+    match outcome {
+        Some(found) => with_verdict(status, found),
+        None => without_journals(status),
+    }
+}
+
+/// An end with no journals.
+pub(crate) fn without_journals(status: Status) -> CheckEnded
+    ensures { result ≡ export_ended status None }
+{
+    CheckEnded {
+        status: status_of(status),
+        journals: None,
+    }
+}

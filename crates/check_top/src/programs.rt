@@ -1,0 +1,60 @@
+//! What `export` and `check` make of their inputs.
+ghost use Rattle.check_parts.specs.declared.form.Form.TheVariants.{Check, Export};
+ghost use Rattle.check_parts.specs.declared.limits.TheConstants.{MOST_CHECK_BYTES};
+ghost use Rattle.check_top.specs.Performances.{Checks, Exports, Refuses};
+ghost use Rattle.script_ops.specs.declared.limits.TheConstants.{MOST_SCRIPT_BYTES};
+
+use crate::checked::Checked;
+use crate::checking::check_bytes;
+use crate::exporting::step_bytes;
+use call_rim::{Performed, Program};
+use check_parts::{MOST_CHECK_BYTES, Play};
+use run_law::Journals;
+use script_ops::MOST_SCRIPT_BYTES;
+use std::alloc::Global;
+
+/// Exports a script with the journals of its play by its order lines.
+#[derive(Drop)]
+pub(crate) struct ExportProgram {
+    pub(crate) play: Play,
+}
+
+impl Program for ExportProgram {
+    type Outcome = Journals;
+
+    ghost most = { λ p. MOST_SCRIPT_BYTES };
+
+    ghost refuses = { λ p. Refuses (Export p.play) };
+
+    ghost reports = { λ p. Exports p.play };
+
+    fn most_bytes(&self) -> usize {
+        MOST_SCRIPT_BYTES
+    }
+
+    fn perform(&self, alloc: Global, bytes: Vec<u8>) -> Performed<Journals> {
+        step_bytes(alloc, bytes)
+    }
+}
+
+/// Checks whether journals are a run of the script that stands before them.
+#[derive(Drop)]
+pub(crate) struct CheckProgram;
+
+impl Program for CheckProgram {
+    type Outcome = Checked;
+
+    ghost most = { λ p. MOST_CHECK_BYTES };
+
+    ghost refuses = { λ p. Refuses Check };
+
+    ghost reports = { λ p. Checks };
+
+    fn most_bytes(&self) -> usize {
+        MOST_CHECK_BYTES
+    }
+
+    fn perform(&self, alloc: Global, bytes: Vec<u8>) -> Performed<Checked> {
+        check_bytes(alloc, bytes)
+    }
+}

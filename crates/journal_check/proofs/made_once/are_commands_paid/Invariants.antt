@@ -1,0 +1,7 @@
+use Rattle.std.proofs.Common.{ℕ, ◌<◌}
+use Rattle.journal_check.specs.Payments.{AreAllPaid}
+use Rattle.run_law.specs.Journals.{slice_at}
+use Rattle.journal_check.proofs.made_once.are_commands_paid.Given as goal
+
+abbrev pub invariant-loop-i : goal.invariant-loop-i
+invariant-loop-i l = (k : ℕ) → k < l.i → AreAllPaid l.script.machine k l.j.tree l.steps (slice_at l.j k)

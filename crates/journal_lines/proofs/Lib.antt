@@ -1,0 +1,11 @@
+pub mod CommandParts
+pub mod Drops
+pub mod EntryParts
+pub mod KindWords
+pub mod Looks
+pub mod Masks
+pub mod Numbers
+pub mod Pushes
+pub mod Rests
+pub mod SliceParts
+pub mod laws

@@ -1,0 +1,14 @@
+pub mod BadLines
+pub mod Endings
+pub mod Fillers
+pub mod LineLaws
+pub mod ListParts
+pub mod OneLines
+pub mod Order
+pub mod Progress
+pub mod Refusals
+pub mod SliceLines
+pub mod Steps
+pub mod TextLines
+pub mod Uniqueness
+pub mod WholeJournals

@@ -1,0 +1,98 @@
+-- What a reader of a text of journals knows after some of its lines.
+-- (For functions and proofs: no promise of the program stands on it.)
+use Rattle.std.specs.Prelude.{◌≡◌, ℕ, ◌+◌, ◌<◌, ◌≤◌, Bool, true, false, List, [], ◌∷◌, ◌++◌, length, map, All}
+use Rattle.cache_core.specs.declared.entry.SliceEntry.{SliceEntry}
+use Rattle.journal_lines.specs.Lines.{command_line, entry_line, first_line, journal_lines, lines_from, slice_line}
+use Rattle.journal_lines.specs.Writable.{IsWritable, IsWritableCommand, IsWritableEntry, IsWritableSlice}
+use Rattle.journal_text.specs.Places.{LeadOn, Leads, LeadsFromSlices}
+use Rattle.journal_text.specs.declared.place.Place.{Place}
+use Rattle.journal_text.specs.declared.place.Place.TheVariants.{Start, InTree, InSlice, Over}
+use Rattle.journal_text.specs.declared.reader.Reader.{Reader}
+use Rattle.machine.specs.Slices.{slice_count}
+use Rattle.run_law.specs.Entries.{entries_of, entry_value}
+use Rattle.run_law.specs.Journals.{At, JournalsValue}
+use Rattle.run_law.specs.TreeHistory.{TreeEntryValue}
+use Rattle.script_ops.specs.Values.{ScriptValue, total_weight}
+
+-- the commands, the whole slices, and the entries of the slice that is being read
+pub record PartsRead : Type 0 where
+  pub tree : List TreeEntryValue
+  pub slices : List (List SliceEntry)
+  pub entries : List SliceEntry
+
+-- the place, and what was read before it
+pub record ReaderState : Type 0 where
+  pub place : Place
+  pub parts : PartsRead
+
+-- the state of a reader
+abbrev pub state_of : Reader → ReaderState
+state_of r = record { place = r.place; parts = record { tree = map entry_value r.tree.items; slices = map entries_of r.slices.items; entries = r.entries.items } }
+
+-- the journals that were read, where the text is over
+abbrev pub journals_in : PartsRead → JournalsValue
+journals_in s = record { tree = s.tree; slices = s.slices }
+
+-- the lines of the commands, with the first line before them
+abbrev pub tree_lines : List TreeEntryValue → List (List ℕ)
+tree_lines tree = first_line ∷ map command_line tree
+
+-- the lines of commands and of whole slices
+abbrev pub whole_slices : ScriptValue → PartsRead → List (List ℕ)
+whole_slices script s = tree_lines s.tree ++ lines_from script.machine 0 s.slices
+
+-- nothing was read
+pub record IsBefore (lines : List (List ℕ)) (s : PartsRead) : Type 0 where
+  pub same : lines ≡ []
+  pub tree : s.tree ≡ []
+  pub slices : s.slices ≡ []
+  pub entries : s.entries ≡ []
+
+-- these are the lines of the commands so far
+pub record HoldsTree (script : ScriptValue) (lines : List (List ℕ)) (s : PartsRead) : Type 0 where
+  pub same : lines ≡ tree_lines s.tree
+  pub tree : All (IsWritableCommand (total_weight script)) s.tree
+  pub slices : s.slices ≡ []
+  pub entries : s.entries ≡ []
+
+-- these are the lines of the commands, of the slices before this one, and of its entries so far, with so many still to come
+pub record HoldsSlices (script : ScriptValue) (slice left : ℕ) (lines : List (List ℕ)) (s : PartsRead) : Type 0 where
+  pub same : lines ≡ whole_slices script s ++ slice_line script.machine slice (length s.entries + left) ∷ map entry_line s.entries
+  pub tree : All (IsWritableCommand (total_weight script)) s.tree
+  pub count : length s.slices ≡ slice
+  pub there : slice < slice_count script.machine
+  pub slices : (i : ℕ) (entries : List SliceEntry) → At s.slices i entries → IsWritableSlice script.machine (total_weight script) i entries
+  pub few : length s.entries + left ≤ total_weight script
+  pub entries : All (IsWritableEntry script.machine slice) s.entries
+
+-- these are the lines of the journals
+pub record HoldsJournals (script : ScriptValue) (lines : List (List ℕ)) (s : PartsRead) : Type 0 where
+  pub same : lines ≡ journal_lines script.machine (journals_in s)
+  pub writable : IsWritable script (journals_in s)
+
+-- at this place, these are the lines of what was read
+abbrev pub Holds : ScriptValue → Place → List (List ℕ) → PartsRead → Type 0
+Holds script Start lines s = IsBefore lines s
+Holds script InTree lines s = HoldsTree script lines s
+Holds script (InSlice slice left) lines s = HoldsSlices script slice left lines s
+Holds script Over lines s = HoldsJournals script lines s
+
+-- these lines lead to the place of the reader, and it holds what they say
+pub record HasRead (script : ScriptValue) (lines : List (List ℕ)) (s : ReaderState) : Type 0 where
+  pub led : LeadOn script Start lines s.place
+  pub held : Holds script s.place lines s.parts
+
+-- the slice that is being read is one of the machine
+abbrev pub IsThere : ScriptValue → Place → Type 0
+IsThere script (InSlice slice left) = slice < slice_count script.machine
+IsThere script place = Unit {0}
+
+-- after a line that may stand, the reader has read it too; another leads nowhere
+abbrev pub HasTaken : ScriptValue → List ℕ → ReaderState → ReaderState → Bool → Type 0
+HasTaken script line old new true = (lines : List (List ℕ)) → HasRead script lines old → HasRead script (lines ++ line ∷ []) new
+HasTaken script line old new false = (next : Place) → Leads script old.place line next → ⊥
+
+-- the line after the commands was read; or there is none such
+abbrev pub HasLeftTree : ScriptValue → List ℕ → ReaderState → ReaderState → Bool → Type 0
+HasLeftTree script line old new true = HasTaken script line old new true
+HasLeftTree script line old new false = (next : Place) → LeadsFromSlices script 0 line next → ⊥

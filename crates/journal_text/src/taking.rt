@@ -1,0 +1,142 @@
+//! Taking the next line of a text of journals.
+ghost use Rattle.std.specs.Prelude.{◌≡◌, ◌+◌, ◌<◌, ◌≤◌, IfOk};
+ghost use Rattle.journal_text.specs.Places.{LeadsFromSlices};
+ghost use Rattle.journal_text.specs.States.{HasLeftTree, HasTaken, IsThere, state_of};
+ghost use Rattle.journal_text.specs.declared.place.Place.TheVariants.{Start, InTree, InSlice};
+ghost use Rattle.machine.specs.Slices.{slice_count};
+ghost use Rattle.script_ops.specs.Values.{total_weight};
+
+use crate::place::Place;
+use crate::reader::Reader;
+use crate::slices::after_slices;
+use journal_lines::{command_of_line, entry_of_line};
+use rc_base::{NoMemory, is_text};
+use script_ops::Script;
+use std::alloc::Global;
+use std::mem;
+
+impl Reader {
+    // Takes a line and says true, if it is the first of every text.
+    fn take_first(&mut self, script: &Script, line: &[u8]) -> bool
+        requires { (state_of self.old).place ≡ Start }
+        ensures { HasTaken script.now line.now (state_of self.old) (state_of self.new) result }
+    {
+        if is_text(line, b"journal 1") {
+            self.place = Place::InTree;
+            true
+        } else {
+            false
+        }
+    }
+
+    // Takes a line and says true, if it may stand after the commands.
+    fn leave_tree(&mut self, script: &Script, weight: u64, line: &[u8]) -> bool
+        requires weight { weight ≡ total_weight script.now }
+        requires place { (state_of self.old).place ≡ InTree }
+        ensures { HasLeftTree script.now line.now (state_of self.old) (state_of self.new) result }
+    {
+        match after_slices(script, weight, 0, line) {
+            Some(next) => {
+                self.place = next;
+                true
+            }
+            None => false,
+        }
+    }
+
+    // Takes a line and says true, if it is that of a command, or may stand after the commands.
+    fn take_command(
+        &mut self,
+        alloc: Global,
+        script: &Script,
+        weight: u64,
+        line: &[u8],
+    ) -> Result<bool, NoMemory>
+        requires weight { weight ≡ total_weight script.now }
+        requires place { (state_of self.old).place ≡ InTree }
+        ensures { IfOk result (HasTaken script.now line.now (state_of self.old) (state_of self.new)) }
+    {
+        match command_of_line(alloc, line, weight)? {
+            Some(entry) => {
+                self.tree.push(entry)?;
+                Ok(true)
+            }
+            None => Ok(self.leave_tree(script, weight, line)),
+        }
+    }
+
+    // Takes a line and says true, if it is that of an entry of this slice, of which so many are still to come.
+    fn take_entry(
+        &mut self,
+        script: &Script,
+        slice: u8,
+        left: u64,
+        line: &[u8],
+    ) -> Result<bool, NoMemory>
+        requires place { (state_of self.old).place ≡ InSlice slice left }
+        requires there { slice < slice_count script.now.machine }
+        requires more { 0 < left }
+        ensures { IfOk result (HasTaken script.now line.now (state_of self.old) (state_of self.new)) }
+    {
+        match entry_of_line(line, script.machine(), u32::from(slice)) {
+            Some(entry) => {
+                self.entries.push(entry)?;
+                self.place = Place::InSlice {
+                    slice,
+                    left: left - 1,
+                };
+                Ok(true)
+            }
+            None => Ok(false),
+        }
+    }
+
+    // Takes a line and says true, if it may stand after the entries of this slice.
+    fn leave_slice(
+        &mut self,
+        alloc: Global,
+        script: &Script,
+        weight: u64,
+        slice: u8,
+        line: &[u8],
+    ) -> Result<bool, NoMemory>
+        requires weight { weight ≡ total_weight script.now }
+        requires place { (state_of self.old).place ≡ InSlice slice 0 }
+        requires there { slice < slice_count script.now.machine }
+        ensures { IfOk result (HasTaken script.now line.now (state_of self.old) (state_of self.new)) }
+    {
+        match after_slices(script, weight, u32::from(slice) + 1, line) {
+            Some(next) => {
+                let entries = mem::replace(&mut self.entries, Vec::new(alloc));
+                self.slices.push(entries)?;
+                self.place = next;
+                Ok(true)
+            }
+            None => Ok(false),
+        }
+    }
+
+    /// Takes a line and says true, if it may stand after those that were taken. Nothing is promised of the reader after another
+    /// answer. `weight` is what the script weighs.
+    pub fn take(
+        &mut self,
+        alloc: Global,
+        script: &Script,
+        weight: u64,
+        line: &[u8],
+    ) -> Result<bool, NoMemory>
+        requires weight { weight ≡ total_weight script.now }
+        requires there { IsThere script.now (state_of self.old).place }
+        ensures { IfOk result (HasTaken script.now line.now (state_of self.old) (state_of self.new)) }
+    {
+        match self.place {
+            Place::Start => Ok(self.take_first(script, line)),
+            Place::InTree => self.take_command(alloc, script, weight, line),
+            Place::InSlice { slice, left: 0 } => {
+                self.leave_slice(alloc, script, weight, slice, line)
+            }
+            Place::InSlice { slice, left } => self.take_entry(script, slice, left, line),
+            Place::Over => Ok(false),
+        }
+    }
+}

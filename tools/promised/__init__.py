@@ -1,0 +1,1 @@
+"""What docs/PROMISES.md names, and what the crates have."""
