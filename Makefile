@@ -9,7 +9,9 @@
 PROGRAM = crates/resctrl_sim/out/resctrl_sim
 PLANNER = crates/resctrl_plan/out/resctrl_plan
 CHECKER = crates/resctrl_check/out/resctrl_check
-PROGRAMS = $(PROGRAM) $(PLANNER) $(CHECKER)
+CDP = crates/resctrl_cdp/out/resctrl_cdp
+LEVELS = crates/resctrl_l2/out/resctrl_l2
+PROGRAMS = $(PROGRAM) $(PLANNER) $(CHECKER) $(CDP) $(LEVELS)
 # It has the time at which make began, once all programs were proved and built from these sources: what is edited meanwhile is newer.
 BUILT = crates/resctrl_sim/out/built
 BEGAN := $(shell date +%s.%N)
@@ -47,6 +49,8 @@ test:
 	sh tools/statuses $(PROGRAM)
 	sh tools/plan_statuses $(PLANNER)
 	sh tools/check_statuses $(CHECKER)
+	sh tools/pair_statuses $(CDP) $(LEVELS)
+	sh examples/pairs/compare $(CDP) $(LEVELS)
 	python3 tools/compare_journals $(CHECKER)
 	sh tools/python/test $(PROGRAM)
 	@tools/believe | cmp -s - docs/BELIEVE.md || { echo "docs/BELIEVE.md is not what tools/believe prints"; exit 1; }

@@ -1,4 +1,4 @@
-# What tools/statuses, tools/plan_statuses and tools/check_statuses count: cases of an exit status and of what was written, for programs that read an input and
+# What tools/statuses, tools/plan_statuses, tools/check_statuses and tools/pair_statuses count: cases of an exit status and of what was written, for programs that read an input and
 # write a report. Both set -u and name the program first.
 passed=0
 failed=0

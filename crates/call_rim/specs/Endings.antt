@@ -22,7 +22,7 @@ call_of has_form usage source sink = record { has_form = has_form; usage = usage
 abbrev pub ReadsWell : Call → Type 0
 ReadsWell c = c.source.faults_now ≡ c.source.faults
 
--- (For proofs.) no call of the sink failed
+-- no call of the sink failed
 abbrev pub WritesWell : Call → Type 0
 WritesWell c = c.sink.faults_now ≡ c.sink.faults
 
@@ -79,7 +79,7 @@ module _ {T : Type 0} (refuses : List ℕ → List ℕ → Type 0) (reports : Li
   Ends c WriteFault outcome = ReadsWell c × (IsReported c outcome TakesSome ⊎ (IsRefused c outcome TakesSome ⊎ IsUsage c outcome TakesSome))
   Ends c NoMemory outcome = ReadsWell c × IsNoMemory c outcome
 
--- (For proofs.) What is left of a source that was read for a whole input: the rest, unless it failed or memory ran out.
+-- What is left of a source that was read for a whole input: the rest, unless it failed or memory ran out.
 abbrev pub LeavesBy : ℕ → Reading → Status → Type 0
 LeavesBy most source Done = LeavesRest most source.left source.left_now
 LeavesBy most source Refused = LeavesRest most source.left source.left_now

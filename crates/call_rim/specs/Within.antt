@@ -1,5 +1,4 @@
 -- Inputs that are too large.
--- (For functions and proofs: no promise of the program stands on it.)
 use Rattle.std.specs.Prelude.{◌≡◌, ℕ, ◌≤◌, ◌<◌, ◌⊎◌, List, [], ◌∷◌, ◌++◌, length, codes}
 
 -- the line that refuses an input of more bytes than the most

@@ -9,7 +9,7 @@ pub mod validity;
 
 pub use fault::CbmFault;
 pub use geometry::Geometry;
-pub use sets::{count, lowest_run, overlaps};
+pub use sets::{count, has_way, lowest_run, overlaps};
 pub use validity::check;
 
 #[cfg(test)]

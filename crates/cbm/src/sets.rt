@@ -1,6 +1,14 @@
 //! Masks as sets of ways.
-ghost use Rattle.std.specs.Prelude.{◌≡◌, ◌↔◌, length};
-ghost use Rattle.cbm.specs.Masks.{lowest_run, overlaps, ways_of};
+ghost use Rattle.std.specs.Prelude.{◌≡◌, ◌↔◌, ◌<◌, length};
+ghost use Rattle.cbm.specs.Masks.{has_way, lowest_run, overlaps, ways_of};
+
+/// Whether a mask has this way, the lowest being way 0.
+pub fn has_way(mask: u32, way: u8) -> bool
+    requires { way < 32 }
+    ensures { result ≡ has_way mask way }
+{
+    (mask >> way) & 1 == 1
+}
 
 /// How many ways a mask has, from 0 to 32.
 pub fn count(mask: u32) -> u32

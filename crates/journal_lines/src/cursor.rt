@@ -23,7 +23,7 @@ fn word_len(text: &[u8]) -> usize
     text.iter().take_while(|b| **b != b' ').count()
 }
 
-// What stands before the first space, and the rest.
+/// What stands before the first space, and the rest.
 pub(crate) fn first_word(text: &[u8]) -> (&[u8], &[u8])
     ensures { IsSplit result.0.now result.1.now text.now }
 {
@@ -40,7 +40,8 @@ fn after_space(text: &[u8]) -> Option<&[u8]>
     }
 }
 
-// The number that a text begins with after a space, and what follows it.
+/// The number that a text begins with after a space, and what follows it; None where no decimal text of a number below 2^64 stands
+/// there.
 pub(crate) fn take_number(text: &[u8]) -> Option<(u64, &[u8])>
     ensures { MatchOption result (TakesNone 1 text.now) (λ p. Takes (p.0 ∷ []) p.1.now text.now) }
 {
@@ -50,7 +51,7 @@ pub(crate) fn take_number(text: &[u8]) -> Option<(u64, &[u8])>
     Some((n, rest))
 }
 
-// The two numbers that a text begins with, and what follows them.
+/// The two numbers that a text begins with, and what follows them; None where there are fewer.
 pub(crate) fn take_two(text: &[u8]) -> Option<(u64, u64, &[u8])>
     ensures { MatchOption result (TakesNone 2 text.now) (λ p. Takes (p.0 ∷ p.1 ∷ []) p.2.now text.now) }
 {
@@ -59,7 +60,7 @@ pub(crate) fn take_two(text: &[u8]) -> Option<(u64, u64, &[u8])>
     Some((first, second, rest))
 }
 
-// The three numbers that a text begins with, and what follows them.
+/// The three numbers that a text begins with, and what follows them; None where there are fewer.
 pub(crate) fn take_three(text: &[u8]) -> Option<(u64, u64, u64, &[u8])>
     ensures { MatchOption result (TakesNone 3 text.now) (λ p. Takes (p.0 ∷ p.1 ∷ p.2 ∷ []) p.3.now text.now) }
 {
@@ -68,7 +69,7 @@ pub(crate) fn take_three(text: &[u8]) -> Option<(u64, u64, u64, &[u8])>
     Some((first, second, third, rest))
 }
 
-// The number that a text is.
+/// The number that a text is; None where it is anything else.
 pub(crate) fn only_number(text: &[u8]) -> Option<u64>
     ensures { MatchOption result (IsNotJust 1 text.now) (λ n. Takes (n ∷ []) [] text.now) }
 {
@@ -76,7 +77,7 @@ pub(crate) fn only_number(text: &[u8]) -> Option<u64>
     if rest.is_empty() { Some(n) } else { None }
 }
 
-// The two numbers that a text is.
+/// The two numbers that a text is; None where it is anything else.
 pub(crate) fn only_two(text: &[u8]) -> Option<(u64, u64)>
     ensures { MatchOption result (IsNotJust 2 text.now) (λ p. Takes (p.0 ∷ p.1 ∷ []) [] text.now) }
 {
@@ -85,7 +86,7 @@ pub(crate) fn only_two(text: &[u8]) -> Option<(u64, u64)>
     Some((first, second))
 }
 
-// The three numbers that a text is.
+/// The three numbers that a text is; None where it is anything else.
 pub(crate) fn only_three(text: &[u8]) -> Option<(u64, u64, u64)>
     ensures { MatchOption result (IsNotJust 3 text.now) (λ p. Takes (p.0 ∷ p.1 ∷ p.2 ∷ []) [] text.now) }
 {

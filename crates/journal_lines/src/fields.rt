@@ -11,21 +11,21 @@ use machine::Machine;
 // Every line in a journal text is below this (this project's profile).
 const LINE_LIMIT: u64 = 1 << 53;
 
-// A number of 32 bits.
+/// A number below 2^32; None for a greater one.
 pub(crate) fn narrow(n: u64) -> Option<u32>
     ensures { MatchOption result (n < 2 ^ 32 → ⊥) (λ x. x ≡ n) }
 {
     u32::try_from(n).ok()
 }
 
-// An RMID.
+/// An RMID, which has 16 bits; None for a greater number.
 pub(crate) fn rmid_of(n: u64) -> Option<u16>
     ensures { MatchOption result (n < 2 ^ 16 → ⊥) (λ x. x ≡ n) }
 {
     u16::try_from(n).ok()
 }
 
-// Whether an access hit.
+/// Whether an access hit: 1 says that it did, and 0 that it filled; None for any other number.
 pub(crate) fn hit_of(n: u64) -> Option<bool>
     ensures { MatchOption result ((hit : Bool) → one_if hit ≡ n → ⊥) (λ hit. one_if hit ≡ n) }
 {
@@ -36,7 +36,7 @@ pub(crate) fn hit_of(n: u64) -> Option<bool>
     }
 }
 
-// A way of the machine.
+/// A way of the machine; None for a number that is none of its ways.
 pub(crate) fn way_of(n: u64, machine: &Machine) -> Option<u8>
     ensures { MatchOption result (n < machine.now.ways → ⊥) (λ way. (way ≡ n) × (way < machine.now.ways)) }
 {
@@ -47,21 +47,21 @@ pub(crate) fn way_of(n: u64, machine: &Machine) -> Option<u8>
     }
 }
 
-// A mask that is valid in the machine.
+/// A mask that is valid in the machine; None for any other number.
 pub(crate) fn mask_of(n: u64, machine: &Machine) -> Option<u32>
     ensures { MatchOption result (IsMask (parameters_of machine.now) n → ⊥) (λ mask. (mask ≡ n) × IsMask (parameters_of machine.now) mask) }
 {
     check(n, &machine.geometry()).ok()
 }
 
-// A line, of any slice.
+/// A line of memory below 2^53, of any slice; None for a greater number.
 pub(crate) fn line_of(n: u64) -> Option<u64>
     ensures { MatchOption result (IsLine n → ⊥) (λ line. (line ≡ n) × IsLine line) }
 {
     if n < LINE_LIMIT { Some(n) } else { None }
 }
 
-// A line of this slice.
+/// A line of memory below 2^53 that is of this slice; None for any other number.
 pub(crate) fn line_in(n: u64, machine: &Machine, slice: u32) -> Option<u64>
     requires { slice < slice_count (parameters_of machine.now) }
     ensures { MatchOption result (IsLineIn (parameters_of machine.now) slice n → ⊥) (λ line. (line ≡ n) × IsLineIn (parameters_of machine.now) slice line) }

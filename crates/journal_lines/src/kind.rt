@@ -4,7 +4,7 @@ ghost use Rattle.journal_lines.specs.Kinds.{word_of};
 
 use rc_base::is_text;
 
-// The kinds of entries of a slice.
+/// The kinds of entries of a slice.
 #[derive(Clone, Copy, Debug, PartialEq, Eq)]
 pub(crate) enum EntryKind {
     // An access.
@@ -21,7 +21,7 @@ pub(crate) enum EntryKind {
     Drop,
 }
 
-// The kind whose lines begin with this word.
+/// The kind whose lines begin with this word; None where no kind's do.
 pub(crate) fn kind_named(word: &[u8]) -> Option<EntryKind>
     ensures { MatchOption result ((kind : EntryKind) → word_of kind ≡ word.now → ⊥) (λ kind. word_of kind ≡ word.now) }
 {

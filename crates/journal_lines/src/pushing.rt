@@ -19,7 +19,7 @@ fn push_fields(text: &mut GrowingText, numbers: &[u64]) -> Result<(), NoMemory>
     Ok(())
 }
 
-// Adds a word and its numbers.
+/// Adds a word and its numbers.
 pub(crate) fn push_line(
     text: &mut GrowingText,
     word: &[u8],
@@ -41,7 +41,7 @@ fn push_way(text: &mut GrowingText, way: Option<u8>) -> Result<(), NoMemory>
     }
 }
 
-// Adds the line of an entry, without the newline.
+/// Adds the line of an entry, without the newline.
 pub(crate) fn push_entry(text: &mut GrowingText, entry: &SliceEntry) -> Result<(), NoMemory>
     ensures { OnOk result (text.new ≡ text.old ++ entry_line entry.now) }
 {
@@ -108,7 +108,7 @@ fn argument(reply: Reply) -> u64
     }
 }
 
-// Adds the line of a command, with its newline.
+/// Adds the line of a command, with its newline.
 pub(crate) fn push_command(text: &mut GrowingText, entry: &TreeEntry) -> Result<(), NoMemory>
     ensures { OnOk result (text.new ≡ text.old ++ text_of (command_line (entry_value entry.now) ∷ [])) }
 {

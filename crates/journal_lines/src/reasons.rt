@@ -5,7 +5,7 @@ ghost use Rattle.rc_base.specs.declared.replies.Why.{Why};
 
 use rc_base::Why;
 
-// The reason with this number, from 1 to 42.
+/// The reason with this number, from 1 to 42; None for any other.
 pub(crate) fn reason_numbered(n: u64) -> Option<Why>
     ensures { MatchOption result ((why : Why) → number_of why ≡ n → ⊥) (λ why. number_of why ≡ n) }
 {

@@ -97,7 +97,7 @@ fn nothing_more(rest: &[u8], what: What) -> Option<What>
     if rest.is_empty() { Some(what) } else { None }
 }
 
-// What happened in this slice, by the kind of the entry and the rest of its line.
+/// What happened in this slice, by the kind of the entry and the rest of its line; None where the rest says nothing of this kind.
 pub(crate) fn what_of(kind: EntryKind, rest: &[u8], machine: &Machine, slice: u32) -> Option<What>
     requires { slice < slice_count (parameters_of machine.now) }
     ensures { MatchOption result ((what : What) → IsRest (parameters_of machine.now) slice kind rest.now what → ⊥) (IsRest (parameters_of machine.now) slice kind rest.now) }

@@ -3,7 +3,6 @@ pub mod Keeping
 pub mod Mkdir
 pub mod NewMasks
 pub mod Places
-pub mod Readings
 pub mod Removed
 pub mod Replaced
 pub mod Unions

@@ -9,7 +9,7 @@ use Rattle.mode_rules.specs.Overlaps.{is_apart, write_overlap}
 use Rattle.num_text.specs.Blanks.{trim}
 use Rattle.pair_law.proofs.Fits.{FitsBeside, FitsBeside-exclusive, FitsBeside-old, FitsBeside-shared, FitsBeside-written}
 use Rattle.pair_law.proofs.Places.{All-places_of}
-use Rattle.pair_law.proofs.Readings.{schemata_read-lawful}
+use Rattle.pair_law.proofs.laws.Readings.{schemata_read-lawful}
 use Rattle.pair_law.proofs.Replaced.{IsSameGroup, with_record-sound}
 use Rattle.pair_law.specs.Others.{Place, places_of, used_in}
 use Rattle.pair_law.specs.Reading.{SideMask}

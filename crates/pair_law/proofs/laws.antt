@@ -3,6 +3,7 @@ pub mod Bounds
 pub mod Epochs
 pub mod Opening
 pub mod Owners
+pub mod Readings
 pub mod Registers
 pub mod Steps
 pub mod Machines

@@ -1,6 +1,5 @@
 -- What the other groups use of a side, and what is free for a new group.
 -- (Intel SDM volume 3: the data and the code mask of all classes part the same cache. Kernel documentation, `mode`.)
--- (For functions and proofs: no promise of the program stands on it.)
 use Rattle.std.specs.Prelude.{ℕ, Bool, not, ◌&&◌, ◌==◌, find, is_none, List, [], ◌∷◌, ◌++◌, map, filter, Option, Some, None}
 use Rattle.std.specs.List.{flat_map, list_any, range_with_len}
 use Rattle.std.specs.Option.{option_map}

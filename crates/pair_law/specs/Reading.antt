@@ -1,6 +1,5 @@
 -- What a schemata text says of the two sides: the masks of its entries, or the fault of its first bad item.
 -- (Kernel documentation, "Schemata files - general concepts", with L3DATA and L3CODE, or L2 and L3.)
--- (For functions and proofs: no promise of the program stands on it.)
 use Rattle.std.specs.Prelude.{ℕ, Bool, true, false, not, ◌==◌, List, [], ◌∷◌, ◌++◌, map, filter, length, codes, Option, Some, None, Result, Ok, Err, if◌then◌else◌}
 use Rattle.std.specs.List.{list_any, before_first, after_first}
 use Rattle.num_text.specs.Blanks.{trim}
@@ -8,6 +7,7 @@ use Rattle.machine.specs.declared.parameters.Parameters.{Parameters}
 use Rattle.pair_ops.specs.Values.{Machines, side_machine}
 use Rattle.pair_ops.specs.declared.side.Side.{Side}
 use Rattle.pair_ops.specs.declared.side.Side.TheVariants.{First, Second}
+pub use Rattle.pair_ops.specs.declared.side_mask.SideMask.{SideMask}
 use Rattle.rc_base.specs.Faults.{◌>>=◌, fault_if}
 use Rattle.rc_base.specs.Texts.{is_text}
 use Rattle.schemata_text.specs.Items.{Item, Line, Entry, colon, items_of}
@@ -16,12 +16,6 @@ use Rattle.schemata_text.specs.declared.assignment.Assignment.{Assignment}
 use Rattle.schemata_text.specs.declared.fault.TextFault.{TextFault}
 use Rattle.schemata_text.specs.declared.fault.TextFault.TheVariants.{NoColon, BadResource, NoValue}
 use Rattle.tree_law.specs.Space.{geometry_of}
-
--- a mask of a side in a domain
-pub record SideMask : Type 0 where
-  pub side : Side
-  pub domain : ℕ
-  pub mask : ℕ
 
 abbrev pub is_same_side : Side → Side → Bool
 is_same_side First First = true

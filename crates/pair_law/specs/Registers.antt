@@ -1,7 +1,6 @@
 -- The registers of the masks, by class and side.
 -- With code and data prioritization, register 2n of a domain has the data mask of class n, and register 2n + 1 its code mask (Intel SDM
 -- volume 3, code and data prioritization).
--- (For functions and proofs: no promise of the program stands on it.)
 use Rattle.std.specs.Prelude.{ℕ, ◌+◌, ◌*◌, ◌/◌, ◌%◌, Bool, ◌==◌, find, Option, if◌then◌else◌}
 use Rattle.std.specs.Option.{option_map, option_map_or}
 use Rattle.pair_law.specs.State.{PairGroup, PairState, group_of, mask_in}

@@ -1,30 +1,19 @@
 -- The state of the groups of a pair script.
 -- (Intel SDM volume 3, code and data prioritization; kernel documentation, "Resource alloc and monitor groups".)
--- (For functions and proofs: no promise of the program stands on it.)
 use Rattle.std.specs.Prelude.{ℕ, Bool, true, false, ◌==◌, find, List, [], ◌∷◌, map, Option, Some, None, slice_index}
 use Rattle.std.specs.Option.{option_map_or}
 use Rattle.group_tree.specs.Opening.{full_mask, in_each_domain}
 use Rattle.pair_ops.specs.Values.{Machines, side_machine}
+pub use Rattle.pair_ops.specs.declared.group.PairGroup.{PairGroup}
 use Rattle.pair_ops.specs.declared.side.Side.{Side}
 use Rattle.pair_ops.specs.declared.side.Side.TheVariants.{First, Second}
 use Rattle.rc_base.specs.Gids.{default_gid}
 use Rattle.rc_base.specs.Texts.{is_text}
 use Rattle.rc_base.specs.declared.names.Gid.{Gid}
-use Rattle.rc_base.specs.declared.names.Mode.{Mode}
 use Rattle.rc_base.specs.declared.names.Mode.TheVariants.{Shareable}
 use Rattle.rc_base.specs.declared.replies.Reply.{Reply}
 use Rattle.task_binding.specs.Bindings.{binding_of, opening_binding}
 use Rattle.task_binding.specs.declared.binding.Binding.{Binding}
-
--- A group: its serial number, its name but for the default group, its mode, its class, and a mask for each domain on each side.
--- At the places of domains that a side does not have the mask is 0.
-pub record PairGroup : Type 0 where
-  pub gid : Gid
-  pub name : Option (List ℕ)
-  pub mode : Mode
-  pub class : ℕ
-  pub first : List ℕ
-  pub second : List ℕ
 
 -- The groups in order of creation; each task with its group; and the serial number of the next group.
 pub record PairState : Type 0 where

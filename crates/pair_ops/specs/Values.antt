@@ -1,6 +1,5 @@
 -- What a pair script says: its machines, its tasks, and its ops.
--- (For functions and proofs: no promise of the program stands on it.)
-use Rattle.std.specs.Prelude.{◌≡◌, ℕ, ◌<◌, ◌%◌, ◌/◌, Bool, true, false, IfSome, List, All, Contains, Option, None, Some, unwrap_or, filter, length, take, slice_get}
+use Rattle.std.specs.Prelude.{◌≡◌, ℕ, ◌<◌, ◌≤◌, ◌%◌, ◌/◌, Bool, true, false, IfSome, List, All, Contains, Option, None, Some, unwrap_or, filter, length, take, slice_get}
 use Rattle.std.specs.List.Sorted.{IsStrictlyIncreasing}
 use Rattle.machine.specs.Ranges.{InRange}
 use Rattle.machine.specs.declared.parameters.Parameters.{Parameters}
@@ -8,6 +7,8 @@ use Rattle.pair_ops.specs.declared.op.PairOp.{PairOp}
 use Rattle.pair_ops.specs.declared.op.PairOp.TheVariants as ops
 use Rattle.pair_ops.specs.declared.side.Side.{Side}
 use Rattle.pair_ops.specs.declared.side.Side.TheVariants.{First, Second}
+use Rattle.path_names.specs.declared.components.TheConstants.{MOST_NAME_BYTES}
+use Rattle.script_ops.specs.declared.limits.TheConstants.{MOST_TASKS}
 
 -- The caches: those of the machine, and the L2's where the script has two levels. Without an L2 the sides are code and data of
 -- the same caches.
@@ -57,27 +58,33 @@ op_at script i = slice_get script.ops i
 
 -- ---- lawful scripts
 
--- an L2 beside an L3: as many CPUs, each L3 domain over as many L2 domains as the others
+-- (For proofs.) an L2 beside an L3: as many CPUs, each L3 domain over as many L2 domains as the others
 pub record LiesBelow (m : Parameters) (l2 : Parameters) : Type 0 where
   pub in_range : InRange l2
   pub same_cpus : l2.cpus ≡ m.cpus
   pub whole : l2.domains % m.domains ≡ 0
   pub one_slice : l2.slices ≡ 1
 
--- machines in range, in one slice a domain
+-- (For proofs.) machines in range, in one slice a domain
 pub record AreMachines (m : Machines) : Type 0 where
   pub in_range : InRange m.machine
   pub one_slice : m.machine.slices ≡ 1
   pub some_class : 0 < class_count m
   pub below : IfSome m.l2 (LiesBelow m.machine)
 
--- a use of a script: its task is declared and its CPU exists
+-- (For proofs.) the name of a new group is no longer than that of a component of a path
+abbrev pub HasShortName : PairOp → Type 0
+HasShortName (ops.Mkdir name) = length name ≤ MOST_NAME_BYTES
+HasShortName op = Unit {0}
+
+-- (For proofs.) an op of a script: the task of a use is declared and its CPU exists, and a new group's name is short
 abbrev pub Fits : PairScriptValue → PairOp → Type 0
 Fits script (ops.Use task cpu line code) = Contains script.tasks task × (cpu < script.machines.machine.cpus)
-Fits script op = Unit {0}
+Fits script op = HasShortName op
 
--- What each pair script keeps to.
+-- (For proofs.) What each pair script keeps to.
 pub record IsLawful (script : PairScriptValue) : Type 0 where
   pub machines : AreMachines script.machines
   pub rising : IsStrictlyIncreasing script.tasks
+  pub few_tasks : length script.tasks ≤ MOST_TASKS
   pub fit : All (Fits script) script.ops

@@ -21,10 +21,10 @@ use Rattle.pair_ops.specs.declared.op.PairOp.{PairOp}
 use Rattle.pair_ops.specs.declared.op.PairOp.TheVariants as ops
 use Rattle.pair_ops.specs.declared.side.Side.{Side}
 use Rattle.pair_ops.specs.declared.side.Side.TheVariants.{Second}
-use Rattle.pair_runs.proofs.Cuts.{All-flat_map_range, Cut, flat_map-range_at, has_at-cut, map-cut, range_with_len-All}
+use Rattle.pair_runs.proofs.laws.Cuts.{All-flat_map_range, Cut, flat_map-range_at, has_at-cut, map-cut, range_with_len-All}
 use Rattle.pair_runs.proofs.Positions.{All-unmap}
 use Rattle.pair_runs.proofs.Sides.{HasSide, IsValid-side, mask_of_group-side}
-use Rattle.pair_runs.proofs.Undecided.{All-undecided, IsAccess, Respects-undecided, is_loaded_use-flush, is_other_use-undecided, is_use-undecided, items-asked, what-access, what-flush}
+use Rattle.pair_runs.proofs.laws.Undecided.{All-undecided, IsAccess, Respects-undecided, is_loaded_use-flush, is_other_use-undecided, is_use-undecided, items-asked, what-access, what-flush}
 use Rattle.pair_runs.proofs.Windows.{between-parts, get_or-after, take-front}
 use Rattle.pair_runs.specs.Entries.{asked_by, entry, slice_in}
 use Rattle.run_law.specs.Owed.{undecided}

@@ -9,7 +9,7 @@ use Rattle.pair_ops.specs.Values.{PairScriptValue, op_at}
 use Rattle.pair_ops.specs.declared.op.PairOp.{PairOp}
 use Rattle.pair_ops.specs.declared.op.PairOp.TheVariants as ops
 use Rattle.pair_ops.specs.declared.side.Side.TheVariants.{First, Second}
-use Rattle.pair_runs.proofs.Cuts.{flat_map-flat_map, flat_map-range_same}
+use Rattle.pair_runs.proofs.laws.Cuts.{flat_map-flat_map, flat_map-range_same}
 use Rattle.pair_runs.specs.LevelRuns.{LevelJournalsValue, asked_at, asked_of_op, domain_on, reaches, user_at}
 use Rattle.pair_runs.specs.PrivateLevels.{l2_hits, l2_line, l2_lines, l3_line, l3_lines, uses_of_set}
 use Rattle.private_lru.specs.Covered.{item_of, items}

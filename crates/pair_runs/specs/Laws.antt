@@ -1,5 +1,4 @@
 -- Laws of the windows of pair scripts.
--- (For functions and proofs: no promise of the program stands on it.)
 use Rattle.std.specs.Prelude.{◌≡◌, ℕ, ◌<◌, Bool, true, false, not, length, Some, None}
 use Rattle.cache_core.specs.declared.entry.SliceEntry.{SliceEntry}
 use Rattle.cbm.specs.Masks.{ways_of}
@@ -17,7 +16,7 @@ use Rattle.pair_runs.specs.PrivateLevels.{l2_hits, l3_hits}
 use Rattle.private_lru.specs.Isolation.{IsIsolated, between}
 use Rattle.rc_base.specs.declared.names.Gid.{Gid}
 
--- In every window of a run with code and data prioritization, the side of the group is isolated, in a private cache of as many ways
+-- (For proofs.) In every window of a run with code and data prioritization, the side of the group is isolated, in a private cache of as many ways
 -- as its mask has.
 abbrev pub CdpWindowsAreIsolated : Type 0
 CdpWindowsAreIsolated =
@@ -33,7 +32,7 @@ pub record HitsAsPrivate (script : PairScriptValue) (j : LevelJournalsValue) (do
   pub l3 : l2_hits script group.0 mask masks from (domain_on script First cpu) i line ≡ false → has_at (slice_in j.l3 domain) i is_hit ≡ l3_hits script group.0 mask masks from domain i line
   pub l3_missed : l2_hits script group.0 mask masks from (domain_on script First cpu) i line ≡ false → has_at (slice_in j.l3 domain) i is_miss ≡ not (l3_hits script group.0 mask masks from domain i line)
 
--- In every joint window of a run with two levels, each covered use of the group does what it does in a private hierarchy.
+-- (For proofs.) In every joint window of a run with two levels, each covered use of the group does what it does in a private hierarchy.
 abbrev pub LevelWindowsAreIsolated : Type 0
 LevelWindowsAreIsolated =
     (script : PairScriptValue) (j : LevelJournalsValue) (l2 : Parameters) (domain from to : ℕ) (group : Gid) (mask : ℕ) (masks : ℕ → ℕ) (last i task cpu line : ℕ) (code : Bool)

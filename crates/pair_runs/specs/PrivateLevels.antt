@@ -1,5 +1,4 @@
 -- A private hierarchy of two levels: what a group's uses would do alone, from a flush on.
--- (For functions and proofs: no promise of the program stands on it.)
 use Rattle.std.specs.Prelude.{ℕ, ◌+◌, ◌-◌, ◌%◌, Bool, not, ◌==◌, ◌&&◌, if◌then◌else◌, List, [], ◌∷◌, filter, map, length, Option, Some}
 use Rattle.std.specs.List.{flat_map, range_with_len}
 use Rattle.cbm.specs.Masks.{ways_of}

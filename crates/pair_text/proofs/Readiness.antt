@@ -4,7 +4,7 @@ use Rattle.std.specs.List.{list_any}
 use Rattle.std.proofs.lemmas.Bool.{and_parts, eqb-true}
 use Rattle.machine.proofs.laws.Ranges.{is_machine-true}
 use Rattle.machine.specs.Ranges.{is_machine}
-use Rattle.pair_ops.specs.Values.{AreMachines, Machines}
+use Rattle.pair_ops.specs.Values.{AreMachines, HasShortName, Machines}
 use Rattle.pair_ops.specs.declared.op.PairOp.{PairOp}
 use Rattle.pair_ops.specs.declared.op.PairOp.TheVariants as ops
 use Rattle.pair_text.specs.declared.pair_keys.PairKeys.{PairKeys}
@@ -18,7 +18,7 @@ use Rattle.pair_text.specs.declared.kind.Place.TheVariants as places
 use Rattle.script_lines.proofs.laws.TaskLists.{IsOrdered-tasks_of}
 use Rattle.script_lines.proofs.laws.TaskRanges.{RiseFrom-with_range}
 use Rattle.rc_base.specs.Faults.{◌>>=◌}
-use Rattle.script_lines.specs.Tasks.{RiseFrom, declared, declared_from, ids_of, meets, tasks_of, with_range}
+use Rattle.script_lines.specs.Tasks.{RiseFrom, count_of, declared, declared_from, ids_of, meets, tasks_of, with_range}
 use Rattle.script_lines.specs.declared.fault.LineFault.{LineFault}
 use Rattle.script_lines.specs.declared.tasks.TaskRange.{TaskRange}
 
@@ -42,10 +42,10 @@ module _ {B : Type 0} (P : B → Type 0) where
 
 -- ---- states
 
--- a use is of a declared task and of a CPU of the machine
+-- a use is of a declared task and of a CPU of the machine, and a new group's name is short
 abbrev pub FitsAt : ℕ → List ℕ → PairOp → Type 0
 FitsAt cpus tasks (ops.Use task cpu line code) = Contains tasks task × (cpu < cpus)
-FitsAt cpus tasks op = Unit {0}
+FitsAt cpus tasks op = HasShortName op
 
 -- before any op
 abbrev pub is_early : Place → Bool
@@ -62,6 +62,7 @@ IsTraced cpus tasks place = Unit {0}
 pub record IsReady (s : PairState) : Type 0 where
   pub machines : AreMachines s.machines
   pub tasks : RiseFrom 0 s.tasks
+  pub few_tasks : count_of s.tasks ≤ 4096
   pub fit : All (FitsAt s.machines.machine.cpus (ids_of s.tasks)) s.ops
   pub traced : IsTraced s.machines.machine.cpus (ids_of s.tasks) s.place
   pub bare : is_early s.place ≡ true → s.ops ≡ []

@@ -1,5 +1,5 @@
 -- Each line keeps what the lines before it keep to, and so a script is lawful.
-use Rattle.std.proofs.Common.{◌≡◌, ℕ, ◌+◌, ◌/◌, ◌<◌, Bool, true, false, not, cond, ◌&&◌, eqb, ltb, List, [], ◌∷◌, ◌++◌, length, map, get_or, All, Contains, Result, Ok, Err, IfOk, refl, sym, ap, subst, ◌∙◌, arith, codes}
+use Rattle.std.proofs.Common.{◌≡◌, ℕ, ◌+◌, ◌/◌, ◌<◌, Bool, true, false, not, cond, ◌&&◌, eqb, ltb, List, [], ◌∷◌, ◌++◌, length, map, get_or, All, Contains, Result, Ok, Err, IfOk, refl, sym, ap, subst, ◌∙◌, arith, codes, ltb-false}
 use Rattle.std.specs.List.{range_with_len, list_any}
 use Rattle.std.proofs.lemmas.Bool.{not-false, true≢false}
 use Rattle.std.proofs.lemmas.List.Elements.{All-append, All-map, All-nil, All-push}
@@ -20,7 +20,7 @@ use Rattle.pair_text.specs.declared.kind.Kind.TheVariants as kinds
 use Rattle.pair_text.specs.declared.kind.PairKind.{PairKind}
 use Rattle.pair_text.specs.declared.kind.Place.{Place}
 use Rattle.pair_text.specs.declared.kind.Place.TheVariants as places
-use Rattle.script_lines.proofs.laws.TaskRanges.{IsStrictlyIncreasing-ids_of}
+use Rattle.script_lines.proofs.laws.TaskRanges.{IsStrictlyIncreasing-ids_of, length-ids_of}
 use Rattle.script_lines.specs.Escapes.{text_behind, unescaped}
 use Rattle.pair_text.specs.Kinds.{is_start, may_stand, pair_kind_of}
 use Rattle.rc_base.specs.Faults.{◌>>=◌}
@@ -35,6 +35,7 @@ use Rattle.script_lines.specs.Tasks.{count_of, task_of, declared, ids_of}
 use Rattle.script_lines.specs.declared.fault.LineFault.TheVariants.{BadArgument, BadByte, BadEscape, BadMachine, BadPath, BadTasks, NoMachine, OutOfPlace, TooLarge, UnknownTask, UnknownWord}
 use Rattle.pair_text.specs.declared.fault.PairFault.TheVariants.{Line}
 use Rattle.pair_text.proofs.Readiness.{AreMachines-machines_of, FitsAt, IfOk-bind, IfOk-fault_if, IfOk-or_fault, IsReady, IsTraced, RiseFrom-declared, is_early}
+use Rattle.pair_text.proofs.ShortNames.{IfOk-group_alone, IsShort}
 
 -- one command more
 IsReady-with_command : (s : PairState) (op : PairOp) → IsReady s → FitsAt s.machines.machine.cpus (ids_of s.tasks) op → IfOk (with_command s op) IsReady
@@ -45,6 +46,7 @@ IsReady-with_command s op ready fits = at (ltb 20000 (s.commands + 1))
     at false = record {
       machines = ready.machines;
       tasks = ready.tasks;
+      few_tasks = ready.few_tasks;
       fit = All-push (FitsAt s.machines.machine.cpus (ids_of s.tasks)) s.ops op ready.fit fits;
       traced = tt;
       bare = λ h. absurd cc;
@@ -59,6 +61,7 @@ IsReady-with_uses s count uses ready late fits = at (ltb 2000000 (s.uses + count
     at false = record {
       machines = ready.machines;
       tasks = ready.tasks;
+      few_tasks = ready.few_tasks;
       fit = All-append (FitsAt s.machines.machine.cpus (ids_of s.tasks)) s.ops uses ready.fit fits;
       traced = ready.traced;
       bare = λ early. absurd (true≢false (sym early ∙ late));
@@ -66,7 +69,7 @@ IsReady-with_uses s count uses ready late fits = at (ltb 2000000 (s.uses + count
 
 -- the place changes to the body
 IsReady-in_body : (s : PairState) → IsReady s → IsReady (in_body s)
-IsReady-in_body s ready = record { machines = ready.machines; tasks = ready.tasks; fit = ready.fit; traced = tt; bare = λ h. absurd cc }
+IsReady-in_body s ready = record { machines = ready.machines; tasks = ready.tasks; few_tasks = ready.few_tasks; fit = ready.fit; traced = tt; bare = λ h. absurd cc }
 
 stands-start : (p : Place) → may_stand kinds.Machine p ≡ true → is_early p ≡ true
 stands-start places.Start h = refl
@@ -97,6 +100,7 @@ IsReady-means kind kinds.Machine s rest stands ready =
     IfOk-or_fault IsReady (machines_of kind (words rest)) BadMachine _ (λ m e. record {
       machines = AreMachines-machines_of kind (words rest) m e;
       tasks = ready.tasks;
+      few_tasks = ready.few_tasks;
       fit = fits-none m.machine.cpus (ids_of s.tasks) s.ops (ready.bare (stands-start s.place stands));
       traced = tt;
       bare = λ h. ready.bare (stands-start s.place stands);
@@ -106,11 +110,12 @@ IsReady-means kind kinds.Tasks s rest stands ready =
     IfOk-fault_if IsReady (ltb 4096 (count_of tasks)) TooLarge _ (λ few. record {
       machines = ready.machines;
       tasks = RiseFrom-declared s.tasks (words rest) tasks ready.tasks e;
+      few_tasks = ltb-false _ _ few;
       fit = fits-none s.machines.machine.cpus (ids_of tasks) s.ops (ready.bare (stands-head s.place stands));
       traced = tt;
       bare = λ h. absurd cc;
     }))
-IsReady-means kind kinds.Mkdir s rest stands ready = IfOk-bind IsReady (group_alone rest) _ (λ name e. IsReady-with_command s (ops.Mkdir name) ready tt)
+IsReady-means kind kinds.Mkdir s rest stands ready = IfOk-bind IsReady (group_alone rest) _ (λ name e. IsReady-with_command s (ops.Mkdir name) ready (subst (λ r. IfOk r IsShort) e (IfOk-group_alone rest)))
 IsReady-means kind kinds.Rmdir s rest stands ready = IfOk-bind IsReady (group_alone rest) _ (λ name e. IsReady-with_command s (ops.Rmdir name) ready tt)
 IsReady-means kind kinds.Write s rest stands ready =
     IfOk-or_fault IsReady (first_of (words rest)) BadArgument _ (λ word e.
@@ -125,6 +130,7 @@ IsReady-means kind kinds.Trace s rest stands ready =
     IfOk-or_fault IsReady (task_of s.tasks u.task) UnknownTask _ (λ task h. record {
       machines = ready.machines;
       tasks = ready.tasks;
+      few_tasks = ready.few_tasks;
       fit = ready.fit;
       traced = (task_of-declared s.tasks u.task task h, trace_of-fits s.machines.machine (words rest) u e);
       bare = λ early. absurd cc;
@@ -199,6 +205,7 @@ pub IsReady-nothing_read : IsReady nothing_read
 IsReady-nothing_read = record {
   machines = record { in_range = is_machine-true usual is_machine-usual; one_slice = refl; some_class = omega arith; below = tt };
   tasks = tt;
+  few_tasks = omega arith;
   fit = All-nil (FitsAt 1 []);
   traced = tt;
   bare = λ h. refl;
@@ -206,7 +213,7 @@ IsReady-nothing_read = record {
 
 -- what fits the state fits the script
 fits-script : (s : PairState) (op : PairOp) → FitsAt s.machines.machine.cpus (ids_of s.tasks) op → Fits (script_in s) op
-fits-script s (ops.Mkdir name) h = tt
+fits-script s (ops.Mkdir name) h = h
 fits-script s (ops.Rmdir name) h = tt
 fits-script s (ops.Write file text) h = tt
 fits-script s (ops.Read file) h = tt
@@ -217,6 +224,7 @@ IsLawful-script_in : (s : PairState) → IsReady s → IsLawful (script_in s)
 IsLawful-script_in s ready = record {
   machines = ready.machines;
   rising = IsStrictlyIncreasing-ids_of s.tasks ready.tasks;
+  few_tasks = omega (arith, length-ids_of s.tasks, ready.few_tasks);
   fit = λ k d h. fits-script s (get_or s.ops k d) (ready.fit k d h);
 }
 

@@ -1,5 +1,4 @@
 -- The kinds of lines, by their first words, and where each may stand.
--- (For functions and proofs: no promise of the program stands on it.)
 use Rattle.std.specs.Prelude.{ℕ, Bool, true, false, not, List, codes, Option, Some, None, if◌then◌else◌}
 use Rattle.std.specs.Option.{option_or}
 use Rattle.pair_text.specs.declared.kind.Kind.{Kind}

@@ -1,5 +1,4 @@
 -- The machine line of a pair script: words `KEY=VALUE`, each key at most once, in any order.
--- (For functions and proofs: no promise of the program stands on it.)
 use Rattle.std.specs.Prelude.{◌≡◌, ℕ, ◌%◌, Bool, ◌&&◌, ◌||◌, ◌==◌, nat_le, List, [], ◌∷◌, codes, Option, Some, None, is_some, unwrap_or, if◌then◌else◌}
 use Rattle.std.specs.Option.{option_and_then, option_or, option_map}
 use Rattle.std.specs.List.{list_any, before_first, after_first}
@@ -80,11 +79,11 @@ machines_from Levels k =
 abbrev pub machines_of : PairKind → List (List ℕ) → Option Machines
 machines_of kind words = option_and_then (machines_from kind) (pair_keys_from kind no_pair_keys words)
 
--- the machines, as they are seen
+-- (For proofs.) the machines, as they are seen
 abbrev pub machines_seen : Machine → Option Machine → Machines
 machines_seen machine l2 = record { machine = parameters_of machine; l2 = option_map parameters_of l2 }
 
--- a function gave these machines
+-- (For proofs.) a function gave these machines
 abbrev pub GivesMachines : Option (Machine × Option Machine) → Option Machines → Type 0
 GivesMachines None machines = machines ≡ None
 GivesMachines (Some (machine, l2)) machines = machines ≡ Some (machines_seen machine l2)

@@ -1,5 +1,4 @@
 -- What a line of a pair script means, after the lines before it.
--- (For functions and proofs: no promise of the program stands on it.)
 use Rattle.std.specs.Prelude.{ℕ, ◌+◌, ◌*◌, ◌/◌, Bool, false, not, ◌&&◌, ◌==◌, nat_lt, List, [], ◌∷◌, ◌++◌, length, map, codes, Option, Some, None, Result, Ok, Err, if◌then◌else◌}
 use Rattle.std.specs.List.{list_any, range_with_len}
 use Rattle.lackey_text.specs.Lines.{line_of}
@@ -181,7 +180,7 @@ line_meaning kind s line = do
   a ← fault_if (list_any is_bad line) BadByte
   placed_line kind s.place s line
 
--- an error of a line of any script
+-- (For proofs.) an error of a line of any script
 abbrev pub stopped : LineError → Stop
 stopped (line_errors.Fault f) = stops.Fault (Line f)
 stopped line_errors.NoMemory = stops.NoMemory

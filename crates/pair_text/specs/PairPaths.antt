@@ -1,5 +1,4 @@
 -- The paths of a pair script: `/NAME`, and the files of the default group and of `/NAME`.
--- (For functions and proofs: no promise of the program stands on it.)
 use Rattle.std.specs.Prelude.{◌≡◌, ℕ, nat_lt, List, [], ◌∷◌, length, codes, Option, Some, None, is_some, if◌then◌else◌}
 use Rattle.std.specs.Borrow.{Bor}
 use Rattle.std.specs.Option.{option_and_then, option_map}
@@ -38,28 +37,28 @@ file_at parts = None
 abbrev pub or_long : {A : Type 0} → (List (List ℕ) → Option A) → List ℕ → Option (Option A)
 or_long at word = if nat_lt MOST_PATH_BYTES (length word) then Some None else option_map (λ a. Some a) (option_and_then at (components_of word))
 
--- a function found this name
+-- (For proofs.) a function found this name
 abbrev pub FindsName : Option (Bor (List ℕ)) → Option (List ℕ) → Type 0
 FindsName None name = name ≡ None
 FindsName (Some found) name = name ≡ Some found.now
 
--- a function found this group
+-- (For proofs.) a function found this group
 abbrev pub FindsGroup : Option (Option (Bor (List ℕ))) → Option (Option (List ℕ)) → Type 0
 FindsGroup None name = name ≡ None
 FindsGroup (Some None) name = name ≡ Some None
 FindsGroup (Some (Some found)) name = name ≡ Some (Some found.now)
 
--- the name of a group, as it was found
+-- (For proofs.) the name of a group, as it was found
 abbrev pub seen : Option (Bor (List ℕ)) → Option (List ℕ)
 seen None = None
 seen (Some found) = Some found.now
 
--- the same without a test of its length
+-- (For proofs.) the same without a test of its length
 abbrev pub SeesFile : Option (Option (Bor (List ℕ)) × FileKind) → Option PairFile → Type 0
 SeesFile None file = file ≡ None
 SeesFile (Some (group, kind)) file = file ≡ Some (record { group = seen group; kind = kind })
 
--- a function found this file
+-- (For proofs.) a function found this file
 abbrev pub FindsFile : Option (Option (Option (Bor (List ℕ)) × FileKind)) → Option (Option PairFile) → Type 0
 FindsFile None file = file ≡ None
 FindsFile (Some None) file = file ≡ Some None

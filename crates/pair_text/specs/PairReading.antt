@@ -1,5 +1,4 @@
 -- The pair script that a text is, or its first bad line.
--- (For functions and proofs: no promise of the program stands on it.)
 use Rattle.std.specs.Prelude.{◌≡◌, ℕ, ◌+◌, ◌<◌, List, [], ◌∷◌, length, Option, Some, None, Result, Ok, Err}
 use Rattle.std.specs.Borrow.{Bor}
 use Rattle.std.specs.Str.Lines.{lines}
@@ -56,7 +55,7 @@ reading_from kind n s (line ∷ lines) = after_line (n + 1) (line_meaning kind s
 abbrev pub pair_script_of : PairKind → List ℕ → Result PairScriptValue PairFaultAt
 pair_script_of kind text = reading_from kind 0 nothing_read (lines text)
 
--- A function took in the first line of a text and left what stands after it, or there is no line; an error is the line's first
+-- (For proofs.) A function took in the first line of a text and left what stands after it, or there is no line; an error is the line's first
 -- fault, or out of memory.
 abbrev pub TakesLine : PairKind → Result (Option (Bor (List ℕ))) Stop → PairState → PairState → List ℕ → Type 0
 TakesLine kind (Ok None) before after text = (lines text ≡ []) × (after ≡ before)
@@ -64,17 +63,17 @@ TakesLine kind (Ok (Some rest)) before after text =
     (line : List ℕ) × (lines text ≡ line ∷ lines rest.now) × (length rest.now < length text) × (line_meaning kind before line ≡ Ok after)
 TakesLine kind (Err e) before after text = (line : List ℕ) × (rest : List ℕ) × (lines text ≡ line ∷ lines rest) × Fails e (line_meaning kind before line)
 
--- an error of a line, with the line's number
+-- (For proofs.) an error of a line, with the line's number
 abbrev pub located : Stop → ℕ → PairError
 located (stops.Fault what) n = errors.Bad n what
 located stops.NoMemory n = errors.NoMemory
 
--- An error is this fault, or out of memory.
+-- (For proofs.) An error is this fault, or out of memory.
 abbrev pub FailsAt : PairError → Result PairScriptValue PairFaultAt → Type 0
 FailsAt errors.NoMemory script = Unit {0}
 FailsAt (errors.Bad line what) script = script ≡ Err (record { line = line; what = what })
 
--- What a function returned is this, unless memory ran out.
+-- (For proofs.) What a function returned is this, unless memory ran out.
 abbrev pub Reads : Result PairScriptValue PairError → Result PairScriptValue PairFaultAt → Type 0
 Reads (Ok s) script = script ≡ Ok s
 Reads (Err e) script = FailsAt e script

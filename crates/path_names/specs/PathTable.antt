@@ -99,7 +99,7 @@ abbrev pub fixed_entries : ℕ → DirRef → List Entry
 fixed_entries domains (MonData holder) = map (domain_entry holder) (range_with_len 0 domains)
 fixed_entries domains dir = map (entry_in dir) (fixed_in dir)
 
--- (For proofs.) the entry of this name among these of a directory
+-- the entry of this name among these of a directory
 abbrev pub entry_among : DirRef → List ℕ → List FixedEntry → Option PathRef
 entry_among dir name entries = lookup (λ known. is_text name known) (map (entry_in dir) entries)
 

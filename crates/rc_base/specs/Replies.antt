@@ -29,7 +29,7 @@ code_of Eexist = 17
 code_of Einval = 22
 code_of Enospc = 28
 
--- (For proofs.) the number of a reason
+-- the number of a reason
 abbrev pub number_of : Why → ℕ
 number_of NoSuchPath = 1
 number_of NotAPlace = 2

@@ -3,14 +3,14 @@ ghost use Rattle.std.specs.Prelude.{◌≡◌, ◌≤◌, [], ◌∷◌, ◌++�
 ghost use Rattle.num_text.specs.Printed.{hexadecimal};
 ghost use Rattle.rc_base.specs.Reasons.{argument_text, reason_text};
 ghost use Rattle.report_pieces.specs.Pieces.{barred, reply_text};
-ghost use Rattle.script_ops.specs.Canonical.{op_ids, op_text};
+ghost use Rattle.script_ops.specs.Canonical.{op_ids, op_text, text_after};
 ghost use Rattle.path_names.specs.NamesIn.{AreKnown, path_ids};
 ghost use Rattle.path_names.specs.PathTexts.{path_text};
 
 use num_text::push_hex;
 use path_names::{Names, PathRef};
 use rc_base::{Argument, NoMemory, Reply, TextBuf, Why};
-use script_ops::{GrowingText, Op, next_line};
+use script_ops::{GrowingText, Op, next_line, push_written};
 use std::alloc::Global;
 use std::marker::Model;
 
@@ -126,6 +126,13 @@ impl ReportText {
         ensures { OnOk result (self.new ≡ self.old ++ op_text names.now op.now) }
     {
         self.text.push_op(names, op)
+    }
+
+    /// Adds a written text after a space and with its escapes, and nothing where it is empty.
+    pub fn push_written(&mut self, written: &[u8]) -> Result<(), NoMemory>
+        ensures { OnOk result (self.new ≡ self.old ++ text_after written.now) }
+    {
+        push_written(&mut self.text, written)
     }
 
     /// Adds each line of a text after a bar.

@@ -1,3 +1,4 @@
+pub mod CachesCounted
 pub mod CountedAccesses
 pub mod CountedEntries
 pub mod DomainCounts

@@ -1,3 +1,4 @@
+pub mod CacheCounts
 pub mod Counts
 pub mod DomainLines
 pub mod Domains

@@ -11,8 +11,9 @@ ghost use Rattle.run_counts.specs.Occupancies.{AddsPlaces, HasCounted, HasDecide
 ghost use Rattle.run_counts.specs.declared.line_counts.TheConstants.{MOST_COUNT};
 ghost use Rattle.run_law.specs.Slices.{shape_in};
 
-use crate::line_counts::{Occupancy, has_way};
+use crate::line_counts::Occupancy;
 use cache_core::{SliceEntry, What};
+use cbm::has_way;
 use machine::Machine;
 
 // Whether a set is of slice i.

@@ -1,6 +1,7 @@
 //! What is counted from the journals of a run. A call that runs out of memory answers NoMemory.
 #![tactic(auto)]
 
+mod cache_counts;
 mod counting;
 mod counts;
 mod domain_lines;
@@ -14,6 +15,7 @@ mod tally;
 mod touches;
 mod walk;
 
+pub use cache_counts::CacheCounts;
 pub use counts::Counts;
 pub use domain_lines::DomainLines;
 pub use domains::{number_of, slices_of};

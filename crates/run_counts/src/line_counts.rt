@@ -6,6 +6,7 @@ ghost use Rattle.run_counts.specs.Occupancies.{AddsPlace, IsAtMost, SkipsPlace, 
 ghost use Rattle.run_counts.specs.declared.line_counts.TheConstants.{MOST_COUNT};
 
 use crate::domain_lines::DomainLines;
+use cbm::has_way;
 use machine::Machine;
 use rc_base::NoMemory;
 use std::alloc::Global;
@@ -30,14 +31,6 @@ impl Model for Occupancy {
     ghost Value = { OccupancyValue };
 
     ghost view = { λ o. record { seen = o.seen.items; counts = o.counts.items; valid = o.valid } };
-}
-
-/// Whether a word has a way.
-pub(crate) fn has_way(word: u32, way: u8) -> bool
-    requires { way < 32 }
-    ensures { result ≡ has_way word way }
-{
-    (word >> way) & 1 == 1
 }
 
 // A word with this way too.

@@ -1,5 +1,4 @@
 -- What makes journals a run, clause by clause: each is said of any journals, and all ten together are a run.
--- (For functions and proofs: no promise of the program stands on it.)
 use Rattle.std.specs.Prelude.{◌≡◌, ℕ, ◌<◌, ◌↔◌, true, false, IsSome, IsTrue, Some, filter, length}
 use Rattle.cache_core.specs.History.{IsLegal}
 use Rattle.cache_core.specs.declared.entry.SliceEntry.{SliceEntry}
@@ -49,7 +48,7 @@ pub record EntriesStandOnce (script : ScriptValue) (j : JournalsValue) : Type 0 
   pub each : (i thread op : ℕ) (c : Op) → i < slice_count script.machine → op_at script thread op ≡ Some c → Makes script j i thread op c (filter (is_made_by thread op) (slice_at j i))
   pub no_others : (i p : ℕ) (e : SliceEntry) → At (slice_at j i) p e → IsSome (op_at script e.thread e.op)
 
--- the ten clauses
+-- (For proofs.) the ten clauses
 pub record MeetsClauses (script : ScriptValue) (j : JournalsValue) : Type 0 where
   pub commands_once : CommandsStandOnce script j
   pub tree_legal : TreeIsLegal script j
@@ -62,6 +61,6 @@ pub record MeetsClauses (script : ScriptValue) (j : JournalsValue) : Type 0 wher
   pub marks : MarksInOrder script j
   pub entries_in_order : EntriesInOrder script j
 
--- Journals that have a list for each slice are a run exactly where they meet all clauses.
+-- (For proofs.) Journals that have a list for each slice are a run exactly where they meet all clauses.
 abbrev pub RunsByClauses : Type 0
 RunsByClauses = (script : ScriptValue) (j : JournalsValue) → length j.slices ≡ slice_count script.machine → IsRun script j ↔ MeetsClauses script j

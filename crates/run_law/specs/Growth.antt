@@ -60,7 +60,7 @@ pub record AreInPhase (script : ScriptValue) (at : ℕ → Progress) (phase : �
   pub earlier : (t : ℕ) → phase_in script.phases t < phase → at t ≡ (record { next = length (ops_of script t); made = None; tag = None })
   pub later : (t : ℕ) → phase < phase_in script.phases t → at t ≡ (record { next = 0; made = None; tag = None })
 
--- (For proofs.) ops that come before others in the script happened before them
+-- ops that come before others in the script happened before them
 abbrev pub MarksInOrder : ScriptValue → JournalsValue → Type 0
 MarksInOrder script j =
     (thread op later_thread later_op start stop later_start later_stop : ℕ) (c later : Op)
@@ -75,7 +75,7 @@ IsBehindAll script j thread op epoch =
     → op_at script earlier_thread earlier_op ≡ Some c → Precedes script earlier_thread earlier_op thread op → HasMarks j earlier_thread earlier_op c start stop
     → stop ≤ epoch
 
--- (For proofs.) entries of ops that come before others stand before theirs
+-- entries of ops that come before others stand before theirs
 abbrev pub EntriesInOrder : ScriptValue → JournalsValue → Type 0
 EntriesInOrder script j =
     (i p q : ℕ) (e later : SliceEntry) → At (slice_at j i) p e → At (slice_at j i) q later

@@ -41,7 +41,7 @@ abbrev pub access_of : Parameters → List (List ℕ) → Option Use
 access_of m (task ∷ cpu ∷ addr ∷ []) = use_of m task cpu (addr_of addr)
 access_of m words = None
 
--- (For proofs.) the words TASK CPU: the task and the CPU of a trace, at address 0
+-- the words TASK CPU: the task and the CPU of a trace, at address 0
 abbrev pub trace_of : Parameters → List (List ℕ) → Option Use
 trace_of m (task ∷ cpu ∷ []) = use_of m task cpu (Some 0)
 trace_of m words = None

@@ -46,7 +46,7 @@ phase_at script phase = slice_index_or script.phases phase (record { order = [];
 abbrev pub first_thread : ScriptValue → ℕ → ℕ
 first_thread script phase = length (threads_in (take phase script.phases))
 
--- (For proofs.) what the ops of all threads weigh together
+-- what the ops of all threads weigh together
 abbrev pub total_weight : ScriptValue → ℕ
 total_weight script = sum_by (weights_of script.machine) (threads_of script)
 

@@ -37,6 +37,6 @@ weight_of m (ops.Touch cpu path task offset) = 2
 weight_of m (ops.DropLine addr) = slice_count m + 1
 weight_of m (ops.DropRegion path offset) = slice_count m + 1
 
--- (For proofs.) what ops weigh together
+-- what ops weigh together
 abbrev pub weights_of : Parameters → List Op → ℕ
 weights_of m ops = sum_by (weight_of m) ops

@@ -3,6 +3,7 @@ ghost use Rattle.std.specs.Prelude.{◌≡◌, ℕ, ◌+◌, ◌*◌, ◌<◌, �
 ghost use Rattle.cache_core.specs.History.{ways_below};
 ghost use Rattle.cbm.specs.Masks.{has_way};
 
+use cbm::has_way;
 use machine::Machine;
 
 /// The region that the last emptying loaded: its ways, the line of set 0 in the lowest of these, and the stamp of its lines. A
@@ -12,14 +13,6 @@ pub struct Region {
     pub mask: u32,
     pub first_line: u64,
     pub stamp: u64,
-}
-
-/// Whether a mask has this way.
-pub(crate) fn has_way(mask: u32, way: u8) -> bool
-    requires { way < 32 }
-    ensures { result ≡ has_way mask way }
-{
-    (mask >> way) & 1 == 1
 }
 
 /// How many ways of a mask are below this one.

@@ -4,8 +4,9 @@ ghost use Rattle.cache_core.specs.History.{is_own, shape_of, ways_below};
 ghost use Rattle.machine.specs.Maps.{parameters_of};
 ghost use Rattle.slice_replay.specs.Slots.{HasLine, Puts, left_place, place_at, written};
 
-use crate::region::{Region, has_way, ways_below};
+use crate::region::{Region, ways_below};
 use cache_core::Place;
+use cbm::has_way;
 use machine::Machine;
 use rc_base::NoMemory;
 use std::alloc::Global;

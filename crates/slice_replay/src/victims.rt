@@ -4,8 +4,8 @@ ghost use Rattle.cbm.specs.Masks.{has_way};
 ghost use Rattle.slice_replay.specs.Outcomes.{AreFull, AreNotOlder, IsMissing, IsNotOlder, IsOutcomeAt, IsPlaceAt, IsVictimAt};
 ghost use Rattle.slice_replay.specs.Slots.{place_at};
 
-use crate::region::has_way;
 use crate::slots::Slots;
+use cbm::has_way;
 
 /// Whether no way of a set holds a line.
 pub(crate) fn is_missing(slots: &Slots, ways: u8, set: u32, line: u64) -> bool

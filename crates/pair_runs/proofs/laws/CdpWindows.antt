@@ -14,7 +14,7 @@ use Rattle.pair_law.specs.State.{PairState}
 use Rattle.pair_ops.specs.Values.{PairScriptValue}
 use Rattle.pair_ops.specs.declared.side.Side.{Side}
 use Rattle.pair_runs.proofs.Alone.{IsResolved-alone, IsValid-alone}
-use Rattle.pair_runs.proofs.CdpEntries.{IsCdpRun-given, IsGiven}
+use Rattle.pair_runs.proofs.laws.CdpEntries.{IsCdpRun-given, IsGiven}
 use Rattle.pair_runs.proofs.Floors.{epoch-le, is_access}
 use Rattle.pair_runs.proofs.Positions.{All-between}
 use Rattle.pair_runs.specs.CdpRuns.{owner_on}

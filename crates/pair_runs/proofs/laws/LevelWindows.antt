@@ -13,9 +13,9 @@ use Rattle.pair_ops.specs.Values.{Fits, IsLawful, LiesBelow, PairScriptValue, ep
 use Rattle.pair_ops.specs.declared.op.PairOp.TheVariants as ops
 use Rattle.pair_ops.specs.declared.side.Side.TheVariants.{First, Second}
 use Rattle.pair_runs.proofs.Alone.{IsSomeAnd-parts}
-use Rattle.pair_runs.proofs.Commands.{epoch_at-less}
-use Rattle.pair_runs.proofs.Cuts.{range_with_len-All}
-use Rattle.pair_runs.proofs.Domains.{LiesBelow-first, domain_of-above, domain_of-lt}
+use Rattle.pair_runs.proofs.laws.Commands.{epoch_at-less}
+use Rattle.pair_runs.proofs.laws.Cuts.{range_with_len-All}
+use Rattle.pair_runs.proofs.laws.Domains.{LiesBelow-first, domain_of-above, domain_of-lt}
 use Rattle.pair_runs.proofs.Levels.{has_at-private}
 use Rattle.pair_runs.proofs.Lines.{items-l2, items-l3}
 use Rattle.run_law.proofs.laws.SoundHistories.{All-at}

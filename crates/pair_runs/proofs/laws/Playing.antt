@@ -14,7 +14,7 @@ use Rattle.pair_law.specs.State.{PairState, opening}
 use Rattle.pair_law.specs.Steps.{next}
 use Rattle.pair_ops.specs.Values.{Machines, PairScriptValue, epoch_at, is_command, op_at}
 use Rattle.pair_ops.specs.declared.op.PairOp.{PairOp}
-use Rattle.pair_runs.proofs.Cuts.{range_with_len-append}
+use Rattle.pair_runs.proofs.laws.Cuts.{range_with_len-append}
 use Rattle.std.proofs.lemmas.Option.{slice_get_within}
 use Rattle.pair_runs.specs.LevelRuns.{has_at}
 use Rattle.rc_base.specs.declared.replies.Reply.{Reply}

@@ -9,8 +9,8 @@ use Rattle.pair_law.specs.Epochs.{state_at}
 use Rattle.pair_ops.specs.Values.{PairScriptValue, commands_of, epoch_at, op_at}
 use Rattle.pair_ops.specs.declared.op.PairOp.TheVariants as ops
 use Rattle.pair_ops.specs.declared.side.Side.{Side}
-use Rattle.pair_runs.proofs.CdpEntries.{IsCdpRun-given}
-use Rattle.pair_runs.proofs.Commands.{epoch_at-lt}
+use Rattle.pair_runs.proofs.laws.CdpEntries.{IsCdpRun-given}
+use Rattle.pair_runs.proofs.laws.Commands.{epoch_at-lt}
 use Rattle.pair_runs.proofs.Conditions.{Decided, HasLevels-decided, HasLevels-masks, HasLevels-same, IsAlone-decided, IsAlone-mask}
 use Rattle.pair_runs.proofs.Extents.{IsExtent, IsExtent-same, IsExtent-some, Greatest-same, Greatest-some}
 use Rattle.std.proofs.lemmas.Option.{slice_get_within}

@@ -15,7 +15,7 @@ use Rattle.pair_ops.specs.Values.{PairScriptValue, commands_of, op_at}
 use Rattle.pair_ops.specs.declared.op.PairOp.{PairOp}
 use Rattle.pair_ops.specs.declared.op.PairOp.TheVariants as ops
 use Rattle.pair_ops.specs.declared.side.Side.{Side}
-use Rattle.pair_runs.proofs.Commands.{epoch_at-le, epoch_at-lt}
+use Rattle.pair_runs.proofs.laws.Commands.{epoch_at-le, epoch_at-lt}
 use Rattle.pair_runs.proofs.Positions.{All-unmap}
 use Rattle.run_law.proofs.laws.SoundHistories.{All-at}
 use Rattle.pair_runs.specs.CdpRuns.{CdpJournalsValue, IsCdpRun, asked, asked_at, asked_of_op, owner_on, register_mask, side_of}

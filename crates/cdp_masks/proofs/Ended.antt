@@ -1,0 +1,25 @@
+-- The end of a script on data and code masks.
+use Rattle.std.proofs.Common.{◌≡◌, List, length, map, sym, ap, ◌∙◌, subst, arith}
+use Rattle.std.specs.List.{All}
+use Rattle.cache_core.specs.History.{IsLegal, shape_of}
+use Rattle.cache_core.specs.declared.entry.SliceEntry.{SliceEntry}
+use Rattle.cdp_masks.specs.SoFar.{IsCdpSoFar}
+use Rattle.machine.specs.declared.parameters.Parameters.{Parameters}
+use Rattle.pair_ops.specs.Values.{PairScriptValue}
+use Rattle.pair_play.proofs.laws.CommandsSoFar.{replies-AreCommandsSoFar}
+use Rattle.pair_play.specs.Histories.{LevelValue}
+use Rattle.pair_play.specs.SoFar.{CommandsValue}
+use Rattle.pair_runs.specs.CdpRuns.{CdpJournalsValue, IsCdpRun}
+use Rattle.pair_runs.specs.Entries.{asked_by, slice_in}
+
+-- the journals of all ops are a run
+pub IsCdpRun-IsCdpSoFar : (script : PairScriptValue) (c : CommandsValue) (l : LevelValue) (j : CdpJournalsValue) → IsCdpSoFar script (length script.ops) c l → All (IsLegal (shape_of l.parameters 0)) l.histories
+    → j.replies ≡ c.replies → j.slices ≡ l.histories → IsCdpRun script j
+IsCdpRun-IsCdpSoFar script c l j so_far legal replies slices = record {
+  replies = replies ∙ replies-AreCommandsSoFar script (length script.ops) c so_far.commands (omega arith);
+  one_each = ap length slices ∙ so_far.level.one_each;
+  entries = λ domain lt. ap (λ (hs : List (List SliceEntry)). map asked_by (slice_in hs domain)) slices ∙ (so_far.level.each domain lt).entries;
+  legal = λ domain lt.
+      subst (λ (p : Parameters). IsLegal (shape_of p 0) (slice_in j.slices domain)) so_far.level.parameters
+      (subst (λ (hs : List (List SliceEntry)). IsLegal (shape_of l.parameters 0) (slice_in hs domain)) (sym slices) (legal domain _ (omega (arith, so_far.level.one_each))));
+}

@@ -1,0 +1,13 @@
+pub mod CoveredUses
+pub mod FlushedWindows
+pub mod HeldLevels
+pub mod HeldSteps
+pub mod LineUses
+pub mod ListedWindows
+pub mod MarkedOps
+pub mod RisingHoldings
+pub mod SegmentEnds
+pub mod SegmentSteps
+pub mod SegmentWindows
+pub mod SharedDomains
+pub mod laws

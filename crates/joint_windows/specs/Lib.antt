@@ -1,0 +1,7 @@
+pub mod Counted
+pub mod Hits
+pub mod Holdings
+pub mod Joined
+pub mod JointWindows
+pub mod LevelJournals
+pub mod Segments

@@ -1,0 +1,26 @@
+//! The L2 domains and the L3 domains that they lie in.
+ghost use Rattle.std.specs.Prelude.{◌≡◌};
+ghost use Rattle.pair_ops.specs.Values.{AreMachines, side_machine};
+ghost use Rattle.pair_ops.specs.declared.side.Side.TheVariants.{First};
+ghost use Rattle.pair_runs.specs.JointWindows.{domain_above};
+
+use pair_text::PairScript;
+
+/// How many L2 domains there are.
+pub(crate) fn l2_domains(script: &PairScript) -> u8
+    ensures { result ≡ (side_machine script.now.machines First).domains }
+{
+    match script.l2() {
+        Some(l2) => l2.domains,
+        None => script.machine().domains,
+    }
+}
+
+/// The L3 domain that an L2 domain lies in.
+pub(crate) fn domain_above(script: &PairScript, x: u8) -> u8
+    requires { AreMachines script.now.machines }
+    ensures { result ≡ domain_above script.now.machines x }
+{
+    let share = l2_domains(script) / script.machine().domains;
+    x / share
+}

@@ -1,0 +1,4 @@
+mod Earlier
+mod Ended
+mod Opened
+mod Steps

@@ -1,0 +1,4 @@
+mod Added
+mod Flushes
+mod Opened
+pub mod laws

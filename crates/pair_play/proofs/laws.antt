@@ -1,0 +1,6 @@
+-- Lemmas that players cite.
+pub mod CommandsSoFar
+pub mod LevelsSoFar
+pub mod OpKinds
+pub mod SideTags
+pub mod Users

@@ -1,0 +1,30 @@
+-- The tags of accesses on one side.
+-- (For functions and proofs: no promise of the program stands on it.)
+use Rattle.std.specs.Prelude.{ℕ, slice_index}
+use Rattle.pair_ops.specs.declared.side.Side.{Side}
+use Rattle.pair_ops.specs.declared.side.Side.TheVariants.{First, Second}
+use Rattle.pair_play.specs.SoFar.{CommandsValue}
+use Rattle.pair_tree.specs.Tags.{tag_of}
+use Rattle.pair_tree.specs.declared.tag.PairTag.{PairTag}
+use Rattle.rc_base.specs.declared.names.Gid.{Gid}
+use Rattle.rc_base.specs.declared.names.Tag.{Tag}
+
+-- the place of a side in a tag of both
+abbrev pub place_of : Side → ℕ
+place_of First = 0
+place_of Second = 1
+
+-- the tag of an access on a side, where this owner stands for the group
+abbrev pub tag_on : PairTag → Side → Gid → Tag
+tag_on tag side owner = record {
+  epoch = tag.epoch;
+  owner = owner;
+  class = tag.class;
+  rmid = 0;
+  mask = slice_index tag.masks (place_of side);
+  domain = slice_index tag.domains (place_of side);
+}
+
+-- the tag that the tree gives to a task on a CPU
+abbrev pub tag_in : CommandsValue → ℕ → ℕ → PairTag
+tag_in c task cpu = tag_of c.tree.machines c.tree.state c.tree.epoch task cpu

@@ -1,0 +1,2 @@
+pub mod FittingOps
+pub mod NextOps

@@ -1,0 +1,3 @@
+pub mod CommandLines
+pub mod MadeLists
+pub mod PlayedRuns

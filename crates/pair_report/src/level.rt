@@ -1,0 +1,126 @@
+//! The report of a run with two levels.
+ghost use Rattle.std.specs.Prelude.{◌≡◌, ◌<◌, ◌++◌, IfOk, OnOk, length, map};
+ghost use Rattle.std.specs.List.{flat_map, range_with_len};
+ghost use Rattle.joint_windows.specs.JointWindows.{joint_windows};
+ghost use Rattle.joint_windows.specs.LevelJournals.{IsPlayedOnLevels, level_journals};
+ghost use Rattle.machine.specs.Maps.{parameters_of};
+ghost use Rattle.pair_ops.specs.Values.{side_machine};
+ghost use Rattle.pair_ops.specs.declared.side.Side.TheVariants.{First, Second};
+ghost use Rattle.pair_report.specs.LevelReport.{domain_lines, group_line, level_domain_line, level_report_of, level_word};
+ghost use Rattle.pair_report.specs.MadeGroups.{groups_of};
+ghost use Rattle.run_counts.specs.CacheCounts.{valid_in};
+ghost use Rattle.run_law.specs.Entries.{entries_of};
+
+use crate::caches::{counts_on, machine_on};
+use crate::commands::push_commands;
+use crate::counts::push_total;
+use crate::domains::push_domain;
+use crate::level_groups::push_groups;
+use crate::level_window_lines::push_windows;
+use crate::made::made_groups;
+use cache_core::SliceEntry;
+use joint_windows::JointWindow;
+use machine::Machine;
+use pair_ops::Side;
+use pair_text::PairScript;
+use rc_base::{NoMemory, Reply};
+use report_pieces::ReportText;
+use run_counts::CacheCounts;
+use std::alloc::Global;
+
+// The level that a side is.
+fn level_word(side: Side) -> &'static [u8]
+    ensures { result.now ≡ level_word side }
+{
+    match side {
+        Side::First => b"l2",
+        Side::Second => b"l3",
+    }
+}
+
+// Adds the line of a domain of a level.
+#[tactic(auto, unfolding(crate::specs::LevelReport::level_domain_line))]
+fn push_level_domain(
+    report: &mut ReportText,
+    side: Side,
+    machine: &Machine,
+    caches: &[Vec<SliceEntry>],
+    counts: &CacheCounts,
+    domain: u8,
+) -> Result<(), NoMemory>
+    requires counts { counts.now.valid ≡ valid_in (parameters_of machine.now) (map entries_of caches.now) }
+    requires domain { domain < length caches.now }
+    ensures { OnOk result (report.new ≡ report.old ++ level_domain_line side (parameters_of machine.now) (map entries_of caches.now) domain) }
+{
+    report.push(level_word(side))?;
+    report.push(b" ".as_slice())?;
+    push_domain(report, machine, caches, counts, domain)
+}
+
+// Adds the lines of the domains of a level.
+fn push_domains(
+    report: &mut ReportText,
+    script: &PairScript,
+    side: Side,
+    caches: &[Vec<SliceEntry>],
+    counts: &CacheCounts,
+) -> Result<(), NoMemory>
+    requires counts { counts.now.valid ≡ valid_in (side_machine script.now.machines side) (map entries_of caches.now) }
+    requires one_each { length caches.now ≡ (side_machine script.now.machines side).domains }
+    ensures { OnOk result (report.new ≡ report.old
+        ++ flat_map (level_domain_line side (side_machine script.now.machines side) (map entries_of caches.now)) (range_with_len 0 (side_machine script.now.machines side).domains)) }
+{
+    let machine = machine_on(script, side);
+    for domain in 0..machine.domains {
+        push_level_domain(report, side, machine, caches, counts, domain)?;
+    }
+    Ok(())
+}
+
+// Adds the lines of the groups and of the domains of both levels.
+fn push_counted(
+    alloc: Global,
+    report: &mut ReportText,
+    script: &PairScript,
+    replies: &[Reply],
+    l2: &[Vec<SliceEntry>],
+    l3: &[Vec<SliceEntry>],
+) -> Result<(), NoMemory>
+    requires { IsPlayedOnLevels script.now (level_journals replies.now l2.now l3.now) }
+    ensures { OnOk result (report.new ≡ report.old ++ (flat_map (group_line (map entries_of l2.now) (map entries_of l3.now)) (groups_of script.now replies.now)
+        ++ domain_lines script.now (level_journals replies.now l2.now l3.now) First ++ domain_lines script.now (level_journals replies.now l2.now l3.now) Second)) }
+{
+    let made = made_groups(alloc, script, replies)?;
+    let first = counts_on(alloc, script, Side::First, l2)?;
+    let second = counts_on(alloc, script, Side::Second, l3)?;
+    push_groups(report, script, l2, l3, &made, first.tally(), second.tally())?;
+    push_domains(report, script, Side::First, l2, &first)?;
+    push_domains(report, script, Side::Second, l3, &second)
+}
+
+/// The report of a run with two levels and these windows of it (this project's profile): a line for each command, with what an
+/// accepted read gave, unless it is to be quiet; a line for each window in which a group uses lines; a line for each group that ever
+/// was and for each domain of each level, and a last line. Every number is counted from the entries.
+///
+/// `replies` are those to the commands of the script, in order, and `l2` and `l3` the entries of each domain's caches.
+#[tactic(auto, unfolding(crate::specs::LevelReport::level_report_of))]
+pub fn level_report(
+    alloc: Global,
+    script: &PairScript,
+    replies: &[Reply],
+    l2: &[Vec<SliceEntry>],
+    l3: &[Vec<SliceEntry>],
+    windows: &[JointWindow],
+    quiet: bool,
+) -> Result<Vec<u8>, NoMemory>
+    requires played { IsPlayedOnLevels script.now (level_journals replies.now l2.now l3.now) }
+    requires windows { windows.now ≡ joint_windows script.now (level_journals replies.now l2.now l3.now) }
+    ensures { IfOk result (λ bytes. bytes.items ≡ level_report_of script.now (level_journals replies.now l2.now l3.now) quiet) }
+{
+    let mut report = ReportText::create(alloc)?;
+    push_commands(alloc, &mut report, script, replies, quiet)?;
+    push_windows(&mut report, windows)?;
+    push_counted(alloc, &mut report, script, replies, l2, l3)?;
+    push_total(&mut report, replies)?;
+    Ok(report.into_bytes())
+}

@@ -1,0 +1,22 @@
+//! The top calls of `resctrl_cdp` and `resctrl_l2`: each reads a pair script, plays it, and writes the report of its run. A call that
+//! runs out of memory answers NoMemory, and writes nothing.
+#![tactic(auto)]
+
+mod arguments;
+pub mod calls;
+mod cdp;
+pub mod ended;
+mod input;
+mod levels;
+pub mod program;
+mod refusal;
+mod words;
+
+pub use arguments::given_words;
+pub use calls::{top_cdp, top_l2};
+pub use ended::{CdpEnded, LevelEnded};
+pub use program::{run_cdp, run_l2};
+pub use words::{CDP_USAGE, Form, L2_USAGE, form_of};
+
+#[cfg(test)]
+mod tests;

@@ -1,0 +1,13 @@
+pub mod Elements
+pub mod Exchanges
+pub mod Kept
+pub mod LawfulMasks
+pub mod LineEntries
+pub mod Lines
+pub mod MaskUnions
+pub mod NewGroups
+pub mod Ranges
+pub mod SideLines
+pub mod SideMasks
+pub mod Taken
+pub mod Unless

@@ -1,0 +1,14 @@
+use Rattle.std.proofs.Common.{◌+◌, None, drop, refl, sym, ◌∙◌, arith}
+use Rattle.std.proofs.lemmas.Option.{slice_get_read}
+use Rattle.pair_law.specs.State.{has_name}
+use Rattle.pair_tree.proofs.Elements.{drop-item, find-taken}
+use Rattle.pair_tree.proofs.lookup.default_place.Goals as goal
+
+pub returns-then-is_unnamed : goal.returns-then-is_unnamed
+returns-then-is_unnamed c =
+    let groups = c.args.groups.now in
+    let i = c.loop-place.place in
+    let g = c.index-groups-place.result in
+    let p = has_name None in
+    let rest = drop-item groups i g (omega arith) c.index-groups-place.is in
+    (g, slice_get_read groups _ i g refl (omega arith) c.index-groups-place.is, sym c.loop-place.invariant ∙ find-taken p (drop i groups) (drop (i + 1) groups) g rest (sym c.is_unnamed.ensures ∙ c.if-is_unnamed.true))

@@ -1,0 +1,9 @@
+pub mod Changes
+pub mod Kept
+pub mod Places
+pub mod Printed
+pub mod Reading
+pub mod Reads
+pub mod Tables
+pub mod Tags
+pub mod Values

@@ -1,0 +1,14 @@
+//! The program: reads a pair script on data and code masks from standard input, and writes the report of its run to standard output.
+#![tactic(auto)]
+
+use pair_top::{given_words, run_cdp};
+use rc_stream::{StdSink, StdSource};
+use std::env;
+use std::process::ExitCode;
+
+fn main(rt: HostRuntime) -> ExitCode {
+    let words = given_words(rt.alloc(), env::args(&rt));
+    let mut source = StdSource::new(rt.stdin());
+    let mut sink = StdSink::new(rt.stdout());
+    run_cdp(rt.alloc(), words, &mut source, &mut sink)
+}
