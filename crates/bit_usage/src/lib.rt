@@ -7,6 +7,3 @@ pub mod theorems;
 
 pub use letters::letter;
 pub use printing::{USAGE_MAX, print};
-
-#[cfg(test)]
-mod tests;

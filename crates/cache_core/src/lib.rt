@@ -18,6 +18,3 @@ pub use cache::Cache;
 pub use entry::{SliceEntry, What};
 pub use place::Place;
 pub use touched::Touched;
-
-#[cfg(test)]
-mod tests;

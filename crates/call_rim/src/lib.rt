@@ -24,6 +24,3 @@ pub use stream_program::{MOST_STREAM_BYTES, StreamProgram, Taken};
 pub use telling::tell;
 pub use within::TOO_LARGE;
 pub use writing::write_all;
-
-#[cfg(test)]
-mod tests;

@@ -11,6 +11,3 @@ pub use fault::CbmFault;
 pub use geometry::Geometry;
 pub use sets::{count, has_way, lowest_run, overlaps};
 pub use validity::check;
-
-#[cfg(test)]
-mod tests;

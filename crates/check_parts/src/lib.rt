@@ -20,6 +20,3 @@ pub use input::{Held, InputError, held_in, script_in};
 pub use limits::MOST_CHECK_BYTES;
 pub use verdicts::verdict_line;
 pub use words::{USAGE, form_of, usage_bytes};
-
-#[cfg(test)]
-mod tests;

@@ -17,6 +17,3 @@ pub use checked::Checked;
 pub use ended::CheckEnded;
 pub use program::run_check;
 pub use status::CheckStatus;
-
-#[cfg(test)]
-mod tests;

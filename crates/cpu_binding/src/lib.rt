@@ -5,8 +5,6 @@ pub mod cpus;
 pub mod groups;
 mod sets;
 mod tables;
-#[cfg(test)]
-mod tests;
 
 pub use cpus::{Cpus, DropsDefault, NotParents};
 pub use groups::CpuGroups;

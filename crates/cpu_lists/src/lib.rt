@@ -13,6 +13,3 @@ pub use fault::CpuFault;
 pub use list_text::read_list;
 pub use masks::read_mask;
 pub use printing::{print_list, print_mask};
-
-#[cfg(test)]
-mod tests;

@@ -3,8 +3,6 @@
 
 pub mod class_ids;
 pub mod rmids;
-#[cfg(test)]
-mod tests;
 pub mod theorems;
 mod uses;
 

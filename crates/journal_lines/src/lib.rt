@@ -17,6 +17,3 @@ pub use commands::command_of_line;
 pub use counts::count_of_line;
 pub use entries::entry_of_line;
 pub use printing::print;
-
-#[cfg(test)]
-mod tests;

@@ -13,6 +13,3 @@ mod weight;
 
 pub use fault::ReadError;
 pub use reading::read;
-
-#[cfg(test)]
-mod tests;

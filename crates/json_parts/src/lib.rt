@@ -19,6 +19,3 @@ pub use slices::push_journal_part;
 pub use texts::{push_result_text, push_text_lines, push_words_text};
 pub use totals::push_total;
 pub use windows::push_windows_part;
-
-#[cfg(test)]
-mod tests;

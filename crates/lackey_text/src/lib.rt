@@ -16,6 +16,3 @@ pub use limits::{MEMORY_BYTES, MOST_SIZE};
 pub use line::{BadLine, LackeyKind, LackeyLine};
 pub use reading::read_line;
 pub use uses::{LineUse, LineUses};
-
-#[cfg(test)]
-mod tests;

@@ -8,6 +8,3 @@ pub mod slice_numbers;
 
 pub use machine::Machine;
 pub use parameters::Parameters;
-
-#[cfg(test)]
-mod tests;

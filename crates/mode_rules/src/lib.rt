@@ -10,6 +10,3 @@ pub use domain_use::DomainUse;
 pub use overlap::{Overlap, may_turn_exclusive, may_write_mask};
 pub use placing::initial_mask;
 pub use setup::{may_enter_setup, may_leave_setup};
-
-#[cfg(test)]
-mod tests;

@@ -4,6 +4,3 @@
 pub mod counts;
 
 pub use counts::Counts;
-
-#[cfg(test)]
-mod tests;

@@ -17,6 +17,3 @@ pub use calls::{top_cdp, top_l2};
 pub use ended::{CdpEnded, LevelEnded};
 pub use program::{run_cdp, run_l2};
 pub use words::{CDP_USAGE, Form, L2_USAGE, form_of};
-
-#[cfg(test)]
-mod tests;

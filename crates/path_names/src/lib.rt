@@ -14,8 +14,6 @@ pub mod names;
 pub mod path_ref;
 pub mod path_text;
 pub mod paths;
-#[cfg(test)]
-mod tests;
 pub mod theorems;
 
 pub use components::{MOST_NAME_BYTES, is_well_formed, next_component};

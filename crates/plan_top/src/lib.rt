@@ -14,8 +14,3 @@ pub use calls::{run_plan, top_plan};
 pub use form::{CurveForm, Form};
 pub use limits::{MOST_SETS, MOST_WAYS};
 pub use words::{USAGE, form_of};
-
-#[cfg(test)]
-mod divide_tests;
-#[cfg(test)]
-mod tests;

@@ -11,6 +11,3 @@ pub mod users;
 pub use counts::{WindowCounts, count_window};
 pub use item::Item;
 pub use private::private_hits;
-
-#[cfg(test)]
-mod tests;

@@ -5,8 +5,6 @@ pub mod laws;
 pub mod lines;
 pub mod region;
 pub mod regions;
-#[cfg(test)]
-mod tests;
 
 pub use laws::{first_lines, limits_are_stated};
 pub use lines::{line_at, load_place};

@@ -15,6 +15,3 @@ pub use reasons::{Argument, Wording};
 pub use replies::{Errno, Reply, Why};
 pub use text_buf::{TEXT_MAX, TextBuf};
 pub use texts::is_text;
-
-#[cfg(test)]
-mod tests;

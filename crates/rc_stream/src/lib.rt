@@ -16,6 +16,3 @@ pub use mem_source::MemSource;
 pub use std_sink::StdSink;
 pub use std_source::StdSource;
 pub use streams::{Failed, Sink, Source};
-
-#[cfg(test)]
-mod tests;

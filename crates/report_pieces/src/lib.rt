@@ -9,6 +9,3 @@ mod results;
 pub use buffer::ReportText;
 pub use entry_text::{push_entry, push_entry_line, push_entry_text};
 pub use results::{push_result, push_words};
-
-#[cfg(test)]
-mod tests;

@@ -2,8 +2,12 @@
 
 mod changes;
 mod cuts;
+mod endings;
 mod failing_streams;
 mod largest;
+mod rim;
+mod small_programs;
+mod tenants;
 
 use rc_stream::{Gate, MemSink, MemSource, OpenGate};
 use resctrl_top::{Status, top};
@@ -11,6 +15,23 @@ use std::alloc::Global;
 use std::sync::Wait;
 use std::test::Fail;
 use std::thread::Threads;
+
+/// Four accesses to three lines.
+pub(crate) const FOUR_ACCESSES: &[u8] = b"machine sets=1 ways=4
+tasks 1
+phase
+thread
+access 1 0 0
+access 1 0 64
+access 1 0 128
+access 1 0 0
+";
+
+/// Their report, which has 126 bytes.
+pub(crate) const THEIR_REPORT: &[u8] = b"group 0 /: accesses 4 hits 1 misses 3
+domain 0: valid 3 of 4, rmid 0 3
+total: commands 0 refused 0 accesses 4 hits 1 misses 3
+";
 
 /// How a call ended, whether it gave journals, and what the sink took.
 #[derive(Drop)]
@@ -20,8 +41,8 @@ pub(crate) struct Ending {
     pub(crate) taken: Vec<u8>,
 }
 
-// These words.
-fn words(alloc: Global, texts: &[&str]) -> Result<Vec<String>, Fail> {
+/// These words.
+pub(crate) fn words(alloc: Global, texts: &[&str]) -> Result<Vec<String>, Fail> {
     let mut words = Vec::new(alloc);
     for text in texts {
         words.push(String::from_str(alloc, text)?)?;

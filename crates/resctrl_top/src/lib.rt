@@ -13,8 +13,3 @@ pub use call_rim::Status;
 pub use calls::{top, top_step};
 pub use ended::Ended;
 pub use program::run_program;
-
-#[cfg(test)]
-mod run_tests;
-#[cfg(test)]
-mod tests;

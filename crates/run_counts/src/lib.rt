@@ -23,6 +23,3 @@ pub use refusals::count_refused;
 pub use run_counts::RunCounts;
 pub use tally::Tally;
 pub use touches::{Touches, is_accepted_touch};
-
-#[cfg(test)]
-mod tests;

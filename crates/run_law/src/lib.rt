@@ -18,6 +18,3 @@ pub use quotas::most_counts;
 pub use rooms::{add_ops, command_counts, command_room, count_commands, slice_rooms};
 pub use targets::{slice_for, slices_for};
 pub use window::Window;
-
-#[cfg(test)]
-mod tests;

@@ -11,6 +11,3 @@ mod timeline;
 
 pub use counting::{Place, count_window_at};
 pub use listing::windows;
-
-#[cfg(test)]
-mod tests;

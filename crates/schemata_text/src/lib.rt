@@ -11,6 +11,3 @@ pub use assignment::{Assignment, Assignments};
 pub use fault::TextFault;
 pub use printing::print;
 pub use reading::{entries, entry, read};
-
-#[cfg(test)]
-mod tests;

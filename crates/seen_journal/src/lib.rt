@@ -12,6 +12,3 @@ mod view;
 
 pub use journal::Journal;
 pub use pass::Pass;
-
-#[cfg(test)]
-mod tests;

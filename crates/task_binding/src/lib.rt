@@ -4,8 +4,6 @@
 pub mod binding;
 mod search;
 pub mod tasks;
-#[cfg(test)]
-mod tests;
 
 pub use binding::{BindFault, Binding};
 pub use tasks::Tasks;

@@ -10,6 +10,3 @@ pub mod trace;
 pub use curves::UseCurves;
 pub use limits::{MOST_LINE_BYTES, MOST_TRACE_BYTES};
 pub use trace::{BadTrace, Trace};
-
-#[cfg(test)]
-mod tests;

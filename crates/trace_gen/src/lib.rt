@@ -12,6 +12,3 @@ mod trace;
 
 pub use making::{MOST_THREAD_ACCESSES, make};
 pub use script::make_script;
-
-#[cfg(test)]
-mod tests;

@@ -15,6 +15,3 @@ mod shifting;
 pub mod theorems;
 
 pub use curve::Curve;
-
-#[cfg(test)]
-mod tests;

@@ -8,6 +8,3 @@ pub mod victims;
 pub use finding::find;
 pub use lanes::equal_ways;
 pub use victims::{least_used, victim};
-
-#[cfg(test)]
-mod tests;

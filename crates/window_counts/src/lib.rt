@@ -9,6 +9,3 @@ mod uses;
 
 pub use stay::Stay;
 pub use tallies::counts_of;
-
-#[cfg(test)]
-mod tests;

@@ -1,22 +1,18 @@
 //! Each call of the source and of the sink fails in turn.
 
-use crate::tests::told_by;
+use crate::tests::{THEIR_REPORT, told_by};
 use rc_stream::OpenGate;
 use resctrl_top::Status;
 use std::test::Fail;
 use top_parts::USAGE;
 
-// Its 73 bytes come in ten pieces of 8 and less, and an eleventh read finds the end.
+// Four accesses. Its 73 bytes come in ten pieces of 8 and less, and an eleventh read finds the end.
 const SWEEP: &[u8] =
     b"machine sets=1 ways=4\ntasks 1\nphase\nthread\nsweep 1 0 0 3 64\naccess 1 0 0\n";
 
 const READS: [u32; 11] = [1, 2, 3, 4, 5, 6, 7, 8, 9, 10, 11];
 
-// Its 126 bytes go in eight pieces of 16 and less, and the flush is the ninth call.
-const REPORT: &[u8] =
-    b"group 0 /: accesses 4 hits 1 misses 3\ndomain 0: valid 3 of 4, rmid 0 3\ntotal: commands 0 refused 0 accesses 4 hits 1 misses 3\n";
-
-// The calls of the sink, and how many bytes it took before each.
+// The calls of the sink, and how many bytes it took before each: the report goes in eight pieces of 16 and less, and then it is flushed.
 const WRITES: [(u32, usize); 9] = [
     (1, 0),
     (2, 16),
@@ -43,7 +39,7 @@ fn each_read_may_fail(rt: HostRuntime) -> Result<(), Fail> {
         }
         let told = told_by(&rt, rt.alloc(), &[command], SWEEP, &[12], &[], &OpenGate)?;
         assert_eq!(rt; told.status, Status::Done);
-        assert_eq!(rt; told.taken.as_slice(), REPORT);
+        assert_eq!(rt; told.taken.as_slice(), THEIR_REPORT);
     }
     Ok(())
 }
@@ -55,12 +51,12 @@ fn each_write_may_fail(rt: HostRuntime) -> Result<(), Fail> {
             let told = told_by(&rt, rt.alloc(), &[command], SWEEP, &[], &[call], &OpenGate)?;
             assert_eq!(rt; told.status, Status::WriteFault, "{command} {call}");
             assert_eq!(rt; told.taken.len(), taken, "{command} {call}");
-            assert!(rt; REPORT.starts_with(&told.taken));
+            assert!(rt; THEIR_REPORT.starts_with(&told.taken));
             assert!(rt; told.has_journals);
         }
         let told = told_by(&rt, rt.alloc(), &[command], SWEEP, &[], &[10], &OpenGate)?;
         assert_eq!(rt; told.status, Status::Done);
-        assert_eq!(rt; told.taken.as_slice(), REPORT);
+        assert_eq!(rt; told.taken.as_slice(), THEIR_REPORT);
         assert!(rt; told.has_journals);
     }
     Ok(())

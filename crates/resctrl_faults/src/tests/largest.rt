@@ -1,6 +1,6 @@
-//! The most accesses that a script may have, and one more.
+//! The most accesses that a script may have, one more, and a long script.
 
-use crate::tests::told;
+use crate::tests::{FOUR_ACCESSES, told};
 use resctrl_top::Status;
 use std::test::Fail;
 
@@ -21,5 +21,24 @@ total: commands 0 refused 0 accesses 4000000 hits 3999999 misses 1
         refused.taken.as_slice(),
         b"line 6: script too large\n".as_slice()
     );
+    Ok(())
+}
+
+// Of four accesses to three lines, many more to the first of them, and one to a fourth.
+const LONG_REPORT: &[u8] = b"group 0 /: accesses 100005 hits 100001 misses 4
+domain 0: valid 4 of 4, rmid 0 4
+total: commands 0 refused 0 accesses 100005 hits 100001 misses 4
+";
+
+#[test]
+fn a_long_script_is_read_to_its_end(rt: HostRuntime) -> Result<(), Fail> {
+    let mut script = Vec::from_slice(rt.alloc(), FOUR_ACCESSES)?;
+    for _ in 0..100_000 {
+        script.extend_from_slice(b"access 1 0 0\n")?;
+    }
+    script.extend_from_slice(b"access 1 0 192\n")?;
+    let told = told(&rt, rt.alloc(), &["step"], &script)?;
+    assert_eq!(rt; told.status, Status::Done);
+    assert_eq!(rt; told.taken.as_slice(), LONG_REPORT);
     Ok(())
 }

@@ -1,0 +1,80 @@
+//! Traces with their reports, and words that are no form.
+
+use crate::tests::told_by;
+use call_rim::Status;
+use std::test::Fail;
+
+// All lines are 0 0 1 2 1 2 0: the use of 7e to 81 is one of lines 1 and 2. The last line of the text has no newline.
+const TRACE: &[u8] = b"==1== Lackey\nI  0,4\r\n L 0,4\n M 7e,4\n S 0,4";
+
+const REPORT: &[u8] = b"data and code:
+ways 1: accesses 7 hits 1 misses 6
+ways 2: accesses 7 hits 3 misses 4
+data:
+ways 1: accesses 6 hits 0 misses 6
+ways 2: accesses 6 hits 2 misses 4
+code:
+ways 1: accesses 1 hits 0 misses 1
+ways 2: accesses 1 hits 0 misses 1
+";
+
+const PIECES: [usize; 3] = [1, 7, 4096];
+
+#[test]
+fn traces_have_their_curves(rt: HostRuntime) -> Result<(), Fail> {
+    for piece in PIECES {
+        let (status, taken) = told_by(rt.alloc(), &["curve", "1", "02"], TRACE, piece, &[])?;
+        assert_eq!(rt; status, Status::Done);
+        assert_eq!(rt; taken.as_slice(), REPORT);
+    }
+    Ok(())
+}
+
+// An input, how many bytes of it come at once, the calls of the source that fail, and the status and what is written.
+type Ending = (&'static [u8], usize, &'static [u32], Status, &'static [u8]);
+
+const ENDINGS: [Ending; 2] = [
+    (
+        b"\n Q 0,4\nI  0,4",
+        1,
+        &[],
+        Status::Refused,
+        b"line 2: bad trace line\n",
+    ),
+    (TRACE, 8, &[2], Status::ReadFault, b""),
+];
+
+#[test]
+fn what_is_no_trace_is_told(rt: HostRuntime) -> Result<(), Fail> {
+    for (input, piece, failing, due, text) in ENDINGS {
+        let (status, taken) = told_by(rt.alloc(), &["curve", "4", "1"], input, piece, failing)?;
+        assert_eq!(rt; status, due);
+        assert_eq!(rt; taken.as_slice(), text);
+    }
+    Ok(())
+}
+
+const NO_FORMS: [&[&str]; 10] = [
+    &["curve", "3", "1"],
+    &["curve", "131072", "1"],
+    &["curve", "0", "1"],
+    &["curve", "1", "0"],
+    &["curve", "1", "33"],
+    &["curve", "1", "-1"],
+    &["Curve", "1", "1"],
+    &["divide", "1", "1"],
+    &["curve", "1"],
+    &["divide", "1"],
+];
+
+const USAGE_LINE: &[u8] = b"usage: resctrl_plan curve SETS WAYS | divide\n";
+
+#[test]
+fn other_words_are_no_form(rt: HostRuntime) -> Result<(), Fail> {
+    for words in NO_FORMS {
+        let (status, taken) = told_by(rt.alloc(), words, TRACE, 64, &[])?;
+        assert_eq!(rt; status, Status::Usage);
+        assert_eq!(rt; taken.as_slice(), USAGE_LINE);
+    }
+    Ok(())
+}

@@ -1,6 +1,0 @@
-use Rattle.std.proofs.Common.{arith}
-use Rattle.window_counts.proofs.RisingStays.{AllPairs-two}
-use Rattle.window_counts.proofs.tests.each_window_ends_at_its_own_epoch.Goals as goal
-
-pub counts_of-requires : goal.counts_of-requires
-counts_of-requires g c = record { rising = AllPairs-two _ _ (omega (arith, c.stay.ensures, c.stay-2.ensures)); few = omega arith }
