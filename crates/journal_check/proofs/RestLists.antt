@@ -1,8 +1,9 @@
 -- What a command owes, one thing after the other.
-use Rattle.std.proofs.Common.{◌≡◌, ℕ, zero, suc, ◌+◌, ◌-◌, ◌≤◌, List, [], ◌∷◌, ◌++◌, drop, length, map, Some, refl, sym, ap, ◌∙◌, subst, arith}
+use Rattle.std.proofs.Common.{◌≡◌, ℕ, zero, suc, ◌+◌, ◌-◌, ◌<◌, ◌≤◌, Bool, true, false, cond, List, [], ◌∷◌, ◌++◌, drop, get_or, length, map, Some, refl, sym, ap, ◌∙◌, subst, arith}
 use Rattle.std.specs.List.{flat_map}
 use Rattle.std.specs.Prelude.{slice_get, slice_index_or}
 use Rattle.std.proofs.lemmas.List.{append_assoc}
+use Rattle.std.proofs.lemmas.Option.{slice_get-get_or}
 use Rattle.journal_check.specs.Payments.{due, dues, rest}
 use Rattle.journal_check.specs.Traces.{owed_by_step}
 use Rattle.journal_check.specs.declared.trace.Step.{Step}
@@ -88,6 +89,26 @@ module _ (m : Parameters) (i k : ℕ) (step : Step) where
   -- for a follow-up
   pub due-follow : (c : ℕ) (f : Follow) → length step.needs ≤ c → slice_get step.follows.items (c - length step.needs) ≡ Some f → due m i k step c ≡ follow_in m i (k + 1) f
   due-follow c f past at = pick-second (look_in m i k) (follow_in m i (k + 1)) step.needs step.follows.items c f past at
+
+  -- for the need at its place
+  pub due-at_need : (needs : List (ℕ × ℕ)) (c : ℕ) → needs ≡ step.needs → c < length needs → due m i k step c ≡ look_in m i k (get_or needs c (0, 0))
+  due-at_need needs c same within = due-need c (get_or needs c (0, 0)) (subst (λ (ns : List (ℕ × ℕ)). slice_get ns c ≡ Some (get_or needs c (0, 0))) same (slice_get-get_or needs c (0, 0) within))
+
+  -- for the follow-up at its place
+  pub due-at_follow : (needs : List (ℕ × ℕ)) (c : ℕ) (f d : Follow) → needs ≡ step.needs → length needs ≤ c → c < length step.needs + length step.follows.items → f ≡ get_or step.follows.items (c - length needs) d
+      → due m i k step c ≡ follow_in m i (k + 1) f
+  due-at_follow needs c f d same past within is =
+      let count : length needs ≡ length step.needs = ap (λ (ns : List (ℕ × ℕ)). length ns) same in
+      let at : slice_get step.follows.items (c - length needs) ≡ Some f = slice_get-get_or step.follows.items (c - length needs) d (omega (arith, count, past, within)) ∙ ap (λ (x : Follow). Some x) (sym is) in
+      due-follow c f (omega (arith, count, past)) (subst (λ n. slice_get step.follows.items (c - n) ≡ Some f) count at)
+
+-- nothing is owed where a test fails
+pub none-if : (x : Owed) (b : Bool) → b ≡ false → cond b (x ∷ []) [] ≡ []
+none-if x b fails = rw fails
+
+-- and one thing where it passes
+pub one-if : (x : Owed) (b : Bool) → b ≡ true → length (cond b (x ∷ []) []) ≡ 1
+one-if x b passes = rw passes
 
 -- ---- the first that is owed
 

@@ -15,8 +15,6 @@ mod owed;
 mod payments;
 mod replies;
 mod tags;
-#[cfg(test)]
-mod tests;
 pub mod trace;
 pub mod verdict;
 

@@ -5,6 +5,7 @@ mod closing;
 mod ending;
 mod fill;
 mod following;
+mod four;
 mod gathering;
 mod handing;
 mod holding;

@@ -10,10 +10,9 @@ use crate::named::Named;
 use crate::parts::fresh_parts;
 use crate::passes::Passes;
 use crate::slices::Slices;
-use crate::starting::{all_first, take_each};
+use crate::starting::first_passes;
 use crate::tree::TreeCell;
 use rc_base::NoMemory;
-use run_law::command_counts;
 use script_ops::Script;
 use std::alloc::Global;
 use std::sync::Mutex;
@@ -36,9 +35,7 @@ impl<N: Named> Live<N> {
             mut tree,
             mut slices,
         } = logs;
-        let counts = command_counts(alloc, script)?;
-        let passes = all_first(alloc, script, &counts, &mut tree, &mut slices)?;
-        let own = take_each(alloc, &mut slices)?;
+        let (passes, own) = first_passes(alloc, script, &mut tree, &mut slices)?;
         let m = script.machine();
         let mut parts = fresh_parts::<N>(alloc, m, &mut tree, slices)?;
         let cell = TreeCell::open(alloc, script, tree.into_journal(), own)?;

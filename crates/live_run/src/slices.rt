@@ -9,10 +9,10 @@ ghost use Rattle.live_run.specs.Visits.{MayFollow, MayLook, MayTouch};
 ghost use Rattle.machine.specs.Slices.{slice_count};
 
 use crate::fill::Fill;
+use crate::four::Four;
 use crate::holding::Hold;
 use crate::named::Named;
 use crate::parts::Part;
-use crate::place::Place;
 use crate::places::Places;
 use crate::row::Row;
 use crate::seen::Seen;
@@ -22,12 +22,6 @@ use run_law::TreeEntry;
 use seen_journal::Journal;
 use std::sync::Wait;
 use tree_law::Follow;
-
-// Four places, and eight.
-type Four<N, const A: usize, const B: usize, const C: usize, const D: usize> = Row<
-    Row<Place<N, A>, Place<N, B>>,
-    Row<Place<N, C>, Place<N, D>>,
->;
 
 // The places of slices 0 to 15, and of 16 to 31.
 type Lower<N> = Row<

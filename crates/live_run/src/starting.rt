@@ -1,7 +1,7 @@
 //! The threads before their first ops.
-ghost use Rattle.std.specs.Prelude.{◌≡◌, ℕ, ◌<◌, IfOk, length};
+ghost use Rattle.std.specs.Prelude.{◌≡◌, ℕ, ◌<◌, ◌≤◌, IfOk, length};
 ghost use Rattle.live_run.specs.Logs.{log_at};
-ghost use Rattle.live_run.specs.Openings.{AreFirst, AreGivenTo, AreNew, HaveGiven, IsFirst};
+ghost use Rattle.live_run.specs.Openings.{AreFirst, AreGivenTo, AreNew, AreOfSlices, HaveGiven, IsFirst};
 ghost use Rattle.live_run.specs.Quotas.{HaveQuotas};
 ghost use Rattle.machine.specs.Slices.{slice_count};
 ghost use Rattle.run_law.specs.Quotas.{AreCounted, commands_of};
@@ -14,7 +14,7 @@ use crate::passes::Passes;
 use crate::seen::Seen;
 use cache_core::SliceEntry;
 use rc_base::{NoMemory, TEXT_MAX, TextBuf};
-use run_law::{LookLists, TreeEntry};
+use run_law::{LookLists, TreeEntry, command_counts};
 use script_ops::Script;
 use seen_journal::Pass;
 use std::alloc::Global;
@@ -91,4 +91,28 @@ pub(crate) fn all_first<N: Named>(
         all.push(first(alloc, script, t, counts[t as usize], tree.take(), own)?)?;
     }
     Ok(all)
+}
+
+/// All threads before their first ops, and the passes of the tree's cell, which are the next of the slices' journals. NoMemory where
+/// there is no room for them.
+pub(crate) fn first_passes<N: Named>(
+    alloc: Global,
+    script: &Script,
+    tree: &mut Log<TreeEntry>,
+    slices: &mut Vec<Log<SliceEntry>>,
+) -> Result<(Vec<Passes<N>>, Vec<Pass<SliceEntry>>), NoMemory>
+    requires script { script.now ≡ N.script }
+    requires quotas { HaveQuotas N.script N.tree N.slices }
+    requires given { AreGivenTo N.script N.tree N.slices (length (threads_of N.script)) 0 tree.old slices.old.items }
+    ensures name { IfOk result (λ r. tree.new.name ≡ N.tree) }
+    ensures left { IfOk result (λ r. length slices.new.items ≤ tree.new.left) }
+    ensures logs { IfOk result (λ r. AreOfSlices N.slices (slice_count N.script.machine) slices.new.items) }
+    ensures first { IfOk result (λ r. AreFirst (length (threads_of N.script)) r.0.items) }
+    ensures own { IfOk result (λ r. AreNew N.slices (slice_count N.script.machine) (length (threads_of N.script)) r.1.items) }
+    ensures lawful { IfOk result (λ r. IsLawful N.script) }
+{
+    let counts = command_counts(alloc, script)?;
+    let passes = all_first(alloc, script, &counts, tree, slices)?;
+    let own = take_each(alloc, slices)?;
+    Ok((passes, own))
 }

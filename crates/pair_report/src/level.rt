@@ -1,5 +1,5 @@
 //! The report of a run with two levels.
-ghost use Rattle.std.specs.Prelude.{◌≡◌, ◌<◌, ◌++◌, IfOk, OnOk, length, map};
+ghost use Rattle.std.specs.Prelude.{◌≡◌, ◌<◌, ◌∷◌, ◌++◌, IfOk, OnOk, length, map};
 ghost use Rattle.std.specs.List.{flat_map, range_with_len};
 ghost use Rattle.joint_windows.specs.JointWindows.{joint_windows};
 ghost use Rattle.joint_windows.specs.LevelJournals.{IsPlayedOnLevels, level_journals};
@@ -7,8 +7,10 @@ ghost use Rattle.machine.specs.Maps.{parameters_of};
 ghost use Rattle.pair_ops.specs.Values.{side_machine};
 ghost use Rattle.pair_ops.specs.declared.side.Side.TheVariants.{First, Second};
 ghost use Rattle.pair_report.specs.LevelReport.{domain_lines, group_line, level_domain_line, level_report_of, level_word};
-ghost use Rattle.pair_report.specs.MadeGroups.{groups_of};
-ghost use Rattle.run_counts.specs.CacheCounts.{valid_in};
+ghost use Rattle.pair_report.specs.LinesBefore.{group_made};
+ghost use Rattle.pair_report.specs.MadeGroups.{default_path, groups_of};
+ghost use Rattle.run_counts.specs.CacheCounts.{slices_alone, valid_in};
+ghost use Rattle.run_counts.specs.Tallies.{IsTallyOf};
 ghost use Rattle.run_law.specs.Entries.{entries_of};
 
 use crate::caches::{counts_on, machine_on};
@@ -17,7 +19,7 @@ use crate::counts::push_total;
 use crate::domains::push_domain;
 use crate::level_groups::push_groups;
 use crate::level_window_lines::push_windows;
-use crate::made::made_groups;
+use crate::made::{Made, made_groups};
 use cache_core::SliceEntry;
 use joint_windows::JointWindow;
 use machine::Machine;
@@ -77,6 +79,31 @@ fn push_domains(
     Ok(())
 }
 
+// Adds the lines of the groups, of which these were made, and of the domains of both levels, by what is counted in each.
+fn push_lines(
+    report: &mut ReportText,
+    script: &PairScript,
+    l2: &[Vec<SliceEntry>],
+    l3: &[Vec<SliceEntry>],
+    made: &[Made],
+    first: &CacheCounts,
+    second: &CacheCounts,
+) -> Result<(), NoMemory>
+    requires l2_each { length l2.now ≡ (side_machine script.now.machines First).domains }
+    requires l3_each { length l3.now ≡ (side_machine script.now.machines Second).domains }
+    requires l2_tally { IsTallyOf (slices_alone (map entries_of l2.now)) (length (map entries_of l2.now)) first.now.tally }
+    requires l3_tally { IsTallyOf (slices_alone (map entries_of l3.now)) (length (map entries_of l3.now)) second.now.tally }
+    requires l2_valid { first.now.valid ≡ valid_in (side_machine script.now.machines First) (map entries_of l2.now) }
+    requires l3_valid { second.now.valid ≡ valid_in (side_machine script.now.machines Second) (map entries_of l3.now) }
+    ensures { OnOk result (report.new ≡ report.old ++ (flat_map (group_line (map entries_of l2.now) (map entries_of l3.now)) (default_path ∷ map (group_made script.now) made.now)
+        ++ flat_map (level_domain_line First (side_machine script.now.machines First) (map entries_of l2.now)) (range_with_len 0 (side_machine script.now.machines First).domains)
+        ++ flat_map (level_domain_line Second (side_machine script.now.machines Second) (map entries_of l3.now)) (range_with_len 0 (side_machine script.now.machines Second).domains))) }
+{
+    push_groups(report, script, l2, l3, made, first.tally(), second.tally())?;
+    push_domains(report, script, Side::First, l2, first)?;
+    push_domains(report, script, Side::Second, l3, second)
+}
+
 // Adds the lines of the groups and of the domains of both levels.
 fn push_counted(
     alloc: Global,
@@ -93,9 +120,7 @@ fn push_counted(
     let made = made_groups(alloc, script, replies)?;
     let first = counts_on(alloc, script, Side::First, l2)?;
     let second = counts_on(alloc, script, Side::Second, l3)?;
-    push_groups(report, script, l2, l3, &made, first.tally(), second.tally())?;
-    push_domains(report, script, Side::First, l2, &first)?;
-    push_domains(report, script, Side::Second, l3, &second)
+    push_lines(report, script, l2, l3, &made, &first, &second)
 }
 
 /// The report of a run with two levels and these windows of it (this project's profile): a line for each command, with what an

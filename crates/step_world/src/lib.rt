@@ -6,6 +6,7 @@ pub mod action;
 mod closing;
 mod commands;
 mod fresh;
+mod fresh_journals;
 mod listed;
 mod opening;
 mod passing;
@@ -24,6 +25,3 @@ pub use place::{Place, Thread};
 pub use playback::play;
 pub use theorems::each_schedule_is_a_run;
 pub use world::World;
-
-#[cfg(test)]
-mod tests;

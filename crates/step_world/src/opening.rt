@@ -4,11 +4,12 @@ ghost use Rattle.step_world.specs.Machine.{IsOpening};
 ghost use Rattle.step_world.specs.Openings.{HasRooms};
 ghost use Rattle.step_world.specs.Worlds.{IsWorldOf, machine_of};
 
-use crate::fresh::{first_threads, fresh_lists, fresh_slices};
+use crate::fresh::{first_threads, fresh_lists};
+use crate::fresh_journals::{FreshJournals, fresh_journals};
 use crate::work::Work;
 use crate::world::World;
 use rc_base::NoMemory;
-use run_law::{command_counts, command_room, slice_rooms};
+use run_law::command_counts;
 use script_ops::Script;
 use std::alloc::Global;
 use tree_core::Tree;
@@ -23,12 +24,13 @@ impl World {
     {
         let tree = Tree::create(alloc, script.machine(), script.tasks())?;
         let counts = command_counts(alloc, script)?;
-        let commands = Vec::with_capacity(alloc, command_room(script, &counts) as usize)?;
-        let rooms = slice_rooms(alloc, script, &counts)?;
-        let slices = fresh_slices(alloc, script, &rooms)?;
-        let closing = Vec::with_capacity(alloc, slices.len())?;
         let threads = first_threads(alloc, script)?;
         let lists = fresh_lists(alloc, script, &counts)?;
+        let FreshJournals {
+            commands,
+            slices,
+            closing,
+        } = fresh_journals(alloc, script, &counts)?;
         Ok(World {
             tree,
             commands,

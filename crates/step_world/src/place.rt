@@ -3,7 +3,7 @@
 use rc_base::Tag;
 
 /// Where a thread is in its next op, between two atomic steps.
-#[derive(Clone, Copy, Debug, PartialEq, Eq)]
+#[derive(Clone, Copy)]
 pub enum Place {
     /// Before Take or Tag, or at its end.
     Ready,
@@ -16,7 +16,7 @@ pub enum Place {
 }
 
 /// A thread: how many ops it has done, which is the number of its next one, and where it is in that.
-#[derive(Clone, Copy, Debug, PartialEq, Eq)]
+#[derive(Clone, Copy)]
 pub struct Thread {
     /// The number of its next op, from 0.
     pub next: u32,

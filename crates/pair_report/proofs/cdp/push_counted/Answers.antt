@@ -12,5 +12,5 @@ counts_on-requires-clause-one_slice c = side_machine-slices c.args.script.now.ma
 pub counts_on-requires-clause-few : goal.counts_on-requires-clause-few
 counts_on-requires-clause-few c = few-slices c.args.script.now c.args.replies.now c.args.slices.now c.requires
 
-pub push_domains-requires-clause-one_each : goal.push_domains-requires-clause-one_each
-push_domains-requires-clause-one_each c = length-slices c.args.script.now c.args.replies.now c.args.slices.now c.requires
+pub push_lines-requires-clause-one_each : goal.push_lines-requires-clause-one_each
+push_lines-requires-clause-one_each c = length-slices c.args.script.now c.args.replies.now c.args.slices.now c.requires

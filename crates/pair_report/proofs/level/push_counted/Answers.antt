@@ -17,8 +17,8 @@ counts_on-requires-2-clause-one_slice c = one-slice c.args.script.now c.args.rep
 pub counts_on-requires-2-clause-few : goal.counts_on-requires-2-clause-few
 counts_on-requires-2-clause-few c = few-l3 c.args.script.now c.args.replies.now c.args.l2.now c.args.l3.now c.requires
 
-pub push_domains-requires-clause-one_each : goal.push_domains-requires-clause-one_each
-push_domains-requires-clause-one_each c = length-l2 c.args.script.now c.args.replies.now c.args.l2.now c.args.l3.now c.requires
+pub push_lines-requires-clause-l2_each : goal.push_lines-requires-clause-l2_each
+push_lines-requires-clause-l2_each c = length-l2 c.args.script.now c.args.replies.now c.args.l2.now c.args.l3.now c.requires
 
-pub push_domains-requires-2-clause-one_each : goal.push_domains-requires-2-clause-one_each
-push_domains-requires-2-clause-one_each c = length-l3 c.args.script.now c.args.replies.now c.args.l2.now c.args.l3.now c.requires
+pub push_lines-requires-clause-l3_each : goal.push_lines-requires-clause-l3_each
+push_lines-requires-clause-l3_each c = length-l3 c.args.script.now c.args.replies.now c.args.l2.now c.args.l3.now c.requires
