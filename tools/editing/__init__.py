@@ -1,0 +1,1 @@
+"""How the edits that the gate leaves out are tried."""
