@@ -1,0 +1,1 @@
+"""How long proofs take, side by side."""
