@@ -1,0 +1,15 @@
+pub mod AccessHappenings
+pub mod CommandHappenings
+pub mod Events
+pub mod Happenings
+pub mod LiveEndings
+pub mod LiveHappenings
+pub mod LiveOpenings
+pub mod OrderedPlays
+pub mod OwnOrders
+pub mod PartNumbers
+pub mod PartSets
+pub mod PhaseHappenings
+pub mod ReachedParts
+pub mod ScheduledPlays
+pub mod StepStates

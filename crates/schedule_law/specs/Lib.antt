@@ -1,0 +1,4 @@
+pub mod Law
+pub mod LiveParts
+pub mod Parts
+pub mod Schedules

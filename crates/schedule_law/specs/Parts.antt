@@ -1,0 +1,162 @@
+-- The parts of the machine's state, and what happens to them.
+use Rattle.std.specs.Prelude.{List, None, Option, Some, true, false, Bool, [], if◌then◌else◌, length, ℕ, zero, suc, ◌++◌, ◌+◌, ◌*◌, ◌∷◌, ◌≡◌, ◌≤◌}
+use Rattle.cache_core.specs.declared.entry.SliceEntry.{SliceEntry}
+use Rattle.cache_core.specs.declared.entry.What.{What}
+use Rattle.cache_core.specs.declared.entry.What.TheVariants as whats
+use Rattle.rc_base.specs.declared.names.Tag.{Tag}
+use Rattle.machine.specs.Slices.{slice_count}
+use Rattle.run_law.specs.Journals.{slice_at}
+use Rattle.run_law.specs.Ops.{phase_in}
+use Rattle.run_law.specs.TreeHistory.{TreeEntryValue}
+use Rattle.script_ops.specs.Values.{ScriptValue, op_at, threads_of}
+use Rattle.script_ops.specs.declared.op.Op.{Op}
+use Rattle.step_world.specs.Looked.{HasLooked}
+use Rattle.step_world.specs.Machine.{Event, IsOpening, MachineValue, Plays, opening_thread, thread_at}
+use Rattle.step_world.specs.declared.place.Place.{Place}
+use Rattle.step_world.specs.declared.place.Place.TheVariants.{Ready, Looking, Following, Tagged}
+use Rattle.step_world.specs.declared.place.Thread.{Thread}
+
+-- a part of the machine's state
+pub data PartValue : Type 0 where
+  Tree : List TreeEntryValue → Option ℕ → PartValue  -- the tree's journal, and who holds the tree
+  Slice : List SliceEntry → PartValue  -- the journal of a slice
+  Worker : Thread → Bool → List ℕ → PartValue  -- where a thread is, whether its phase is known to have begun, and what its looks found
+  Phase : ℕ → PartValue  -- the number of the present phase
+
+-- what happens; where the flag is set nothing follows the command
+pub data HappeningValue : Type 0 where
+  Take : ℕ → HappeningValue
+  Look : SliceEntry → HappeningValue
+  Decide : TreeEntryValue → Bool → ℕ → HappeningValue
+  Follow : SliceEntry → Bool → HappeningValue
+  Label : Tag → HappeningValue
+  Touch : SliceEntry → HappeningValue
+  Again : HappeningValue
+  Begin : HappeningValue
+  Pass : HappeningValue
+
+-- the numbers of the parts: 0 is the tree, 1 the phase, then slices and threads in turn
+abbrev pub number_of_slice : ℕ → ℕ
+number_of_slice i = 2 + 2 * i
+
+abbrev pub number_of_thread : ℕ → ℕ
+number_of_thread t = 3 + 2 * t
+
+-- a state of some schedule
+pub record IsReached (script : ScriptValue) (s : MachineValue) : Type 0 where
+  pub events : List Event
+  pub first : MachineValue
+  pub opening : IsOpening script first
+  pub plays : Plays script events first s
+
+-- A state that can be reached, in parts. Where a thread's phase is said to have begun it has, and where its command looks it has
+-- found these numbers.
+pub record AreReached (script : ScriptValue) (at : ℕ → PartValue) : Type 0 where
+  pub state : MachineValue
+  pub reached : IsReached script state
+  pub count : length state.threads ≡ length (threads_of script)
+  pub begun : ℕ → Bool
+  pub found : ℕ → List ℕ
+  pub tree : at 0 ≡ Tree state.journals.tree state.holder
+  pub phase : at 1 ≡ Phase state.phase
+  pub slices : (i : ℕ) → at (number_of_slice i) ≡ Slice (slice_at state.journals i)
+  pub threads : (t : ℕ) → at (number_of_thread t) ≡ Worker (thread_at state t) (begun t) (found t)
+  pub begins : (t : ℕ) → begun t ≡ true → phase_in script.phases t ≤ state.phase
+  pub looked : (t made : ℕ) (op : Op) → (thread_at state t).place ≡ Looking made → op_at script t (thread_at state t).next ≡ Some op → HasLooked script state t op (found t)
+
+-- ---- what happens to a part
+
+abbrev pub moved : Thread → Place → Thread
+moved v place = record { next = v.next; place = place }
+
+abbrev pub done : Thread → Thread
+done v = record { next = v.next + 1; place = Ready }
+
+-- a thread has made one entry more
+abbrev pub one_more : Place → Place
+one_more Ready = Ready
+one_more (Looking made) = Looking (made + 1)
+one_more (Following made) = Following (made + 1)
+one_more (Tagged tag) = Tagged tag
+
+abbrev pub thread_after : HappeningValue → Thread → Thread
+thread_after (Take t) v = moved v (Looking 0)
+thread_after (Look e) v = moved v (one_more v.place)
+thread_after (Decide h last made) v = if last then done v else moved v (Following made)
+thread_after (Follow e last) v = if last then done v else moved v (one_more v.place)
+thread_after (Label tag) v = moved v (Tagged tag)
+thread_after (Touch e) v = done v
+thread_after Again v = moved v Ready
+thread_after Begin v = v
+thread_after Pass v = v
+
+abbrev pub history_after : HappeningValue → List TreeEntryValue → List TreeEntryValue
+history_after (Decide h last made) hs = hs ++ h ∷ []
+history_after e hs = hs
+
+abbrev pub let_go : Bool → Option ℕ → Option ℕ
+let_go last holder = if last then None else holder
+
+abbrev pub holder_after : HappeningValue → Option ℕ → Option ℕ
+holder_after (Take t) holder = Some t
+holder_after (Decide h last made) holder = let_go last holder
+holder_after (Follow e last) holder = let_go last holder
+holder_after e holder = holder
+
+abbrev pub list_after : HappeningValue → List SliceEntry → List SliceEntry
+list_after (Look e) es = es ++ e ∷ []
+list_after (Follow e last) es = es ++ e ∷ []
+list_after (Touch e) es = es ++ e ∷ []
+list_after e es = es
+
+abbrev pub begun_after : HappeningValue → Bool → Bool
+begun_after Begin b = true
+begun_after e b = b
+
+-- the lines that a look counted
+abbrev pub lines_in : What → ℕ
+lines_in (whats.Look rmid lines) = lines
+lines_in what = 0
+
+abbrev pub found_after : HappeningValue → List ℕ → List ℕ
+found_after (Take t) found = []
+found_after (Look e) found = found ++ lines_in e.what ∷ []
+found_after e found = found
+
+abbrev pub phase_after : HappeningValue → ℕ → ℕ
+phase_after Pass n = n + 1
+phase_after e n = n
+
+abbrev pub part_after : HappeningValue → ℕ → PartValue → PartValue
+part_after e k (Tree history holder) = Tree (history_after e history) (holder_after e holder)
+part_after e k (Slice list) = Slice (list_after e list)
+part_after e k (Worker thread begun found) = Worker (thread_after e thread) (begun_after e begun) (found_after e found)
+part_after e k (Phase number) = Phase (phase_after e number)
+
+-- a part with its number
+abbrev pub tree_part : List TreeEntryValue → Option ℕ → ℕ × PartValue
+tree_part history holder = (0, Tree history holder)
+
+abbrev pub slice_part : ℕ → List SliceEntry → ℕ × PartValue
+slice_part i list = (number_of_slice i, Slice list)
+
+abbrev pub thread_part : ℕ → Thread → Bool → List ℕ → ℕ × PartValue
+thread_part t v begun found = (number_of_thread t, Worker v begun found)
+
+abbrev pub phase_part : ℕ → ℕ × PartValue
+phase_part p = (1, Phase p)
+
+-- ---- the start
+
+-- the parts of n slices from slice i on, and of n threads from thread t on, before the first step
+abbrev pub slice_parts : ℕ → ℕ → List (ℕ × PartValue)
+slice_parts i zero = []
+slice_parts i (suc n) = slice_part i [] ∷ slice_parts (i + 1) n
+
+abbrev pub thread_parts : ℕ → ℕ → List (ℕ × PartValue)
+thread_parts t zero = []
+thread_parts t (suc n) = thread_part t opening_thread false [] ∷ thread_parts (t + 1) n
+
+-- all parts before the first step
+abbrev pub opening_parts : ScriptValue → List (ℕ × PartValue)
+opening_parts script = tree_part [] None ∷ phase_part 0 ∷ slice_parts 0 (slice_count script.machine) ++ thread_parts 0 (length (threads_of script))

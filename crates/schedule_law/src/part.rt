@@ -1,0 +1,67 @@
+//! The parts of the machine's state, and what happens to them.
+use cache_core::SliceEntry;
+use rc_base::Tag;
+use run_law::TreeEntry;
+use std::collections::LinkedList;
+use step_world::place::Thread;
+
+/// A part of the machine's state. No value of it is made: only proofs see it.
+pub enum Part {
+    /// The tree's journal, and the number of the thread that holds the tree.
+    Tree {
+        history: LinkedList<TreeEntry>,
+        holder: Option<u64>,
+    },
+    /// The journal of a slice.
+    Slice {
+        list: LinkedList<SliceEntry>,
+    },
+    /// Where a thread is, whether its phase is known to have begun, and the lines that its command's looks found, in order.
+    Worker {
+        thread: Thread,
+        begun: bool,
+        found: LinkedList<u64>,
+    },
+    /// The number of the present phase.
+    Phase {
+        number: u64,
+    },
+}
+
+/// What happens to parts.
+#[derive(Drop)]
+pub enum Happening {
+    /// The command of this thread takes the tree.
+    Take {
+        thread: u64,
+    },
+    /// It counts the lines of an RMID in a slice, which gets this entry.
+    Look {
+        entry: SliceEntry,
+    },
+    /// It is decided, after so many looks. Where it is the last step of the command, the tree is let go.
+    Decide {
+        command: TreeEntry,
+        last: bool,
+        made: u64,
+    },
+    /// What follows it is done in a slice, which gets this entry. After the last one the tree is let go.
+    Follow {
+        entry: SliceEntry,
+        last: bool,
+    },
+    /// An access learns its tag.
+    Label {
+        tag: Tag,
+    },
+    /// It hits or fills a way of a slice, which gets this entry.
+    Touch {
+        entry: SliceEntry,
+    },
+    /// It finds its tag stale, and is to learn another.
+    Again,
+    /// The phase of a thread is found to have begun.
+    Begin,
+    /// The next phase begins.
+    Pass,
+}

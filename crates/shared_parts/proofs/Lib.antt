@@ -1,0 +1,6 @@
+pub mod Happenings
+pub mod laws
+pub mod Openings
+pub mod Pairs
+pub mod Splits
+pub mod Views

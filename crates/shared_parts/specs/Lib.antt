@@ -1,0 +1,5 @@
+pub mod Kept
+pub mod Kinds
+pub mod Parts
+pub mod Shares
+pub mod Words

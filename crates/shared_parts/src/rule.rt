@@ -1,0 +1,20 @@
+//! The rule of the table.
+ghost use Rattle.shared_parts.specs.Kept.{IsKept};
+
+use crate::machine::Machine;
+use crate::view::View;
+use atomic_table::TableRule;
+use std::marker::PhantomData;
+
+/// The rule of the table: some state that can be reached has all parts of the seats, and no two seats have the same part.
+pub struct ReachedRule<M> {
+    of: PhantomData<M>,
+}
+
+impl<E, P, M: Machine<E, P>> TableRule<E, View<P>, ()> for ReachedRule<M> {
+    ghost use Rattle.shared_parts.specs.Kept.{IsKept};
+
+    ghost holds = { λ _ s. IsKept M.reached s.views };
+
+    ghost first = { λ _. record { parts = M.first } };
+}

@@ -1,0 +1,18 @@
+//! Tests alone: two lists under locks of their own, to which two threads add in opposite orders, and the one order of all that they
+//! added.
+#![tactic(auto)]
+
+mod cell;
+mod entry;
+mod merged;
+mod opening;
+mod racing;
+mod timed;
+mod worker;
+
+pub use entry::Entry;
+pub use racing::race;
+pub use timed::{add_alone, add_beside};
+
+#[cfg(test)]
+mod tests;
