@@ -1,0 +1,6 @@
+mod Fills
+mod Groups
+mod PrivateSets
+mod Steps
+mod Victims
+mod Windows

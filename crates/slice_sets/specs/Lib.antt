@@ -1,0 +1,3 @@
+pub mod PrivateCaches
+pub mod SliceIsolation
+pub mod SliceSets
