@@ -32,7 +32,7 @@ class Built:
         built = here if os.access(here, os.X_OK) else None
         self.path = path or os.environ.get(self.variable) or built or shutil.which(self.name)
         if not self.path or not os.access(self.path, os.X_OK):
-            raise Broken(f"{self.path or here} is no program; `make demo` builds it")
+            raise Broken(f"{self.path or here} is not a program; `make demo` builds it")
 
     def answer(self, text, *words, statuses=(0,)):
         """What is written for a text by these words. A NoScript tells why it is refused."""

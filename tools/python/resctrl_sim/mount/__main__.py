@@ -26,7 +26,7 @@ def serve(given):
         from .files import Files
         from .processes import Processes
     except ImportError as why:
-        raise Stopped("the Python library fusepy is not here (Debian: python3-fusepy)") from why
+        raise Stopped("the Python library fusepy is missing (Debian: python3-fusepy)") from why
     recording = recording_of(given)
     processes = Processes(recording) if given.pids else None
     shown = []

@@ -4,10 +4,11 @@ from dataclasses import dataclass
 
 @dataclass(frozen=True)
 class Answer:
-    """What a command answered: the name of an error, or None where it was accepted, and the lines that it gave."""
+    """What a command answered: the name of an error, or None where it was accepted, the lines that it gave, and why it was refused."""
 
     error: str | None
     lines: tuple[str, ...] = ()
+    reason: str | None = None
 
     @property
     def accepted(self):
@@ -21,8 +22,8 @@ class Answer:
 def answer_of(line, lines):
     """The answer in the line of a command, whose result stands after its last colon."""
     result = line.rpartition(": ")[2]
-    words = result.split(" ", 1)
-    return Answer(None if words[0] == "ok" else words[0], tuple(lines))
+    name, _, reason = result.partition(" ")
+    return Answer(None if name == "ok" else name, tuple(lines), None if name == "ok" else reason)
 
 
 def lines_from_the_end(report):

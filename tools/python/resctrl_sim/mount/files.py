@@ -11,6 +11,7 @@ from .attributes import Table
 from .kinds import MODES, NAME_BYTES, Kind, Kinds, is_name, is_path
 from .nothing import NotThere
 from .opens import Opens
+from .strict import Strict
 from .words import say
 
 BLOCK_BYTES = 4096
@@ -27,7 +28,7 @@ class Files(Opens, NotThere, Operations):
     def __init__(self, recording, ready, strict=False, processes=None):
         self.recording = recording
         self.ready = ready
-        self.strict = strict
+        self.strict = Strict(recording) if strict else None
         self.processes = processes
         self.kinds = Kinds(recording)
         self.table = Table()
@@ -84,6 +85,8 @@ class Files(Opens, NotThere, Operations):
         answer = self.asked(lambda: (play or self.recording.do)(op))
         if op.startswith(("mkdir ", "write ")):
             self.cause = None
+            if self.strict:
+                self.strict.answered(*(op.split(" ", 2) + [""])[1:3], answer)
         if not answer.accepted:
             raise FuseOSError(getattr(errno, answer.error))
         return answer
@@ -93,6 +96,8 @@ class Files(Opens, NotThere, Operations):
             raise FuseOSError(errno.ENAMETOOLONG)
         if not is_path(path):
             raise FuseOSError(errno.EINVAL)
+        if self.strict:
+            self.strict.may_make(path)
         self.command(f"mkdir {path}")
         self.kinds.changed(path, Kind.DIRECTORY)
         self.table.made(path, stat.S_IMODE(mode))

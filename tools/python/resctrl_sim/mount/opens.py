@@ -2,7 +2,7 @@
 import errno
 import os
 
-from fusepy import FuseOSError
+from fusepy import FuseOSError, fuse_get_context
 
 from . import extras, texts
 from .kinds import Kind
@@ -20,6 +20,8 @@ class Opens:
         mode = self.mode(path)
         if needed & 0o444 and not mode & 0o444 or needed & 0o222 and not self.is_writable(path, mode):
             raise FuseOSError(errno.EACCES)
+        if self.strict:
+            self.strict.may_open(path, bool(needed & 0o222))
         return self.opened(path)
 
     def opendir(self, path):
@@ -61,9 +63,10 @@ class Opens:
     def text(self, path):
         if extras.is_extra(path):
             return extras.read(self.recording, path)
-        if path == LAST_STATUS and self.cause:
+        if path == LAST_STATUS and self.cause and not self.strict:
             return self.cause + "\n"
-        return self.command(f"read {path}").text
+        text = self.command(f"read {path}").text
+        return self.strict.shown(path, text) if self.strict else text
 
     def write(self, path, data, offset, fh):
         """A write is a command. One that goes on where the last of this open file ended, within a line, is the rest of it."""
@@ -89,11 +92,12 @@ class Opens:
 
     def write_text(self, handle, path, data, is_rest):
         """Writes a text, or the rest of one, which takes its place if no other operation came between."""
+        if self.strict:
+            self.write_strictly(handle, path, data, is_rest)
+            return
         again = is_rest and handle.count == self.recording.count
         written = handle.written + data if again else data
         try:
-            if self.strict:
-                texts.require_whole(path, written, is_rest)
             op = texts.op_of(path, written)
         except Refused as why:
             self.cause = why.cause or self.cause
@@ -105,3 +109,16 @@ class Opens:
             self.command(op, self.recording.do_again if again else self.recording.do)
         finally:
             handle.count = self.recording.count
+
+    def write_strictly(self, handle, path, data, is_rest):
+        """Writes a text as a kernel reads it, who takes the rest of one for a text of its own."""
+        handle.written = data
+        texts.require_whole(path, data, is_rest)
+        writer = fuse_get_context()[2]
+        text, fault = self.strict.text(path, data, writer)
+        if self.processes:
+            self.processes.declare(path, text.encode("ascii"))
+        if text or not fault:
+            self.command(texts.op_of(path, text.encode("ascii")))
+        if fault:
+            self.strict.refuse(path, fault)

@@ -2,6 +2,7 @@
 from dataclasses import dataclass
 import errno
 import os
+import re
 
 from fusepy import FuseOSError
 
@@ -54,6 +55,11 @@ def op_of(path, written):
 def escaped(text):
     """A written text as a script has it."""
     return text.decode("ascii").replace("\\", "\\\\").replace("\n", "\\n")
+
+
+def unescaped(text):
+    """What a script's text stands for."""
+    return re.sub(r"\\(.)", lambda found: "\n" if found[1] == "n" else found[1], text)
 
 
 def require_whole(path, written, is_rest):

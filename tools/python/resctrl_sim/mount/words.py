@@ -28,7 +28,7 @@ def words_of(arguments):
     parser.add_argument("--machine", default="", metavar="KEYS", help="the keys of the machine line")
     parser.add_argument("--tasks", default="", metavar="IDS", help="the tasks that are declared, as 1-8 or 1000-1999")
     parser.add_argument("--pids", action="store_true", help="processes of this machine are declared as they are written to `tasks`")
-    parser.add_argument("--strict", action="store_true", help="texts that a kernel refuses for want of a newline are refused")
+    parser.add_argument("--strict", action="store_true", help="answer as a kernel where the simulator does not; docs/MOUNT.md says where")
     parser.add_argument("--program", metavar="PATH", help="resctrl_sim, where it is not the one built here")
     files = parser.add_mutually_exclusive_group()
     files.add_argument("--record", metavar="FILE", help="a new file, which holds the script so far after each operation")
@@ -61,7 +61,7 @@ def check_directory(directory):
     except FileNotFoundError as why:
         raise Stopped(f"{directory} is not there") from why
     except NotADirectoryError as why:
-        raise Stopped(f"{directory} is no directory") from why
+        raise Stopped(f"{directory} is not a directory") from why
     except OSError as why:
         raise Stopped(f"{directory} is what an ended mount has left: fusermount3 -u {directory}") from why
     if names:
