@@ -4,7 +4,7 @@
 usage: timeline.py SCRIPT [--program PATH] [--domain D] [--rows N] [--svg FILE]
 
 SCRIPT          a script of resctrl_sim, see docs/FORMAT.md
---program PATH  resctrl_sim, where it is neither the one that was built here nor on the PATH
+--program PATH  resctrl_sim, if it is neither the one that was built here nor on the PATH
 --domain D      the cache (default: 0)
 --rows N        about how many rows the table has at most, beside those of commands (default: 32)
 --svg FILE      draws a picture into this file, with gnuplot (Debian: gnuplot-nox), in place of the table
@@ -49,7 +49,7 @@ def words_given():
 def play(program, data):
     """The report of the script, with its journal."""
     if not program:
-        stop("the program is not here; `make demo` builds it")
+        stop("resctrl_sim is missing; `make demo` builds it")
     done = subprocess.run([program, "step", "--json", "--journal"], input=data, stdout=subprocess.PIPE, check=False)
     if done.returncode == 1:
         stop(f"the program says `{done.stdout.decode('ascii').strip()}`; tools/explain says more")
@@ -85,7 +85,7 @@ def draw(report, seen, machine, given):
     try:
         picture.draw(report, seen, machine, f"{os.path.basename(given.script)}, domain {given.domain}", given.svg)
     except FileNotFoundError:
-        stop("gnuplot is not there (Debian: apt-get install gnuplot-nox)")
+        stop("gnuplot is missing (Debian: apt-get install gnuplot-nox)")
 
 
 if __name__ == "__main__":

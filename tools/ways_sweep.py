@@ -28,7 +28,7 @@ from contextlib import contextmanager
 from typing import NamedTuple
 
 sys.path.insert(0, os.path.join(os.path.dirname(os.path.realpath(__file__)), "python"))
-from curve_picture import draw
+from curve_picture import Curve, draw
 from resctrl_sim import Report
 
 COLUMNS = ("ways", "mask", "overlaps", "group", "accesses", "hits", "misses", "miss rate")
@@ -140,6 +140,13 @@ def rows_of(played, sweep, ways, mask):
     return [Row(ways, mask, "", overlaps, group.path, group.accesses, group.hits, group.misses) for group in report.groups]
 
 
+def curves_of(rows):
+    """The curve of each group that has accesses. A ring is around a point whose mask overlaps another group's."""
+    counted = [row for row in rows if row.accesses]
+    paths = dict.fromkeys(row.group for row in counted)
+    return [Curve(path, [(row.ways, row.misses, row.is_overlapping) for row in counted if row.group == path]) for path in paths]
+
+
 @contextmanager
 def players(scheduler):
     """What plays, and what makes a text known to all of it: the processors that this may use, or the workers of a cluster."""
@@ -195,7 +202,7 @@ def main():
     for row in rows:
         print(row.text())
     if given.curve:
-        draw(rows, given.group, given.curve)
+        draw(curves_of(rows), given.group, "its mask overlaps another group's", given.curve)
 
 
 if __name__ == "__main__":

@@ -52,7 +52,7 @@ def wrong_refusals(workers, program):
 
 
 def wrong_remarks(workers, program):
-    """The lawful scripts of which no such remark is made."""
+    """The valid scripts of which no such remark is made."""
     texts = list(workers.map(lambda case: shown(program, case[0].encode("latin-1")), LAWFUL))
     for (script, line, piece), text in zip(LAWFUL, texts):
         place = f"-:{line}:" if line else "-: remark"

@@ -1,1 +1,1 @@
-"""What `tools/explain` is made of: a reader of scripts that says why a line is refused, and remarks on lawful scripts."""
+"""What `tools/explain` is made of: a reader of scripts that says why a line is refused, and remarks on valid scripts."""

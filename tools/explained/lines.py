@@ -2,7 +2,7 @@
 from dataclasses import dataclass
 import re
 
-COMMENT = "a # after words is no comment: give the comment a line of its own"
+COMMENT = "a # after words does not begin a comment: give the comment a line of its own"
 
 
 @dataclass(frozen=True)

@@ -58,11 +58,11 @@ def read_value(word, key, text):
         refuse(WHAT, word, f"no number stands after `{key}=`", "no blanks stand around the =")
     if key != "shareable":
         if key == "sparse" and text.lower() in ("yes", "true", "on", "no", "false", "off"):
-            refuse(WHAT, value, f"{key} `{text}` is no decimal number", "1 where masks may have gaps, else 0")
+            refuse(WHAT, value, f"{key} `{text}` is not a decimal number", "1 where masks may have gaps, else 0")
         return decimal(WHAT, value, key)
     if not re.fullmatch(r"(0x)?[0-9a-fA-F]+", text):
         hint = "the mask has 0x in small letters, or none" if text.startswith("0X") else suggestion(text, True)
-        refuse(WHAT, value, f"shareable `{text}` is no hexadecimal mask", hint)
+        refuse(WHAT, value, f"shareable `{text}` is not a hexadecimal mask", hint)
     return int(text.removeprefix("0x"), 16)
 
 
@@ -71,7 +71,7 @@ def read_key(word, given):
     key, equals, text = word.text.partition("=")
     if not equals:
         hint = f"{key}=NUMBER, without blanks around the =" if key in DEFAULTS else key_hint(key)
-        refuse(WHAT, word, f"`{word.text}` is no KEY=VALUE", hint)
+        refuse(WHAT, word, f"`{word.text}` is not KEY=VALUE", hint)
     if key not in DEFAULTS:
         refuse(WHAT, word, f"there is no key `{key}`", key_hint(key))
     if key in given:
@@ -108,7 +108,7 @@ class Ranges:
         self.within("domains", 1, 8)
         self.within("sets", 1, 65536, "65,536 sets at most; docs/MACHINES.md says how a larger cache is modelled")
         if n["sets"] & (n["sets"] - 1):
-            self.fail("sets", f"sets {n['sets']} is no power of two", powers_around(n["sets"]))
+            self.fail("sets", f"sets {n['sets']} is not a power of two", powers_around(n["sets"]))
         self.within("ways", 1, 32)
         self.within("classes", 1, 64)
         self.within("rmids", 1, 256)
@@ -130,7 +130,7 @@ class Ranges:
     def check_sizes(self):
         n = self.numbers
         if n["slices"] not in SLICE_COUNTS:
-            self.fail("slices", f"slices {n['slices']} is none of 1, 2, 4, 8 and 16")
+            self.fail("slices", f"slices {n['slices']} is not 1, 2, 4, 8 or 16")
         if n["slices"] > n["sets"]:
             self.fail("slices", f"{n['slices']} slices are more than {n['sets']} sets")
         if n["domains"] * n["slices"] > SLICES:

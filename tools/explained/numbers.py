@@ -38,14 +38,14 @@ def hexadecimal_suggestion(text, hexadecimal):
     if digits:
         return f"this number is decimal: {int(digits[2][:32], 16)}"
     if wrong := re.match(r"0[xX][0-9a-fA-F]*(.)", text):
-        return f"{wrong[1]} is no hexadecimal digit"
+        return f"{wrong[1]} is not a hexadecimal digit"
     return ""
 
 
 def decimal(what, word, name):
     """The value of decimal digits, which may be of any size."""
     if not re.fullmatch(r"[0-9]+", word.text):
-        refuse(what, word, f"{name} `{word.text}` is no decimal number", suggestion(word.text, False))
+        refuse(what, word, f"{name} `{word.text}` is not a decimal number", suggestion(word.text, False))
     return value_of(word.text)
 
 
@@ -56,7 +56,7 @@ def number(what, word, name):
     elif re.fullmatch(r"0[xX][0-9a-fA-F]+", word.text):
         value = int(word.text, 16)
     else:
-        refuse(what, word, f"{name} `{word.text}` is no number", suggestion(word.text, True))
+        refuse(what, word, f"{name} `{word.text}` is not a number", suggestion(word.text, True))
     if value >= NUMBERS:
         refuse(what, word, f"{name} `{word.text}` is 2^64 or more")
     return value

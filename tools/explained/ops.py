@@ -99,7 +99,7 @@ def read_flush(line, words, machine, tasks):
     check_count(line, words, USAGES["flush"], 1, 2)
     if len(words) == 2:
         if re.fullmatch("0[xX].+", words[1].text):
-            refuse(WHAT, words[1], f"DOMAIN `{words[1].text}` is no decimal number", f"of one line: clflush {words[1].text}")
+            refuse(WHAT, words[1], f"DOMAIN `{words[1].text}` is not a decimal number", f"of one line: clflush {words[1].text}")
         if decimal(WHAT, words[1], "DOMAIN") >= machine.domains:
             hint = f"domains are numbered from 0 to {machine.domains - 1}; the line of an address is flushed by clflush"
             refuse(WHAT, words[1], f"there is no domain {words[1].text}", hint)

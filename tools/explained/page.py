@@ -39,7 +39,7 @@ def show_fault(file, fault):
 
 
 def show_remark(file, lines, remark):
-    """What is likely a mistake in a lawful script."""
+    """What is likely a mistake in a valid script."""
     text = lines[remark.line - 1] if remark.line else ""
     start = text.find(remark.word) if remark.word else len(text) - len(text.lstrip(" \t"))
     width = len(remark.word) if remark.word else len(text.split(" ")[0])

@@ -28,7 +28,7 @@ def check_name(name, start, path):
         hint = re.sub("/+", "/", path).rstrip("/") or "/"
         raise Refused("bad path", start - 1, 1, "no name stands after this slash", hint)
     if name in (".", ".."):
-        raise Refused("bad path", start, len(name), f"`{name}` is no name here", "paths are written from the root on")
+        raise Refused("bad path", start, len(name), f"`{name}` is not a name", "paths are written from the root on")
     if len(name) > NAME_BYTES:
         raise Refused("bad path", start, len(name), f"a name of {len(name)} bytes; {NAME_BYTES} at most")
 

@@ -1,4 +1,4 @@
-"""What is likely a mistake in a script that is lawful, by its report."""
+"""What is likely a mistake in a valid script, by its report."""
 from bisect import bisect_right
 from collections import Counter
 import re

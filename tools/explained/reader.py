@@ -106,7 +106,7 @@ class Script:
     def read_order(self, line, words, at, after_phase):
         if not after_phase:
             hint = "an order stands directly after its `phase`, and once" if self.phases else "no phase line yet"
-            refuse("out of place", words[0], "the line before it that says something is no `phase`", hint)
+            refuse("out of place", words[0], "the last line before it that has words is not `phase`", hint)
         check_count(line, words, USAGES["order"], 2, len(words))
         order = [decimal(WHAT, word, "thread") for word in words[1:]]
         for word, number in zip(words[1:], order):

@@ -1,4 +1,4 @@
-"""What is likely a mistake in a script that is lawful, by its lines alone."""
+"""What is likely a mistake in a valid script, by its lines alone."""
 from dataclasses import dataclass
 
 from .lines import words_of

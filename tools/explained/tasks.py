@@ -52,11 +52,11 @@ def read_range(word):
     """The first and the last task of a word."""
     found = re.fullmatch(r"([0-9]+)(?:-([0-9]+))?", word.text)
     if not found:
-        refuse(WHAT, word, f"`{word.text}` is no task and no range of tasks", range_hint(word.text))
+        refuse(WHAT, word, f"`{word.text}` is neither a task nor a range of tasks", range_hint(word.text))
     first = value_of(found[1])
     last = first if found[2] is None else value_of(found[2])
     if first < 1:
-        refuse(WHAT, word, "task 0 is none", "tasks are numbered from 1")
+        refuse(WHAT, word, "there is no task 0", "tasks are numbered from 1")
     if first > last:
         refuse(WHAT, word, f"the range `{word.text}` is the wrong way round", f"{last}-{first}")
     if last > LAST_TASK:

@@ -40,7 +40,7 @@ class Samples:
                 continue
             sample = SAMPLE.fullmatch(line)
             if not sample:
-                raise BadTrace(f"{self.name}: line {number} is no sample of perf script -F addr,data_src")
+                raise BadTrace(f"{self.name}: line {number} is not a sample of perf script -F addr,data_src")
             address = int(sample[1], 16)
             if sample[2] and is_answered(int(sample[2], 16)):
                 self.answered += 1

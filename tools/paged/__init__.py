@@ -1,0 +1,13 @@
+"""What `tools/compare_pages` is made of: the blocks of code of a page, a shell that runs their commands, and links."""
+from pathlib import Path
+
+TOP = Path(__file__).resolve().parents[2]
+
+
+def pages():
+    """The pages, by their paths in the repository."""
+    return ["README.md", *sorted(str(path.relative_to(TOP)) for path in TOP.glob("docs/*.md")), "tools/README.md", "bench/README.md"]
+
+
+def text_of(page):
+    return (TOP / page).read_text(encoding="utf-8")
