@@ -1,5 +1,5 @@
 //! All groups of the tree.
-ghost use Rattle.std.specs.Prelude.{◌≡◌, ◌<◌, ◌≤◌, ◌≢◌, ◌↔◌, ◌∷◌, [], ◌++◌, length, find, is_some, nat_lt, IfOk, IsTrue, slice_get, false, true};
+ghost use Rattle.std.specs.Prelude.{◌≡◌, ◌<◌, ◌≤◌, ◌≢◌, ◌∷◌, [], ◌++◌, length, find, is_some, nat_lt, IfOk, IsTrue, slice_get, false, true};
 ghost use Rattle.std.specs.List.{list_any};
 ghost use Rattle.std.specs.Option.{option_copied, option_map};
 ghost use Rattle.group_tree.specs.Lists.{IsTree, has_group, replaced, without};
@@ -68,13 +68,6 @@ impl Groups {
         ensures tree { IsTree self.now.groups }
     {
         self.records.len() as u32
-    }
-
-    /// Whether one more group has a place.
-    pub fn has_place(&self) -> bool
-        ensures { IsTrue result ↔ (length self.now.groups < PLACES) }
-    {
-        !self.records.is_full()
     }
 
     /// Adds a group with a new gid after the others.

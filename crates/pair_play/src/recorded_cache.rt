@@ -95,15 +95,7 @@ impl RecordedCache {
         Ok(())
     }
 
-    /// The history, which is legal.
-    pub fn history(&self) -> &[SliceEntry]
-        ensures history { result.now ≡ self.now.history }
-        ensures legal { IsLegal self.now.shape self.now.history }
-    {
-        &self.history
-    }
-
-    /// The history alone.
+    /// The history alone, which is legal.
     pub fn into_history(self) -> Vec<SliceEntry>
         ensures history { result.items ≡ self.history }
         ensures legal { IsLegal self.shape self.history }

@@ -8,6 +8,6 @@ pub mod private;
 pub mod theorems;
 pub mod users;
 
-pub use counts::{WindowCounts, count_window};
+pub use counts::WindowCounts;
 pub use item::Item;
 pub use private::private_hits;

@@ -2,12 +2,11 @@
 #![tactic(auto)]
 
 mod changes;
-pub mod counting;
+mod counting;
 pub mod listing;
 mod opened;
 mod stay;
 pub mod theorems;
 mod timeline;
 
-pub use counting::{Place, count_window_at};
 pub use listing::windows;

@@ -1,9 +1,6 @@
-//! Private caches of small lists, and the counts of small windows.
+//! Private caches of small lists.
 
-use super::{LOCK, access, counts};
-use cache_core::What;
-use private_lru::{Item, count_window, private_hits};
-use rc_base::Gid;
+use private_lru::{Item, private_hits};
 use std::test::Fail;
 
 // Three lines, of which two come again.
@@ -43,44 +40,6 @@ fn dropped_lines_make_room(rt: HostRuntime) -> Result<(), Fail> {
     assert_eq!(rt;
         private_hits(rt.alloc(), &WITH_A_DROP, 2)?.as_slice(),
         [false, false, false, false, true, false].as_slice()
-    );
-    Ok(())
-}
-
-#[test]
-fn lines_of_others_uncover(rt: HostRuntime) -> Result<(), Fail> {
-    let window = [
-        access(3, 1, 0, false),
-        access(3, 0, 0, true),
-        access(3, 1, 0, true),
-    ];
-    assert_eq!(rt;
-        count_window(rt.alloc(), 2, What::Flush, &window, Gid(1))?,
-        counts(2, 1, 1, 0)
-    );
-    let beside = [
-        access(3, 1, 0, false),
-        access(3, 0, 2, false),
-        access(3, 1, 0, true),
-    ];
-    assert_eq!(rt;
-        count_window(rt.alloc(), 2, What::Flush, &beside, Gid(1))?,
-        counts(2, 1, 2, 1)
-    );
-    Ok(())
-}
-
-#[test]
-fn loaded_lines_uncover(rt: HostRuntime) -> Result<(), Fail> {
-    let window = [access(3, 1, 0, false), access(3, 1, 67, true)];
-    assert_eq!(rt;
-        count_window(rt.alloc(), 2, LOCK, &window, Gid(1))?,
-        counts(2, 1, 0, 0)
-    );
-    let beside = [access(3, 1, 0, false), access(3, 1, 68, false)];
-    assert_eq!(rt;
-        count_window(rt.alloc(), 2, LOCK, &beside, Gid(1))?,
-        counts(2, 0, 2, 0)
     );
     Ok(())
 }

@@ -79,3 +79,18 @@ fn lines_that_the_lock_loaded_are_not_covered(rt: HostRuntime) -> Result<(), Fai
     );
     Ok(())
 }
+
+#[test]
+fn lines_beside_the_region_and_of_nobody_else_are_covered(rt: HostRuntime) -> Result<(), Fail> {
+    let entries = [
+        access(3, 1, 0, false),
+        access(3, 7, 2, false),
+        access(3, 1, 68, false),
+        access(3, 1, 0, true),
+    ];
+    assert_eq!(rt;
+        counted(rt.alloc(), (9, 9), LOCK, &entries)?.as_slice(),
+        [counts(3, 1, 3, 1), counts(0, 0, 0, 0)].as_slice()
+    );
+    Ok(())
+}
