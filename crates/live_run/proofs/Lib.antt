@@ -10,6 +10,7 @@ pub mod Followed
 pub mod FreshParts
 pub mod FreshTree
 pub mod Gathered
+pub mod Growth
 pub mod Meetings
 pub mod MetThreads
 pub mod Openings
@@ -23,3 +24,4 @@ pub mod TakenTrees
 pub mod ThreadPasses
 pub mod Trees
 pub mod Turns
+pub mod laws

@@ -1,48 +1,16 @@
 -- A phase is made, and handed on.
-use Rattle.std.proofs.Common.{◌≡◌, ℕ, zero, suc, ◌+◌, ◌-◌, ◌<◌, ◌≤◌, inl, inr, List, [], ◌∷◌, ◌++◌, length, get_or, take, refl, sym, ap, ◌∙◌, subst, arith}
-use Rattle.std.proofs.lemmas.Bool.{cases_lt, le-ltb, lt-ltb}
+use Rattle.std.proofs.Common.{◌≡◌, ℕ, ◌+◌, ◌-◌, ◌<◌, ◌≤◌, inl, inr, List, ◌++◌, length, sym, ap, ◌∙◌, subst, arith}
+use Rattle.std.proofs.lemmas.Bool.{cases_lt}
 use Rattle.std.proofs.lemmas.List.{get_or_append_left, get_or-append-add, length-append}
-use Rattle.live_law.specs.DoneOps.{HasEnded}
+use Rattle.live_law.proofs.laws.SeenJournals.{HasGrown-self, HasGrown-through}
+use Rattle.live_law.specs.DoneOps.{AreEnded, HasEnded}
+use Rattle.live_law.specs.SeenJournals.{HasGrown}
 use Rattle.live_run.proofs.Endings.{HasEnded-taken, IsAtEnd-handed}
+use Rattle.live_run.proofs.Growth.{HasGrown-taken}
+use Rattle.live_run.proofs.laws.Phases.{AreEnded-in_phase, first_thread-next}
 use Rattle.live_run.specs.Names.{PassesValue, seen_by}
 use Rattle.live_run.specs.Phases.{AreBefore, HaveHandedOn, HaveWorked, IsAtEnd, MayAllWork, MayWork, no_passes, passes_at}
-use Rattle.run_law.specs.Ops.{phase_in}
-use Rattle.script_ops.specs.Values.{PhaseValue, ScriptValue, first_thread, phase_at, threads_in, threads_of}
-
--- ---- numbers of threads
-
--- the threads up to a phase's end
-length-threads_to : (phases : List PhaseValue) (i : ℕ) (d : PhaseValue) → i < length phases → length (threads_in (take (i + 1) phases)) ≡ length (threads_in (take i phases)) + length (get_or phases i d).threads
-length-threads_to [] i d within = absurd (omega (arith, within))
-length-threads_to (p ∷ ps) zero d within = length-append p.threads [] ∙ omega arith
-length-threads_to (p ∷ ps) (suc i) d within =
-    let one_more : suc i + 1 ≡ suc (i + 1) = omega arith in
-    rw one_more (length-append p.threads (threads_in (take (i + 1) ps)) ∙ omega (arith, length-threads_to ps i d (omega (arith, within)), length-append p.threads (threads_in (take i ps))))
-
--- a thread of an earlier phase than one of this phase stands before them
-earlier-first : (phases : List PhaseValue) (i u t : ℕ) → i < length phases → t < length (threads_in (take (i + 1) phases)) → phase_in phases u < phase_in phases t → u < length (threads_in (take i phases))
-earlier-first [] i u t there within earlier = absurd (omega (arith, there))
-earlier-first (p ∷ ps) zero u t there within earlier =
-    let here : t < length p.threads = omega (arith, within, length-append p.threads []) in
-    let none : phase_in (p ∷ ps) t ≡ 0 = rw (lt-ltb t (length p.threads) here) refl in
-    absurd (omega (arith, earlier, none))
-earlier-first (p ∷ ps) (suc i) u t there within earlier =
-    let n = length p.threads in
-    elim (cases_lt u n) [
-      | inl first ↦ omega (arith, first, length-append p.threads (threads_in (take i ps)))
-      | inr behind ↦ elim (cases_lt t n) [
-        | inl here ↦
-            let none : phase_in (p ∷ ps) t ≡ 0 = rw (lt-ltb t n here) refl in
-            absurd (omega (arith, earlier, none))
-        | inr after ↦
-            let mine : phase_in (p ∷ ps) t ≡ 1 + phase_in ps (t - n) = rw (le-ltb t n after) refl in
-            let its : phase_in (p ∷ ps) u ≡ 1 + phase_in ps (u - n) = rw (le-ltb u n behind) refl in
-            let one_more : suc i + 1 ≡ suc (i + 1) = omega arith in
-            let to : t < length (p.threads ++ threads_in (take (i + 1) ps)) = subst (λ m. t < length (threads_in (take m (p ∷ ps)))) one_more within in
-            let rest : u - n < length (threads_in (take i ps)) = earlier-first ps i (u - n) (t - n) (omega (arith, there)) (omega (arith, to, after, length-append p.threads (threads_in (take (i + 1) ps)))) (omega (arith, earlier, mine, its)) in
-            omega (arith, rest, behind, length-append p.threads (threads_in (take i ps)))
-      ]
-    ]
+use Rattle.script_ops.specs.Values.{ScriptValue, first_thread, phase_at, threads_of}
 
 -- ---- three parts of a list
 
@@ -107,7 +75,7 @@ module _ (script : ScriptValue) (phase : ℕ) (ps front own later : List PassesV
   count_is = sym (length-whole front own later) ∙ before.count
 
   next_first : first_thread script (phase + 1) ≡ length front + length own
-  next_first = omega (arith, length-threads_to script.phases phase (record { order = []; threads = [] }) parts.there, parts.front_count, parts.own_count)
+  next_first = omega (arith, first_thread-next script phase parts.there, parts.front_count, parts.own_count)
 
   own_thread : (k : ℕ) → k < length own → (passes_at own k).seen.thread ≡ length front + k
   own_thread k within = subst (λ (p : PassesValue). p.seen.thread ≡ length front + k) (at_own front own later k within) (before.threads (length front + k) (omega (arith, within, length-whole front own later)))
@@ -125,10 +93,10 @@ module _ (script : ScriptValue) (phase : ℕ) (ps front own later : List PassesV
         subst (MayWork script) (at_own front own later k within) (record {
           there = omega (arith, before.threads t among, among, before.count);
           fresh = before.fresh t among from;
-          ended = λ u earlier.
-              let less : phase_in script.phases u < phase_in script.phases t = subst (λ n. phase_in script.phases u < phase_in script.phases n) (before.threads t among) earlier in
-              let to : t < length (threads_in (take (phase + 1) script.phases)) = omega (arith, within, next_first) in
-              before.seen t u among from (earlier-first script.phases phase u t parts.there to less);
+          ended =
+              let to : t < first_thread script (phase + 1) = omega (arith, within, next_first) in
+              subst (λ n. AreEnded script (seen_by (passes_at (front ++ (own ++ later)) t).seen) n) (sym (before.threads t among))
+              (AreEnded-in_phase script (seen_by (passes_at (front ++ (own ++ later)) t).seen) phase t parts.there to (λ u early. before.seen t u among from early));
         });
   }
 
@@ -188,3 +156,20 @@ module _ (script : ScriptValue) (phase : ℕ) (ps front own later : List PassesV
           (λ l within late. seen_now l u (later_within l within) (omega (arith, early, next_first)))
           t within late;
     }
+
+    -- each of them has seen what it had
+    pub HasGrown-phase : (t : ℕ) → t < length ps → HasGrown (seen_by (passes_at ps t).seen) (seen_by (passes_at (front ++ (own_now ++ later_now)) t).seen)
+    HasGrown-phase t =
+        subst (λ (xs : List PassesValue). t < length xs → HasGrown (seen_by (passes_at xs t).seen) (seen_by (passes_at (front ++ (own_now ++ later_now)) t).seen)) (sym parts.is)
+        (λ within. by_part front own later (λ t p. HasGrown (seen_by p.seen) (seen_by (passes_at (front ++ (own_now ++ later_now)) t).seen))
+        (λ t there. subst (λ (p : PassesValue). HasGrown (seen_by (passes_at front t).seen) (seen_by p.seen)) (sym (at_front front own_now later_now t there)) (HasGrown-self (seen_by (passes_at front t).seen)))
+        (λ k there.
+        let work : HasGrown (seen_by (passes_at own k).seen) (seen_by (passes_at worked k).seen) = (work.each k there).grown in
+        let hand : HasGrown (seen_by (passes_at worked k).seen) (seen_by (passes_at own_now k).seen) = HasGrown-taken (passes_at worked k).seen (passes_at own_now k).seen (handed.own_are k (worked_within k there)).taken in
+        subst (λ (p : PassesValue). HasGrown (seen_by (passes_at own k).seen) (seen_by p.seen)) (sym (at_own front own_now later_now k (omega (arith, there, counts.0))))
+        (HasGrown-through (seen_by (passes_at own k).seen) (seen_by (passes_at worked k).seen) (seen_by (passes_at own_now k).seen) work hand))
+        (λ l there.
+        let hand : HasGrown (seen_by (passes_at later l).seen) (seen_by (passes_at later_now l).seen) = HasGrown-taken (passes_at later l).seen (passes_at later_now l).seen (handed.later_are l there).taken in
+        let place : passes_at (front ++ (own_now ++ later_now)) (length front + (length own + l)) ≡ passes_at later_now l = subst (λ n. passes_at (front ++ (own_now ++ later_now)) (length front + (n + l)) ≡ passes_at later_now l) counts.0 (at_later front own_now later_now l) in
+        subst (λ (p : PassesValue). HasGrown (seen_by (passes_at later l).seen) (seen_by p.seen)) (sym place) hand)
+        t within)

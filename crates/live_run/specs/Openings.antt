@@ -1,6 +1,6 @@
 -- Before the first op.
 -- (For functions and proofs: no promise of the program stands on it.)
-use Rattle.std.specs.Prelude.{◌≡◌, ℕ, ◌+◌, ◌-◌, ◌<◌, ◌≤◌, List, length, min, slice_index_or}
+use Rattle.std.specs.Prelude.{◌≡◌, ℕ, ◌+◌, ◌-◌, ◌<◌, ◌≤◌, List, [], length, min, slice_index_or}
 use Rattle.cache_core.specs.declared.entry.SliceEntry.{SliceEntry}
 use Rattle.live_run.specs.Cells.{SliceCellValue, SliceIsKept, pass_in}
 use Rattle.live_run.specs.Logs.{LogValue, log_at}
@@ -56,10 +56,11 @@ pub record AreSettled (script : ScriptValue) (tree : JournalName) (slices : List
 
 -- ---- threads
 
--- A thread is before its first op.
+-- A thread is before its first op, and no text is shown.
 pub record IsFirst (t : ℕ) (p : PassesValue) : Type 0 where
   pub thread : p.seen.thread ≡ t
   pub fresh : p.next ≡ 0
+  pub shown : p.shown ≡ []
 
 -- so are the first n threads
 pub record AreFirst (n : ℕ) (ps : List PassesValue) : Type 0 where

@@ -2,6 +2,7 @@
 -- (For functions and proofs: no promise of the program stands on it.)
 use Rattle.std.specs.Prelude.{◌≡◌, ℕ, ◌<◌, ◌≤◌, List, [], length, slice_index_or}
 use Rattle.live_law.specs.DoneOps.{AreEnded, HasEnded}
+use Rattle.live_law.specs.SeenJournals.{HasGrown}
 use Rattle.live_run.specs.Names.{PassesValue, no_name, seen_by}
 use Rattle.live_run.specs.Steps.{HasTaken}
 use Rattle.script_ops.specs.Values.{ScriptValue, first_thread, ops_of, threads_of}
@@ -34,10 +35,11 @@ pub record MayWork (script : ScriptValue) (p : PassesValue) : Type 0 where
   pub fresh : p.next ≡ 0
   pub ended : AreEnded script (seen_by p.seen) p.seen.thread
 
--- It has made all ops of the same thread.
+-- It has made all ops of the same thread, and has seen what it had.
 pub record HasWorked (script : ScriptValue) (old new : PassesValue) : Type 0 where
   pub thread : new.seen.thread ≡ old.seen.thread
   pub at_end : IsAtEnd script new
+  pub grown : HasGrown (seen_by old.seen) (seen_by new.seen)
 
 -- each of them
 pub record MayAllWork (script : ScriptValue) (ps : List PassesValue) : Type 0 where

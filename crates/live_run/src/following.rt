@@ -1,7 +1,8 @@
 //! What follows a command in the slices.
 ghost use Rattle.std.specs.Prelude.{◌≡◌, ◌-◌, ◌<◌, length, take, All};
+ghost use Rattle.live_law.specs.SeenJournals.{HasGrown};
 ghost use Rattle.live_run.specs.Commands.{FollowsAt};
-ghost use Rattle.live_run.specs.Names.{history_of};
+ghost use Rattle.live_run.specs.Names.{history_of, seen_by};
 ghost use Rattle.machine.specs.Maps.{parameters_of};
 ghost use Rattle.machine.specs.Ranges.{InRange};
 ghost use Rattle.run_law.specs.Jobs.{jobs_of, looks_of};
@@ -43,6 +44,7 @@ pub(crate) fn follow_all<N: Named>(
     ensures history { history.new ≡ history.old }
     ensures tree { s.new.tree ≡ s.old.tree }
     ensures thread { s.new.thread ≡ s.old.thread }
+    ensures seen { HasGrown (seen_by s.old) (seen_by s.new) }
     ensures done { FollowsAt N.script number (epoch - 1) op.now (length (jobs_of N.script (history_of s.old.tree.seen) (epoch - 1) op.now)) s.new }
 {
     for q in 0..all.len() {

@@ -5,7 +5,7 @@ mod closing;
 mod ending;
 mod fill;
 mod following;
-mod four;
+mod four_places;
 mod gathering;
 mod handing;
 mod holding;

@@ -1,6 +1,7 @@
 //! The shared tree and slices.
 ghost use Rattle.std.specs.Prelude.{◌≡◌, ◌+◌, IsTrue, Some, false};
 ghost use Rattle.live_law.specs.DoneOps.{AreEnded, HasEnded};
+ghost use Rattle.live_law.specs.SeenJournals.{HasGrown};
 ghost use Rattle.live_run.specs.Accesses.{HasAccessed};
 ghost use Rattle.live_run.specs.Commands.{HasReplied};
 ghost use Rattle.live_run.specs.Names.{seen_by};
@@ -57,6 +58,7 @@ impl<N: Named> Live<N> {
         // The threads of earlier phases have ended, as far as this one has seen. Once it has begun this is known.
         requires ended { p.old.next ≡ 0 → AreEnded N.script (seen_by p.old.seen) p.old.seen.thread }
         ensures reply { HasReplied N.script op.now result p.old p.new }
+        ensures seen { HasGrown (seen_by p.old.seen) (seen_by p.new.seen) }
         ensures thread { p.new.seen.thread ≡ p.old.seen.thread }
         ensures next { p.new.next ≡ p.old.next + 1 }
     {
@@ -82,6 +84,7 @@ impl<N: Named> Live<N> {
         requires access { is_command op.now ≡ false }
         requires ended { p.old.next ≡ 0 → AreEnded N.script (seen_by p.old.seen) p.old.seen.thread }
         ensures accessed { ByKind (λ task cpu addr. HasAccessed N.script p.old.next task cpu addr result p.old.seen p.new.seen) (Unit {0}) op.now }
+        ensures seen { HasGrown (seen_by p.old.seen) (seen_by p.new.seen) }
         ensures shown { p.new.shown ≡ p.old.shown }
         ensures thread { p.new.seen.thread ≡ p.old.seen.thread }
         ensures next { p.new.next ≡ p.old.next + 1 }

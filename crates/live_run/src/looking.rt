@@ -1,7 +1,8 @@
 //! The counts that a command needs.
 ghost use Rattle.std.specs.Prelude.{◌≡◌, ◌≤◌, All, length};
+ghost use Rattle.live_law.specs.SeenJournals.{HasGrown};
 ghost use Rattle.live_run.specs.Commands.{LooksAt};
-ghost use Rattle.live_run.specs.Names.{history_of};
+ghost use Rattle.live_run.specs.Names.{history_of, seen_by};
 ghost use Rattle.machine.specs.Maps.{parameters_of};
 ghost use Rattle.machine.specs.Ranges.{InRange};
 ghost use Rattle.run_law.specs.FoundLooks.{AreDistinct};
@@ -46,6 +47,7 @@ pub(crate) fn look_all<N: Named>(
     ensures history { history.new ≡ history.old }
     ensures tree { s.new.tree ≡ s.old.tree }
     ensures thread { s.new.thread ≡ s.old.thread }
+    ensures seen { HasGrown (seen_by s.old) (seen_by s.new) }
     ensures done { LooksAt N.script number op.now (length counts.now) 0 0 looks.new.numbers s.new }
 {
     for q in 0..counts.len() {

@@ -1,6 +1,6 @@
 //! A run before its first op.
-ghost use Rattle.std.specs.Prelude.{◌≡◌, IfOk};
-ghost use Rattle.live_run.specs.Phases.{AreBefore};
+ghost use Rattle.std.specs.Prelude.{◌≡◌, ℕ, ◌<◌, [], IfOk, length};
+ghost use Rattle.live_run.specs.Phases.{AreBefore, passes_at};
 ghost use Rattle.live_run.specs.Quotas.{HaveQuotas};
 
 use crate::closing::Closing;
@@ -29,7 +29,10 @@ impl<N: Named> Live<N> {
         requires tree { logs.tree ≡ N.tree }
         requires slices { logs.slices ≡ N.slices }
         requires quotas { HaveQuotas N.script N.tree N.slices }
-        ensures { IfOk result (λ r. AreBefore N.script 0 r.1.items) }
+        ensures before { IfOk result (λ r. AreBefore N.script 0 r.1.items) }
+
+        // No text is shown before a first read or list.
+        ensures shown { IfOk result (λ r. (t : ℕ) → t < length r.1.items → (passes_at r.1.items t).shown ≡ []) }
     {
         let Logs {
             mut tree,

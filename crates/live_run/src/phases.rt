@@ -1,6 +1,8 @@
 //! The phases of a script.
-ghost use Rattle.std.specs.Prelude.{◌≡◌, ◌+◌, ◌<◌, length};
-ghost use Rattle.live_run.specs.Phases.{AreBefore, HasWorked, HaveWorked, MayAllWork, MayWork};
+ghost use Rattle.std.specs.Prelude.{◌≡◌, ℕ, ◌+◌, ◌<◌, length};
+ghost use Rattle.live_law.specs.SeenJournals.{HasGrown};
+ghost use Rattle.live_run.specs.Names.{seen_by};
+ghost use Rattle.live_run.specs.Phases.{AreBefore, HasWorked, HaveWorked, MayAllWork, MayWork, passes_at};
 
 use crate::live::Live;
 use crate::named::Named;
@@ -25,7 +27,8 @@ impl<N: Named + Send + Sync> Live<N> {
         requires script { script.now ≡ N.script }
         requires phase { phase < length N.script.phases }
         requires before { AreBefore N.script phase p.old }
-        ensures { AreBefore N.script (phase + 1) p.new }
+        ensures before { AreBefore N.script (phase + 1) p.new }
+        ensures seen { (t : ℕ) → t < length p.old → HasGrown (seen_by (passes_at p.old t).seen) (seen_by (passes_at p.new t).seen) }
     {
         let first = script.first_thread(phase) as usize;
         let count = script.thread_count(phase) as usize;

@@ -9,7 +9,7 @@ ghost use Rattle.live_run.specs.Visits.{MayFollow, MayLook, MayTouch};
 ghost use Rattle.machine.specs.Slices.{slice_count};
 
 use crate::fill::Fill;
-use crate::four::Four;
+use crate::four_places::FourPlaces;
 use crate::holding::Hold;
 use crate::named::Named;
 use crate::parts::Part;
@@ -25,13 +25,13 @@ use tree_law::Follow;
 
 // The places of slices 0 to 15, and of 16 to 31.
 type Lower<N> = Row<
-    Row<Four<N, 0, 1, 2, 3>, Four<N, 4, 5, 6, 7>>,
-    Row<Four<N, 8, 9, 10, 11>, Four<N, 12, 13, 14, 15>>,
+    Row<FourPlaces<N, 0, 1, 2, 3>, FourPlaces<N, 4, 5, 6, 7>>,
+    Row<FourPlaces<N, 8, 9, 10, 11>, FourPlaces<N, 12, 13, 14, 15>>,
 >;
 
 type Upper<N> = Row<
-    Row<Four<N, 16, 17, 18, 19>, Four<N, 20, 21, 22, 23>>,
-    Row<Four<N, 24, 25, 26, 27>, Four<N, 28, 29, 30, 31>>,
+    Row<FourPlaces<N, 16, 17, 18, 19>, FourPlaces<N, 20, 21, 22, 23>>,
+    Row<FourPlaces<N, 24, 25, 26, 27>, FourPlaces<N, 28, 29, 30, 31>>,
 >;
 
 /// The slices of all domains, each under a lock of its own. A machine has at most 32.

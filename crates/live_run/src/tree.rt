@@ -1,5 +1,6 @@
 //! The tree's cell.
 ghost use Rattle.std.specs.Prelude.{◌≡◌, ◌+◌, ◌<◌, ◌≤◌, ◌^◌, [], Contains, IsTrue, Some, length};
+ghost use Rattle.live_law.specs.SeenJournals.{HasGrown};
 ghost use Rattle.live_law.specs.Stages.{HoldsTag, IsReady};
 ghost use Rattle.live_run.specs.Commands.{HasReplied};
 ghost use Rattle.live_run.specs.Names.{seen_by};
@@ -106,6 +107,7 @@ impl<N: Named> TreeCell<N> {
         requires room { TEXT_MAX ≤ shown.old.spare + length shown.old.bytes }
         requires ready { IsReady N.script s.old.thread number (seen_by s.old) }
         ensures thread { s.new.thread ≡ s.old.thread }
+        ensures seen { HasGrown (seen_by s.old) (seen_by s.new) }
         ensures ready { IsReady N.script s.old.thread (number + 1) (seen_by s.new) }
         ensures reply { HasReplied N.script op.now result (record { seen = s.old; next = number; shown = shown.old.bytes }) (record { seen = s.new; next = number + 1; shown = shown.new.bytes }) }
         ensures room { shown.new.spare + length shown.new.bytes ≡ shown.old.spare + length shown.old.bytes }

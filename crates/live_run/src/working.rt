@@ -1,6 +1,10 @@
 //! A worker.
-ghost use Rattle.std.specs.Prelude.{◌≡◌};
+ghost use Rattle.std.specs.Prelude.{◌≡◌, ◌+◌, Some};
+ghost use Rattle.live_law.specs.DoneOps.{AreEnded};
+ghost use Rattle.live_law.specs.SeenJournals.{HasGrown};
+ghost use Rattle.live_run.specs.Names.{seen_by};
 ghost use Rattle.live_run.specs.Phases.{HasWorked, MayWork};
+ghost use Rattle.script_ops.specs.Values.{op_at};
 
 use crate::live::Live;
 use crate::named::Named;
@@ -28,12 +32,24 @@ impl<N: Named> Live<N> {
             let op = ops.at(i);
             let op = op.get();
             gate.at(Point::BeforeOp, thread);
-            if let Op::Access { .. } = op {
-                self.access(rt, p, op, gate);
-            } else {
-                self.command(rt, script, p, op);
-            }
+            self.make(rt, script, p, op, gate);
             gate.at(Point::AfterOp, thread);
+        }
+    }
+
+    // Makes a thread's next op.
+    fn make<R: Wait, G: Gate>(&self, rt: &R, script: &Script, p: &mut Passes<N>, op: &Op, gate: &G)
+        requires script { script.now ≡ N.script }
+        requires op { op_at N.script p.old.seen.thread p.old.next ≡ Some op.now }
+        requires ended { p.old.next ≡ 0 → AreEnded N.script (seen_by p.old.seen) p.old.seen.thread }
+        ensures thread { p.new.seen.thread ≡ p.old.seen.thread }
+        ensures next { p.new.next ≡ p.old.next + 1 }
+        ensures seen { HasGrown (seen_by p.old.seen) (seen_by p.new.seen) }
+    {
+        if let Op::Access { .. } = op {
+            self.access(rt, p, op, gate);
+        } else {
+            self.command(rt, script, p, op);
         }
     }
 }

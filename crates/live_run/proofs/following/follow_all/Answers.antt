@@ -1,11 +1,14 @@
 use Rattle.std.proofs.Common.{◌≡◌, ℕ, ◌+◌, ◌-◌, ◌<◌, ◌∙◌, List, length, get_or, take, sum_by, ap, sym, refl, subst, arith}
+use Rattle.std.proofs.lemmas.List.Sums.{sum_by_more}
 use Rattle.std.proofs.lemmas.Option.{slice_get-get_or}
 use Rattle.cache_steps.proofs.laws.FollowNeeds.{CanFollow-ready}
+use Rattle.live_law.proofs.laws.SeenJournals.{HasGrown-self, HasGrown-through}
+use Rattle.live_run.proofs.Growth.{HasGrown-added}
 use Rattle.live_run.proofs.Followed.{has_followed, job_at, made_all, may_follow}
 use Rattle.live_run.proofs.following.follow_all.Goals as goal
 use Rattle.live_run.proofs.following.follow_all.Goals.{After-slice_for-i}
 use Rattle.live_run.proofs.following.follow_all.Given.{Over}
-use Rattle.live_run.specs.Names.{SeenValue, history_of}
+use Rattle.live_run.specs.Names.{SeenValue, history_of, seen_by}
 use Rattle.live_run.specs.Commands.{FollowsAt}
 use Rattle.live_run.specs.Steps.{HasFollowed}
 use Rattle.live_run.specs.Visits.{MayFollow}
@@ -70,6 +73,38 @@ follow-requires-clause-may g c =
     (may_follow script g.N.Named.tree c.args.number k made c.args.op.now s c.loop-x.invariant.at job it.job it.within c.args.epoch it.follow c.loop-x.history name whole it.epoch
     (CanFollow-ready script.machine it.follow job.slice c.loop-x.x c.requires.range refl (subst (IsReady script.machine) (sym it.is) (c.requires.ready c.loop-q.q (Raise 0) c.loop-q-test.true)))))
 
+pub loop-q-init : goal.loop-q-init
+loop-q-init g c =
+    let script = g.N.Named.script in
+    let k : ℕ = c.args.epoch - 1 in
+    let none : length (looks_of script (history_of c.args.s.now.tree.seen) k c.args.op.now) ≡ length (looks_of script (history_of c.args.s.now.tree.seen) k c.args.op.now) + sum_by (slices_for script.machine) (take 0 c.args.all.now) = omega arith in
+    record {
+      history = refl;
+      tree = refl;
+      thread = refl;
+      grown = HasGrown-self (seen_by c.args.s.now);
+      at = subst (λ n. FollowsAt script c.args.number k c.args.op.now n c.args.s.now) none c.requires.at;
+    }
+
+pub loop-q-preserved : goal.loop-q-preserved
+loop-q-preserved g c =
+    let script = g.N.Named.script in
+    let k : ℕ = c.args.epoch - 1 in
+    let fs : List Follow = c.args.all.now in
+    let q : ℕ = c.loop-q.q in
+    let f : Follow = get_or fs q (Raise 0) in
+    let looks : ℕ = length (looks_of script (history_of c.args.s.now.tree.seen) k c.args.op.now) in
+    let ended : c.loop-x.x ≡ slices_for script.machine f = omega (arith, c.loop-x-test.false, c.loop-x.auto.x-end, c.slices_for-x-end.ensures, ap (λ (m : Parameters). slices_for m f) c.requires.machine) in
+    let next : looks + sum_by (slices_for script.machine) (take q fs) + c.loop-x.x ≡ looks + sum_by (slices_for script.machine) (take (q + 1) fs) =
+    omega (arith, ended, sum_by_more (slices_for script.machine) fs q (Raise 0) c.loop-q-test.true) in
+    record {
+      history = c.loop-x.invariant.history;
+      tree = c.loop-x.invariant.tree;
+      thread = c.loop-x.invariant.thread;
+      grown = c.loop-x.invariant.grown;
+      at = subst (λ n. FollowsAt script c.args.number k c.args.op.now n c.loop-x.s) next c.loop-x.invariant.at;
+    }
+
 pub loop-x-preserved : goal.loop-x-preserved
 loop-x-preserved g c =
     let it = at_follow g (goal.at.loop-x-preserved g c).After-slice_for-i in
@@ -86,6 +121,7 @@ loop-x-preserved g c =
       history = c.follow.ensures.history ∙ c.loop-x.invariant.history;
       tree = c.follow.ensures.tree ∙ c.loop-x.invariant.tree;
       thread = followed.added.thread ∙ c.loop-x.invariant.thread;
+      grown = HasGrown-through (seen_by c.args.s.now) (seen_by s) (seen_by c.follow.new.s) c.loop-x.invariant.grown (HasGrown-added _ _ s c.follow.new.s followed.added);
       at = subst (λ n. FollowsAt script c.args.number k c.args.op.now n c.follow.new.s) next
           (has_followed script g.N.Named.tree c.args.number k made c.args.op.now s c.loop-x.invariant.at job it.job it.within c.args.epoch it.follow c.follow.new.s it.epoch refl followed c.follow.ensures.tree);
     }

@@ -1,11 +1,13 @@
-use Rattle.std.proofs.Common.{◌≡◌, ℕ, ◌+◌, ◌<◌, ◌∙◌, List, length, ap, sym, subst, arith}
+use Rattle.std.proofs.Common.{◌≡◌, ℕ, ◌+◌, ◌<◌, ◌∙◌, List, length, ap, refl, sym, subst, arith}
 use Rattle.std.proofs.lemmas.Option.{get_or_from_slice_get}
+use Rattle.live_law.proofs.laws.SeenJournals.{HasGrown-self, HasGrown-through}
 use Rattle.live_run.proofs.Bridges.{history_length}
+use Rattle.live_run.proofs.Growth.{HasGrown-added}
 use Rattle.live_run.proofs.Looked.{has_counted, has_looked, may_look}
 use Rattle.live_run.proofs.looking.look_all.Goals as goal
 use Rattle.live_run.proofs.looking.look_all.Goals.{After-at-domain, After-slice_number-i}
 use Rattle.live_run.proofs.looking.look_all.Given.{Over}
-use Rattle.live_run.specs.Names.{SeenValue, history_of}
+use Rattle.live_run.specs.Names.{SeenValue, history_of, seen_by}
 use Rattle.live_run.specs.Commands.{LooksAt}
 use Rattle.live_run.specs.Steps.{HasAdded}
 use Rattle.live_run.specs.Visits.{MayLook}
@@ -68,6 +70,16 @@ look-lines-requires-clause-may g c =
     (may_look script g.N.Named.tree c.args.number c.args.op.now c.loop-q.q c.loop-x.x c.loop-x.lines c.loop-q.looks.numbers c.loop-x.s c.loop-x.invariant.at c.at-domain.result it.is_need it.below it.within
     c.args.epoch c.loop-x.history name it.whole it.epoch can.1)
 
+pub loop-q-init : goal.loop-q-init
+loop-q-init g c = record {
+  history = refl;
+  tree = refl;
+  thread = refl;
+  grown = HasGrown-self (seen_by c.args.s.now);
+  room = omega (arith, c.requires.room);
+  at = c.requires.at;
+}
+
 pub loop-x-preserved : goal.loop-x-preserved
 loop-x-preserved g c =
     let it = at_look g (goal.at.loop-x-preserved g c).After-slice_number-i in
@@ -79,6 +91,7 @@ loop-x-preserved g c =
       history = c.look-lines.ensures.history ∙ c.loop-x.invariant.history;
       tree = c.look-lines.ensures.tree ∙ c.loop-x.invariant.tree;
       thread = added.thread ∙ c.loop-x.invariant.thread;
+      grown = HasGrown-through (seen_by c.args.s.now) (seen_by s) (seen_by c.look-lines.new.s) c.loop-x.invariant.grown (HasGrown-added _ _ s c.look-lines.new.s added);
       at = has_looked script g.N.Named.tree c.args.number c.args.op.now c.loop-q.q c.loop-x.x c.loop-x.lines c.loop-q.looks.numbers s c.loop-x.invariant.at c.at-domain.result it.is_need it.below it.within
           c.args.epoch c.look-lines.result c.look-lines.new.s (omega (arith, it.epoch, ap length it.whole, history_length s.tree.seen)) c.look-lines.ensures.few it.distinct added c.look-lines.ensures.tree;
     }
@@ -93,6 +106,7 @@ loop-q-preserved g c =
       history = c.loop-x.invariant.history;
       tree = c.loop-x.invariant.tree;
       thread = c.loop-x.invariant.thread;
+      grown = c.loop-x.invariant.grown;
       room = omega (arith, c.loop-q.invariant.room, c.push.ensures.spare);
       at = subst (λ (ns : List ℕ). LooksAt script c.args.number c.args.op.now (c.loop-q.q + 1) 0 0 ns c.loop-x.s) (sym c.push.ensures.numbers)
           (has_counted script c.args.number c.args.op.now c.loop-q.q c.loop-x.lines c.loop-q.looks.numbers c.loop-x.s c.requires.range.slice_limit whole);

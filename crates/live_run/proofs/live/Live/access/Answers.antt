@@ -1,6 +1,8 @@
 use Rattle.std.proofs.Common.{◌≡◌, ℕ, ◌+◌, Some, drop, ap, ◌∙◌, sym, subst, arith}
 use Rattle.live_law.proofs.laws.OwnRoom.{access-room}
 use Rattle.live_law.specs.DoneOps.{AreEnded}
+use Rattle.live_law.specs.SeenJournals.{HasGrown}
+use Rattle.live_run.proofs.Growth.{HasGrown-accessed}
 use Rattle.live_run.proofs.Openings.{lists_after_access, next_few}
 use Rattle.live_run.proofs.Turns.{passes_access, still_ended}
 use Rattle.live_run.proofs.live.Live.access.Goals as goal
@@ -36,3 +38,8 @@ invariant_of-p g c =
           (lists_after_access script t n c.args.op.now c.p.inside.looks its c.requires.access c.p.invariant.lists_are);
       room = c.p.invariant.room;
     }
+
+pub returns-clause-seen : goal.returns-clause-seen
+returns-clause-seen g c =
+    subst (λ (p : PassesValue). HasGrown (seen_by p.seen) (seen_by c.reach-reached.new.s)) c.p.view_is
+    (HasGrown-accessed g.N.Named.script c.p.inside.next c.in-Access.task c.in-Access.cpu c.in-Access.addr c.reach-reached.result c.p.inside.seen c.reach-reached.new.s c.reach-reached.ensures)

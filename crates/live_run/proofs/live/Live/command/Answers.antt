@@ -1,6 +1,7 @@
 use Rattle.std.proofs.Common.{◌≡◌, ℕ, ◌+◌, drop, Some, sym, subst, arith}
 use Rattle.live_law.proofs.laws.Passes.{IsReady-begin, PassesKeep-end}
 use Rattle.live_law.specs.DoneOps.{AreEnded}
+use Rattle.live_law.specs.SeenJournals.{HasGrown}
 use Rattle.live_law.specs.Passes.{PassesKeep}
 use Rattle.live_law.specs.Stages.{IsReady}
 use Rattle.live_run.proofs.Openings.{IsListFor, list_for, next_few, some_list}
@@ -52,3 +53,6 @@ invariant_of-p g c =
       lists_are = subst (λ u. AreReady (rooms_of script.machine (drop (n + 1) (ops_of script u))) c.take-looks.new.self) (sym c.command-reply.ensures.thread) (list_is g (goal.at.invariant_of-p g c).After-take-looks).rest;
       room = omega (arith, c.p.invariant.room, c.command-reply.ensures.room);
     }
+
+pub returns-clause-seen : goal.returns-clause-seen
+returns-clause-seen g c = subst (λ (p : PassesValue). HasGrown (seen_by p.seen) (seen_by c.command-reply.new.s)) c.p.view_is c.command-reply.ensures.seen

@@ -2,6 +2,7 @@ use Rattle.std.proofs.Common.{rules, ◌≡◌, ◌<◌, ℕ, List, Some, length
 use Rattle.std.specs.List.{slice_get}
 use Rattle.std.proofs.lemmas.Option.{slice_get-get_or}
 use Rattle.script_ops.specs.Values.{ScriptValue, op_at, ops_of}
+use Rattle.live_law.proofs.laws.SeenJournals.{HasGrown-through}
 use Rattle.script_ops.specs.declared.op.Op.{Op}
 use Rattle.live_run.proofs.live.Live.work.Goals as goal
 
@@ -11,18 +12,16 @@ op_at-next : (script : ScriptValue) (thread next i : ℕ) (ops : List Op) (op : 
 op_at-next script thread next i ops op are is within at =
     ap (λ (n : ℕ). slice_get (ops_of script thread) n) is ∙ ap (λ (os : List Op). slice_get os i) (sym are) ∙ slice_get-get_or ops i op within ∙ ap (λ (o : Op). Some o) (sym (at op))
 
-pub access-requires-clause-op : goal.access-requires-clause-op
-access-requires-clause-op g c κs within =
+pub make-requires-clause-op : goal.make-requires-clause-op
+make-requires-clause-op g c κs within =
     op_at-next g.N.Named.script c.loop-i.p.seen.thread c.loop-i.p.next c.loop-i.i c.ops-ops.result.now c.get-op.result.now
     (c.ops-ops.ensures.ops ∙ ap (λ (s : ScriptValue). ops_of s c.thread-thread.result) c.requires.script ∙ ap (λ (t : ℕ). ops_of g.N.Named.script t) (c.thread-thread.ensures.thread ∙ ap (λ p. p.seen.thread) c.p.view_is ∙ sym c.loop-i.invariant.thread))
     c.loop-i.invariant.next (omega (arith, c.loop-i-test.true, c.len-i-end.ensures)) (λ d. c.get-op.ensures ∙ c.at-op.ensures d)
 
-pub command-requires : goal.command-requires
-command-requires g c = record {
-  script = c.requires.script;
-  op = op_at-next g.N.Named.script c.loop-i.p.seen.thread c.loop-i.p.next c.loop-i.i c.ops-ops.result.now c.get-op.result.now
-      (c.ops-ops.ensures.ops ∙ ap (λ (s : ScriptValue). ops_of s c.thread-thread.result) c.requires.script ∙ ap (λ (t : ℕ). ops_of g.N.Named.script t) (c.thread-thread.ensures.thread ∙ ap (λ p. p.seen.thread) c.p.view_is ∙ sym c.loop-i.invariant.thread))
-      c.loop-i.invariant.next (omega (arith, c.loop-i-test.true, c.len-i-end.ensures)) (λ d. c.get-op.ensures ∙ c.at-op.ensures d);
-  command = search rules;
-  ended = c.loop-i.invariant.ended;
+pub loop-i-preserved : goal.loop-i-preserved
+loop-i-preserved g c = record {
+  thread = c.make.ensures.thread ∙ c.loop-i.invariant.thread;
+  next = search rules;
+  grown = HasGrown-through _ _ _ c.loop-i.invariant.grown c.make.ensures.seen;
+  ended = search rules;
 }

@@ -1,5 +1,6 @@
 use Rattle.std.proofs.Common.{◌≡◌}
 use Rattle.live_law.specs.DoneOps.{AreEnded}
+use Rattle.live_law.specs.SeenJournals.{HasGrown}
 use Rattle.live_run.proofs.live.Live.work.Given as goal
 use Rattle.live_run.specs.Names.{seen_by}
 
@@ -7,5 +8,6 @@ abbrev pub invariant-loop-i : goal.invariant-loop-i
 invariant-loop-i g l = record {
   thread : l.p.seen.thread ≡ l.fn.p.seen.thread;
   next : l.p.next ≡ l.i;
+  grown : HasGrown (seen_by l.fn.p.seen) (seen_by l.p.seen);
   ended : l.p.next ≡ 0 → AreEnded g.N.Named.script (seen_by l.p.seen) l.p.seen.thread;
 }

@@ -4,10 +4,12 @@ use Rattle.std.proofs.Math.Seq.{take-append_seam}
 use Rattle.std.proofs.lemmas.List.{length_push}
 use Rattle.live_law.proofs.laws.OwnRoom.{command-room}
 use Rattle.live_law.proofs.laws.Prefixes.{IsPrefix-no_more}
+use Rattle.live_law.proofs.laws.SeenJournals.{HasGrown-through}
 use Rattle.seen_journal.proofs.laws.Prefixes.{length-prefix}
-use Rattle.live_law.specs.SeenJournals.{is_from}
+use Rattle.live_law.specs.SeenJournals.{HasGrown, is_from}
 use Rattle.live_run.proofs.Bridges.{history_length}
 use Rattle.live_run.proofs.Commands.{IsDecided, command_follows, command_kept, command_ready, command_replied}
+use Rattle.live_run.proofs.Growth.{HasGrown-decided, HasGrown-taken}
 use Rattle.live_run.proofs.TakenTrees.{command_looks, counts_few, history_push, named-next, ready-room, state_sound}
 use Rattle.live_run.proofs.Readings.{next-reading}
 use Rattle.live_run.proofs.Trees.{tree_tasks}
@@ -174,6 +176,19 @@ invariant_of-self g c =
     subst (λ (j : JournalValue TreeEntry). TreeIsKept script g.N.Named.tree g.N.Named.slices (record { tree = c.apply-reply.new.self; journal = j; slices = c.release.new.slices.items })) (sym c.follow_all.ensures.history)
     (command_kept script g.N.Named.tree g.N.Named.slices old c.self.invariant c.take.new.slices.items c.take.ensures.passes c.take.ensures.grown c.args.s.now c.look_all.new.s c.decide.new.s c.args.number c.args.op.now c.apply-reply.new.self c.decide.new.journal entry
     c.requires.op c.requires.command its c.release.new.slices.items c.release.ensures.passes c.release.ensures.grown c.follow_all.new.s c.release.new.s done c.follow_all.ensures.tree c.follow_all.ensures.thread c.release.ensures.taken c.release.ensures.tree c.release.ensures.same)
+
+pub returns-clause-seen : goal.returns-clause-seen
+returns-clause-seen g c =
+    let entry : TreeEntry = record { thread = c.thread.result; op = c.args.number; reply = c.apply-reply.result.0; looks = c.look_all.new.looks } in
+    let its = is_decided g (goal.at.returns-clause-seen g c).After-decide (counts_are g (goal.at.returns-clause-seen g c).After-counts-counts) in
+    let list = its.seen ∙ (its.list ∙ ap (λ xs. xs ++ (c.look_all.new.s.thread, entry) ∷ []) (sym its.whole)) in
+    let decided : HasGrown (seen_by c.look_all.new.s) (seen_by c.decide.new.s) = HasGrown-decided c.look_all.new.s.thread entry c.look_all.new.s c.decide.new.s list its.slices in
+    let start = c.args.s.now in
+    HasGrown-through (seen_by start) (seen_by c.take.new.s) (seen_by c.release.new.s) (HasGrown-taken start c.take.new.s c.take.ensures.taken)
+    (HasGrown-through (seen_by c.take.new.s) (seen_by c.look_all.new.s) (seen_by c.release.new.s) c.look_all.ensures.seen
+    (HasGrown-through (seen_by c.look_all.new.s) (seen_by c.decide.new.s) (seen_by c.release.new.s) decided
+    (HasGrown-through (seen_by c.decide.new.s) (seen_by c.follow_all.new.s) (seen_by c.release.new.s) c.follow_all.ensures.seen
+    (HasGrown-taken c.follow_all.new.s c.release.new.s c.release.ensures.taken))))
 
 pub returns-clause-ready : goal.returns-clause-ready
 returns-clause-ready g c =

@@ -1,0 +1,97 @@
+//! Four places for slices.
+ghost use Rattle.std.specs.Prelude.{◌≡◌, ◌+◌};
+
+use crate::fill::Fill;
+use crate::holding::Hold;
+use crate::named::Named;
+use crate::parts::Part;
+use crate::place::Place;
+use crate::places::Places;
+use crate::row::Row;
+use crate::seen::Seen;
+use cache_steps::Reached;
+use rc_base::Tag;
+use run_law::TreeEntry;
+use seen_journal::Journal;
+use std::sync::Wait;
+use tree_law::Follow;
+
+/// The places of four slices. A type of its own, since what stands on a row of rows ties the impls of them all.
+#[derive(Drop)]
+pub struct FourPlaces<N: Named, const A: usize, const B: usize, const C: usize, const D: usize> {
+    places: Row<Row<Place<N, A>, Place<N, B>>, Row<Place<N, C>, Place<N, D>>>,
+}
+
+impl<N: Named, const A: usize, const B: usize, const C: usize, const D: usize> Places<N>
+    for FourPlaces<N, A, B, C, D> {
+    ghost first = { A };
+
+    ghost last = { D };
+
+    ghost joined = { (A + 1 ≡ B) × (B + 1 ≡ C) × (C + 1 ≡ D) };
+
+    fn look<R: Wait>(
+        &self,
+        rt: &R,
+        i: usize,
+        history: &mut Journal<TreeEntry>,
+        s: &mut Seen<N>,
+        op: u32,
+        epoch: u64,
+        rmid: u16,
+    ) -> u64 {
+        self.places.look(rt, i, history, s, op, epoch, rmid)
+    }
+
+    fn follow<R: Wait>(
+        &self,
+        rt: &R,
+        i: usize,
+        history: &mut Journal<TreeEntry>,
+        s: &mut Seen<N>,
+        op: u32,
+        epoch: u64,
+        follow: Follow,
+    ) {
+        self.places.follow(rt, i, history, s, op, epoch, follow);
+    }
+
+    fn touch<R: Wait, H: Hold>(
+        &self,
+        rt: &R,
+        hold: &H,
+        i: usize,
+        s: &mut Seen<N>,
+        op: u32,
+        tag: &Tag,
+        line: u64,
+    ) -> Option<Reached> {
+        self.places.touch(rt, hold, i, s, op, tag, line)
+    }
+
+    fn last() -> usize {
+        D
+    }
+}
+
+impl<N: Named, const A: usize, const B: usize, const C: usize, const D: usize> Fill<N>
+    for FourPlaces<N, A, B, C, D> {
+    ghost first = { A };
+
+    ghost last = { D };
+
+    ghost joined = { (A + 1 ≡ B) × (B + 1 ≡ C) × (C + 1 ≡ D) };
+
+    fn open(parts: &mut Vec<Part>) -> Self {
+        FourPlaces {
+            places: Row::<Row<Place<N, A>, Place<N, B>>, Row<Place<N, C>, Place<N, D>>>::open(
+                parts,
+            ),
+        }
+    }
+
+    fn settle(self, history: &mut Journal<TreeEntry>, into: &mut Vec<Part>) {
+        let FourPlaces { places } = self;
+        places.settle(history, into);
+    }
+}
