@@ -1,28 +1,35 @@
 -- What a program was fed of a source.
 use Rattle.std.proofs.Common.{ℕ, List, [], ◌++◌, Option, Some, None, refl, sym, subst, ap, ◌∙◌}
-use Rattle.std.specs.Io.KnownBytes.{Consumes, IsAtEnd}
-use Rattle.std.proofs.KnownBytes.{Consumes-nil, Consumes-trans}
+use Rattle.std.specs.Io.KnownBytes.{Consumes, IsAtEnd, Keeps}
+use Rattle.std.proofs.KnownBytes.{Consumes-kept, Consumes-nil, Consumes-trans}
 use Rattle.std.proofs.lemmas.List.{append-nil}
 use Rattle.call_rim.specs.Feeding.{IsMade, LeavesPerformed}
-use Rattle.call_rim.specs.Outside.{IsToTheEnd, LeavesNothing}
+use Rattle.call_rim.specs.Outside.{IsGoodSoFar, IsToTheEnd, LeavesNothing}
 use Rattle.call_rim.specs.Performing.{Performs}
 use Rattle.call_rim.specs.declared.performed.Performed.{Performed}
 use Rattle.call_rim.specs.declared.performed.Performed.TheVariants as performed
 
--- the bytes that were taken of the source so far are those that this is said of
-pub record IsFed (has_taken : List ℕ → Type 0) (left now : Option (List ℕ)) : Type 0 where
+-- the bytes that were taken of the source so far are those that this is said of, and good so far
+pub record IsFed (has_taken good_so_far : List ℕ → Type 0) (left now : Option (List ℕ)) : Type 0 where
   pub bytes : List ℕ
   pub consumed : Consumes left now bytes
   pub taken : has_taken bytes
+  pub good : good_so_far bytes
 
 -- none was taken yet
-pub IsFed-nil : (has_taken : List ℕ → Type 0) (left : Option (List ℕ)) → has_taken [] → IsFed has_taken left left
-IsFed-nil has_taken left nothing = record { bytes = []; consumed = Consumes-nil left; taken = nothing }
+pub IsFed-nil : (has_taken good_so_far : List ℕ → Type 0) (left : Option (List ℕ)) → has_taken [] → good_so_far [] → IsFed has_taken good_so_far left left
+IsFed-nil has_taken good_so_far left nothing good = record { bytes = []; consumed = Consumes-nil left; taken = nothing; good = good }
 
 -- one piece more
-pub IsFed-more : (has_taken has_now : List ℕ → Type 0) (start left now : Option (List ℕ)) (piece : List ℕ) → (fed : IsFed has_taken start left) → Consumes left now piece → has_now (fed.bytes ++ piece) → IsFed has_now start now
-IsFed-more has_taken has_now start left now piece fed consumed taken =
-    record { bytes = fed.bytes ++ piece; consumed = Consumes-trans start left now fed.bytes piece fed.consumed consumed; taken = taken }
+pub IsFed-more : (has_taken has_now good_so_far : List ℕ → Type 0) (start left now : Option (List ℕ)) (piece : List ℕ) → (fed : IsFed has_taken good_so_far start left) → Consumes left now piece
+    → has_now (fed.bytes ++ piece) × good_so_far (fed.bytes ++ piece) → IsFed has_now good_so_far start now
+IsFed-more has_taken has_now good_so_far start left now piece fed consumed (taken, good) =
+    record { bytes = fed.bytes ++ piece; consumed = Consumes-trans start left now fed.bytes piece fed.consumed consumed; taken = taken; good = good }
+
+-- the source failed, and has what it had
+pub IsFed-kept : (has_taken good_so_far : List ℕ → Type 0) (start left now : Option (List ℕ)) → IsFed has_taken good_so_far start left → Keeps left now → IsGoodSoFar good_so_far start now
+IsFed-kept has_taken good_so_far start left now fed kept =
+    record { bytes = fed.bytes; read = Consumes-kept start left now fed.bytes fed.consumed kept; good = fed.good }
 
 -- at its end a source has nothing left
 LeavesNothing-at_end : (left now : Option (List ℕ)) (bytes : List ℕ) → Consumes left now bytes → IsAtEnd now → LeavesNothing left now
@@ -43,9 +50,9 @@ module _ {T : Type 0} (refuses : List ℕ → List ℕ → Type 0) (reports : Li
   LeavesPerformed-of left now performed.NoMemory nothing = tt
 
   -- what is made of a source at its end
-  pub IsMade-at_end : (has_taken : List ℕ → Type 0) (left before now : Option (List ℕ)) (made : Performed T) → (fed : IsFed has_taken left before) → Consumes before now [] → IsAtEnd now
+  pub IsMade-at_end : (has_taken good_so_far : List ℕ → Type 0) (left before now : Option (List ℕ)) (made : Performed T) → (fed : IsFed has_taken good_so_far left before) → Consumes before now [] → IsAtEnd now
       → ((bytes : List ℕ) → has_taken bytes → Performs refuses reports bytes made) → IsMade refuses reports left now made
-  IsMade-at_end has_taken left before now made fed none end performs =
+  IsMade-at_end has_taken good_so_far left before now made fed none end performs =
       let bytes = fed.bytes ++ [] in
       let consumed = Consumes-trans left before now fed.bytes [] fed.consumed none in
       record {

@@ -1,6 +1,6 @@
 -- What a call does to a source and a sink.
 use Rattle.std.specs.Prelude.{◌≡◌, ℕ, ◌+◌, ◌<◌, Bool, false, List, [], ◌++◌, take, drop, Option, Some, None}
-use Rattle.std.specs.Io.KnownBytes.{Appends, Keeps}
+use Rattle.std.specs.Io.KnownBytes.{Appends, Consumes, Keeps}
 
 -- A source before and after a call: the bytes that it had left and has left, where they are known, and how often it had failed
 -- and has failed.
@@ -56,6 +56,12 @@ pub record TakesNone (sink : Writing) : Type 0 where
 abbrev pub IsToTheEnd : Option (List ℕ) → List ℕ → Type 0
 IsToTheEnd None bytes = Unit {0}
 IsToTheEnd (Some left) bytes = bytes ≡ left
+
+-- the bytes that were taken of a source are good so far, as its program has it; some bytes, where those are not known
+pub record IsGoodSoFar (good_so_far : List ℕ → Type 0) (left now : Option (List ℕ)) : Type 0 where
+  pub bytes : List ℕ
+  pub read : Consumes left now bytes
+  pub good : good_so_far bytes
 
 -- (For proofs.) these bytes, cut off after one more than the most
 unfoldable pub first_bytes : ℕ → List ℕ → List ℕ

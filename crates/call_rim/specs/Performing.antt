@@ -12,8 +12,9 @@ Performs refuses reports bytes (performed.Refused line) = refuses bytes line.ite
 Performs refuses reports bytes (performed.Reported outcome report) = reports bytes outcome report.items
 Performs refuses reports bytes performed.NoMemory = Unit {0}
 
--- the state is that after these bytes, or whatever follows them is refused with the line; out of memory says nothing of them
-abbrev pub Takes : (List ℕ → Type 0) → (List ℕ → List ℕ → Type 0) → List ℕ → Taken → Type 0
-Takes has_taken refuses bytes taken.More = has_taken bytes
-Takes has_taken refuses bytes (taken.Refused line) = (more : List ℕ) → refuses (bytes ++ more) line.items
-Takes has_taken refuses bytes taken.NoMemory = Unit {0}
+-- The state is that after these bytes, which are good so far; or whatever follows them is refused with the line. Out of memory says
+-- nothing of them.
+abbrev pub Takes : (List ℕ → Type 0) → (List ℕ → Type 0) → (List ℕ → List ℕ → Type 0) → List ℕ → Taken → Type 0
+Takes has_taken good_so_far refuses bytes taken.More = has_taken bytes × good_so_far bytes
+Takes has_taken good_so_far refuses bytes (taken.Refused line) = (more : List ℕ) → refuses (bytes ++ more) line.items
+Takes has_taken good_so_far refuses bytes taken.NoMemory = Unit {0}

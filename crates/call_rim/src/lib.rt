@@ -11,6 +11,7 @@ pub mod reading;
 pub mod status;
 pub mod stream_program;
 pub mod telling;
+pub mod theorems;
 mod within;
 pub mod writing;
 

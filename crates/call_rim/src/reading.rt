@@ -32,6 +32,8 @@ fn read_piece<S: Source>(
     ensures faults { IfOk result (λ n. S.faults source.new ≡ S.faults source.old) }
     ensures failed { result ≡ Err ReadError.Failed → S.faults source.old < S.faults source.new }
     ensures memory { result ≡ Err ReadError.NoMemory → S.faults source.new ≡ S.faults source.old }
+    ensures ends { S.ends source.new ≤ S.ends source.old + 1 }
+    ensures goes_on { IfOk result (λ n. 0 < n → S.ends source.new ≡ S.ends source.old) }
 {
     match source.read(piece) {
         Ok(count) => match bytes.extend_from_slice(&piece[..count]) {
@@ -51,7 +53,7 @@ pub(crate) fn room_for_a_piece(alloc: Global) -> Result<Vec<u8>, NoMemory>
 }
 
 /// The bytes of a source up to its end, cut off after one more than the most. `call` reads so; it is also for a top call whose program
-/// starts threads, which the method of a trait cannot.
+/// starts threads, which the method of a trait cannot. The end is met once at most: after it the source is not read again.
 pub fn read_all<S: Source>(alloc: Global, source: &mut S, most: usize) -> Result<Vec<u8>, ReadError>
     requires faults { S.faults source.old < 2 ^ 64 - 1 }
     requires most { most < 2 ^ 62 }
@@ -61,6 +63,7 @@ pub fn read_all<S: Source>(alloc: Global, source: &mut S, most: usize) -> Result
     ensures faults { IfOk result (λ bytes. S.faults source.new ≡ S.faults source.old) }
     ensures failed { result ≡ Err ReadError.Failed → S.faults source.old < S.faults source.new }
     ensures memory { result ≡ Err ReadError.NoMemory → S.faults source.new ≡ S.faults source.old }
+    ensures end { S.ends source.new ≤ S.ends source.old + 1 }
 {
     let Ok(mut buffer) = room_for_a_piece(alloc) else {
         return Err(ReadError::NoMemory);

@@ -34,6 +34,10 @@ pub trait StreamProgram {
     /// The state is that after these bytes, from the first on.
     ghost has_taken: { Self → Self.State → List ℕ → Type 0 };
 
+    /// These bytes, from the first on, are not refused so far. What that is, is for the program to say; so it promises to refuse an
+    /// input as soon as its beginning is not good, without reading on.
+    ghost good_so_far: { Self → List ℕ → Type 0 };
+
     /// How many bytes the state has taken.
     ghost count: { Self → Self.State → ℕ };
 
@@ -46,12 +50,13 @@ pub trait StreamProgram {
     /// The state before the first byte.
     fn begin(&self, alloc: Global) -> Result<Self::State, NoMemory>
         ensures nothing { IfOk result (λ state. has_taken self.now state []) }
+        ensures good { IfOk result (λ state. good_so_far self.now []) }
         ensures count { IfOk result (λ state. count self.now state ≡ 0) };
 
-    /// Takes the next bytes of the input.
+    /// Takes the next bytes of the input. `More` where all of them so far are good.
     fn take(&self, alloc: Global, state: &mut Self::State, piece: &[u8]) -> Taken
         requires room { count self.now state.old + length piece.now < 2 ^ 57 }
-        ensures taken { (bytes : List ℕ) → has_taken self.now state.old bytes → Takes (has_taken self.now state.new) (refuses self.now) (bytes ++ piece.now) result }
+        ensures taken { (bytes : List ℕ) → has_taken self.now state.old bytes → Takes (has_taken self.now state.new) (good_so_far self.now) (refuses self.now) (bytes ++ piece.now) result }
         ensures count { result ≡ More → count self.now state.new ≡ count self.now state.old + length piece.now };
 
     /// What it makes of the input, after its last byte.

@@ -1,1 +1,4 @@
+pub mod Complete
+pub mod EndedLines
+pub mod Promises
 pub mod WholeInputs

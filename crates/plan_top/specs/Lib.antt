@@ -1,3 +1,5 @@
+pub mod Beginnings
 pub mod CurveForms
+pub mod Endings
 pub mod Forms
 pub mod Plans

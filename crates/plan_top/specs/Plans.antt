@@ -1,6 +1,5 @@
 -- What the program writes of its input, by what its words ask for.
-use Rattle.std.specs.Prelude.{◌≡◌, ℕ, Bool, true, false, List, Option, Some, None, Ok, Err, String}
-use Rattle.std.specs.declared.alloc.Global.{Global}
+use Rattle.std.specs.Prelude.{◌≡◌, ℕ, Bool, true, false, List, Option, Some, None, Ok, Err}
 use Rattle.lackey_text.specs.declared.uses.LineUse.{LineUse}
 use Rattle.run_law.specs.Journals.{JournalsValue}
 use Rattle.run_law.specs.Runs.{IsRun}
@@ -11,12 +10,7 @@ use Rattle.curve_report.specs.CurveTexts.{bad_line_text, report_of}
 use Rattle.plan_report.specs.Planned.{TellsPlan}
 use Rattle.top_parts.specs.Meaning.{meaning, refusal_line}
 use Rattle.top_parts.specs.declared.refusal.Refusal.{Refusal}
-use Rattle.call_rim.specs.Codes.{code_of}
-use Rattle.call_rim.specs.Endings.{Ends, call_of}
-use Rattle.call_rim.specs.Outside.{Reading, Writing}
-use Rattle.call_rim.specs.declared.status.Status.{Status}
 use Rattle.plan_top.specs.CurveForms.{CurveWords}
-use Rattle.plan_top.specs.Forms.{form_of, usage_line}
 use Rattle.plan_top.specs.declared.form.Form.{Form}
 use Rattle.plan_top.specs.declared.form.Form.TheVariants.{Curve, Divide}
 
@@ -77,10 +71,3 @@ reports_by (Some Divide) bytes nothing text = ReportsPlan bytes text
 abbrev pub is_valid : Option Form → Bool
 is_valid None = false
 is_valid (Some form) = true
-
--- a call with these words ended as this exit status says
-pub record EndsWith (words : List (String Global)) (source : Reading) (sink : Writing) (code : ℕ) : Type 0 where
-  pub status : Status
-  pub outcome : Option (Unit {0})
-  pub ends : Ends (refuses_by (form_of words)) (reports_by (form_of words)) (call_of (is_valid (form_of words)) usage_line source sink) status outcome
-  pub is_code : code ≡ code_of status

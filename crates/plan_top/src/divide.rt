@@ -1,6 +1,6 @@
 //! What `divide` makes of a script.
-ghost use Rattle.std.specs.Prelude.{◌≡◌, ◌-◌, ◌<◌, ◌^◌, ℕ, List, IfOk, Ok, Err, true};
-ghost use Rattle.call_rim.specs.Endings.{Ends, call_of};
+ghost use Rattle.std.specs.Prelude.{◌≡◌, ◌+◌, ◌-◌, ◌<◌, ◌≤◌, ◌^◌, ℕ, List, IfOk, Ok, Err, true};
+ghost use Rattle.call_rim.specs.Endings.{Ends, LeavesBy, call_of};
 ghost use Rattle.call_rim.specs.Outside.{reading_of, writing_of};
 ghost use Rattle.call_rim.specs.Performing.{Performs};
 ghost use Rattle.plan_top.specs.Plans.{RefusesScript, ReportsPlan, reports_plan};
@@ -80,9 +80,11 @@ impl Program for DivideProgram {
 pub(crate) fn divide<S: Source, K: Sink>(alloc: Global, source: &mut S, sink: &mut K) -> Ended<()>
     requires source { S.faults source.old < 2 ^ 64 - 1 }
     requires sink { K.faults sink.old < 2 ^ 64 - 1 }
-    ensures { (usage : List ℕ) → Ends RefusesScript reports_plan (call_of true usage
+    ensures ends { (usage : List ℕ) → Ends RefusesScript reports_plan (call_of true usage
         (reading_of S.left S.faults source.old source.new)
         (writing_of K.taken K.held K.faults sink.old sink.new)) result.status result.outcome }
+    ensures leaves { LeavesBy MOST_SCRIPT_BYTES (reading_of S.left S.faults source.old source.new) result.status }
+    ensures end { S.ends source.new ≤ S.ends source.old + 1 }
 {
     call(alloc, &DivideProgram, source, sink)
 }

@@ -1,4 +1,4 @@
-//! The top call of `resctrl_plan`: reads a trace of any length piece by piece, or a script, and writes the report that the words ask
+//! The top call of `resctrl_plan`: reads a trace piece by piece, or a script, and writes the report that the words ask
 //! for.
 #![tactic(auto)]
 

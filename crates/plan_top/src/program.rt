@@ -6,6 +6,7 @@ ghost use Rattle.trace_curves.specs.Counting.{HaveCounted};
 ghost use Rattle.trace_curves.specs.Reading.{AreOf, HasRead};
 ghost use Rattle.trace_curves.specs.TraceTexts.{trace_of};
 ghost use Rattle.curve_report.specs.CurveTexts.{bad_line_text, report_of};
+ghost use Rattle.plan_top.specs.Beginnings.{HasNoBadLine};
 ghost use Rattle.plan_top.specs.CurveForms.{CurveWords};
 ghost use Rattle.plan_top.specs.Plans.{RefusesTrace, reports_of};
 
@@ -67,6 +68,8 @@ impl StreamProgram for CurveForm {
     type Outcome = ();
 
     ghost has_taken = { λ form trace bytes. HasRead form.sets trace bytes };
+
+    ghost good_so_far = { λ form. HasNoBadLine };
 
     ghost count = { λ form trace. trace.bytes };
 

@@ -3,6 +3,8 @@
 
 mod answers;
 mod calls;
+mod counted_reader;
+mod counted_writer;
 pub mod gate;
 pub mod mem_sink;
 pub mod mem_source;

@@ -3,8 +3,9 @@ ghost use Rattle.std.specs.Prelude.{◌≡◌, ◌<◌, ◌+◌, ◌-◌, ◌^�
 ghost use Rattle.std.specs.Io.{ReadsAtMost};
 ghost use Rattle.std.specs.Io.KnownBytes.{ReadConsumes};
 ghost use Rattle.rc_stream.specs.Causes.{HasCause};
+ghost use Rattle.rc_stream.specs.Ends.{CountsEnds};
 
-use crate::calls::{is_listed, next_call};
+use crate::calls::{ends_with, is_listed, next_call};
 use crate::streams::{Failed, Source};
 use rc_base::NoMemory;
 use std::alloc::Global;
@@ -19,6 +20,7 @@ pub struct MemSource {
     failing: Vec<u32>,
     calls: u64,
     faults: u64,
+    ends: u64,
 }
 
 impl Model for MemSource {
@@ -27,7 +29,7 @@ impl Model for MemSource {
 
     ghost Value = { Supply };
 
-    ghost view = { λ s. record { left = drop s.at s.bytes.items; piece = s.piece; failing = s.failing.items; calls = s.calls; faults = s.faults } };
+    ghost view = { λ s. record { left = drop s.at s.bytes.items; piece = s.piece; failing = s.failing.items; calls = s.calls; faults = s.faults; ends = s.ends } };
 
     ghost invariant = { λ s. (s.at ≤ length s.bytes.items) × (0 < s.piece) };
 }
@@ -41,7 +43,7 @@ impl MemSource {
         failing: &[u32],
     ) -> Result<MemSource, NoMemory>
         requires { 0 < piece }
-        ensures { IfOk result (λ s. s ≡ record { left = bytes.now; piece = piece; failing = failing.now; calls = 0; faults = 0 }) }
+        ensures { IfOk result (λ s. s ≡ record { left = bytes.now; piece = piece; failing = failing.now; calls = 0; faults = 0; ends = 0 }) }
     {
         let bytes = Vec::from_slice(alloc, bytes)?;
         let failing = Vec::from_slice(alloc, failing)?;
@@ -52,6 +54,7 @@ impl MemSource {
             failing,
             calls: 0,
             faults: 0,
+            ends: 0,
         })
     }
 }
@@ -61,11 +64,14 @@ impl Source for MemSource {
 
     ghost faults = { λ s. s.faults };
 
+    ghost ends = { λ s. s.ends };
+
     fn read(&mut self, into: &mut [u8]) -> Result<usize, Failed>
         requires { self.old.faults < 2 ^ 64 - 1 }
         ensures bound { ReadsAtMost result into.new }
         ensures bytes { ReadConsumes (Some self.old.left) (Some self.new.left) result into.new }
         ensures cause { HasCause self.old.faults self.new.faults result }
+        ensures end { CountsEnds self.old.ends self.new.ends result into.new }
 
         ensures one_fault { OnErr result (self.new.faults ≡ self.old.faults + 1) }
         ensures calls { self.new.calls ≡ min (self.old.calls + 1) (2 ^ 64 - 1) }
@@ -82,6 +88,7 @@ impl Source for MemSource {
         let count = rest.min(self.piece).min(into.len());
         into[..count].copy_from_slice(&self.bytes[self.at..self.at + count]);
         self.at += count;
+        self.ends = ends_with(self.ends, count, into);
         Ok(count)
     }
 }

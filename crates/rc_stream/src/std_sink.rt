@@ -3,17 +3,16 @@ ghost use Rattle.std.specs.Prelude.{◌≡◌, ◌+◌, ◌-◌, ◌^◌, ◌<�
 ghost use Rattle.std.specs.Io.KnownBytes.{Keeps, WriteAppends};
 ghost use Rattle.rc_stream.specs.Causes.{HasCause, TakesSome};
 
-use crate::answers::{counted, taken_of};
+use crate::counted_writer::CountedWriter;
 use crate::streams::{Failed, Sink};
 use std::io::Write;
 
-/// A sink over standard output, or another writer. It counts each failure, also a write that takes nothing of some
-/// bytes, and has taken what its writer has taken. Standard output itself tells no bytes.
+/// A sink over standard output, or another writer. Its faults are those that are counted of its writer (`CountedWriter`), and it has
+/// taken what its writer has taken. Standard output itself tells no bytes.
 #[derive(Drop)]
 pub struct StdSink<W> {
-    output: W,
+    output: CountedWriter<W>,
     held: bool,
-    faults: u64,
 }
 
 impl<W: Write> StdSink<W> {
@@ -24,44 +23,45 @@ impl<W: Write> StdSink<W> {
         ensures faults { ⟦<StdSink<W> as Sink>⟧.faults result ≡ 0 }
     {
         StdSink {
-            output,
+            output: CountedWriter {
+                writer: output,
+                failures: 0,
+            },
             held: true,
-            faults: 0,
         }
     }
 }
 
 impl<W: Write> Sink for StdSink<W> {
-    ghost taken = { λ s. W.contents s.output };
+    ghost taken = { λ s. W.contents s.output.writer };
 
     ghost held = { λ s. s.held };
 
-    ghost faults = { λ s. s.faults };
+    ghost faults = { λ s. s.output.failures };
 
     fn write(&mut self, piece: &[u8]) -> Result<usize, Failed>
-        requires { self.old.faults < 2 ^ 64 - 1 }
+        requires { self.old.output.failures < 2 ^ 64 - 1 }
         ensures bound { TakesSome result piece.now }
-        ensures bytes { WriteAppends (W.contents self.old.output) (W.contents self.new.output) result piece.now }
+        ensures bytes { WriteAppends (W.contents self.old.output.writer) (W.contents self.new.output.writer) result piece.now }
         ensures holds { IfOk result (λ n. 0 < n → self.new.held ≡ true) }
-        ensures cause { HasCause self.old.faults self.new.faults result }
+        ensures cause { HasCause self.old.output.failures self.new.output.failures result }
 
-        ensures one_fault { OnErr result (self.new.faults ≡ self.old.faults + 1) }
+        ensures one_fault { OnErr result (self.new.output.failures ≡ self.old.output.failures + 1) }
     {
         self.held = true;
-        let taken = taken_of(piece, self.output.write(piece));
-        counted(taken, &mut self.faults)
+        self.output.write(piece)
     }
 
     fn flush(&mut self) -> Result<(), Failed>
-        requires { self.old.faults < 2 ^ 64 - 1 }
-        ensures bytes { Keeps (W.contents self.old.output) (W.contents self.new.output) }
+        requires { self.old.output.failures < 2 ^ 64 - 1 }
+        ensures bytes { Keeps (W.contents self.old.output.writer) (W.contents self.new.output.writer) }
         ensures none_held { OnOk result (self.new.held ≡ false) }
-        ensures cause { HasCause self.old.faults self.new.faults result }
+        ensures cause { HasCause self.old.output.failures self.new.output.failures result }
 
         ensures still_held { OnErr result (self.new.held ≡ self.old.held) }
-        ensures one_fault { OnErr result (self.new.faults ≡ self.old.faults + 1) }
+        ensures one_fault { OnErr result (self.new.output.failures ≡ self.old.output.failures + 1) }
     {
-        let flushed = counted(self.output.flush(), &mut self.faults);
+        let flushed = self.output.flush();
         if flushed.is_ok() {
             self.held = false;
         }

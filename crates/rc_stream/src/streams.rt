@@ -4,6 +4,7 @@ ghost use Rattle.std.specs.declared.option.Option.{Option};
 ghost use Rattle.std.specs.Io.{ReadsAtMost};
 ghost use Rattle.std.specs.Io.KnownBytes.{ReadConsumes, WriteAppends, Keeps};
 ghost use Rattle.rc_stream.specs.Causes.{HasCause, TakesSome};
+ghost use Rattle.rc_stream.specs.Ends.{CountsEnds};
 
 /// The outside failed, and the count of faults has risen.
 #[derive(Clone, Copy, Debug, PartialEq, Eq)]
@@ -17,12 +18,16 @@ pub trait Source {
     /// How often a call has failed. It never falls.
     ghost faults: { Self → ℕ };
 
+    /// How often a read met the end. It stands still at 2^64 - 1.
+    ghost ends: { Self → ℕ };
+
     /// Takes the next bytes into the front of `into`, and says how many. None into room for some is the end.
     fn read(&mut self, into: &mut [u8]) -> Result<usize, Failed>
         requires { faults self.old < 2 ^ 64 - 1 }
         ensures bound { ReadsAtMost result into.new }
         ensures bytes { ReadConsumes (left self.old) (left self.new) result into.new }
-        ensures cause { HasCause (faults self.old) (faults self.new) result };
+        ensures cause { HasCause (faults self.old) (faults self.new) result }
+        ensures end { CountsEnds (ends self.old) (ends self.new) result into.new };
 }
 
 /// A place for bytes.

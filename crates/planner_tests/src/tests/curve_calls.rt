@@ -33,7 +33,8 @@ fn traces_have_their_curves(rt: HostRuntime) -> Result<(), Fail> {
 // An input, how many bytes of it come at once, the calls of the source that fail, and the status and what is written.
 type Ending = (&'static [u8], usize, &'static [u32], Status, &'static [u8]);
 
-const ENDINGS: [Ending; 2] = [
+// The bad line of eight bytes has ended when the ninth call fails, and has not when the eighth does.
+const ENDINGS: [Ending; 4] = [
     (
         b"\n Q 0,4\nI  0,4",
         1,
@@ -41,6 +42,14 @@ const ENDINGS: [Ending; 2] = [
         Status::Refused,
         b"line 2: bad trace line\n",
     ),
+    (
+        b"\n Q 0,4\nI  0,4",
+        1,
+        &[9],
+        Status::Refused,
+        b"line 2: bad trace line\n",
+    ),
+    (b"\n Q 0,4\nI  0,4", 1, &[8], Status::ReadFault, b""),
     (TRACE, 8, &[2], Status::ReadFault, b""),
 ];
 

@@ -16,8 +16,10 @@ type Row<T> = (
     &'static str,
 );
 
-const OF_A_WHOLE: [Row<usize>; 6] = [
+// The call after the one that meets the end fails in the second row, and is not made.
+const OF_A_WHOLE: [Row<usize>; 7] = [
     ("abc", &[], &[], Status::Done, Some(3), "abc"),
+    ("abc", &[4], &[], Status::Done, Some(3), "abc"),
     ("", &[], &[], Status::Done, Some(0), ""),
     ("abcd", &[], &[], Status::Refused, None, TOO_LARGE),
     ("abc", &[3], &[], Status::ReadFault, None, ""),
@@ -25,8 +27,9 @@ const OF_A_WHOLE: [Row<usize>; 6] = [
     ("abc", &[], &[3], Status::WriteFault, Some(3), "abc"),
 ];
 
-const OF_A_STREAM: [Row<u64>; 5] = [
+const OF_A_STREAM: [Row<u64>; 6] = [
     ("abcdefg", &[], &[], Status::Done, Some(7), "counted\n"),
+    ("abcdefg", &[6], &[], Status::Done, Some(7), "counted\n"),
     ("", &[], &[], Status::Done, Some(0), "counted\n"),
     (
         "abcdefgh",

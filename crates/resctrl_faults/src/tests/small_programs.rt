@@ -34,13 +34,15 @@ impl Program for Echo {
 pub(crate) struct Count;
 
 impl StreamProgram for Count {
-    ghost use Rattle.std.specs.Prelude.{◌≡◌, ◌<◌, length};
+    ghost use Rattle.std.specs.Prelude.{◌≡◌, ◌≤◌, ◌<◌, length};
 
     type State = u64;
 
     type Outcome = u64;
 
     ghost has_taken = { λ p state bytes. state ≡ length bytes };
+
+    ghost good_so_far = { λ p bytes. length bytes ≤ 7 };
 
     ghost count = { λ p state. state };
 

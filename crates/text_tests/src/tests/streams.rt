@@ -25,6 +25,56 @@ impl Write for Broken {
     }
 }
 
+// Fails at its first call, and does from then on what the other one does.
+#[derive(Drop)]
+struct FailsOnce<T> {
+    other: T,
+    failed: bool,
+}
+
+impl<T> FailsOnce<T> {
+    fn new(other: T) -> FailsOnce<T> {
+        FailsOnce {
+            other,
+            failed: false,
+        }
+    }
+
+    // Interrupted, as a call that many a program would make again.
+    fn fail_once(&mut self) -> io::Result<()> {
+        if self.failed {
+            return Ok(());
+        }
+        self.failed = true;
+        Err(io::Error::from(io::ErrorKind::Interrupted))
+    }
+}
+
+impl<R: Read> Read for FailsOnce<R> {
+    fn read(&mut self, into: &mut [u8]) -> io::Result<usize> {
+        match self.fail_once() {
+            Ok(()) => self.other.read(into),
+            Err(error) => Err(error),
+        }
+    }
+}
+
+impl<W: Write> Write for FailsOnce<W> {
+    fn write(&mut self, piece: &[u8]) -> io::Result<usize> {
+        match self.fail_once() {
+            Ok(()) => self.other.write(piece),
+            Err(error) => Err(error),
+        }
+    }
+
+    fn flush(&mut self) -> io::Result<()> {
+        match self.fail_once() {
+            Ok(()) => self.other.flush(),
+            Err(error) => Err(error),
+        }
+    }
+}
+
 #[test]
 fn memory_gives_and_takes_in_pieces(rt: HostRuntime) -> Result<(), Fail> {
     let mut source = MemSource::create(rt.alloc(), b"resctrl", 4, &[2])?;
@@ -61,5 +111,21 @@ fn readers_and_writers_count_faults(rt: HostRuntime) -> Result<(), Fail> {
     assert_eq!(rt; StdSource::new(Broken).read(&mut into), Err(Failed));
     assert_eq!(rt; StdSink::new(Broken).write(b"tock"), Err(Failed));
     assert_eq!(rt; StdSink::new(Broken).flush(), Err(Failed));
+    Ok(())
+}
+
+#[test]
+fn a_failed_call_is_not_made_again(rt: HostRuntime) -> Result<(), Fail> {
+    let mut into = [0u8; 4];
+    let mut source = StdSource::new(FailsOnce::new(b"tick".as_slice()));
+    assert_eq!(rt; source.read(&mut into), Err(Failed));
+    assert_eq!(rt; source.read(&mut into), Ok(4));
+    assert_eq!(rt; &into[..], b"tick".as_slice());
+    let mut written = StdSink::new(FailsOnce::new(Vec::new(rt.alloc())));
+    assert_eq!(rt; written.write(b"tock"), Err(Failed));
+    assert_eq!(rt; written.write(b"tock"), Ok(4));
+    let mut flushed = StdSink::new(FailsOnce::new(Vec::new(rt.alloc())));
+    assert_eq!(rt; flushed.flush(), Err(Failed));
+    assert_eq!(rt; flushed.flush(), Ok(()));
     Ok(())
 }

@@ -5,6 +5,7 @@ use Rattle.call_rim.proofs.reading.read_all.Given as goal
 abbrev pub invariant-loop-bytes : goal.invariant-loop-bytes
 invariant-loop-bytes g l = record {
   faults : g.S.Source.faults l.source ≡ g.S.Source.faults l.initial.source;
+  ends : g.S.Source.ends l.source ≡ g.S.Source.ends l.initial.source;
   bytes : Consumes (g.S.Source.left l.initial.source) (g.S.Source.left l.source) l.bytes.items;
   room : vec_len l.bytes ≤ l.most + 1;
   buffer : vec_len l.buffer ≡ 65536;

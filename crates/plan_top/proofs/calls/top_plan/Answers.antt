@@ -1,32 +1,128 @@
-use Rattle.std.proofs.Common.{ℕ, List, Option, None, false, refl, subst}
-use Rattle.call_rim.proofs.laws.Ends.{Ends-usage}
-use Rattle.call_rim.specs.Endings.{Ends, Says, call_of}
+use Rattle.std.proofs.Common.{ℕ, List, Option, None, refl, subst}
+use Rattle.call_rim.specs.Endings.{Says}
 use Rattle.call_rim.specs.Outside.{reading_of, writing_of}
 use Rattle.call_rim.specs.declared.status.Status.TheVariants.{Usage}
 use Rattle.plan_top.specs.Forms.{usage_line}
-use Rattle.plan_top.specs.Plans.{is_valid, refuses_by, reports_by}
 use Rattle.plan_top.specs.declared.form.Form.{Form}
+use Rattle.plan_top.proofs.Promises.{IsPromised, promised-curve, promised-divide, promised-usage}
 use Rattle.plan_top.proofs.calls.top_plan.Goals as goal
 
-pub returns-in-Some-Curve : goal.returns-in-Some-Curve
-returns-in-Some-Curve g c =
+pub returns-in-Some-Curve-clause-ends : goal.returns-in-Some-Curve-clause-ends
+returns-in-Some-Curve-clause-ends g c =
     let source = reading_of g.S.Source.left g.S.Source.faults c.args.source.now c.stream.new.source in
     let sink = writing_of g.K.Sink.taken g.K.Sink.held g.K.Sink.faults c.args.sink.now c.stream.new.sink in
-    subst (λ (form : Option Form). Ends (refuses_by form) (reports_by form) (call_of (is_valid form) usage_line source sink) c.stream.result.status c.stream.result.outcome)
-    (rw c.in-Some-Curve.field-0-is at c.in-Some-Curve.ensures) (c.stream.ensures usage_line)
+    let status = c.stream.result.status in
+    let outcome = c.stream.result.outcome in
+    let promised = subst (λ (form : Option Form). IsPromised source sink status outcome form) (rw c.in-Some-Curve.field-0-is at c.in-Some-Curve.ensures)
+    (promised-curve source sink status outcome _ (c.stream.ensures.ends usage_line) c.stream.ensures.so_far) in
+    promised.ends
 
-pub returns-in-Some-Divide : goal.returns-in-Some-Divide
-returns-in-Some-Divide g c =
+pub returns-in-Some-Curve-clause-complete : goal.returns-in-Some-Curve-clause-complete
+returns-in-Some-Curve-clause-complete g c =
+    let source = reading_of g.S.Source.left g.S.Source.faults c.args.source.now c.stream.new.source in
+    let sink = writing_of g.K.Sink.taken g.K.Sink.held g.K.Sink.faults c.args.sink.now c.stream.new.sink in
+    let status = c.stream.result.status in
+    let outcome = c.stream.result.outcome in
+    let promised = subst (λ (form : Option Form). IsPromised source sink status outcome form) (rw c.in-Some-Curve.field-0-is at c.in-Some-Curve.ensures)
+    (promised-curve source sink status outcome _ (c.stream.ensures.ends usage_line) c.stream.ensures.so_far) in
+    promised.complete
+
+pub returns-in-Some-Curve-clause-leaves : goal.returns-in-Some-Curve-clause-leaves
+returns-in-Some-Curve-clause-leaves g c =
+    let source = reading_of g.S.Source.left g.S.Source.faults c.args.source.now c.stream.new.source in
+    let sink = writing_of g.K.Sink.taken g.K.Sink.held g.K.Sink.faults c.args.sink.now c.stream.new.sink in
+    let status = c.stream.result.status in
+    let outcome = c.stream.result.outcome in
+    let promised = subst (λ (form : Option Form). IsPromised source sink status outcome form) (rw c.in-Some-Curve.field-0-is at c.in-Some-Curve.ensures)
+    (promised-curve source sink status outcome _ (c.stream.ensures.ends usage_line) c.stream.ensures.so_far) in
+    promised.leaves
+
+pub returns-in-Some-Curve-clause-fails : goal.returns-in-Some-Curve-clause-fails
+returns-in-Some-Curve-clause-fails g c =
+    let source = reading_of g.S.Source.left g.S.Source.faults c.args.source.now c.stream.new.source in
+    let sink = writing_of g.K.Sink.taken g.K.Sink.held g.K.Sink.faults c.args.sink.now c.stream.new.sink in
+    let status = c.stream.result.status in
+    let outcome = c.stream.result.outcome in
+    let promised = subst (λ (form : Option Form). IsPromised source sink status outcome form) (rw c.in-Some-Curve.field-0-is at c.in-Some-Curve.ensures)
+    (promised-curve source sink status outcome _ (c.stream.ensures.ends usage_line) c.stream.ensures.so_far) in
+    promised.fails
+
+pub returns-in-Some-Divide-clause-ends : goal.returns-in-Some-Divide-clause-ends
+returns-in-Some-Divide-clause-ends g c =
     let source = reading_of g.S.Source.left g.S.Source.faults c.args.source.now c.divide.new.source in
     let sink = writing_of g.K.Sink.taken g.K.Sink.held g.K.Sink.faults c.args.sink.now c.divide.new.sink in
-    subst (λ (form : Option Form). Ends (refuses_by form) (reports_by form) (call_of (is_valid form) usage_line source sink) c.divide.result.status c.divide.result.outcome)
-    (rw c.in-Some-Divide.field-0-is at c.in-Some-Divide.ensures) (c.divide.ensures usage_line)
+    let status = c.divide.result.status in
+    let outcome = c.divide.result.outcome in
+    let promised = subst (λ (form : Option Form). IsPromised source sink status outcome form) (rw c.in-Some-Divide.field-0-is at c.in-Some-Divide.ensures)
+    (promised-divide source sink status outcome (c.divide.ensures.ends usage_line) c.divide.ensures.leaves) in
+    promised.ends
 
-pub returns-in-None : goal.returns-in-None
-returns-in-None g c =
+pub returns-in-Some-Divide-clause-complete : goal.returns-in-Some-Divide-clause-complete
+returns-in-Some-Divide-clause-complete g c =
+    let source = reading_of g.S.Source.left g.S.Source.faults c.args.source.now c.divide.new.source in
+    let sink = writing_of g.K.Sink.taken g.K.Sink.held g.K.Sink.faults c.args.sink.now c.divide.new.sink in
+    let status = c.divide.result.status in
+    let outcome = c.divide.result.outcome in
+    let promised = subst (λ (form : Option Form). IsPromised source sink status outcome form) (rw c.in-Some-Divide.field-0-is at c.in-Some-Divide.ensures)
+    (promised-divide source sink status outcome (c.divide.ensures.ends usage_line) c.divide.ensures.leaves) in
+    promised.complete
+
+pub returns-in-Some-Divide-clause-leaves : goal.returns-in-Some-Divide-clause-leaves
+returns-in-Some-Divide-clause-leaves g c =
+    let source = reading_of g.S.Source.left g.S.Source.faults c.args.source.now c.divide.new.source in
+    let sink = writing_of g.K.Sink.taken g.K.Sink.held g.K.Sink.faults c.args.sink.now c.divide.new.sink in
+    let status = c.divide.result.status in
+    let outcome = c.divide.result.outcome in
+    let promised = subst (λ (form : Option Form). IsPromised source sink status outcome form) (rw c.in-Some-Divide.field-0-is at c.in-Some-Divide.ensures)
+    (promised-divide source sink status outcome (c.divide.ensures.ends usage_line) c.divide.ensures.leaves) in
+    promised.leaves
+
+pub returns-in-Some-Divide-clause-fails : goal.returns-in-Some-Divide-clause-fails
+returns-in-Some-Divide-clause-fails g c =
+    let source = reading_of g.S.Source.left g.S.Source.faults c.args.source.now c.divide.new.source in
+    let sink = writing_of g.K.Sink.taken g.K.Sink.held g.K.Sink.faults c.args.sink.now c.divide.new.sink in
+    let status = c.divide.result.status in
+    let outcome = c.divide.result.outcome in
+    let promised = subst (λ (form : Option Form). IsPromised source sink status outcome form) (rw c.in-Some-Divide.field-0-is at c.in-Some-Divide.ensures)
+    (promised-divide source sink status outcome (c.divide.ensures.ends usage_line) c.divide.ensures.leaves) in
+    promised.fails
+
+pub returns-in-None-clause-ends : goal.returns-in-None-clause-ends
+returns-in-None-clause-ends g c =
     let source = reading_of g.S.Source.left g.S.Source.faults c.args.source.now c.args.source.now in
     let sink = writing_of g.K.Sink.taken g.K.Sink.held g.K.Sink.faults c.args.sink.now c.usage.new.sink in
-    let says : Says Usage None usage_line sink c.usage.result.status c.usage.result.outcome =
-    subst (λ (line : List ℕ). Says Usage None line sink c.usage.result.status c.usage.result.outcome) c.usage_bytes.ensures c.usage.ensures in
-    subst (λ (form : Option Form). Ends (refuses_by form) (reports_by form) (call_of (is_valid form) usage_line source sink) c.usage.result.status c.usage.result.outcome)
-    c.in-None.ensures (Ends-usage (refuses_by None) (reports_by None) (call_of false usage_line source sink) c.usage.result.status c.usage.result.outcome refl refl refl says)
+    let status = c.usage.result.status in
+    let outcome = c.usage.result.outcome in
+    let says : Says Usage None usage_line sink status outcome = subst (λ (line : List ℕ). Says Usage None line sink status outcome) c.usage_bytes.ensures c.usage.ensures in
+    let promised = subst (λ (form : Option Form). IsPromised source sink status outcome form) c.in-None.ensures (promised-usage source sink status outcome refl refl says) in
+    promised.ends
+
+pub returns-in-None-clause-complete : goal.returns-in-None-clause-complete
+returns-in-None-clause-complete g c =
+    let source = reading_of g.S.Source.left g.S.Source.faults c.args.source.now c.args.source.now in
+    let sink = writing_of g.K.Sink.taken g.K.Sink.held g.K.Sink.faults c.args.sink.now c.usage.new.sink in
+    let status = c.usage.result.status in
+    let outcome = c.usage.result.outcome in
+    let says : Says Usage None usage_line sink status outcome = subst (λ (line : List ℕ). Says Usage None line sink status outcome) c.usage_bytes.ensures c.usage.ensures in
+    let promised = subst (λ (form : Option Form). IsPromised source sink status outcome form) c.in-None.ensures (promised-usage source sink status outcome refl refl says) in
+    promised.complete
+
+pub returns-in-None-clause-leaves : goal.returns-in-None-clause-leaves
+returns-in-None-clause-leaves g c =
+    let source = reading_of g.S.Source.left g.S.Source.faults c.args.source.now c.args.source.now in
+    let sink = writing_of g.K.Sink.taken g.K.Sink.held g.K.Sink.faults c.args.sink.now c.usage.new.sink in
+    let status = c.usage.result.status in
+    let outcome = c.usage.result.outcome in
+    let says : Says Usage None usage_line sink status outcome = subst (λ (line : List ℕ). Says Usage None line sink status outcome) c.usage_bytes.ensures c.usage.ensures in
+    let promised = subst (λ (form : Option Form). IsPromised source sink status outcome form) c.in-None.ensures (promised-usage source sink status outcome refl refl says) in
+    promised.leaves
+
+pub returns-in-None-clause-fails : goal.returns-in-None-clause-fails
+returns-in-None-clause-fails g c =
+    let source = reading_of g.S.Source.left g.S.Source.faults c.args.source.now c.args.source.now in
+    let sink = writing_of g.K.Sink.taken g.K.Sink.held g.K.Sink.faults c.args.sink.now c.usage.new.sink in
+    let status = c.usage.result.status in
+    let outcome = c.usage.result.outcome in
+    let says : Says Usage None usage_line sink status outcome = subst (λ (line : List ℕ). Says Usage None line sink status outcome) c.usage_bytes.ensures c.usage.ensures in
+    let promised = subst (λ (form : Option Form). IsPromised source sink status outcome form) c.in-None.ensures (promised-usage source sink status outcome refl refl says) in
+    promised.fails

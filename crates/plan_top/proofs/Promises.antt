@@ -1,0 +1,44 @@
+-- What the top call promises, by the form of its words.
+use Rattle.std.proofs.Common.{◌≡◌, true, Option, Some, None, refl}
+use Rattle.call_rim.proofs.laws.Ends.{Ends-usage}
+use Rattle.call_rim.specs.Endings.{Call, Ends, LeavesBy, Says, call_of}
+use Rattle.call_rim.specs.Outside.{IsGoodSoFar, Reading, Writing}
+use Rattle.call_rim.specs.declared.status.Status.{Status}
+use Rattle.call_rim.specs.declared.status.Status.TheVariants.{ReadFault, Usage}
+use Rattle.plan_top.proofs.Complete.{complete}
+use Rattle.plan_top.specs.Beginnings.{HasNoBadLine}
+use Rattle.plan_top.specs.CurveForms.{CurveWords}
+use Rattle.plan_top.specs.Endings.{FailsBy, IsComplete, Leaves}
+use Rattle.plan_top.specs.Forms.{usage_line}
+use Rattle.plan_top.specs.Plans.{RefusesScript, RefusesTrace, is_valid, refuses_by, reports_by, reports_of, reports_plan}
+use Rattle.plan_top.specs.declared.form.Form.{Form}
+use Rattle.plan_top.specs.declared.form.Form.TheVariants.{Curve, Divide}
+use Rattle.script_ops.specs.declared.limits.TheConstants.{MOST_SCRIPT_BYTES}
+
+module _ (source : Reading) (sink : Writing) (status : Status) (outcome : Option (Unit {0})) where
+  -- the call with words of this form
+  abbrev pub call_with : Option Form → Call
+  call_with form = call_of (is_valid form) usage_line source sink
+
+  -- all that is promised of it
+  pub record IsPromised (form : Option Form) : Type 0 where
+    pub ends : Ends (refuses_by form) (reports_by form) (call_with form) status outcome
+    pub complete : IsComplete form (call_with form) status
+    pub leaves : Leaves form source status
+    pub fails : FailsBy form source status
+
+  promised-by : (form : Option Form) → Ends (refuses_by form) (reports_by form) (call_with form) status outcome → Leaves form source status → FailsBy form source status → IsPromised form
+  promised-by form ends leaves fails = record { ends = ends; complete = complete form (call_with form) outcome status ends; leaves = leaves; fails = fails }
+
+  -- a call that read a trace
+  pub promised-curve : (form : CurveWords) → Ends RefusesTrace (reports_of form) (call_of true usage_line source sink) status outcome
+      → (status ≡ ReadFault → IsGoodSoFar HasNoBadLine source.left source.left_now) → IsPromised (Some (Curve form))
+  promised-curve form ends fails = promised-by (Some (Curve form)) ends tt fails
+
+  -- a call that read a script
+  pub promised-divide : Ends RefusesScript reports_plan (call_of true usage_line source sink) status outcome → LeavesBy MOST_SCRIPT_BYTES source status → IsPromised (Some Divide)
+  promised-divide ends leaves = promised-by (Some Divide) ends leaves tt
+
+  -- a call that wrote the usage line
+  pub promised-usage : source.left_now ≡ source.left → source.faults_now ≡ source.faults → Says Usage None usage_line sink status outcome → IsPromised None
+  promised-usage left read says = promised-by None (Ends-usage (refuses_by None) (reports_by None) (call_with None) status outcome refl read left says) tt tt

@@ -1,0 +1,64 @@
+-- Which status is due, and what a call read of a trace that failed.
+use Rattle.std.specs.Prelude.{◌≡◌, ℕ, ◌⊎◌, Bool, true, false, List, Option, Some, None, String, is_ok}
+use Rattle.std.specs.declared.alloc.Global.{Global}
+use Rattle.call_rim.specs.Codes.{code_of}
+use Rattle.call_rim.specs.Endings.{Call, Ends, LeavesBy, ReadsWell, WritesWell, call_of}
+use Rattle.call_rim.specs.Outside.{IsGoodSoFar, Reading, Writing}
+use Rattle.call_rim.specs.declared.status.Status.{Status}
+use Rattle.call_rim.specs.declared.status.Status.TheVariants.{Done, Refused, Usage, ReadFault, NoMemory}
+use Rattle.plan_top.specs.Beginnings.{HasNoBadLine}
+use Rattle.plan_top.specs.Forms.{form_of, usage_line}
+use Rattle.plan_top.specs.Plans.{is_valid, refuses_by, reports_by}
+use Rattle.plan_top.specs.declared.form.Form.{Form}
+use Rattle.plan_top.specs.declared.form.Form.TheVariants.{Curve, Divide}
+use Rattle.script_ops.specs.declared.limits.TheConstants.{MOST_SCRIPT_BYTES}
+use Rattle.top_parts.specs.Meaning.{meaning}
+use Rattle.trace_curves.specs.TraceTexts.{trace_of}
+
+-- ---- the status that is due
+
+-- the command line is valid, the source had these bytes, and nothing failed
+pub record HasInput (c : Call) (bytes : List ℕ) : Type 0 where
+  pub has_form : c.has_form ≡ true
+  pub had : c.source.left ≡ Some bytes
+  pub reads_well : ReadsWell c
+  pub writes_well : WritesWell c
+
+-- whether these bytes are what the words ask for: a trace, or a script
+abbrev pub is_input : Option Form → List ℕ → Bool
+is_input None bytes = false
+is_input (Some (Curve form)) bytes = is_ok (trace_of bytes)
+is_input (Some Divide) bytes = is_ok (meaning bytes)
+
+-- The status when nothing fails, unless memory runs out: Done where the bytes are what the words ask for, and Refused where they are
+-- not. A command line that is not valid gets Usage, whatever becomes of the source.
+pub record IsComplete (form : Option Form) (c : Call) (status : Status) : Type 0 where
+  pub reported : (bytes : List ℕ) → HasInput c bytes → is_input form bytes ≡ true → (status ≡ Done) ⊎ (status ≡ NoMemory)
+  pub bad : (bytes : List ℕ) → HasInput c bytes → is_input form bytes ≡ false → (status ≡ Refused) ⊎ (status ≡ NoMemory)
+  pub by_words : c.has_form ≡ false → WritesWell c → status ≡ Usage
+
+-- ---- what is left of the source
+
+-- What a call leaves: of a script the rest behind one byte more than the most, unless the source failed or memory ran out. What is left
+-- of a trace that has a report is in `Ends`.
+abbrev pub Leaves : Option Form → Reading → Status → Type 0
+Leaves None source status = Unit {0}
+Leaves (Some (Curve form)) source status = Unit {0}
+Leaves (Some Divide) source status = LeavesBy MOST_SCRIPT_BYTES source status
+
+-- What was read of a trace before the source failed has no bad line. So a bad line that was read is told, though the source would fail
+-- after it.
+abbrev pub FailsBy : Option Form → Reading → Status → Type 0
+FailsBy None source status = Unit {0}
+FailsBy (Some (Curve form)) source status = status ≡ ReadFault → IsGoodSoFar HasNoBadLine source.left source.left_now
+FailsBy (Some Divide) source status = Unit {0}
+
+-- a call with these words ended as this exit status says
+pub record EndsWith (words : List (String Global)) (source : Reading) (sink : Writing) (code : ℕ) : Type 0 where
+  pub status : Status
+  pub outcome : Option (Unit {0})
+  pub ends : Ends (refuses_by (form_of words)) (reports_by (form_of words)) (call_of (is_valid (form_of words)) usage_line source sink) status outcome
+  pub complete : IsComplete (form_of words) (call_of (is_valid (form_of words)) usage_line source sink) status
+  pub leaves : Leaves (form_of words) source status
+  pub fails : FailsBy (form_of words) source status
+  pub is_code : code ≡ code_of status
