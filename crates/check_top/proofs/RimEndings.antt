@@ -1,5 +1,5 @@
 -- How the calls of the rim end, as endings of the call.
-use Rattle.std.proofs.Common.{◌≡◌, ℕ, ◌≤◌, true, false, List, [], Option, Some, None, length, refl, sym, subst, ap, ◌∙◌, inl, inr}
+use Rattle.std.proofs.Common.{◌≡◌, ℕ, ◌≤◌, true, false, List, [], Option, Some, None, length, refl, sym, subst, inl, inr}
 use Rattle.call_rim.proofs.laws.InputBytes.{LeavesRest-few}
 use Rattle.call_rim.specs.Endings.{LeavesBy, Says}
 use Rattle.call_rim.specs.Endings as rim
@@ -96,6 +96,7 @@ module _ (source : Reading) (sink : Writing) where
       to_the_end = is.to_the_end;
       leaves = is.leaves;
       has_script = is.reported.1.has_script;
+      lawful = is.reported.1.lawful;
       has_run = is.has_outcome;
       is_run = is.reported.1.is_run;
       plays = is.reported.1.plays;
@@ -133,6 +134,7 @@ module _ (source : Reading) (sink : Writing) where
     to_the_end = is.to_the_end;
     leaves = is.leaves;
     holds = is.reported.1.holds;
+    lawful = is.reported.1.lawful;
     has_run = refl;
     says = is.reported.1.says;
     isolates = is.reported.1.isolates;

@@ -18,10 +18,10 @@ use Rattle.journal_check.specs.Verdicts.{IsVerdict}
 use Rattle.journal_check.specs.declared.verdict.Clause.{Clause}
 use Rattle.journal_check.specs.declared.verdict.Verdict.{Verdict}
 use Rattle.journal_check.specs.declared.verdict.Verdict.TheVariants as verdicts
-use Rattle.resctrl_top.specs.Isolation.{BeginsLockWindows, HoldsRegions, IsolatesGroups}
+use Rattle.resctrl_top.specs.Isolation.{BeginsGroupWindows, BeginsLockWindows, HoldsRegions, IsolatesGroups}
 use Rattle.run_law.specs.Journals.{JournalsValue}
 use Rattle.run_law.specs.Runs.{IsRun}
-use Rattle.script_ops.specs.Values.{ScriptValue}
+use Rattle.script_ops.specs.Values.{IsLawful, ScriptValue}
 use Rattle.step_world.specs.Play.{IsPlay}
 
 -- a call as it is seen from outside: the form of its words, and its source and its sink before and after
@@ -47,10 +47,12 @@ abbrev pub PlaysAs : Play → ScriptValue → JournalsValue → Type 0
 PlaysAs Step script run = IsPlay script run
 PlaysAs Run script run = Unit {0}
 
--- What is proved of every run: it isolates groups, holds regions, and has a window of a region at each lock.
+-- What is proved of every run: it isolates groups and holds regions, each flush and each lock begins a window of each group that
+-- is exclusive then, and each lock begins one of its region.
 pub record Isolates (script : ScriptValue) (run : JournalsValue) : Type 0 where
   pub groups : IsolatesGroups script run
   pub regions : HoldsRegions script run
+  pub group_windows : BeginsGroupWindows script run
   pub lock_windows : BeginsLockWindows script run
 
 -- what a verdict says besides: of a run all that is proved of every run, and nothing of other journals
@@ -58,7 +60,7 @@ abbrev pub IsolatesBy : Verdict → ScriptValue → JournalsValue → Type 0
 IsolatesBy verdicts.Yes script run = Isolates script run
 IsolatesBy (verdicts.No clause) script run = Unit {0}
 
--- The bytes that the source had are a script, the journals are those of its play, and the sink took its export, all of it or a
+-- The bytes that the source had are a lawful script, the journals are those of its play, and the sink took its export, all of it or a
 -- beginning. The source has nothing left.
 pub record IsExported (c : Call) (journals : Option JournalsValue) (Takes : Writing → List ℕ → Type 0) : Type 0 where
   pub play : Play
@@ -69,13 +71,14 @@ pub record IsExported (c : Call) (journals : Option JournalsValue) (Takes : Writ
   pub to_the_end : IsToTheEnd c.source.left bytes
   pub leaves : LeavesNothing c.source.left c.source.left_now
   pub has_script : HasScript (Export play) bytes script
+  pub lawful : IsLawful script
   pub has_run : journals ≡ Some run
   pub is_run : IsRun script run
   pub plays : PlaysAs play script run
   pub isolates : Isolates script run
   pub text : Takes c.sink (export_text bytes script.machine run)
 
--- The bytes that the source had hold a script and journals, of which this is the verdict, and the sink took its line, all of it or a
+-- The bytes that the source had hold a lawful script and journals, of which this is the verdict, and the sink took its line, all of it or a
 -- beginning. The source has nothing left.
 pub record IsChecked (c : Call) (journals : Option JournalsValue) (verdict : Verdict) (Takes : Writing → List ℕ → Type 0) : Type 0 where
   pub bytes : List ℕ
@@ -85,6 +88,7 @@ pub record IsChecked (c : Call) (journals : Option JournalsValue) (verdict : Ver
   pub to_the_end : IsToTheEnd c.source.left bytes
   pub leaves : LeavesNothing c.source.left c.source.left_now
   pub holds : HoldsJournals bytes script run
+  pub lawful : IsLawful script
   pub has_run : journals ≡ Some run
   pub says : IsVerdict script run verdict
   pub isolates : IsolatesBy verdict script run

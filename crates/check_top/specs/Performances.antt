@@ -28,6 +28,7 @@ pub record Refuses (form : Form) (bytes line : List ℕ) : Type 0 where
 pub record Exports (play : Play) (bytes : List ℕ) (run : JournalsValue) (text : List ℕ) : Type 0 where
   pub script : ScriptValue
   pub has_script : HasScript (Export play) bytes script
+  pub lawful : IsLawful script
   pub is_run : IsRun script run
   pub plays : PlaysAs play script run
   pub isolates : Isolates script run

@@ -1,12 +1,13 @@
 //! What holds of every run.
 ghost use Rattle.check_top.specs.Performances.{RunsIsolate};
 
-use run_windows::theorems::{regions_hold, windows_are_isolated};
+use run_windows::theorems::{regions_hold, windows_are_isolated, windows_are_one};
 
 /// Every run of a lawful script isolates groups and holds regions, whoever made its journals.
 pub fn runs_isolate()
     ensures { RunsIsolate }
 {
     windows_are_isolated();
+    windows_are_one();
     regions_hold();
 }

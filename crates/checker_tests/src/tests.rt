@@ -4,6 +4,7 @@ mod calls;
 mod checks;
 mod inputs;
 mod journal_texts;
+mod runs;
 mod text_lines;
 mod verdicts;
 mod worked_run;

@@ -7,14 +7,14 @@ use Rattle.top_parts.specs.declared.command.Command.{Command}
 use Rattle.top_parts.specs.declared.command.Command.TheVariants.{Gen, Run, Step}
 use Rattle.top_parts.specs.declared.form.Form.{Form}
 use Rattle.top_parts.specs.Forms.{input_of, is_of_source, reads_source, usage_line}
-use Rattle.resctrl_top.specs.Isolation.{BeginsLockWindows, HoldsRegions, IsolatesGroups}
+use Rattle.resctrl_top.specs.Isolation.{BeginsGroupWindows, BeginsLockWindows, HoldsRegions, IsolatesGroups}
 use Rattle.top_parts.specs.Meaning.{meaning, refusal_line}
 use Rattle.resctrl_top.specs.Outputs.{IsOutput}
 use Rattle.resctrl_top.specs.Leaving.{LeavesPlayed, LeavesRefused}
 use Rattle.top_parts.specs.declared.refusal.Refusal.{Refusal}
 use Rattle.run_law.specs.Runs.{IsRun}
 use Rattle.run_law.specs.Journals.{JournalsValue}
-use Rattle.script_ops.specs.Values.{ScriptValue}
+use Rattle.script_ops.specs.Values.{IsLawful, ScriptValue}
 use Rattle.step_world.specs.Play.{IsPlay}
 
 -- a call as it is seen from outside: the form of its words, and its source and its sink before and after
@@ -41,14 +41,17 @@ PlaysAs Step script run = IsPlay script run
 PlaysAs Run script run = Unit {0}
 PlaysAs (Gen n) script run = IsPlay script run
 
--- What is promised of the journals of a script that was played: they are a run of it, played as the command says, which isolates
--- groups, holds regions, and has a window of a region at each lock.
+-- What is promised of the journals of a script that was played: the script is lawful, and they are a run of it, played as the
+-- command says, which isolates groups and holds regions. Windows exist: each flush and each lock begins one of each group that is
+-- exclusive then, and each lock one of its region.
 pub record IsPromised (command : Command) (script : ScriptValue) (run : JournalsValue) : Type 0 where
+  pub lawful : IsLawful script
   pub is_run : IsRun script run
   pub plays : PlaysAs command script run
   pub isolates : IsolatesGroups script run
   pub holds : HoldsRegions script run
   pub begins_windows : BeginsLockWindows script run
+  pub begins_group_windows : BeginsGroupWindows script run
 
 -- The bytes that the form plays are a script, the journals are those of its play, and the sink took their report, all of it or a
 -- beginning. A source that was read has nothing left, and one that was not has all that it had.

@@ -14,7 +14,7 @@ use call_rim::{Performed, TOO_LARGE};
 use rc_base::NoMemory;
 use rc_stream::Gate;
 use run_law::{Flags, Journals};
-use run_windows::theorems::{regions_hold, windows_are_isolated};
+use run_windows::theorems::{regions_hold, windows_are_isolated, windows_are_one};
 use script_ops::{MOST_SCRIPT_BYTES, Script};
 use std::alloc::Global;
 use std::sync::Wait;
@@ -41,6 +41,7 @@ fn report_on(alloc: Global, form: Form, script: &Script, journals: Journals) -> 
     // What the laws of windows say of every run of a script.
     let _threads = script.threads();
     windows_are_isolated();
+    windows_are_one();
     regions_hold();
     match report(alloc, script, &journals, form.flags) {
         Ok(report) => Performed::Reported {

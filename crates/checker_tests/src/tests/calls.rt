@@ -1,15 +1,13 @@
 //! Exports with what they write, worked out by hand, and how each call ends.
 
 use crate::tests::words;
-use check_top::{CheckStatus, check_step, check_top};
-use rc_stream::{MemSink, MemSource, OpenGate};
+use check_top::{CheckStatus, check_step};
+use rc_stream::{MemSink, MemSource};
 use std::alloc::Global;
-use std::sync::Wait;
 use std::test::Fail;
-use std::thread::Threads;
 
-// The script of the worked run. Its last line has no newline.
-const SCRIPT: &str = "machine sets=1 ways=4
+/// The script of the worked run. Its last line has no newline.
+pub(crate) const SCRIPT: &str = "machine sets=1 ways=4
 tasks 1
 phase
 thread
@@ -17,7 +15,8 @@ access 1 0 0
 write /schemata L3:0=c
 access 1 0 0";
 
-const EXPORT: &str = "machine sets=1 ways=4
+/// Its export.
+pub(crate) const EXPORT: &str = "machine sets=1 ways=4
 tasks 1
 phase
 thread
@@ -122,26 +121,5 @@ fn every_call_has_its_ending(rt: HostRuntime) -> Result<(), Fail> {
         assert_eq!(rt; has_journals, due == CheckStatus::WriteFault, "{line}");
         assert_eq!(rt; taken.as_slice(), line.as_bytes(), "{line}");
     }
-    Ok(())
-}
-
-// The status of an export of what real threads play, and what is written.
-fn export_of_a_run<R: Threads + Wait + Sync>(
-    rt: &R,
-    alloc: Global,
-) -> Result<(CheckStatus, Vec<u8>), Fail> {
-    let mut source = MemSource::create(alloc, SCRIPT.as_bytes(), 1 << 20, &[])?;
-    let mut sink = MemSink::create(alloc, 1 << 14, 4096, &[])?;
-    let export = words(alloc, &["export", "run"])?;
-    let ended = check_top(rt, alloc, &export, &mut source, &mut sink, &OpenGate);
-    let taken = Vec::from_slice(alloc, sink.taken())?;
-    Ok((ended.status, taken))
-}
-
-#[test]
-fn runs_are_exported(rt: HostRuntime) -> Result<(), Fail> {
-    let (status, taken) = export_of_a_run(&rt, rt.alloc())?;
-    assert_eq!(rt; status, CheckStatus::Done);
-    assert_eq!(rt; taken.as_slice(), EXPORT.as_bytes());
     Ok(())
 }

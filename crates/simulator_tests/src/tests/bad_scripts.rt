@@ -60,6 +60,42 @@ fn are_refused(rt: &impl Abort, alloc: Global, rows: &[BadLines]) -> Result<(), 
     Ok(())
 }
 
+// A script that is played well, in parts: its machine, what opens its thread, and its two ops.
+const MACHINE: &str = "machine sets=1 ways=4\n";
+
+const OPENING: &str = "tasks 1\nphase\nthread\n";
+
+const SWEEP: &str = "sweep 1 0 0 3 64\n";
+
+const ACCESS: &str = "access 1 0 0\n";
+
+// What stands in place of each part, and what is told: the script that is cut within its fifth line, a machine with too many ways,
+// and an access of a task that is not declared.
+const SPOILED: [([&str; 4], &str); 4] = [
+    ([MACHINE, OPENING, "swee", ""], "line 5: unknown word"),
+    (
+        [MACHINE, OPENING, "sweep 1 0 0 3", ""],
+        "line 5: bad argument",
+    ),
+    (
+        ["machine sets=1 ways=33\n", OPENING, SWEEP, ACCESS],
+        "line 1: bad machine line",
+    ),
+    (
+        [MACHINE, OPENING, SWEEP, "access 2 0 0\n"],
+        "line 6: unknown task",
+    ),
+];
+
+#[test]
+fn one_fault_in_a_script_is_told(rt: HostRuntime) -> Result<(), Fail> {
+    for ([machine, opening, sweep, access], want) in SPOILED {
+        let script = format!(in rt.alloc(); "{machine}{opening}{sweep}{access}")?;
+        is_refused(&rt, rt.alloc(), script.as_bytes(), want)?;
+    }
+    Ok(())
+}
+
 #[test]
 fn bad_scripts_are_refused(rt: HostRuntime) -> Result<(), Fail> {
     for (script, want) in WHOLE {

@@ -44,9 +44,11 @@ const SCRIPT: &[u8] =
 
 #[test]
 fn other_words_get_the_usage_line(rt: HostRuntime) -> Result<(), Fail> {
-    let (status, taken) = told_by(rt.alloc(), &["step", "--json", "--json"], SCRIPT)?;
-    assert_eq!(rt; status, Status::Usage);
-    assert_eq!(rt; taken.as_slice(), USAGE.as_bytes());
+    for texts in NO_FORMS {
+        let (status, taken) = told_by(rt.alloc(), texts, SCRIPT)?;
+        assert_eq!(rt; status, Status::Usage);
+        assert_eq!(rt; taken.as_slice(), USAGE.as_bytes());
+    }
     Ok(())
 }
 

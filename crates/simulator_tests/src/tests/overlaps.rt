@@ -2,7 +2,7 @@
 
 use crate::tests::{Row, STEP};
 
-pub(crate) const ROWS: [Row; 3] = [
+pub(crate) const ROWS: [Row; 4] = [
     // An exclusive group, another one, and the default group, in both caches; and what stands against a mask of each.
     (
         STEP,
@@ -104,6 +104,29 @@ group 1 /a: accesses 0 hits 0 misses 0
 group 2 /b: accesses 0 hits 0 misses 0
 domain 0: valid 0 of 8
 total: commands 19 refused 7 accesses 0 hits 0 misses 0
+",
+    ),
+    // Against the mask of an exclusive group stand bits that other hardware shares, though no group has them.
+    (
+        STEP,
+        "machine sets=1 ways=8 shareable=c0
+phase
+thread
+write /schemata L3:0=f
+mkdir /a
+write /a/schemata L3:0=30
+write /a/mode exclusive
+write /a/schemata L3:0=c0
+",
+        "0 0.0 write /schemata L3:0=f: ok
+1 0.1 mkdir /a: ok
+2 0.2 write /a/schemata L3:0=30: ok
+3 0.3 write /a/mode exclusive: ok
+4 0.4 write /a/schemata L3:0=c0: EINVAL overlaps with shareable bits
+group 0 /: accesses 0 hits 0 misses 0
+group 1 /a: accesses 0 hits 0 misses 0
+domain 0: valid 0 of 8
+total: commands 5 refused 1 accesses 0 hits 0 misses 0
 ",
     ),
     // An exclusive group keeps a group in pseudo-locksetup.

@@ -10,6 +10,7 @@ use std::sync::Wait;
 use std::sync::atomic::Ordering;
 use std::test::Fail;
 use std::thread::Threads;
+use top_parts::USAGE;
 
 // The status of a call whose words begin with `run` on a script under a gate, and what is written.
 fn run_told<R: Threads + Wait + Sync, G: Gate>(
@@ -54,10 +55,11 @@ access 1 0 64
 fn cross<R: Abort + Threads + Wait + Sync>(
     rt: &R,
     alloc: Global,
+    form: &[&str],
     script: &[u8],
 ) -> Result<(), Fail> {
     let gate = Crossing::new();
-    let (status, _) = run_told(rt, alloc, &["run"], script, &gate)?;
+    let (status, _) = run_told(rt, alloc, form, script, &gate)?;
     assert_eq!(rt; status, Status::Done);
     assert!(rt; gate.first_was_seen.load(Ordering::SeqCst));
     assert!(rt; gate.second_was_seen.load(Ordering::SeqCst));
@@ -67,7 +69,8 @@ fn cross<R: Abort + Threads + Wait + Sync>(
 #[test]
 fn workers_run_beside_each_other(rt: HostRuntime) -> Result<(), Fail> {
     for script in TWO_SLICES {
-        cross(&rt, rt.alloc(), script)?;
+        cross(&rt, rt.alloc(), &["run"], script)?;
+        cross(&rt, rt.alloc(), &["run", "--quiet"], script)?;
     }
     Ok(())
 }
@@ -122,6 +125,19 @@ thread
 access 1 0 0
 access 1 0 0
 ";
+
+// Words that are no form of the call that may run threads.
+const NO_FORMS: [&[&str]; 3] = [&["run", "--json", "--json"], &["run", "7"], &["gen", "0"]];
+
+#[test]
+fn words_that_are_no_form_run_nothing(rt: HostRuntime) -> Result<(), Fail> {
+    for form in NO_FORMS {
+        let (status, taken) = run_told(&rt, rt.alloc(), form, ONE_THREAD, &OpenGate)?;
+        assert_eq!(rt; status, Status::Usage);
+        assert_eq!(rt; taken.as_slice(), USAGE.as_bytes());
+    }
+    Ok(())
+}
 
 #[test]
 fn words_that_begin_with_run_are_forms(rt: HostRuntime) -> Result<(), Fail> {
