@@ -20,13 +20,13 @@ use Rattle.rc_base.specs.declared.names.Mode.TheVariants.{Exclusive}
 
 -- ---- how long a group keeps its masks
 
--- (For proofs.) whether an exclusive group has the same masks as another record of it: in an L3 domain, and in the L2 domains that lie in it
+-- whether an exclusive group has the same masks as another record of it: in an L3 domain, and in the L2 domains that lie in it
 abbrev pub has_masks_of : Machines → ℕ → PairGroup → PairGroup → Bool
 has_masks_of m domain g later =
     is_mode Exclusive later.mode && (mask_in Second domain later == mask_in Second domain g)
     && list_all (λ x. not (domain_above m x == domain) || (mask_in First x later == mask_in First x g)) (range_with_len 0 (side_machine m First).domains)
 
--- (For proofs.) whether a group is there in a state, with the same masks
+-- whether a group is there in a state, with the same masks
 abbrev pub keeps_masks : Machines → ℕ → PairGroup → PairState → Bool
 keeps_masks m domain g s = option_map_or (has_masks_of m domain g) (group_of s g.gid) false
 

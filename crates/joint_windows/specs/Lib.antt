@@ -1,3 +1,4 @@
+pub mod AllJointWindows
 pub mod Counted
 pub mod Hits
 pub mod Holdings

@@ -9,6 +9,7 @@ mod holdings;
 pub mod joint_window;
 mod line_uses;
 mod segments;
+pub mod theorems;
 mod windows;
 
 pub use joint_window::JointWindow;

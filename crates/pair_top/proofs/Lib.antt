@@ -1,3 +1,4 @@
 pub mod Complete
+pub mod Listings
 pub mod PlayedRuns
 pub mod Promises

@@ -21,6 +21,7 @@ use script_ops::MOST_SCRIPT_BYTES;
 use std::alloc::Global;
 
 // The report of a run, with its journals.
+#[tactic(auto, using(crate::proofs::Listings::cdp_windows_of))]
 fn report_run(
     alloc: Global,
     script: &PairScript,

@@ -19,7 +19,7 @@ use Rattle.window_counts.specs.Ends.{RiseByGroup}
 use Rattle.window_counts.specs.declared.stay.Stay.{Stay}
 
 -- one owner before another
-abbrev Before : Partition → Partition → Type 0
+abbrev pub Before : Partition → Partition → Type 0
 Before p q = owner_of_partition p < owner_of_partition q
 
 -- the owners of a group
@@ -46,7 +46,7 @@ Before-sides domain g = at
     at i (suc (suc j)) d lt within = absurd (omega (arith, within))
     at (suc i) zero d lt within = absurd (omega (arith, lt))
 
-Before-partitions : (domain : ℕ) (groups : List PairGroup) → AllPairs (λ (a b : PairGroup). a.gid.0 < b.gid.0) groups → AllPairs Before (flat_map (partitions_of domain) groups)
+pub Before-partitions : (domain : ℕ) (groups : List PairGroup) → AllPairs (λ (a b : PairGroup). a.gid.0 < b.gid.0) groups → AllPairs Before (flat_map (partitions_of domain) groups)
 Before-partitions domain groups rise = AllPairs-flat_map Before (partitions_of domain) groups
     (λ k d within. let g : PairGroup = get_or groups k d in AllPairs-map Before (partition_of domain g) (filter (has_partition domain g) (First ∷ Second ∷ []))
     (AllPairs-filter (λ (a b : Side). Before (partition_of domain g a) (partition_of domain g b)) (has_partition domain g) (First ∷ Second ∷ []) (Before-sides domain g)))

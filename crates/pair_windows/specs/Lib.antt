@@ -1,3 +1,4 @@
+pub mod AllCdpWindows
 pub mod CdpJournals
 pub mod CdpWindows
 pub mod Counted

@@ -7,6 +7,7 @@ mod counted;
 mod fronts;
 mod kept;
 pub mod partition;
+pub mod theorems;
 mod windows;
 
 pub use cdp_window::CdpWindow;

@@ -74,8 +74,8 @@ fn a_class_takes_two_of_the_machine(rt: HostRuntime) -> Result<(), Fail> {
     Ok(())
 }
 
-// A trace with a line that is none of lackey's, and one without an end.
-const BAD_TRACES: [(&str, &str); 2] = [
+// A trace with a line that is none of lackey's, and two without an end: the input of one stops after its last line.
+const BAD_TRACES: [(&str, &str); 3] = [
     (
         "machine sets=1 ways=4 classes=4
 tasks 1
@@ -87,9 +87,29 @@ trace 1 0
 I  0,4
  Q 0,4
  M 80,8
+ S c0,8
+I  0,4
+ L 40,8
 end
 ",
         "line 9: bad trace line\n",
+    ),
+    (
+        "machine sets=1 ways=4 classes=4
+tasks 1
+write /schemata L3CODE:0=c
+write /schemata L3DATA:0=3
+write /mode exclusive
+flush
+trace 1 0
+I  0,4
+ L 40,8
+ M 80,8
+ S c0,8
+I  0,4
+ L 40,8
+",
+        "line 14: bad trace line\n",
     ),
     (
         "machine sets=1 ways=4 classes=4
