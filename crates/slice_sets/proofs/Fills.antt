@@ -5,7 +5,7 @@ use Rattle.std.specs.List.{range_with_len}
 use Rattle.std.proofs.lemmas.Bool.{cases_Bool, cases_lt, eqb-true, eq-eqb, false≢true, true≢false, lt-ltb, le-ltb, ltb-true}
 use Rattle.cbm.specs.Masks.{has_way}
 use Rattle.policy_law.specs.Policies.{has_way as has}
-use Rattle.policy_law.specs.KnownPolicies.{least_way}
+use Rattle.policy_law.specs.KnownPolicies.{least_way, some_or}
 use Rattle.policy_law.proofs.laws.Masks.{has_way-front, has_way-rest}
 use Rattle.lists.proofs.Filters.{list_any-filter_true, list_any-filter}
 use Rattle.slice_sets.specs.SliceSets.{ways_in}
@@ -79,3 +79,8 @@ least_way-is key way best (w ∷ ws) less among ahead =
 pub length-ways : (ways : List ℕ) (w : ℕ) → has ways w ≡ true → 0 < length ways
 length-ways [] w h = absurd (false≢true h)
 length-ways (v ∷ vs) w h = omega arith
+
+-- a mask with a way, or else another
+pub some_or-some : (ways others : List ℕ) → 0 < length ways → some_or ways others ≡ ways
+some_or-some [] others some = absurd (omega arith)
+some_or-some (w ∷ ws) others some = refl

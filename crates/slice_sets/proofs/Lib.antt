@@ -1,6 +1,10 @@
 mod Fills
 mod Groups
+mod LastAccess
+mod Loads
+mod Owned
 mod PrivateSets
+mod SliceLaw
 mod Steps
 mod Victims
 mod Windows

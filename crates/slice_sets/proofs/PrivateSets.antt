@@ -24,9 +24,11 @@ use Rattle.private_lru.specs.Isolation.{HitsAsPrivate, IsIsolated, Respects, bet
 use Rattle.private_lru.specs.Private.{private_hit}
 use Rattle.private_lru.proofs.laws.SliceWindows.{IsIsolated-between}
 use Rattle.policy_law.specs.Policies.{CacheSet, way_of, after_event, set_after, empty_set, fill_way}
-use Rattle.policy_law.specs.KnownPolicies.{Stamps, lru}
+use Rattle.policy_law.specs.Policies.Event.{Access as Accessed}
+use Rattle.policy_law.specs.KnownPolicies.{Stamps, lru, some_or}
 use Rattle.slice_sets.specs.PrivateCaches.{PrivateIsLru, event_of}
 use Rattle.slice_sets.specs.SliceSets.{ways_in, event_in}
+use Rattle.slice_sets.proofs.Fills.{some_or-some}
 use Rattle.slice_sets.proofs.Victims.{IsVictim-fill_way}
 use Rattle.slice_sets.proofs.Windows.{IsSetOf, IsSetOf-push, IsSetOf-flushed}
 
@@ -81,9 +83,13 @@ floor-item n mask (Use x) history c floor = rw (floor_of-push history (entry 0 0
 floor-item n mask (Dropped x) history c floor = rw (floor_of-push history (entry 0 0 0 (what_of n mask c (Dropped x)))) (omega arith)
 
 -- it is its event
-event_in-item : (n mask : ℕ) (i : Item) (c : CacheSet Stamps) → event_in (shape n) 0 0 (what_of n mask c i) ≡ event_of (ways_in n mask) i ∷ []
-event_in-item n mask (Use x) c = let here : (x % 1 == 0) ≡ true = eq-eqb (x % 1) 0 (mod-one x) in rw here refl
-event_in-item n mask (Dropped x) c = let here : (x % 1 == 0) ≡ true = eq-eqb (x % 1) 0 (mod-one x) in rw here refl
+event_in-item : (n mask : ℕ) (i : Item) (c : CacheSet Stamps) → 0 < length (ways_in n mask) → event_in (shape n) 0 0 (what_of n mask c i) ≡ event_of (ways_in n mask) i ∷ []
+event_in-item n mask (Use x) c some =
+    let here : (x % 1 == 0) ≡ true = eq-eqb (x % 1) 0 (mod-one x) in
+    let way : ℕ = unwrap_or (way_of x c.places) (fill_way lru (ways_in n mask) c) in
+    let its : some_or (ways_in n mask) (way ∷ []) ≡ ways_in n mask = some_or-some (ways_in n mask) (way ∷ []) some in
+    rw here (ap (λ l. Accessed true l x ∷ []) its)
+event_in-item n mask (Dropped x) c some = let here : (x % 1 == 0) ≡ true = eq-eqb (x % 1) 0 (mod-one x) in rw here refl
 
 -- the items are a legal history
 GoesOn-items : (n mask : ℕ) (is : List Item) (history : List SliceEntry) (c : CacheSet Stamps) → 0 < length (ways_in n mask) → floor_of history ≤ 0 → IsSetOf (shape n) history 0 c → GoesOn (EntryMayFollow (shape n)) history (entries_of n mask c is)
@@ -92,7 +98,7 @@ GoesOn-items n mask (i ∷ is) history c some floor set =
     let may : MayHappen (shape n) history 0 (what_of n mask c i) = MayHappen-item n mask i history c some floor set in
     let next = IsSetOf-push (shape n) 0 0 history 0 0 0 (what_of n mask c i) c may (empties-item n mask i c) set in
     let next' : IsSetOf (shape n) (history ++ entry 0 0 0 (what_of n mask c i) ∷ []) 0 (after_event lru c (event_of (ways_in n mask) i)) =
-    subst (λ es. IsSetOf (shape n) (history ++ entry 0 0 0 (what_of n mask c i) ∷ []) 0 (set_after lru c es)) (event_in-item n mask i c) next in
+    subst (λ es. IsSetOf (shape n) (history ++ entry 0 0 0 (what_of n mask c i) ∷ []) 0 (set_after lru c es)) (event_in-item n mask i c some) next in
     (may, GoesOn-items n mask is (history ++ entry 0 0 0 (what_of n mask c i) ∷ []) (after_event lru c (event_of (ways_in n mask) i)) some (floor-item n mask i history c floor) next')
 
 -- each leaves the ways to the group

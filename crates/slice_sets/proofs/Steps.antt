@@ -1,25 +1,26 @@
 -- One entry more in a slice, and in a set under the policy.
-use Rattle.std.proofs.Common.{◌≡◌, ℕ, ◌<◌, ◌≤◌, Bool, true, false, not, ◌==◌, nat_lt, List, [], ◌∷◌, Option, Some, None, IsSome, refl, sym, ◌∙◌, ap, subst, inl, inr, arith}
+use Rattle.std.proofs.Common.{◌≡◌, ℕ, ◌<◌, ◌≤◌, Bool, true, false, not, ◌==◌, List, [], ◌∷◌, Option, Some, None, IsSome, refl, sym, ◌∙◌, ap, subst, inl, inr, arith}
 use Rattle.std.specs.Prelude.{filter, find, option_map}
-use Rattle.std.proofs.lemmas.Bool.{cases_Bool, cases_order, eqb-true, eqb-false, eq-eqb, ne_eqb, false≢true, true≢false, lt-ltb, ltb-true, true_from_ne_false}
+use Rattle.std.proofs.lemmas.Bool.{cases_Bool, cases_order, eqb-true, eqb-false, eq-eqb, ne_eqb, false≢true, true≢false, true_from_ne_false}
 use Rattle.std.proofs.lemmas.Option.{none-some, same_Some}
 use Rattle.cbm.specs.Masks.{has_way}
 use Rattle.cache_core.specs.Fills.{Resident, Holds, IsVictim}
 use Rattle.policy_law.specs.Policies.{Place, CacheSet, way_of, is_empty, fill_way, after_access, after_drop}
 use Rattle.policy_law.specs.KnownPolicies.{Stamps, with_stamp, with_at, first_way, lru}
 use Rattle.policy_law.proofs.laws.Masks.{has_way-first_way}
-use Rattle.policy_law.proofs.laws.Stamped.{past-with_stamp, order-with_stamp}
+use Rattle.policy_law.proofs.laws.Stamped.{past-with_stamp}
 use Rattle.policy_law.proofs.laws.Victims.{AreOnce, AreOnce-after_access, AreOnce-after_drop, way_of-held, way_of-kept}
 use Rattle.slice_sets.specs.SliceSets.{ways_in}
 use Rattle.slice_sets.proofs.Fills.{has-ways_in, ways_in-has, find-range, find-range_none, least_way-is, length-ways}
 
--- the set holds what these residents are, and its stamps are in the order of their ages
+-- The set holds what these residents are, and its stamps are in the order of their ages; of ways that are as old, as a lock leaves
+-- them, in the order of the ways.
 pub record IsSet (n : ℕ) (residents : ℕ → Option Resident) (age : ℕ → ℕ) (c : CacheSet Stamps) : Type 0 where
   pub sound : (y w : ℕ) → way_of y c.places ≡ Some w → (w < n) × Holds residents y w
   pub whole : (y w : ℕ) → w < n → Holds residents y w → way_of y c.places ≡ Some w
   pub once : AreOnce c.places
-  pub order : (v w : ℕ) → is_empty c.places v ≡ false → is_empty c.places w ≡ false → nat_lt (c.state.stamp v) (c.state.stamp w) ≡ nat_lt (age v) (age w)
-  pub distinct : (v w : ℕ) → is_empty c.places v ≡ false → is_empty c.places w ≡ false → age v ≡ age w → v ≡ w
+  pub older : (v w : ℕ) → is_empty c.places v ≡ false → is_empty c.places w ≡ false → age v < age w → c.state.stamp v < c.state.stamp w
+  pub tied : (v w : ℕ) → is_empty c.places v ≡ false → is_empty c.places w ≡ false → age v ≡ age w → v < w → c.state.stamp v < c.state.stamp w
   pub past : (v : ℕ) → c.state.stamp v < c.state.clock
 
 -- ---- places
@@ -122,9 +123,16 @@ fill_way-victim n its way residents age c is victim (Some r) e =
     let less : (w : ℕ) → (w < n) × (has_way its w ≡ true) → (w ≡ way → ⊥) → c.state.stamp way < c.state.stamp w = λ w p ne.
     let there : is_empty c.places w ≡ false = full w p.0 p.1 in
     let old : age way ≤ age w = victim.oldest some w p.0 p.1 in
-    let differ : age way ≡ age w → ⊥ = λ same. ne (sym (is.distinct way w at_way there same)) in
-    let older : age way < age w = elim (cases_order (age way) (age w)) [ inl k ↦ absurd (differ k) | inr k ↦ elim k [ inl l ↦ l | inr l ↦ absurd (omega arith) ] ] in
-    ltb-true (c.state.stamp way) (c.state.stamp w) (is.order way w at_way there ∙ lt-ltb (age way) (age w) older) in
+    elim (cases_order (age way) (age w)) [
+      | inl same ↦ elim (cases_order way w) [
+        | inl one ↦ absurd (ne (sym one))
+        | inr k ↦ elim k [
+          | inl l ↦ is.tied way w at_way there same l
+          | inr l ↦ let lower : age way < age w = victim.lowest some w l p.1 in absurd (omega arith)
+        ]
+      ]
+      | inr k ↦ elim k [ inl l ↦ is.older way w at_way there l | inr l ↦ absurd (omega arith) ]
+    ] in
     let mine : _ = has-ways_in n its way victim.within victim.allowed in
     let first : _ = ways_in-has n its (first_way (ways_in n its)) (has_way-first_way (ways_in n its) (length-ways (ways_in n its) way mine)) in
     rw none (least_way-is c.state.stamp way (first_way (ways_in n its)) (ways_in n its) (λ w h ne. less w (ways_in-has n its w h) ne) (inl mine)
@@ -141,34 +149,45 @@ IsSet-same n residents residents' age age' c same same_age is = record {
   sound = λ y w e. let r = is.sound y w e in (r.0, subst (λ (o : Option Resident). option_map (λ (q : Resident). q.line) o ≡ Some y) (sym (same w)) r.1);
   whole = λ y w l h. is.whole y w l (subst (λ (o : Option Resident). option_map (λ (q : Resident). q.line) o ≡ Some y) (same w) h);
   once = is.once;
-  order = λ v w a b. is.order v w a b ∙ (ap (λ z. nat_lt z (age w)) (sym (same_age v)) ∙ ap (λ z. nat_lt (age' v) z) (sym (same_age w)));
-  distinct = λ v w a b e. is.distinct v w a b (sym (same_age v) ∙ (e ∙ same_age w));
+  older = λ v w a b l. is.older v w a b (subst (λ z. z < age w) (same_age v) (subst (λ z. age' v < z) (same_age w) l));
+  tied = λ v w a b e l. is.tied v w a b (sym (same_age v) ∙ (e ∙ same_age w)) l;
   past = is.past;
 }
 
 -- the order of stamps after a use
-order-use : (s : Stamps) (age age' : ℕ → ℕ) (now way v u : ℕ) → ((w : ℕ) → age w < now) → ((w : ℕ) → s.stamp w < s.clock) → ((w : ℕ) → age' w ≡ with_at age way now w)
-    → ((v == way) ≡ false → (u == way) ≡ false → nat_lt (s.stamp v) (s.stamp u) ≡ nat_lt (age v) (age u))
-    → nat_lt ((with_stamp way s).stamp v) ((with_stamp way s).stamp u) ≡ nat_lt (age' v) (age' u)
-order-use s age age' now way v u before past aged same =
-    let t : Stamps = record { clock = now; stamp = age } in
-    order-with_stamp s t way v u same (past v) (past u) (before v) (before u) ∙ (ap (λ z. nat_lt z (with_at age way now u)) (sym (aged v)) ∙ ap (λ z. nat_lt (age' v) z) (sym (aged u)))
+older-use : (s : Stamps) (age age' : ℕ → ℕ) (now way v u : ℕ) → ((w : ℕ) → age w < now) → ((w : ℕ) → s.stamp w < s.clock) → ((w : ℕ) → age' w ≡ with_at age way now w)
+    → ((v == way) ≡ false → (u == way) ≡ false → age v < age u → s.stamp v < s.stamp u) → age' v < age' u → (with_stamp way s).stamp v < (with_stamp way s).stamp u
+older-use s age age' now way v u before past aged same less =
+    let both : with_at age way now v < with_at age way now u = subst (λ z. z < with_at age way now u) (aged v) (subst (λ z. age' v < z) (aged u) less) in
+    let bv : age v < now = before v in
+    let bu : age u < now = before u in
+    let pv : s.stamp v < s.clock = past v in
+    elim (cases_Bool (v == way)) [
+      | inl k ↦ elim (cases_Bool (u == way)) [
+        | inl l ↦ let f : now < now = rw (k, l) at both in absurd (omega arith)
+        | inr l ↦ let f : now < age u = rw (k, l) at both in absurd (omega arith)
+      ]
+      | inr k ↦ elim (cases_Bool (u == way)) [
+        | inl l ↦ rw (k, l) pv
+        | inr l ↦ let f : age v < age u = rw (k, l) at both in rw (k, l) (same k l f)
+      ]
+    ]
 
--- no two ways are as old after a use
-distinct-use : (age age' : ℕ → ℕ) (now way v u : ℕ) → ((w : ℕ) → age w < now) → ((w : ℕ) → age' w ≡ with_at age way now w)
-    → ((v == way) ≡ false → (u == way) ≡ false → age v ≡ age u → v ≡ u) → age' v ≡ age' u → v ≡ u
-distinct-use age age' now way v u before aged same e =
+-- and of ways that are as old
+tied-use : (s : Stamps) (age age' : ℕ → ℕ) (now way v u : ℕ) → ((w : ℕ) → age w < now) → ((w : ℕ) → s.stamp w < s.clock) → ((w : ℕ) → age' w ≡ with_at age way now w)
+    → ((v == way) ≡ false → (u == way) ≡ false → age v ≡ age u → s.stamp v < s.stamp u) → age' v ≡ age' u → v < u → (with_stamp way s).stamp v < (with_stamp way s).stamp u
+tied-use s age age' now way v u before past aged same e less =
     let both : with_at age way now v ≡ with_at age way now u = sym (aged v) ∙ (e ∙ aged u) in
     let bv : age v < now = before v in
     let bu : age u < now = before u in
     elim (cases_Bool (v == way)) [
       | inl k ↦ elim (cases_Bool (u == way)) [
-        | inl l ↦ eqb-true v way k ∙ sym (eqb-true u way l)
+        | inl l ↦ let one : v ≡ u = eqb-true v way k ∙ sym (eqb-true u way l) in absurd (omega arith)
         | inr l ↦ let f : now ≡ age u = rw (k, l) at both in absurd (omega arith)
       ]
       | inr k ↦ elim (cases_Bool (u == way)) [
         | inl l ↦ let f : age v ≡ now = rw (k, l) at both in absurd (omega arith)
-        | inr l ↦ let f : age v ≡ age u = rw (k, l) at both in same k l f
+        | inr l ↦ let f : age v ≡ age u = rw (k, l) at both in rw (k, l) (same k l f)
       ]
     ]
 
@@ -179,8 +198,8 @@ IsSet-hit n x way now mask residents residents' age age' c same before aged is =
   sound = (IsSet-same n residents residents' age age c same (λ v. refl) is).sound;
   whole = (IsSet-same n residents residents' age age c same (λ v. refl) is).whole;
   once = is.once;
-  order = λ v u a b. order-use c.state age age' now way v u before is.past aged (λ _ _. is.order v u a b);
-  distinct = λ v u a b e. distinct-use age age' now way v u before aged (λ _ _. is.distinct v u a b) e;
+  older = λ v u a b l. older-use c.state age age' now way v u before is.past aged (λ _ _. is.older v u a b) l;
+  tied = λ v u a b e l. tied-use c.state age age' now way v u before is.past aged (λ _ _ f. is.tied v u a b f l) e l;
   past = λ v. past-with_stamp c.state way v (is.past v);
 }
 
@@ -218,8 +237,8 @@ IsSet-fill n x way now mask residents residents' age age' c within missed filled
             rw test (way_of-kept y v way c.places old k)
       ];
       once = subst (λ w. AreOnce (record { way = w; line = x } ∷ filter (λ (p : Place). not (p.way == w)) c.places)) filled (AreOnce-after_access lru mask x c None missed is.once);
-      order = λ v u a b. order-use c.state age age' now way v u before is.past aged (λ k l. is.order v u (stays v a k) (stays u b l));
-      distinct = λ v u a b e. distinct-use age age' now way v u before aged (λ k l. is.distinct v u (stays v a k) (stays u b l)) e;
+      older = λ v u a b less. older-use c.state age age' now way v u before is.past aged (λ k l. is.older v u (stays v a k) (stays u b l)) less;
+      tied = λ v u a b e less. tied-use c.state age age' now way v u before is.past aged (λ k l f. is.tied v u (stays v a k) (stays u b l) f less) e less;
       past = λ v. past-with_stamp c.state way v (is.past v);
     } in
     subst Result (sym filled) at_way
@@ -246,7 +265,7 @@ IsSet-drop n x way residents residents' age age' c within holds gone same same_a
             way_of-undropped x y c.places other ∙ old
       ];
       once = AreOnce-after_drop lru x c (Some way) is.once;
-      order = λ v u a b. is.order v u (stays v a) (stays u b) ∙ (ap (λ z. nat_lt z (age u)) (sym (same_age v)) ∙ ap (λ z. nat_lt (age' v) z) (sym (same_age u)));
-      distinct = λ v u a b e. is.distinct v u (stays v a) (stays u b) (sym (same_age v) ∙ (e ∙ same_age u));
+      older = λ v u a b l. is.older v u (stays v a) (stays u b) (subst (λ z. z < age u) (same_age v) (subst (λ z. age' v < z) (same_age u) l));
+      tied = λ v u a b e l. is.tied v u (stays v a) (stays u b) (sym (same_age v) ∙ (e ∙ same_age u)) l;
       past = is.past;
     }

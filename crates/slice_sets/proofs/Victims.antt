@@ -2,7 +2,7 @@
 use Rattle.std.proofs.Common.{◌≡◌, ℕ, zero, suc, ◌+◌, ◌<◌, ◌≤◌, Bool, true, false, cond, ◌==◌, nat_lt, List, [], ◌∷◌, length, Option, Some, None, IsSome, refl, sym, ◌∙◌, ap, inl, inr, arith}
 use Rattle.std.specs.Prelude.{filter, find, unwrap_or}
 use Rattle.std.specs.List.{range_with_len}
-use Rattle.std.proofs.lemmas.Bool.{cases_Bool, cases_lt, cases_order, eqb-true, false≢true, true≢false, lt-ltb, ltb-true, ltb-false}
+use Rattle.std.proofs.lemmas.Bool.{cases_Bool, cases_lt, cases_order, eqb-true, false≢true, true≢false, ltb-true, ltb-false}
 use Rattle.std.proofs.lemmas.Option.{none-some, same_Some}
 use Rattle.cbm.specs.Masks.{has_way}
 use Rattle.cache_core.specs.Fills.{Resident, IsVictim}
@@ -96,9 +96,7 @@ IsVictim-found n mask residents age c is some None e =
     let le : c.state.stamp (oldest_way n mask c) ≤ c.state.stamp u = least_way-le c.state.stamp (first_way (ways_in n mask)) u (ways_in n mask) (has-ways_in n mask u l h) in
     elim (cases_lt (age u) (age (oldest_way n mask c))) [
       | inl less ↦
-          let order = is.order u (oldest_way n mask c) (full u l h) (full (oldest_way n mask c) inside.0 inside.1) in
-          let lower : c.state.stamp u < c.state.stamp (oldest_way n mask c) = ltb-true (c.state.stamp u) (c.state.stamp (oldest_way n mask c))
-          (order ∙ lt-ltb (age u) (age (oldest_way n mask c)) less) in
+          let lower : c.state.stamp u < c.state.stamp (oldest_way n mask c) = is.older u (oldest_way n mask c) (full u l h) (full (oldest_way n mask c) inside.0 inside.1) less in
           absurd (omega arith)
       | inr more ↦ more
     ] in
@@ -113,7 +111,8 @@ IsVictim-found n mask residents age c is some None e =
           let le : age (oldest_way n mask c) ≤ age u = oldest u l h in
           elim (cases_order (age (oldest_way n mask c)) (age u)) [
             | inl same ↦
-                let one : oldest_way n mask c ≡ u = is.distinct (oldest_way n mask c) u (full (oldest_way n mask c) inside.0 inside.1) (full u l h) same in
+                let lower : c.state.stamp u < c.state.stamp (oldest_way n mask c) = is.tied u (oldest_way n mask c) (full u l h) (full (oldest_way n mask c) inside.0 inside.1) (sym same) less in
+                let stamps : c.state.stamp (oldest_way n mask c) ≤ c.state.stamp u = least_way-le c.state.stamp (first_way (ways_in n mask)) u (ways_in n mask) (has-ways_in n mask u l h) in
                 absurd (omega arith)
             | inr k ↦ elim k [ inl lt ↦ lt | inr gt ↦ absurd (omega arith) ]
           ];

@@ -1,0 +1,4 @@
+//! Worked rows of isolation: what its definitions say of a few entries, by computing.
+#![tactic(auto)]
+
+pub mod theorems;
