@@ -6,7 +6,8 @@ TOP = Path(__file__).resolve().parents[2]
 
 def pages():
     """The pages, by their paths in the repository."""
-    return ["README.md", *sorted(str(path.relative_to(TOP)) for path in TOP.glob("docs/*.md")), "tools/README.md", "bench/README.md"]
+    docs = sorted(str(path.relative_to(TOP)) for path in TOP.glob("docs/*.md"))
+    return ["README.md", "CONTRIBUTING.md", *docs, "tools/README.md", "bench/README.md"]
 
 
 def text_of(page):

@@ -8,7 +8,7 @@ import subprocess
 
 from . import TOP
 
-COPIED = ("README.md", "Makefile", "crates.txt", "docs", "examples", "tools", "bench")
+COPIED = ("README.md", "CONTRIBUTING.md", "Makefile", "crates.txt", "docs", "examples", "tools", "bench")
 LINKED = ("crates",)
 SECONDS = 1800
 
