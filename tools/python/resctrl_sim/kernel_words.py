@@ -53,6 +53,8 @@ LOCKED = "group is pseudo-locked"
 LOCKED_WORDS = {"schemata": "Resource group is pseudo-locked", "mode": "Cannot change pseudo-locked group"}
 
 FIELD = re.compile(r"\\{(\w+)\\}")
+# How the lines begin that a kernel formats.
+FORMATTED = ("Invalid pid ", *(line.partition("{")[0] for _, words in WORDS for line in words.split("\n") if "{" in line))
 
 
 def pattern(template, field):

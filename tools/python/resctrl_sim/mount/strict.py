@@ -11,10 +11,10 @@ from ..kernel_texts import (
 )
 from ..kernel_words import LOCKED_WORDS, kernel_words
 from ..machine import Machine
+from .status import Status
 from .texts import Refused, unescaped
 
 PAGE_BYTES = 4096
-STATUS_BYTES = 512
 REGION_BYTES = 4 * 2**20
 MOST_CLASSES = 32
 # The files that cannot be opened in a group that is being locked, and of one that is locked those for reading and for writing.
@@ -26,28 +26,6 @@ FIXED = {"cpus", "cpus_list", "info", "mode", "mon_data", "mon_groups", "schemat
 LOCKING, LOCKED = "pseudo-locksetup", "pseudo-locked"
 
 
-class Status:
-    """`last_cmd_status`: what was told since a write began it anew, as far as it has room."""
-
-    def __init__(self):
-        self.told = ""
-        self.is_full = False
-
-    def begin(self):
-        self.told, self.is_full = "", False
-
-    def add(self, words):
-        """Adds whole lines, up to the first that has no room."""
-        if len(self.told) + len(words) >= STATUS_BYTES:
-            self.is_full = True
-        if not self.is_full:
-            self.told += words
-
-    @property
-    def text(self):
-        return self.told or "ok\n"
-
-
 class Strict:
     """A kernel's answers."""
 
@@ -56,6 +34,8 @@ class Strict:
         (line,) = (line for line in recording.head if line.split()[:1] == ["machine"])
         self.machine = Machine.of(line.strip().removeprefix("machine"))
         self.status = Status()
+        # How a kernel names the writer in its reasons, if the last text for `tasks` was to move it.
+        self.writer_names = {}
 
     @property
     def cpus(self):
@@ -110,6 +90,7 @@ class Strict:
         """Reads a text as a kernel does."""
         if file == "tasks":
             tasks = tasks_of(text)
+            self.writer_names = {str(writer): "0"} if 0 in tasks.ids else {}
             return ",".join(str(task or writer) for task in tasks.ids), tasks.fault
         if file == "cpus":
             return cpus_text(text, self.cpus), None
@@ -146,6 +127,8 @@ class Strict:
             return
         file = os.path.basename(path)
         words = kernel_words(answer.reason, file)
+        if words and file == "tasks":
+            words = re.sub(r"\d+", lambda number: self.writer_names.get(number[0], number[0]), words)
         if words:
             self.status.add(self.filled(words, unescaped(text)) + "\n")
 
