@@ -4,7 +4,9 @@
 # make test      the gate: proves every crate, tries the wrong bodies that tell most, runs the tests and the programs, and compares their reports, pages and exit statuses
 # make edits     tries the wrong bodies that the gate leaves out; it can be interrupted and run again, and tools/edits CRATE tries those of one crate
 # make clients   runs real clients on the mounted tree: a shell, pqos and goresctrl (needs root, FUSE and Debian packages, and is no part of the gate)
+# make browser   tries the page in a browser without a window (needs Chromium, and is no part of the gate)
 # make cluster   sweeps ways on a Dask cluster of two workers on this machine (needs python3-distributed, and is no part of the gate)
+# make kernel    compares with a running Linux in QEMU, which it first builds from Debian packages (minutes and 2 GB, and is no part of the gate)
 # make install   puts the programs, manual pages, documents, examples and tools below PREFIX (default: /usr/local)
 # make deb       builds a Debian package of the same in out/
 # make help      prints these lines
@@ -54,8 +56,14 @@ clients: build
 	@# What is not there is said, and is no fault.
 	@sh tools/clients $(PROGRAM) || [ $$? -eq 77 ]
 
+browser: build
+	python3 tools/try_page $(PROGRAM)
+
 cluster: build
 	sh tools/compare_cluster $(PROGRAM)
+
+kernel: build
+	python3 tools/compare_kernel $(PROGRAM)
 
 install: build
 	sh tools/install $(DESTDIR)$(PREFIX) $(PROGRAMS)
@@ -66,4 +74,4 @@ deb: build
 help:
 	@sed -n 's/^# make/make/p' Makefile
 
-.PHONY: demo simulator build test edits clients cluster install deb help
+.PHONY: demo simulator build test edits clients browser cluster kernel install deb help

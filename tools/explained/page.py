@@ -38,9 +38,14 @@ def show_fault(file, fault):
     return show(file, fault.line, fault.text, why.start, why.width, why.what, why.because, why.hint)
 
 
-def show_remark(file, lines, remark):
-    """What is likely a mistake in a valid script."""
+def marked(lines, remark):
+    """The line that a remark is about, and where in it its word begins and how wide that is."""
     text = lines[remark.line - 1] if remark.line else ""
     start = text.find(remark.word) if remark.word else len(text) - len(text.lstrip(" \t"))
     width = len(remark.word) if remark.word else len(text.split(" ")[0])
-    return show(file, remark.line, text, max(start, 0), width, "remark", remark.because, remark.hint)
+    return text, max(start, 0), width
+
+
+def show_remark(file, lines, remark):
+    """What is likely a mistake in a valid script."""
+    return show(file, remark.line, *marked(lines, remark), "remark", remark.because, remark.hint)
