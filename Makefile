@@ -2,7 +2,7 @@
 # make simulator proves and builds the simulator alone
 # make build     proves and builds all programs
 # make test      the gate: proves every crate, tries the wrong bodies that tell most, runs the tests and the programs, and compares their reports, pages and exit statuses
-# make edits     tries the wrong bodies that the gate leaves out; it can be interrupted and run again, and tools/edits CRATE tries those of one crate
+# make edits     tries the wrong bodies that the gate leaves out; it can be interrupted and run again, and tools/gate/edits CRATE tries those of one crate
 # make clients   runs real clients on the mounted tree: a shell, pqos and goresctrl (needs root, FUSE and Debian packages, and is no part of the gate)
 # make browser   tries the page in a browser without a window (needs Chromium, and is no part of the gate)
 # make cluster   sweeps ways on a Dask cluster of two workers on this machine (needs python3-distributed, and is no part of the gate)
@@ -27,49 +27,49 @@ SOURCES = crates.txt HANDLES $(shell find crates \( -name out -o -name edits -o 
 PREFIX = /usr/local
 
 demo:
-	@sh tools/demo $(PROGRAM)
+	@sh tools/gate/demo $(PROGRAM)
 
 simulator: $(SIMULATOR_BUILT)
 
 $(SIMULATOR_BUILT): $(SOURCES)
-	@python3 tools/progress -q -p $(notdir $(PROGRAM)) sh tools/prove $(notdir $(PROGRAM))
+	@python3 tools/gate/progress -q -p $(notdir $(PROGRAM)) sh tools/gate/prove $(notdir $(PROGRAM))
 	@touch -d @$(BEGAN) $(SIMULATOR_BUILT)
 
 build: $(ALL_BUILT)
 
 $(ALL_BUILT): $(SOURCES)
-	@python3 tools/progress -q $(patsubst %,-p %,$(notdir $(PROGRAMS))) sh tools/prove $(notdir $(PROGRAMS))
+	@python3 tools/gate/progress -q $(patsubst %,-p %,$(notdir $(PROGRAMS))) sh tools/gate/prove $(notdir $(PROGRAMS))
 	@touch -d @$(BEGAN) $(SIMULATOR_BUILT) $(ALL_BUILT)
 
 test:
 	@echo "The gate proves every crate, tries wrong bodies that the prover has to refuse, and runs the tests and the programs."
-	python3 tools/progress rt ci
+	python3 tools/gate/progress rt ci
 	@# The gate leaves the programs that it proved, built and ran.
 	@for program in $(PROGRAMS); do [ -x $$program ] || exit 0; done; touch -d @$(BEGAN) $(SIMULATOR_BUILT) $(ALL_BUILT)
 	@$(MAKE) -s build
-	python3 tools/comparisons
+	python3 tools/gate/comparisons
 
 edits:
-	python3 tools/edits
+	python3 tools/gate/edits
 
 clients: build
 	@# What is not there is said, and is no fault.
-	@sh tools/clients $(PROGRAM) || [ $$? -eq 77 ]
+	@sh tools/gate/clients $(PROGRAM) || [ $$? -eq 77 ]
 
 browser: build
-	python3 tools/try_page $(PROGRAM)
+	python3 tools/gate/try_page $(PROGRAM)
 
 cluster: build
-	sh tools/compare_cluster $(PROGRAM)
+	sh tools/gate/compare_cluster $(PROGRAM)
 
 kernel: build
-	python3 tools/compare_kernel $(PROGRAM)
+	python3 tools/gate/compare_kernel $(PROGRAM)
 
 install: build
-	sh tools/install $(DESTDIR)$(PREFIX) $(PROGRAMS)
+	sh tools/packages/install $(DESTDIR)$(PREFIX) $(PROGRAMS)
 
 deb: build
-	sh tools/deb out $(PROGRAMS)
+	sh tools/packages/deb out $(PROGRAMS)
 
 help:
 	@sed -n 's/^# make/make/p' Makefile

@@ -1,1 +1,0 @@
-"""What `tools/explain` is made of: a reader of scripts that says why a line is refused, and remarks on valid scripts."""

@@ -1,0 +1,1 @@
+"""What `tools/gate/try_page` is made of: a browser without a window, and what is tried in it."""

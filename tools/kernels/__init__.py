@@ -1,1 +1,0 @@
-"""What `tools/kernel` is made of: a Linux that believes in a simulated cache, and a comparison of its answers with the simulator's."""

@@ -1,1 +1,0 @@
-"""What `tools/try_page` is made of: a browser without a window, and what is tried in it."""

@@ -1,0 +1,1 @@
+"""The simulated tree as a file system: `python3 -m resctrl_sim.mount` is `tools/people/mount`."""

@@ -1,1 +1,0 @@
-"""The simulated tree as a file system: `python3 -m resctrl_sim.mount` is `tools/mount`."""

@@ -1,1 +1,0 @@
-"""What `tools/timeline.py` is made of: the moments of a cache, by the report in JSON, and how they are shown."""
