@@ -1,31 +1,61 @@
-# Completion of resctrl_sim and its tools for bash.
+# Completion of bikhnoun, of the programs behind it, and of the names of an earlier version, for bash.
 
-_resctrl_sim() {
-    local current=${COMP_WORDS[COMP_CWORD]}
-    if [ "$COMP_CWORD" -eq 1 ]; then
-        COMPREPLY=($(compgen -W "step run gen" -- "$current"))
-        return
-    fi
-    local flag left=
-    for flag in --journal --json --windows --quiet; do
-        [[ " ${COMP_WORDS[*]:1:COMP_CWORD-1} " = *" $flag "* ]] || left="$left $flag"
-    done
-    COMPREPLY=($(compgen -W "$left" -- "$current"))
-}
-complete -o default -F _resctrl_sim resctrl_sim
+# The words, and then the flags of each. A test compares them with what --help says.
+_bikhnoun_words="play run explain check order export plan cdp levels mount traces ways timeline page kernel version"
 
-# The flags of a tool are its first word's; everything else is a file.
-_resctrl_sim_tool() {
-    local flags
-    case ${COMP_WORDS[0]##*/} in
-        resctrl_sim-explain) flags="--program" ;;
-        resctrl_sim-page) flags="--run --export --open --port --program" ;;
-        resctrl_sim-timeline) flags="--program --domain --rows --svg" ;;
-        resctrl_sim-traces) flags="--l1 --l2 --code --head --machine --most --ratio --rest --tasks" ;;
-        resctrl_sim-ways) flags="--lowest --curve --scheduler" ;;
-        resctrl_sim-kernel) flags="--build --kernel --folder --program --all --json --occupancy --go-on --model --jobs" ;;
-        *) flags="--machine --tasks --program --record --resume --run --strict --pids" ;;
+_bikhnoun_flags() {
+    case $1 in
+        play | run) echo "--help --version --journal --json --windows --quiet" ;;
+        cdp | levels) echo "--help --version --quiet" ;;
+        explain) echo "--help --version --program" ;;
+        mount) echo "--help --version --machine --tasks --pids --strict --program --record --resume --run" ;;
+        traces) echo "--help --version --machine --tasks --head --l1 --l2 --ratio --rest --code --most" ;;
+        ways) echo "--help --version --program --lowest --curve --scheduler" ;;
+        timeline) echo "--help --version --program --domain --rows --svg" ;;
+        page) echo "--help --version --run --export --open --port --program" ;;
+        kernel) echo "--help --version --build --kernel --folder --program --all --json --occupancy --go-on --model --page --jobs" ;;
+        version) echo "--help --version --release" ;;
+        *) echo "--help --version" ;;
     esac
-    COMPREPLY=($(compgen -W "$flags" -- "${COMP_WORDS[COMP_CWORD]}"))
 }
-complete -o default -F _resctrl_sim_tool resctrl_sim-explain resctrl_sim-page resctrl_sim-timeline resctrl_sim-traces resctrl_sim-ways resctrl_sim-mount resctrl_sim-kernel
+
+# Offers what stands in the first word that is given, but nothing that was typed before; other words are files.
+_bikhnoun_offer() {
+    local word left=
+    for word in $1; do
+        [[ " ${COMP_WORDS[*]:1:COMP_CWORD-1} " = *" $word "* ]] || left="$left $word"
+    done
+    COMPREPLY=($(compgen -W "$left" -- "${COMP_WORDS[COMP_CWORD]}"))
+}
+
+_bikhnoun() {
+    local word=${COMP_WORDS[1]}
+    if [ "$COMP_CWORD" -eq 1 ]; then
+        _bikhnoun_offer "$_bikhnoun_words --help --version"
+    elif [[ ${COMP_WORDS[COMP_CWORD]} = -* ]]; then
+        _bikhnoun_offer "$(_bikhnoun_flags "$word")"
+    elif [ "$COMP_CWORD" -eq 2 ] && [ "$word" = export ]; then
+        _bikhnoun_offer "step run"
+    elif [ "$COMP_CWORD" -eq 2 ] && [ "$word" = plan ]; then
+        _bikhnoun_offer "curve divide draw"
+    fi
+}
+complete -o default -F _bikhnoun bikhnoun
+
+# The programs, which have few words and no --help, and the names of an earlier version.
+_resctrl() {
+    local name=${COMP_WORDS[0]##*/}
+    case $name:$COMP_CWORD in
+        resctrl_sim:1) _bikhnoun_offer "step run gen" ;;
+        resctrl_sim:*) _bikhnoun_offer "--journal --json --windows --quiet" ;;
+        resctrl_plan:1) _bikhnoun_offer "curve divide" ;;
+        resctrl_check:1) _bikhnoun_offer "export check" ;;
+        resctrl_check:2) [ "${COMP_WORDS[1]}" != export ] || _bikhnoun_offer "step run" ;;
+        resctrl_cdp:1 | resctrl_l2:1) _bikhnoun_offer "--quiet" ;;
+        resctrl_replay:1) _bikhnoun_offer "order" ;;
+        resctrl_sim-*) _bikhnoun_offer "$(_bikhnoun_flags "${name#resctrl_sim-}")" ;;
+    esac
+}
+complete -o default -F _resctrl resctrl_sim resctrl_plan resctrl_check resctrl_cdp resctrl_l2 resctrl_replay
+complete -o default -F _resctrl resctrl_sim-explain resctrl_sim-kernel resctrl_sim-mount resctrl_sim-page
+complete -o default -F _resctrl resctrl_sim-timeline resctrl_sim-traces resctrl_sim-ways

@@ -38,7 +38,7 @@ def own_verdict(data):
 
 def shown(program, data):
     """What `explain` writes of a script, with its exit status."""
-    words = [sys.executable, os.path.join(PEOPLE, "explain"), "--program", program, "-"]
+    words = [sys.executable, os.path.join(PEOPLE, "..", "bikhnoun"), "explain", "--program", program, "-"]
     done = subprocess.run(words, input=data, capture_output=True, check=False)
     return done.stdout.decode("ascii") + done.stderr.decode("ascii") + f"status {done.returncode}"
 

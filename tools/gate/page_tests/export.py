@@ -11,12 +11,12 @@ from paging.plays import FLAGS
 
 from .chosen import chosen
 
-TOOL = os.path.join(os.path.dirname(os.path.abspath(__file__)), "..", "..", "people", "page")
+TOOL = os.path.join(os.path.dirname(os.path.abspath(__file__)), "..", "..", "bikhnoun")
 BAD = b"machine\naccess\n"
 
 
 def tool(program, *words, data=b""):
-    done = subprocess.run([TOOL, "--program", program, *words], input=data, stdout=subprocess.PIPE, stderr=subprocess.PIPE, check=False)
+    done = subprocess.run([TOOL, "page", "--program", program, *words], input=data, stdout=subprocess.PIPE, stderr=subprocess.PIPE, check=False)
     return done.returncode, done.stdout, done.stderr.decode("utf-8")
 
 

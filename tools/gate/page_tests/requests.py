@@ -13,7 +13,7 @@ from paging.plays import FLAGS
 from .chosen import chosen
 from .served import get, played, post, request, serving
 
-TOOL = os.path.join(os.path.dirname(os.path.abspath(__file__)), "..", "..", "people", "page")
+TOOL = os.path.join(os.path.dirname(os.path.abspath(__file__)), "..", "..", "bikhnoun")
 BAD = "machine sets=64\ntasks 1\nphase\nthread\naccess 1 0 1f40\n"
 RACE = "machine sets=4 ways=4\ntasks 1-2\nphase\nthread\nsweep 1 0 0 40 64\nwrite /schemata L3:0=3\nthread\nsweep 2 0 0 40 64\n"
 
@@ -109,7 +109,7 @@ def ending(program):
     """The tool by its command line: it prints its address, leaves no file, and ends at an interrupt."""
     found = []
     with tempfile.TemporaryDirectory() as folder:
-        command = [TOOL, "--program", program]
+        command = [TOOL, "page", "--program", program]
         process = subprocess.Popen(command, cwd=folder, stdout=subprocess.PIPE, stderr=subprocess.PIPE, text=True, preexec_fn=heed_interrupts)
         address = process.stdout.readline()
         wants(found, "the address", bool(re.fullmatch(r"http://127\.0\.0\.1:\d+/[\w-]{32}/\n", address)), True)

@@ -1,4 +1,4 @@
-"""The rules of tools/people/kernel, and what docs/RESCTRL.md and the probes have of them."""
+"""The rules of tools/bikhnoun kernel, and what docs/RESCTRL.md and the probes have of them."""
 from pathlib import Path
 import re
 import unittest

@@ -1,4 +1,4 @@
-"""What `tools/people/kernel` is made of, as far as it needs no kernel."""
+"""What `tools/bikhnoun kernel` is made of, as far as it needs no kernel."""
 from pathlib import Path
 import tempfile
 import unittest

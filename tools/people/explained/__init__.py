@@ -1,1 +1,1 @@
-"""What `tools/people/explain` is made of: a reader of scripts that says why a line is refused, and remarks on valid scripts."""
+"""What `tools/bikhnoun explain` is made of: a reader of scripts that says why a line is refused, and remarks on valid scripts."""

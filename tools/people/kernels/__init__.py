@@ -1,1 +1,1 @@
-"""What `tools/people/kernel` is made of: a Linux that believes in a simulated cache, and a comparison of its answers with the simulator's."""
+"""What `tools/bikhnoun kernel` is made of: a Linux that believes in a simulated cache, and a comparison of its answers with the simulator's."""

@@ -4,7 +4,7 @@ from pathlib import Path
 from .rules import RULES, Outcome
 
 PAGE = Path(__file__).resolve().parents[3] / "docs" / "RESCTRL.md"
-BEGIN = "<!-- The rules of tools/people/kernel, as `tools/people/kernel --page` writes them. -->\n"
+BEGIN = "<!-- The rules of tools/bikhnoun kernel, as `tools/bikhnoun kernel --page` writes them. -->\n"
 END = "<!-- The end of the rules. -->\n"
 HEAD = ("| rule | file | what is written or read | the simulator | a kernel | Linux | `--strict` |", "|---|---|---|---|---|---|---|")
 

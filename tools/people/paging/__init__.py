@@ -1,1 +1,1 @@
-"""What `tools/people/page` is made of: plays of a script, a server for this machine alone, and the files of the page in `page/`."""
+"""What `tools/bikhnoun page` is made of: plays of a script, a server for this machine alone, and the files of the page in `page/`."""

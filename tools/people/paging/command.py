@@ -1,10 +1,11 @@
-"""The command line of `tools/people/page`."""
+"""The command line of `bikhnoun page`."""
 import argparse
 import signal
 import sys
 import webbrowser
 
-from built import find_program
+from resctrl_sim.names import tool_name
+from resctrl_sim.programs import SIMULATOR, find, required
 
 from .plays import Failed, play
 from .server import Server
@@ -19,13 +20,13 @@ Exit status: 0 the page was served, or FILE was written; 1 the script is invalid
 
 
 def words_given(arguments):
-    words = argparse.ArgumentParser(prog="page", description=PURPOSE, epilog=NOTES, formatter_class=argparse.RawDescriptionHelpFormatter)
+    words = argparse.ArgumentParser(prog=tool_name("page"), description=PURPOSE, epilog=NOTES, formatter_class=argparse.RawDescriptionHelpFormatter)
     words.add_argument("script", nargs="?", metavar="SCRIPT", help="the script to begin with; - is standard input (default: an example)")
     words.add_argument("--run", action="store_true", help="play it with a real thread for each of its threads, and not step by step")
     words.add_argument("--export", metavar="FILE", help="write the play into this HTML file, and serve nothing")
     words.add_argument("--open", action="store_true", help="open the page in a browser")
     words.add_argument("--port", type=int, default=0, help="the port (default: one that is free)")
-    words.add_argument("--program", default=find_program(), help="resctrl_sim, if it is neither built here nor on the PATH")
+    words.add_argument("--program", default=find(SIMULATOR), help="resctrl_sim, if it is neither built here nor on the PATH")
     given = words.parse_args(arguments)
     if given.export and not given.script:
         words.error("--export needs a SCRIPT")
@@ -46,7 +47,7 @@ def export(given, data):
     """Writes the page of one play."""
     done = play(given.program, data, how_of(given))
     if done.report is None:
-        print(f"page: the program says `{done.facts['said']}`; tools/people/explain says more", file=sys.stderr)
+        print(f"{tool_name('page')}: the program says `{done.facts['said']}`; bikhnoun explain says more", file=sys.stderr)
         return 1
     with open(given.export, "w", encoding="utf-8") as file:
         file.write(single_file(data, done))
@@ -79,12 +80,13 @@ def main(arguments):
     """Runs the tool with these words, and returns its exit status."""
     try:
         given = words_given(arguments)
-        if not given.program:
-            raise Failed("resctrl_sim is missing; `make demo` builds it")
+        given.program = required(SIMULATOR, given.program)
         data = bytes_of(given.script) if given.script else None
         return export(given, data) if given.export else serve(given, data)
     except Failed as why:
-        print(f"page: {why}", file=sys.stderr)
+        print(f"{tool_name('page')}: {why}", file=sys.stderr)
+    except BrokenPipeError:
+        raise
     except OSError as why:
-        print(f"page: {why.filename}: {why.strerror}" if why.filename else f"page: {why.strerror}", file=sys.stderr)
+        print(": ".join(filter(None, [tool_name("page"), why.filename, why.strerror])), file=sys.stderr)
     return 3

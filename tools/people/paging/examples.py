@@ -3,7 +3,7 @@ from pathlib import Path
 
 HERE = Path(__file__).resolve().parent
 # In the repository, and below the folder of an installation.
-FOLDERS = (HERE.parents[2] / "examples", HERE.parents[2] / "doc" / "resctrl-sim" / "examples")
+FOLDERS = (HERE.parents[2] / "examples", HERE.parents[3] / "doc" / "resctrl-sim" / "examples")
 
 
 def folder():

@@ -1,4 +1,4 @@
-"""The marks at the words of a script: why it is invalid, or what is likely a mistake in it, as `tools/people/explain` finds them."""
+"""The marks at the words of a script: why it is invalid, or what is likely a mistake in it, as `tools/bikhnoun explain` finds them."""
 from explained import page, plays, remarks
 from explained.reader import Fault, read_script
 

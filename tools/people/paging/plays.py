@@ -6,13 +6,13 @@ import subprocess
 
 from explained.lines import lines_of
 from explained.reader import Fault, read_script
+from resctrl_sim.programs import SIMULATOR, ended
 
 from .marks import marks_of_fault, marks_of_play
 
 FLAGS = ("--json", "--journal", "--windows")
 HOW = ("step", "run")
 MOST_SECONDS = 300
-STATUSES = {3: "the script could not be read", 4: "the report could not be written", 5: "out of memory"}
 
 
 class Failed(Exception):
@@ -36,7 +36,7 @@ def run(program, data, how):
     except OSError as why:
         raise Failed(f"{program}: {why.strerror}") from None
     if done.returncode not in (0, 1):
-        raise Failed(f"the program ended with status {done.returncode}: {STATUSES.get(done.returncode, 'no cause is known')}")
+        raise Failed(ended(SIMULATOR, done.returncode))
     return done.returncode, done.stdout
 
 

@@ -26,7 +26,7 @@ def mounted(machine="", tasks="", *, at=None, words=()):
     machine   a Machine, or the keys of a machine line
     tasks     the tasks that are declared, as "1-8" or a list of ids
     at        an empty directory, in place of a new one
-    words     more words of `tools/people/mount`, as ["--strict", "--record", "my.script"]
+    words     more words of `tools/bikhnoun mount`, as ["--strict", "--record", "my.script"]
     """
     ids = tasks if isinstance(tasks, str) else " ".join(map(str, tasks))
     with directory(at) as path, tempfile.TemporaryFile("w+") as said:

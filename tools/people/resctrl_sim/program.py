@@ -1,11 +1,9 @@
 """The program and the checker, the plays of scripts by the one and the journals of the other."""
 import os
-import shutil
 import subprocess
 
+from . import programs
 from .report import Report
-
-CRATES = os.path.join(os.path.dirname(os.path.abspath(__file__)), *[".."] * 3, "crates")
 
 
 class NoScript(ValueError):
@@ -28,11 +26,9 @@ class Built:
     name = variable = None
 
     def __init__(self, path=None):
-        here = os.path.normpath(os.path.join(CRATES, self.name, "out", self.name))
-        built = here if os.access(here, os.X_OK) else None
-        self.path = path or os.environ.get(self.variable) or built or shutil.which(self.name)
-        if not self.path or not os.access(self.path, os.X_OK):
-            raise Broken(f"{self.path or here} is not a program; `make demo` builds it")
+        self.path = path or os.environ.get(self.variable) or programs.find(self.name)
+        if not programs.is_runnable(self.path):
+            raise Broken(f"{self.path or self.name} is not a program; `make build` builds it")
 
     def answer(self, text, *words, statuses=(0,)):
         """What is written for a text by these words. A NoScript tells why it is refused."""

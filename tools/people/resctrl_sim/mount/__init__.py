@@ -1,1 +1,1 @@
-"""The simulated tree as a file system: `python3 -m resctrl_sim.mount` is `tools/people/mount`."""
+"""The simulated tree as a file system: `python3 -m resctrl_sim.mount` is `tools/bikhnoun mount`."""

@@ -4,12 +4,12 @@ import os
 import sys
 
 EXAMPLE = """examples:
-  mkdir sim && tools/people/mount --machine "domains=2 sets=2048 ways=12" --tasks 1000-1999 --record record.script sim &
+  mkdir sim && tools/bikhnoun mount --machine "domains=2 sets=2048 ways=12" --tasks 1000-1999 --record record.script sim &
   mkdir sim/p0 && echo "L3:0=3;1=3" > sim/p0/schemata && cat sim/info/L3/bit_usage
   echo "sweep 1000 0 0 100 64" > sim/.sim/access && cat sim/mon_data/mon_L3_00/llc_occupancy
   fusermount3 -u sim
 
-  sudo tools/people/mount --machine "domains=2 ways=12" --run pqos -I -s"""
+  sudo tools/bikhnoun mount --machine "domains=2 ways=12" --run pqos -I -s"""
 
 
 class Stopped(Exception):

@@ -1,4 +1,3 @@
-#!/usr/bin/env python3
 """Plays scripts on a running Linux, and prints where it answers differently from the simulator.
 
 The kernel is Debian's, built once by `--build`, with a simulated L3 in place of a processor's; it runs in QEMU, on one thread of this
@@ -11,28 +10,29 @@ only then.
 exit status: 0 every difference has a rule; 1 one has none, or a script was not compared; 2 the words are wrong; 3 there is no kernel.
 """
 import argparse
-import signal
 import sys
 from pathlib import Path
 
-from built import find_program
-from kernels import building, page, telling, versions
-from kernels.booting import LOCKING_MODEL
-from kernels.comparing import Options, compare
-from kernels.scripts import NotComparable, check, notes, read_script
 from resctrl_sim import Broken, NoScript
+from resctrl_sim.names import tool_name
+from resctrl_sim.programs import SIMULATOR, find
+
+from . import building, page, telling, versions
+from .booting import LOCKING_MODEL
+from .comparing import Options, compare
+from .scripts import NotComparable, check, notes, read_script
 
 NO_KERNEL = 3
 
 
-def words_given():
+def words_given(arguments):
     summary, _, rest = __doc__.partition("\n\n")
-    words = argparse.ArgumentParser(prog="kernel", description=summary, epilog=rest, formatter_class=argparse.RawDescriptionHelpFormatter)
+    words = argparse.ArgumentParser(prog=tool_name("kernel"), description=summary, epilog=rest, formatter_class=argparse.RawDescriptionHelpFormatter)
     words.add_argument("scripts", nargs="*", metavar="SCRIPT", help="a script of resctrl_sim, see docs/FORMAT.md")
     words.add_argument("--build", action="store_true", help=f"builds the kernel first: {building.COST}")
     words.add_argument("--kernel", choices=versions.VERSIONS, default=versions.FIRST, help="which Linux (default: %(default)s)")
     words.add_argument("--folder", type=Path, default=versions.cache_folder(), help="where kernels are kept (default: %(default)s)")
-    words.add_argument("--program", default=find_program(), help="resctrl_sim, where it is not the one that was built here")
+    words.add_argument("--program", default=find(SIMULATOR), help="resctrl_sim, where it is not the one that was built here")
     words.add_argument("--all", action="store_true", help="prints all commands, not only those that are answered otherwise")
     words.add_argument("--json", action="store_true", help="prints one JSON object a difference")
     words.add_argument("--occupancy", action="store_true", help="gives the kernel's counters the simulator's lines")
@@ -40,7 +40,7 @@ def words_given():
     words.add_argument("--model", type=int, default=LOCKING_MODEL, help="the processor's model number; on %(default)s Linux can pseudo-lock")
     words.add_argument("--page", action="store_true", help="writes the tables of rules into docs/RESCTRL.md, and ends")
     words.add_argument("--jobs", type=int, default=1, help="how many boots or compilers run at a time (default: %(default)s)")
-    given = words.parse_args()
+    given = words.parse_args(arguments)
     if not given.build and not given.page and not given.scripts:
         words.error("a script, or --build")
     return given
@@ -56,7 +56,7 @@ def kernel_of(given):
     if given.build:
         building.build(built, given.jobs, say)
     if not built.is_there:
-        raise versions.NotBuilt(f"there is no Linux {given.kernel} in {given.folder}: tools/people/kernel --build makes it ({building.COST})")
+        raise versions.NotBuilt(f"there is no Linux {given.kernel} in {given.folder}: bikhnoun kernel --build makes it ({building.COST})")
     if given.occupancy and not built.version.has_debug:
         raise versions.NotBuilt(f"Linux {given.kernel} has no mount option `debug`, so --occupancy cannot be used with it")
     return built
@@ -87,10 +87,8 @@ def show(comparisons, given):
         print("\n".join(lines))
 
 
-def main():
-    # Whoever reads the output may stop, as `head` does.
-    signal.signal(signal.SIGPIPE, signal.SIG_DFL)
-    given = words_given()
+def main(arguments):
+    given = words_given(arguments)
     if given.page:
         page.write()
         return 0
@@ -100,12 +98,9 @@ def main():
         options = Options(built, given.program, given.model, given.occupancy, given.go_on, given.jobs)
         comparisons = compare(scripts, options)
     except (versions.NotBuilt, Broken) as why:
-        say(f"kernel: {why}")
+        say(f"{tool_name('kernel')}: {why}")
         return NO_KERNEL
     show(comparisons, given)
     failed = any(one.complaints or any(found.is_unknown for found in one.in_order) for one in comparisons)
     return 1 if failed or len(scripts) < len(given.scripts) else 0
 
-
-if __name__ == "__main__":
-    sys.exit(main())

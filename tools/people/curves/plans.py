@@ -1,19 +1,9 @@
-#!/usr/bin/env python3
-"""Draws the curves of a plan: the misses of each group by its ways, with a ring at the number of ways that the plan gives it.
-
-usage: tools/people/plan_curves.py FILE.svg [--domain D] < PLAN
-
-PLAN      what `resctrl_plan divide` prints
-FILE.svg  the picture, drawn by gnuplot (Debian: gnuplot-nox)
---domain  the cache (default: 0)
-
-Groups without accesses are left out.
-"""
-import argparse
+"""The curves of a plan: the misses of each group by its ways, with a ring at the number of ways that the plan gives it. Groups without
+accesses are left out."""
 import re
 import sys
 
-from curve_picture import Curve, draw
+from .picture import Curve, draw
 
 HEAD = re.compile(r"domain (\d+) group \d+ (\S+):")
 COUNTS = re.compile(r"ways (\d+): accesses (\d+) hits \d+ misses (\d+)")
@@ -39,16 +29,15 @@ def curves_of(lines, domain):
     return [Curve(path, points) for path, points in curves.items()]
 
 
-def main():
-    words = argparse.ArgumentParser(usage=__doc__)
-    words.add_argument("file")
-    words.add_argument("--domain", type=int, default=0)
-    given = words.parse_args()
-    curves = curves_of(sys.stdin.read().splitlines(), given.domain)
+def draw_plan(name, file, domain):
+    """Draws what `divide` printed into a file. Returns the exit status."""
+    if name == "-":
+        text = sys.stdin.read()
+    else:
+        with open(name, encoding="ascii") as plan:
+            text = plan.read()
+    curves = curves_of(text.splitlines(), domain)
     if not curves:
-        sys.exit(f"plan_curves: the plan has no group with accesses in domain {given.domain}")
-    draw(curves, "a group", "as planned", given.file)
-
-
-if __name__ == "__main__":
-    main()
+        sys.exit(f"bikhnoun plan draw: the plan has no group with accesses in domain {domain}")
+    draw(curves, "a group", "as planned", file)
+    return 0

@@ -1,44 +1,38 @@
-#!/usr/bin/env python3
-"""Says where and why a script is refused, and of a valid one what is likely a mistake in it.
-
-usage: explain [--program PATH] SCRIPT
-
-SCRIPT          a script of resctrl_sim, see docs/FORMAT.md; - is standard input
---program PATH  resctrl_sim, if it is neither the one that was built here nor on the PATH
-
-The verdict is the program's: what it says stands first, where it is there. A script that is refused is shown with its file, line and
-column, the word that is meant, the limit that it passes, and a hint. A valid script is played, for what its report tells.
-
-Exit status: 0 the script is valid, with remarks or without; 1 it is refused; 2 the words are wrong; 3 something could not be read
-or run.
-"""
+"""Says where and why a script is refused, and of a valid one what is likely a mistake in it."""
+import argparse
 import json
-import signal
-import subprocess
 import sys
 
-from built import find_program
-from explained import page, plays, remarks
-from explained.lines import lines_of
-from explained.reader import Fault, read_script
+from bikhnoun.playing import played
+from resctrl_sim.names import tool_name
+from resctrl_sim.programs import SIMULATOR, ended, find
+
+from . import page, plays, remarks
+from .lines import lines_of
+from .reader import Fault, read_script
+
+NOTES = """The verdict is the program's: what it says stands first, where it is there. A script that is refused is shown with its file, line
+and column, the word that is meant, the limit that it passes, and a hint. A valid script is played, for what its report tells.
+
+exit status: 0 the script is valid, with remarks or without; 1 it is refused; 2 the command line is wrong; 3 something could not be
+read or run."""
 
 
 def stop(why):
     """Ends with one sentence."""
-    print(f"explain: {why}", file=sys.stderr)
+    print(f"{tool_name('explain')}: {why}", file=sys.stderr)
     sys.exit(3)
 
 
-def words_given():
+def words_given(arguments):
     """The script's name and the program's path, or none."""
-    given = sys.argv[1:]
-    program = find_program()
-    if given[:1] == ["--program"] and len(given) > 1:
-        program, given = given[1], given[2:]
-    if len(given) != 1 or given[0].startswith("--"):
-        print(__doc__.strip(), file=sys.stderr)
-        sys.exit(2)
-    return given[0], program
+    words = argparse.ArgumentParser(
+        prog=tool_name("explain"), description=__doc__, epilog=NOTES, formatter_class=argparse.RawDescriptionHelpFormatter
+    )
+    words.add_argument("script", metavar="SCRIPT", help="a script of resctrl_sim, see docs/FORMAT.md; - is standard input")
+    words.add_argument("--program", metavar="PATH", default=find(SIMULATOR), help="resctrl_sim, if it is neither built here nor on the PATH")
+    given = words.parse_args(arguments)
+    return given.script, given.program
 
 
 def bytes_of(name):
@@ -55,7 +49,7 @@ def bytes_of(name):
 def play(program, data, *flags):
     """What the program says of a script, with its exit status."""
     try:
-        return subprocess.run([program, "step", *flags], input=data, stdout=subprocess.PIPE, check=False)
+        return played([program, "step", *flags], data)
     except OSError as why:
         stop(f"{program}: {why.strerror}")
 
@@ -67,7 +61,7 @@ def explain_fault(name, fault, program, data):
         stop(f"the program says `{said}`, and this tool reads `{fault.program_line()}`: please report it")
     print(f"the program: {said}" if program else "the program is not here, so this is the tool's own reading")
     print(page.show_fault(name, fault))
-    sys.exit(1)
+    return 1
 
 
 def explain_play(name, script, program, data):
@@ -78,22 +72,18 @@ def explain_play(name, script, program, data):
         if done.returncode == 1:
             stop(f"the program says `{done.stdout.decode('ascii').strip()}`, and this tool reads a valid script: please report it")
         if done.returncode:
-            stop(f"the program ended with status {done.returncode}")
+            stop(ended(SIMULATOR, done.returncode))
         found = plays.of_report(script, json.loads(done.stdout))
     found = remarks.of_lines(script, lines) + found
     verdict = "the program plays this script" if program else "resctrl_sim is missing; this tool reads a valid script"
     print(f"{verdict}: {len(found)} remark{'s' * (len(found) != 1)}")
     for remark in sorted(found, key=lambda one: one.line or len(lines) + 1):
         print(page.show_remark(name, lines, remark))
+    return 0
 
 
-def main():
-    # Whoever reads the output may stop, as `head` does.
-    signal.signal(signal.SIGPIPE, signal.SIG_DFL)
-    name, program = words_given()
+def main(arguments):
+    name, program = words_given(arguments)
     data = bytes_of(name)
     read = read_script(data)
-    (explain_fault if isinstance(read, Fault) else explain_play)(name, read, program, data)
-
-
-main()
+    return (explain_fault if isinstance(read, Fault) else explain_play)(name, read, program, data)

@@ -1,19 +1,22 @@
-#!/usr/bin/env python3
 """Makes a script of memory traces: of what valgrind's tool lackey writes, or of samples of `perf mem`."""
 import argparse
 from itertools import chain
 import os
 import sys
 
-from tracing import LINE_BYTES, BadTrace, lackey, perf
-from tracing.levels import FirstLevels, Shape
-from tracing.merging import Lane, accesses
-from tracing.writing import COMMANDS_WEIGHT, MOST_ACCESSES, Script
+from bikhnoun.progress import Progress
+from resctrl_sim.names import tool_name
+
+from . import LINE_BYTES, BadTrace, lackey, perf
+from .levels import FirstLevels, Shape
+from .merging import Lane, accesses
+from .reading import named, shares_of, stream_of
+from .writing import COMMANDS_WEIGHT, MOST_ACCESSES, Script
 
 EXAMPLES = """examples:
-  valgrind --tool=lackey --trace-mem=yes ls 2>&1 >/dev/null | tools/people/traces > ls.script
-  tools/people/traces --l1 32K:8 --l2 1M:16 --ratio 3:1 web.trace batch.trace > both.script
-  perf script -F addr,data_src | tools/people/traces > samples.script"""
+  valgrind --tool=lackey --trace-mem=yes ls 2>&1 >/dev/null | bikhnoun traces > ls.script
+  bikhnoun traces --l1 32K:8 --l2 1M:16 --ratio 3:1 web.trace batch.trace > both.script
+  perf script -F addr,data_src | bikhnoun traces > samples.script"""
 
 
 def shape(text):
@@ -24,10 +27,10 @@ def shape(text):
         raise argparse.ArgumentTypeError(f"{text} is not a size in bytes with ways, as 32K:8, of whole sets of lines of {LINE_BYTES} bytes")
 
 
-def words():
+def words(arguments):
     """The words of the command line."""
     parser = argparse.ArgumentParser(
-        description=__doc__, epilog=EXAMPLES, formatter_class=argparse.RawDescriptionHelpFormatter
+        prog=tool_name("traces"), description=__doc__, epilog=EXAMPLES, formatter_class=argparse.RawDescriptionHelpFormatter
     )
     parser.add_argument("traces", metavar="TRACE", nargs="*", default=["-"], help="a file, or - for standard input (default)")
     parser.add_argument("--machine", default="sets=1024 ways=16", metavar="KEYS", help="the keys of the machine line (%(default)s)")
@@ -39,12 +42,12 @@ def words():
     parser.add_argument("--rest", action="store_true", help="go on with the other traces where one has ended")
     parser.add_argument("--code", action="store_true", help="instructions that lackey tells are uses too")
     parser.add_argument("--most", type=int, metavar="N", help="stop after so many accesses (4000000, or 3900000 with --head)")
-    return parser.parse_args()
+    return parser.parse_args(arguments)
 
 
 def stop(why):
     """Ends with one sentence."""
-    sys.exit(f"traces: {why}")
+    sys.exit(f"{tool_name('traces')}: {why}")
 
 
 def numbers(text, separator, count, what):
@@ -64,14 +67,9 @@ def head_of(given, tasks):
     return f"machine {given.machine}\ntasks {' '.join(str(task) for task in tasks)}\nphase\nthread\n"
 
 
-def named(file):
-    """A file, as it is told of."""
-    return "standard input" if file == "-" else file
-
-
 def trace_of(file, with_code):
     """The trace in a file, known by its first line that is not blank."""
-    lines = iter(sys.stdin.buffer if file == "-" else open(file, "rb"))
+    lines = iter(stream_of(file))
     first = next((line for line in lines if line.strip()), None)
     if first is None:
         raise BadTrace("is empty")
@@ -84,9 +82,13 @@ def trace_of(file, with_code):
 
 def write(script, merged):
     """Writes accesses until there are no more, or no room."""
-    for task, line in merged:
+    progress = Progress("reading traces")
+    for count, (task, line) in enumerate(merged):
         if not script.access(task, line):
             break
+        if count & 0xFFFF == 0:
+            progress.show(shares_of())
+    progress.end()
     script.end_run()
     script.out.flush()
 
@@ -94,15 +96,15 @@ def write(script, merged):
 def tell(script, lanes, traces, names):
     """Says on standard error what was made of what."""
     for name, lane, trace in zip(names, lanes, traces):
-        print(f"traces: task {lane.task}: {lane.taken} uses of {name}, of which {lane.passed} go on to the script", file=sys.stderr)
+        print(f"{tool_name('traces')}: task {lane.task}: {lane.taken} uses of {name}, of which {lane.passed} go on to the script", file=sys.stderr)
         for warning in trace.warnings():
-            print(f"traces: {name} {warning}", file=sys.stderr)
-    print(f"traces: the script has {script.accesses} accesses in {script.bytes} bytes", file=sys.stderr)
+            print(f"{tool_name('traces')}: {name} {warning}", file=sys.stderr)
+    print(f"{tool_name('traces')}: the script has {script.accesses} accesses in {script.bytes} bytes", file=sys.stderr)
     if script.why_full:
-        print(f"traces: it stops there, at {script.why_full}; what follows in the traces is left out", file=sys.stderr)
+        print(f"{tool_name('traces')}: it stops there, at {script.why_full}; what follows in the traces is left out", file=sys.stderr)
     elif any(lane.has_more() for lane in lanes):
         ended = next(name for name, lane in zip(names, lanes) if lane.has_ended)
-        print(f"traces: it stops there, since {ended} has ended; --rest goes on with the others", file=sys.stderr)
+        print(f"{tool_name('traces')}: it stops there, since {ended} has ended; --rest goes on with the others", file=sys.stderr)
 
 
 def reading(given, names):
@@ -122,8 +124,8 @@ def reading(given, names):
     return traces, lanes
 
 
-def main():
-    given = words()
+def make(arguments):
+    given = words(arguments)
     names = [named(file) for file in given.traces]
     traces, lanes = reading(given, names)
     most = given.most or MOST_ACCESSES - (COMMANDS_WEIGHT if given.head else 0)
@@ -132,12 +134,15 @@ def main():
     tell(script, lanes, traces, names)
 
 
-if __name__ == "__main__":
+def main(arguments):
     try:
-        main()
+        make(arguments)
     except BadTrace as bad:
         stop(bad)
+    except BrokenPipeError:
+        raise
     except OSError as error:
-        # Nobody reads on: the rest of the script goes nowhere.
+        # The rest of the script goes nowhere.
         os.dup2(os.open(os.devnull, os.O_WRONLY), sys.stdout.fileno())
         stop(f"{error.filename or 'standard output'}: {error.strerror}")
+    return 0

@@ -1,0 +1,47 @@
+"""Completion in bash: loaded by the name of each command, and with the words and flags that --help has."""
+import os
+import re
+import subprocess
+import unittest
+
+from bikhnoun.command import WORDS
+from installed import PROGRAMS, bikhnoun, tree
+
+OLD = ("explain", "kernel", "mount", "page", "timeline", "traces", "ways")
+
+
+def completed(*words):
+    """What bash offers at the last of these words, after it has loaded the file of the command's name alone."""
+    script = """
+        . "$1/share/bash-completion/completions/$2"
+        shift
+        COMP_WORDS=("$@") COMP_CWORD=$(($# - 1))
+        $(complete -p "$1" | sed 's/.*-F \\([^ ]*\\).*/\\1/')
+        printf '%s\\n' "${COMPREPLY[@]}"
+    """
+    done = subprocess.run(["bash", "--norc", "-c", script, "bash", tree(), *words], capture_output=True, text=True, check=True)
+    assert not done.stderr, done.stderr
+    return set(done.stdout.split())
+
+
+class Completion(unittest.TestCase):
+    def test_each_command_has_a_file_of_its_name(self):
+        for name in ("bikhnoun", *map(os.path.basename, PROGRAMS), *(f"resctrl_sim-{word}" for word in OLD)):
+            self.assertTrue((tree() / "share/bash-completion/completions" / name).exists(), msg=name)
+            self.assertTrue(completed(name, ""), msg=name)
+
+    def test_words(self):
+        self.assertEqual(completed("bikhnoun", ""), {*WORDS, "--help", "--version"})
+        self.assertEqual(completed("bikhnoun", "p"), {"play", "plan", "page"})
+        self.assertEqual(completed("bikhnoun", "export", ""), {"step", "run"})
+        self.assertEqual(completed("bikhnoun", "plan", "d"), {"divide", "draw"})
+        self.assertEqual(completed("resctrl_check", "export", ""), {"step", "run"})
+
+    def test_flags_are_those_of_the_help(self):
+        for word in WORDS:
+            told = set(re.findall(r"(?<![\w-])--[a-z][a-z0-9-]*", bikhnoun(word, "--help").stdout.decode().partition("options:")[2].partition("\n\n")[0]))
+            self.assertEqual(completed("bikhnoun", word, "--") - {"--version"}, told, msg=word)
+
+    def test_what_was_typed_is_not_offered_again(self):
+        self.assertNotIn("--json", completed("bikhnoun", "play", "--json", "--"))
+        self.assertEqual(completed("resctrl_sim-mount", "--m"), {"--machine"})

@@ -1,0 +1,102 @@
+"""How a call ends: exit statuses with their cause, pipes that are closed, Control+C, programs that are missing."""
+import os
+import signal
+import subprocess
+import tempfile
+import time
+import unittest
+
+from installed import EXAMPLES, bikhnoun, command, stand_in
+
+SCRIPT = EXAMPLES / "isolated_tenant.script"
+LONG = b"machine sets=1 ways=4\ntasks 1\nphase\nthread\n" + b"read /schemata\n" * 20000
+
+
+class Ends(unittest.TestCase):
+    def setUp(self):
+        folder = tempfile.TemporaryDirectory()
+        self.addCleanup(folder.cleanup)
+        self.folder = folder.name
+
+    def ends(self, done, status, cause):
+        self.assertEqual((done.returncode, done.stdout), (status, b""))
+        self.assertIn(cause, done.stderr.decode())
+        self.assertEqual(done.stderr.count(b"\n"), 1)
+        self.assertNotIn(b"Traceback", done.stderr)
+
+    def test_invalid_input(self):
+        self.ends(bikhnoun("play", "--json", data=b"machine sets=3\n"), 1, "bikhnoun play: standard input: line 1: bad machine line; `bikhnoun explain -`")
+        self.ends(bikhnoun("check", data=b"machine\n"), 1, "standard input: line ")
+        self.ends(bikhnoun("plan", "curve", "3", "4"), 2, "usage: resctrl_plan")
+
+    def test_unread(self):
+        self.ends(bikhnoun("play", "not_there"), 3, "bikhnoun play: not_there: No such file or directory")
+        self.ends(bikhnoun("check", self.folder), 3, "Is a directory")
+        for word in ("explain", "timeline", "page"):
+            self.ends(bikhnoun(word, "not_there"), 3, "not_there: No such file or directory")
+        self.ends(bikhnoun("ways", "not_there", "/"), 3, "not_there: No such file or directory")
+
+    def test_statuses_have_their_cause(self):
+        for status, cause in ((3, "the input could not be read"), (4, "the output could not be written"), (5, "there is not enough memory")):
+            done = bikhnoun("play", SCRIPT, programs=stand_in(self.folder, f"exit {status}"))
+            self.ends(done, status, f"bikhnoun play: resctrl_sim: {cause}")
+        self.ends(bikhnoun("play", SCRIPT, programs=stand_in(self.folder, "kill -9 $$")), 137, "resctrl_sim was ended by SIGKILL")
+        self.ends(bikhnoun("explain", SCRIPT, programs=stand_in(self.folder, "exit 5")), 3, "there is not enough memory")
+
+    def test_the_program_s_own_statuses(self):
+        real = command("resctrl_sim")
+        for status, how, cause in (
+            (3, "< /", "the input could not be read"),
+            (4, "> /dev/full", "the output could not be written"),
+        ):
+            done = bikhnoun("play", SCRIPT, programs=stand_in(self.folder, f'exec "{real}" "$@" {how}'))
+            self.ends(done, status, f"bikhnoun play: resctrl_sim: {cause}")
+
+    def test_a_full_disk(self):
+        with open("/dev/full", "wb") as full:
+            done = bikhnoun("play", SCRIPT, stdout=full)
+        self.assertEqual(done.returncode, 4)
+        self.assertIn(b"no space is left", done.stderr)
+
+    def test_missing_programs(self):
+        done = bikhnoun("order", "-")
+        if done.returncode == 3:
+            self.ends(done, 3, "resctrl_replay is missing")
+        self.ends(bikhnoun("timeline", SCRIPT, "--program", "/not/there"), 3, "/not/there is not a program")
+
+    def test_a_reader_that_stops(self):
+        for words in (["play"], ["play", "--json"], ["export", "step"]):
+            done = subprocess.run(
+                ["bash", "-c", '"$@" | head -c 1 > /dev/null; echo "${PIPESTATUS[0]}"', "bash", command(), *words], input=LONG, capture_output=True, check=False
+            )
+            self.assertEqual((done.stdout, done.stderr), (b"%d\n" % (128 + signal.SIGPIPE), b""), msg=words)
+
+    def slow(self):
+        """A call that waits for its program, as the head of processes of its own."""
+        programs = stand_in(self.folder, f"echo $$ > {self.folder}/pid; exec sleep 50")
+        worker = subprocess.Popen(
+            [command(), "play", str(SCRIPT)], env=os.environ | programs, stdout=subprocess.PIPE, stderr=subprocess.PIPE, start_new_session=True
+        )
+        deadline = time.time() + 20
+        while not (os.path.exists(f"{self.folder}/pid") and os.path.getsize(f"{self.folder}/pid")) and time.time() < deadline:
+            time.sleep(0.02)
+        return worker
+
+    def has_gone(self):
+        """Whether the program has ended too."""
+        with open(f"{self.folder}/pid", encoding="ascii") as file:
+            return not os.path.exists(f"/proc/{int(file.read())}")
+
+    def test_interrupted(self):
+        worker = self.slow()
+        os.killpg(worker.pid, signal.SIGINT)
+        out, said = worker.communicate(timeout=20)
+        self.assertEqual((worker.returncode, out, said), (-signal.SIGINT, b"", b""))
+        self.assertTrue(self.has_gone())
+
+    def test_terminated(self):
+        worker = self.slow()
+        worker.terminate()
+        out, said = worker.communicate(timeout=20)
+        self.assertEqual((worker.returncode, out, said), (128 + signal.SIGTERM, b"", b""))
+        self.assertTrue(self.has_gone())

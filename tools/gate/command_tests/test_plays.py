@@ -1,0 +1,74 @@
+"""Each word of a program writes what the program writes, byte for byte, of a file and of standard input."""
+import os
+import unittest
+
+from installed import EXAMPLES, PROGRAMS, bikhnoun, program
+
+SCRIPT = EXAMPLES / "isolated_tenant.script"
+TRACE = b" L 0,4\n S 40,4\nI  400,4\n L 0,4\n"
+
+
+class Plays(unittest.TestCase):
+    def is_same(self, name, forms, words, path):
+        """A call of the program by these forms, and one of the word, on a file, on `-`, and on standard input."""
+        data = path.read_bytes()
+        wanted = program(name, *forms, data=data)
+        self.assertEqual(wanted.returncode, 0)
+        for given, source in (([path], None), (["-"], data), ([], data)):
+            done = bikhnoun(*words, *given, data=source)
+            self.assertEqual((done.returncode, done.stderr, done.stdout), (0, b"", wanted.stdout), msg=f"{words} {given}")
+
+    def test_play(self):
+        self.is_same("resctrl_sim", ["step"], ["play"], SCRIPT)
+        self.is_same("resctrl_sim", ["step", "--windows", "--json"], ["play", "--windows", "--json"], SCRIPT)
+
+    def test_flags_follow_the_file_too(self):
+        done = bikhnoun("play", SCRIPT, "--quiet")
+        self.assertEqual(done.stdout, program("resctrl_sim", "step", "--quiet", data=SCRIPT.read_bytes()).stdout)
+
+    def test_run(self):
+        # It has one thread, so that all its runs are one.
+        self.is_same("resctrl_sim", ["run"], ["run"], EXAMPLES / "mask_rewrite.script")
+
+    def test_export_and_check(self):
+        script = EXAMPLES / "mask_rewrite.script"
+        for how in ("step", "run"):
+            self.is_same("resctrl_check", ["export", how], ["export", how], script)
+        self.assertEqual(bikhnoun("check", EXAMPLES / "journals" / "administrators.journal").stdout, b"yes\n")
+
+    def test_no_is_an_answer(self):
+        # docs/JOURNALS.md has this one: its flush is never taken.
+        lines = (EXAMPLES / "journals" / "administrators.journal").read_bytes().splitlines(keepends=True)
+        done = bikhnoun("check", data=b"".join(lines[:18] + lines[19:]))
+        self.assertEqual((done.returncode, done.stdout, done.stderr), (6, b"no D15.1\n", b""))
+
+    def test_plan(self):
+        self.is_same("resctrl_plan", ["divide"], ["plan", "divide"], EXAMPLES / "three_tenants.script")
+        wanted = program("resctrl_plan", "curve", "4", "2", data=TRACE).stdout
+        self.assertEqual(bikhnoun("plan", "curve", "4", "2", data=TRACE).stdout, wanted)
+
+    def test_two_masks(self):
+        pairs = EXAMPLES / "pairs"
+        for name, word in (("resctrl_cdp", "cdp"), ("resctrl_l2", "levels")):
+            path = next(path for path in sorted(pairs.glob("*.script")) if program(name, data=path.read_bytes()).returncode == 0)
+            self.is_same(name, [], [word], path)
+            self.is_same(name, ["--quiet"], [word, "--quiet"], path)
+
+    def test_order(self):
+        journal = EXAMPLES / "journals" / "administrators.journal"
+        if "resctrl_replay" in map(os.path.basename, PROGRAMS):
+            self.is_same("resctrl_replay", ["order"], ["order"], journal)
+            return
+        done = bikhnoun("order", journal)
+        self.assertEqual((done.returncode, done.stdout), (3, b""))
+        self.assertIn(b"bikhnoun order: resctrl_replay is missing", done.stderr)
+
+    def test_tools(self):
+        for words in (["explain", SCRIPT], ["timeline", SCRIPT], ["ways", EXAMPLES / "ways_for_a_loop.script", "/"]):
+            done = bikhnoun(*words)
+            self.assertEqual((done.returncode, done.stderr), (0, b""), msg=words)
+            self.assertTrue(done.stdout, msg=words)
+            self.assertEqual(bikhnoun(words[0], "-", *words[2:], data=words[1].read_bytes()).returncode, 0, msg=words)
+        done = bikhnoun("traces", data=TRACE)
+        self.assertEqual(done.returncode, 0)
+        self.assertTrue(done.stdout.startswith(b"machine "))

@@ -1,0 +1,124 @@
+"""The words that stand for the proved programs: what each takes, and the words that it hands on."""
+import argparse
+from typing import NamedTuple
+
+from resctrl_sim import programs
+
+from .calling import call
+
+REPORT_FLAGS = ("--journal", "--json", "--windows", "--quiet")
+FLAG_HELPS = {
+    "--journal": "the report also has each entry of the history of each cache slice",
+    "--json": "the report is one JSON object",
+    "--windows": "the report also has each window in which a group was exclusive",
+    "--quiet": "the report has no lines of commands",
+}
+STATUSES = """exit status: 0 all is written; 1 the input is invalid; 2 the command line is wrong; 3 the input could not be read, or the
+program is missing; 4 the output could not be written; 5 out of memory{}. What the program writes is passed on byte for byte,
+but for the message of an invalid input, which goes to standard error."""
+EXPLAINED = "; `bikhnoun explain {}` says more"
+
+
+class Proved(NamedTuple):
+    """A word: its program, the words that it hands on before the flags, its input and its flags, and what is said while it runs."""
+
+    program: str
+    words: tuple[str, ...]
+    source: str
+    flags: tuple[str, ...]
+    doing: str
+    purpose: str
+    after: str = ""
+
+
+WORDS = {
+    "play": Proved(programs.SIMULATOR, ("step",), "SCRIPT", REPORT_FLAGS, "playing", "plays a script step by step, and writes its report", EXPLAINED),
+    "run": Proved(
+        programs.SIMULATOR, ("run",), "SCRIPT", REPORT_FLAGS, "playing",
+        "plays a script with a real thread for each of its threads, and writes its report", EXPLAINED,
+    ),
+    "check": Proved(
+        programs.CHECKER, ("check",), "JOURNAL", (), "checking", "says whether journals are a run of their script: yes, or no and the clause that is false"
+    ),
+    "order": Proved(
+        programs.REPLAY, ("order",), "JOURNAL", (), "ordering", "writes the script of journals with an order in which `play` gives the same journals"
+    ),
+    "cdp": Proved(
+        programs.CDP, (), "SCRIPT", ("--quiet",), "playing", "plays a script with traces on an L3 with masks for code and masks for data"
+    ),
+    "levels": Proved(programs.LEVELS, (), "SCRIPT", ("--quiet",), "playing", "plays a script on an L2 and an L3 with masks of their own"),
+}
+EXPORTS = {
+    "step": Proved(programs.CHECKER, ("export", "step"), "SCRIPT", (), "playing", "plays it step by step", EXPLAINED),
+    "run": Proved(programs.CHECKER, ("export", "run"), "SCRIPT", (), "playing", "plays it with real threads", EXPLAINED),
+}
+PLANS = {
+    "curve": Proved(
+        programs.PLANNER, ("curve",), "TRACE", (), "counting", "counts how often the program of a trace hits with each number of ways"
+    ),
+    "divide": Proved(
+        programs.PLANNER, ("divide",), "SCRIPT", (), "dividing", "counts this for the groups of a script, and divides the ways among them", EXPLAINED
+    ),
+}
+
+
+def parser_of(name, purpose, more=""):
+    return argparse.ArgumentParser(
+        prog=name, description=purpose[0].upper() + purpose[1:] + ".", epilog=STATUSES.format(more),
+        formatter_class=argparse.RawDescriptionHelpFormatter, allow_abbrev=False,
+    )
+
+
+def add_input(words, proved):
+    words.add_argument("file", metavar=proved.source, nargs="?", default="-", help="a file; - is standard input (default)")
+    words.set_defaults(flags=[])
+    for flag in proved.flags:
+        words.add_argument(flag, action="append_const", const=flag, dest="flags", help=FLAG_HELPS[flag])
+
+
+def run(proved, given, extra=()):
+    """Calls the program for words that were read. A flag that is given twice is none of its forms, as for the program."""
+    return call(proved.program, [*proved.words, *extra, *given.flags], given.file, doing=proved.doing, after=proved.after)
+
+
+def one(word):
+    """What reads the words after this word, and runs it."""
+
+    def main(arguments, name):
+        proved = WORDS[word]
+        words = parser_of(name, proved.purpose, "; 6 the answer is no" if word == "check" else "")
+        add_input(words, proved)
+        return run(proved, words.parse_args(arguments))
+
+    return main
+
+
+def export(arguments, name):
+    """`export step` and `export run`."""
+    words = parser_of(name, "plays a script, and writes it with the journals of this play, which `check` judges")
+    words.add_argument("how", choices=EXPORTS, help="; ".join(f"{how}: {proved.purpose}" for how, proved in EXPORTS.items()))
+    add_input(words, EXPORTS["step"])
+    given = words.parse_args(arguments)
+    return run(EXPORTS[given.how], given)
+
+
+def plan(arguments, name):
+    """`plan curve`, `plan divide`, and `plan draw`, which is no proved program."""
+    words = parser_of(name, "counts how often programs hit with each number of ways, and divides ways among groups")
+    forms = words.add_subparsers(dest="form", metavar="FORM", required=True)
+    for form, proved in PLANS.items():
+        part = forms.add_parser(form, help=proved.purpose, description=proved.purpose[0].upper() + proved.purpose[1:] + ".", allow_abbrev=False)
+        if form == "curve":
+            part.add_argument("sets", metavar="SETS", help="the sets of the cache: a power of two up to 65536")
+            part.add_argument("ways", metavar="WAYS", help="its ways, up to 32")
+        add_input(part, proved)
+    draw = forms.add_parser("draw", help="draws the curves that divide prints, with its plan", allow_abbrev=False)
+    draw.add_argument("svg", metavar="FILE.svg", help="the picture, drawn by gnuplot (Debian: gnuplot-nox)")
+    draw.add_argument("file", metavar="PLAN", nargs="?", default="-", help="what divide printed; - is standard input (default)")
+    draw.add_argument("--domain", type=int, default=0, metavar="D", help="the cache (default: 0)")
+    given = words.parse_args(arguments)
+    if given.form == "draw":
+        from curves.plans import draw_plan
+
+        return draw_plan(given.file, given.svg, given.domain)
+    return run(PLANS[given.form], given, (given.sets, given.ways) if given.form == "curve" else ())

@@ -1,0 +1,1 @@
+"""Curves of misses by ways, as gnuplot draws them, and those of a plan."""
