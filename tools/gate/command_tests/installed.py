@@ -3,6 +3,7 @@ import atexit
 from functools import cache
 import os
 from pathlib import Path
+import re
 import subprocess
 import sys
 import tempfile
@@ -11,6 +12,8 @@ TOP = Path(__file__).resolve().parents[3]
 EXAMPLES = TOP / "examples"
 PROGRAMS = os.environ["BIKHNOUN_PROGRAMS"].split("\n")
 SECONDS = 60
+FLAG = re.compile(r"(?<![\w-])--[a-z][a-z0-9-]*")
+EVERYWHERE = {"--help", "--version"}
 # The interpreter of the tests is the command's too.
 PATH = f"{os.path.dirname(sys.executable)}:{os.environ['PATH']}"
 os.environ["PATH"] = PATH
@@ -38,14 +41,27 @@ def bikhnoun(*words, name="bikhnoun", data=None, programs=None, **more):
     return subprocess.run([command(name), *map(str, words)], env=environment, timeout=SECONDS, check=False, **more)
 
 
+@cache
+def help_of(*words):
+    """What --help of a word says."""
+    done = bikhnoun(*words, "--help")
+    assert (done.returncode, done.stderr) == (0, b""), (words, done)
+    return done.stdout.decode()
+
+
+def options_of(*words):
+    """The options that --help of a word tells, but for those that every word has."""
+    return set(FLAG.findall(help_of(*words).partition("options:")[2].partition("\n\n")[0])) - EVERYWHERE
+
+
 def program(name, *words, data=b""):
     """What a program writes by itself."""
     return subprocess.run([command(name), *words], input=data, stdout=subprocess.PIPE, timeout=SECONDS, check=False)
 
 
-def stand_in(folder, text):
-    """A program that does what a shell reads, as the variables of resctrl_sim name it."""
+def stand_in(folder, text, name="resctrl_sim"):
+    """A program that does what a shell reads, as the variable of this one names it."""
     path = Path(folder, "stand_in")
     path.write_text(f"#!/bin/sh\n{text}\n")
     path.chmod(0o755)
-    return {"RESCTRL_SIM": str(path)}
+    return {name.upper(): str(path)}

@@ -1,11 +1,10 @@
 """Completion in bash: loaded by the name of each command, and with the words and flags that --help has."""
 import os
-import re
 import subprocess
 import unittest
 
 from bikhnoun.command import WORDS
-from installed import PROGRAMS, bikhnoun, tree
+from installed import EVERYWHERE, PROGRAMS, options_of, tree
 
 OLD = ("explain", "kernel", "mount", "page", "timeline", "traces", "ways")
 
@@ -39,8 +38,7 @@ class Completion(unittest.TestCase):
 
     def test_flags_are_those_of_the_help(self):
         for word in WORDS:
-            told = set(re.findall(r"(?<![\w-])--[a-z][a-z0-9-]*", bikhnoun(word, "--help").stdout.decode().partition("options:")[2].partition("\n\n")[0]))
-            self.assertEqual(completed("bikhnoun", word, "--") - {"--version"}, told, msg=word)
+            self.assertEqual(completed("bikhnoun", word, "--"), options_of(word) | EVERYWHERE, msg=word)
 
     def test_what_was_typed_is_not_offered_again(self):
         self.assertNotIn("--json", completed("bikhnoun", "play", "--json", "--"))

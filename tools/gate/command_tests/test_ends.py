@@ -83,9 +83,12 @@ class Ends(unittest.TestCase):
         return worker
 
     def has_gone(self):
-        """Whether the program has ended too."""
+        """Whether the program ends too."""
         with open(f"{self.folder}/pid", encoding="ascii") as file:
-            return not os.path.exists(f"/proc/{int(file.read())}")
+            process, deadline = f"/proc/{int(file.read())}", time.time() + 10
+        while os.path.exists(process) and time.time() < deadline:
+            time.sleep(0.02)
+        return not os.path.exists(process)
 
     def test_interrupted(self):
         worker = self.slow()

@@ -5,21 +5,14 @@ import subprocess
 import unittest
 
 from bikhnoun.command import WORDS
-from installed import TOP, bikhnoun
+from installed import EVERYWHERE, FLAG, TOP, options_of
 
 MAN = TOP / "docs" / "man"
 OLD = ("explain", "kernel", "mount", "page", "timeline", "traces", "ways")
-FLAG = re.compile(r"(?<![\w-])--[a-z][a-z0-9-]*")
-EVERYWHERE = {"--help", "--version"}
 
 
 def text_of(name):
     return re.sub(r"\\f.", "", (MAN / name).read_text(encoding="ascii").replace("\\-", "-"))
-
-
-def told(*words):
-    """The options that --help tells."""
-    return set(FLAG.findall(bikhnoun(*words, "--help").stdout.decode().partition("options:")[2].partition("\n\n")[0])) - EVERYWHERE
 
 
 def parts():
@@ -35,7 +28,7 @@ class Manual(unittest.TestCase):
         page = parts()
         page["play"] = page["run"]
         for word in WORDS:
-            wanted = told(word) if word != "plan" else told("plan", "draw")
+            wanted = options_of(word) if word != "plan" else options_of("plan", "draw")
             if word == "mount":
                 wanted = set()
             has = set(FLAG.findall(page[word])) | ({"--program"} if "--program" in wanted else set())
@@ -45,7 +38,7 @@ class Manual(unittest.TestCase):
     def test_pages_of_the_earlier_names(self):
         for word in OLD:
             has = set(FLAG.findall(text_of(f"resctrl_sim-{word}.1"))) - {"--trace-mem", *EVERYWHERE}
-            self.assertEqual(has, told(word), msg=word)
+            self.assertEqual(has, options_of(word), msg=word)
 
     @unittest.skipUnless(shutil.which("man"), "man is missing (Debian: man-db)")
     def test_man_reads_them_without_a_warning(self):

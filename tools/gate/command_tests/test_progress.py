@@ -36,7 +36,7 @@ class Lines(unittest.TestCase):
     def setUp(self):
         folder = tempfile.TemporaryDirectory()
         self.addCleanup(folder.cleanup)
-        self.programs = stand_in(folder.name, SLOW)
+        self.programs = stand_in(folder.name, SLOW) | stand_in(folder.name, SLOW, "resctrl_plan")
         self.big = f"{folder.name}/big"
         with open(self.big, "wb") as file:
             file.write(b"#" * 400000)
@@ -46,11 +46,19 @@ class Lines(unittest.TestCase):
         self.assertEqual((done.returncode, done.stdout, done.stderr), (0, b"done\n", b""))
 
     def test_the_time_that_is_left(self):
-        shown, status = on_terminal(["play", self.big], self.programs)
+        shown, status = on_terminal(["plan", "curve", "1", "1", self.big], self.programs)
         self.assertEqual(status, 0)
-        self.assertRegex(shown, r"\r\x1b\[Kplaying: 0 of 0 MB read, \d s, \d+ %, about \d+ s left")
+        # A quarter is read, or what a pipe holds more.
+        self.assertRegex(shown, r"\r\x1b\[Kcounting: 0 of 0 MB read, \d s, [234]\d %, about \d+ s left")
         # The line is taken away before what the program writes.
         self.assertTrue(shown.endswith("\r\x1b[Kdone\r\n"), msg=repr(shown))
+
+    def test_what_is_left_after_the_input_was_read(self):
+        sparse = f"{self.big}.sparse"
+        with open(sparse, "wb") as file:
+            file.truncate(1100 << 20)
+        shown, _ = on_terminal(["check", sparse], stand_in(os.path.dirname(sparse), "head -c 1000 > /dev/null; sleep 3; echo yes", "resctrl_check"))
+        self.assertRegex(shown, r"\r\x1b\[Kchecking: 0 of 1100 MB read, \d s, [23]\d %, about [78] s left")
 
     def test_tools_have_the_line_too(self):
         programs = self.programs | {"NO_COLOR": "1"}

@@ -5,7 +5,7 @@ import re
 import unittest
 
 from bikhnoun.command import WORDS
-from installed import TOP, PROGRAMS, bikhnoun, command
+from installed import PROGRAMS, TOP, bikhnoun, command, help_of
 
 OLD = ("explain", "kernel", "mount", "page", "timeline", "traces", "ways")
 # What --help of the mount calls itself is its own.
@@ -21,9 +21,8 @@ class Words(unittest.TestCase):
 
     def test_each_word_has_help(self):
         for word in WORDS:
-            done = bikhnoun(word, "--help")
-            self.assertEqual((done.returncode, done.stderr), (0, b""), msg=word)
-            self.assertTrue(done.stdout.startswith(f"usage: bikhnoun {word} ".encode()) or word not in NAMED, msg=done.stdout)
+            if word in NAMED:
+                self.assertTrue(help_of(word).startswith(f"usage: bikhnoun {word} "), msg=help_of(word))
             if word in ("play", "mount", "plan"):
                 done = bikhnoun(word, "--version")
                 self.assertRegex(done.stdout.decode(), rf"^bikhnoun {word} \d+\.\d+\n$")

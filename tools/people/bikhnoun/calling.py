@@ -30,15 +30,19 @@ def opened(name):
         raise Stopped(f"{name}: {why.strerror}", programs.UNREAD) from None
 
 
-def read_share(file, worker):
-    """Which share of its input a program has read, or None, and that in words. The place in a file is the program's and ours."""
+def share_done(file, worker, pace, spent):
+    """Which share of its work a program has done, or None, and what it has read, in words. The place in a file is the program's and ours.
+
+    One without a pace works while it reads. Of another the bytes that it does in a second are known, of an idle machine.
+    """
     try:
         size, at = os.fstat(file.fileno()).st_size, os.lseek(file.fileno(), 0, os.SEEK_CUR)
     except OSError:
         size = at = 0
-    if size and at < size:
-        return at / size, f"{at >> 20} of {size >> 20} MB read"
-    return None, "all is read" if size else f"{taken(worker) >> 20} MB read"
+    if not size:
+        return None, f"{taken(worker) >> 20} MB read"
+    share = spent * pace / size if pace else at / size
+    return share if share < 1 else None, f"{at >> 20} of {size >> 20} MB read" if at < size else "all is read"
 
 
 def taken(worker):
@@ -50,13 +54,13 @@ def taken(worker):
         return 0
 
 
-def chunks(worker, file, progress):
+def chunks(worker, file, pace, progress):
     """What the program writes, as it comes; meanwhile the line of progress is shown."""
     with selectors.DefaultSelector() as waiting:
         waiting.register(worker.stdout, selectors.EVENT_READ)
         while True:
             if not waiting.select(WAIT):
-                progress.show(*read_share(file, worker))
+                progress.show(*share_done(file, worker, pace, progress.spent()))
             elif chunk := os.read(worker.stdout.fileno(), CHUNK):
                 yield chunk
             else:
@@ -78,10 +82,10 @@ def write(data):
         raise Stopped(f"standard output: {cause}", programs.UNWRITTEN) from None
 
 
-def pass_on(worker, file, progress):
+def pass_on(worker, file, pace, progress):
     """Passes on the output and gives the exit status, with the message where the program wrote nothing but that."""
     kept, is_open = b"", False
-    for chunk in chunks(worker, file, progress):
+    for chunk in chunks(worker, file, pace, progress):
         progress.end()
         if is_open:
             write(chunk)
@@ -97,10 +101,11 @@ def pass_on(worker, file, progress):
     return status, kept.decode("ascii", "replace").strip()
 
 
-def call(name, words, source, *, doing, after=""):
+def call(name, words, source, *, doing, pace=None, after=""):
     """Runs a program by these words on a file, and returns its exit status; what went wrong is told on standard error.
 
     doing  what it does, for the line of progress
+    pace   how many bytes of input it does in a second, or None where it works while it reads
     after  what is said after the message of an invalid input, with {} for its name
     """
     path, file = programs.required(name), opened(source)
@@ -110,7 +115,7 @@ def call(name, words, source, *, doing, after=""):
     except OSError as why:
         raise Stopped(f"{path}: {why.strerror}", programs.UNREAD) from None
     try:
-        status, message = pass_on(worker, file, progress)
+        status, message = pass_on(worker, file, pace, progress)
     finally:
         progress.end()
         worker.kill()

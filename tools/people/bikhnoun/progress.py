@@ -21,10 +21,13 @@ class Progress:
         self.last = None
         self.is_on = self.stream.isatty()
 
+    def spent(self):
+        """The seconds since it began."""
+        return time.monotonic() - self.started
+
     def show(self, share=None, detail=""):
         """Tells which share is done, from 0 to 1 or None, where the time for that has come."""
-        now = time.monotonic()
-        spent = now - self.started
+        now, spent = time.monotonic(), self.spent()
         if not self.is_on or spent < FIRST or self.last is not None and now - self.last < NEXT:
             return
         self.last = now

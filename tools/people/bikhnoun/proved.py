@@ -19,45 +19,50 @@ but for the message of an invalid input, which goes to standard error."""
 EXPLAINED = "; `bikhnoun explain {}` says more"
 
 
+MB = 1 << 20
+
+
 class Proved(NamedTuple):
-    """A word: its program, the words that it hands on before the flags, its input and its flags, and what is said while it runs."""
+    """A word: its program, the words that it hands on before the flags, its input and its flags, what is said while it runs, how many
+    bytes it does in a second (bench/README.md; None where it works while it reads), and what it is for."""
 
     program: str
     words: tuple[str, ...]
     source: str
     flags: tuple[str, ...]
     doing: str
+    pace: int | None
     purpose: str
     after: str = ""
 
 
 WORDS = {
-    "play": Proved(programs.SIMULATOR, ("step",), "SCRIPT", REPORT_FLAGS, "playing", "plays a script step by step, and writes its report", EXPLAINED),
+    "play": Proved(programs.SIMULATOR, ("step",), "SCRIPT", REPORT_FLAGS, "playing", 200 * MB, "plays a script step by step, and writes its report", EXPLAINED),
     "run": Proved(
-        programs.SIMULATOR, ("run",), "SCRIPT", REPORT_FLAGS, "playing",
+        programs.SIMULATOR, ("run",), "SCRIPT", REPORT_FLAGS, "playing", 50 * MB,
         "plays a script with a real thread for each of its threads, and writes its report", EXPLAINED,
     ),
     "check": Proved(
-        programs.CHECKER, ("check",), "JOURNAL", (), "checking", "says whether journals are a run of their script: yes, or no and the clause that is false"
+        programs.CHECKER, ("check",), "JOURNAL", (), "checking", 110 * MB, "says whether journals are a run of their script: yes, or no and the clause that is false"
     ),
     "order": Proved(
-        programs.REPLAY, ("order",), "JOURNAL", (), "ordering", "writes the script of journals with an order in which `play` gives the same journals"
+        programs.REPLAY, ("order",), "JOURNAL", (), "ordering", 50 * MB, "writes the script of journals with an order in which `play` gives the same journals"
     ),
     "cdp": Proved(
-        programs.CDP, (), "SCRIPT", ("--quiet",), "playing", "plays a script with traces on an L3 with masks for code and masks for data"
+        programs.CDP, (), "SCRIPT", ("--quiet",), "playing", 25 * MB, "plays a script with traces on an L3 with masks for code and masks for data"
     ),
-    "levels": Proved(programs.LEVELS, (), "SCRIPT", ("--quiet",), "playing", "plays a script on an L2 and an L3 with masks of their own"),
+    "levels": Proved(programs.LEVELS, (), "SCRIPT", ("--quiet",), "playing", 35 * MB, "plays a script on an L2 and an L3 with masks of their own"),
 }
 EXPORTS = {
-    "step": Proved(programs.CHECKER, ("export", "step"), "SCRIPT", (), "playing", "plays it step by step", EXPLAINED),
-    "run": Proved(programs.CHECKER, ("export", "run"), "SCRIPT", (), "playing", "plays it with real threads", EXPLAINED),
+    "step": Proved(programs.CHECKER, ("export", "step"), "SCRIPT", (), "playing", 100 * MB, "plays it step by step", EXPLAINED),
+    "run": Proved(programs.CHECKER, ("export", "run"), "SCRIPT", (), "playing", 100 * MB, "plays it with real threads", EXPLAINED),
 }
 PLANS = {
     "curve": Proved(
-        programs.PLANNER, ("curve",), "TRACE", (), "counting", "counts how often the program of a trace hits with each number of ways"
+        programs.PLANNER, ("curve",), "TRACE", (), "counting", None, "counts how often the program of a trace hits with each number of ways"
     ),
     "divide": Proved(
-        programs.PLANNER, ("divide",), "SCRIPT", (), "dividing", "counts this for the groups of a script, and divides the ways among them", EXPLAINED
+        programs.PLANNER, ("divide",), "SCRIPT", (), "dividing", 60 * MB, "counts this for the groups of a script, and divides the ways among them", EXPLAINED
     ),
 }
 
@@ -78,7 +83,7 @@ def add_input(words, proved):
 
 def run(proved, given, extra=()):
     """Calls the program for words that were read. A flag that is given twice is none of its forms, as for the program."""
-    return call(proved.program, [*proved.words, *extra, *given.flags], given.file, doing=proved.doing, after=proved.after)
+    return call(proved.program, [*proved.words, *extra, *given.flags], given.file, doing=proved.doing, pace=proved.pace, after=proved.after)
 
 
 def one(word):
