@@ -53,10 +53,22 @@ class Ends(unittest.TestCase):
             self.ends(done, status, f"bikhnoun play: resctrl_sim: {cause}")
 
     def test_a_full_disk(self):
-        with open("/dev/full", "wb") as full:
-            done = bikhnoun("play", SCRIPT, stdout=full)
-        self.assertEqual(done.returncode, 4)
-        self.assertIn(b"no space is left", done.stderr)
+        for word, cause in (("play", "no space is left on its device"), ("explain", "No space left on device"), ("version", "No space left on device")):
+            with open("/dev/full", "wb") as full:
+                done = bikhnoun(word, *[SCRIPT] * (word != "version"), stdout=full)
+            self.assertEqual((done.returncode, done.stderr.decode()), (4, f"bikhnoun {word}: standard output: {cause}\n"))
+
+    def closed(self, how, *words):
+        """A call from a shell that closes a stream: both streams, and the exit status."""
+        done = subprocess.run(["bash", "-c", f'"$@" {how}', "bash", command(), *map(str, words)], stdin=subprocess.DEVNULL, capture_output=True, check=False)
+        return done.returncode, done.stdout, done.stderr.decode()
+
+    def test_closed_streams(self):
+        self.assertEqual(self.closed("<&-", "play"), (3, b"", "bikhnoun play: standard input is closed\n"))
+        self.assertEqual(self.closed(">&-", "play", SCRIPT), (4, b"", "bikhnoun play: standard output is closed\n"))
+        self.assertEqual(self.closed("2>&-", "play", SCRIPT), (0, bikhnoun("play", SCRIPT).stdout, ""))
+        for word in ("play", "explain"):
+            self.assertEqual(self.closed("2>&-", word, "not_there"), (3, b"", ""))
 
     def test_missing_programs(self):
         done = bikhnoun("order", "-")
@@ -65,11 +77,17 @@ class Ends(unittest.TestCase):
         self.ends(bikhnoun("timeline", SCRIPT, "--program", "/not/there"), 3, "/not/there is not a program")
 
     def test_a_reader_that_stops(self):
-        for words in (["play"], ["play", "--json"], ["export", "step"]):
+        for words in (["play"], ["play", "--json"], ["export", "step"], ["traces", self.trace()]):
             done = subprocess.run(
                 ["bash", "-c", '"$@" | head -c 1 > /dev/null; echo "${PIPESTATUS[0]}"', "bash", command(), *words], input=LONG, capture_output=True, check=False
             )
             self.assertEqual((done.stdout, done.stderr), (b"%d\n" % (128 + signal.SIGPIPE), b""), msg=words)
+
+    def trace(self):
+        """A trace of which a script is made that no pipe holds."""
+        with open(f"{self.folder}/trace", "wb") as file:
+            file.writelines(b" L %x,4\n" % (at * 64) for at in range(20000))
+        return file.name
 
     def slow(self):
         """A call that waits for its program, as the head of processes of its own."""

@@ -69,8 +69,6 @@ def chunks(worker, file, pace, progress):
 
 def write(data):
     """Writes to standard output. Stopped says why that fails; a reader that has gone is none of our business."""
-    if sys.stdout is None:
-        raise Stopped("standard output is closed", programs.UNWRITTEN)
     try:
         left = memoryview(data)
         while left:

@@ -1,6 +1,7 @@
 """The command line of `bikhnoun`: its words, and how each ends."""
 import argparse
 from difflib import get_close_matches
+import errno
 from importlib import import_module
 import os
 import signal
@@ -8,12 +9,14 @@ import sys
 
 from resctrl_sim.names import old_word, tool_name
 from resctrl_sim.program import Broken
-from resctrl_sim.programs import Missing
+from resctrl_sim.programs import UNREAD, UNWRITTEN, Missing
 
 from . import mounting, proved, versions
 from .telling import Stopped, say
 
-UNREAD, INTERRUPTED = 3, 130
+INTERRUPTED = 130
+# What only a write may be answered.
+FULL = (errno.ENOSPC, errno.EDQUOT, errno.EFBIG, errno.EIO)
 DEBUG_VARIABLE = "BIKHNOUN_DEBUG"
 DEBUG = os.environ.get(DEBUG_VARIABLE)
 
@@ -83,6 +86,8 @@ def begun(arguments):
         print(f"{tool_name(word)} {versions.number()}")
         return 0
     try:
+        if sys.stdout is None:
+            raise Stopped("standard output is closed", UNWRITTEN)
         status = WORDS[word][0](rest, tool_name(word))
         sys.stdout.flush()
         return status
@@ -92,7 +97,7 @@ def begun(arguments):
     except BrokenPipeError:
         raise
     except OSError as why:
-        say(tool_name(word), ": ".join(str(part) for part in (why.filename, why.strerror) if part) or why)
+        return told(tool_name(word), why)
     except UnicodeDecodeError as why:
         say(tool_name(word), f"the input is not text in {why.encoding.upper()}: byte {why.start} is {why.object[why.start]:02x}")
     except (Missing, Broken) as why:
@@ -104,9 +109,24 @@ def begun(arguments):
     return UNREAD
 
 
-def end_by(number):
-    """Ends as a program that leaves this signal alone, so that a shell sees it. What is left to write goes nowhere."""
+def told(name, why):
+    """Tells what could not be read or written, and gives the exit status. An error of a file has its name."""
+    is_output = why.filename is None and why.errno in FULL
+    if is_output:
+        leave_output()
+    where = "standard output" if is_output else why.filename
+    say(name, ": ".join(str(part) for part in (where, why.strerror) if part) or why)
+    return UNWRITTEN if is_output else UNREAD
+
+
+def leave_output():
+    """What is left to write goes nowhere, so that nothing tries it once more at the end."""
     os.dup2(os.open(os.devnull, os.O_WRONLY), 1)
+
+
+def end_by(number):
+    """Ends as a program that leaves this signal alone, so that a shell sees it."""
+    leave_output()
     signal.signal(number, signal.SIG_DFL)
     os.kill(os.getpid(), number)
 
@@ -118,6 +138,8 @@ def terminated(number, frame):
 def main(arguments):
     """Runs the command with these words, and returns its exit status."""
     signal.signal(signal.SIGTERM, terminated)
+    if sys.stderr is None:
+        sys.stderr = open(os.devnull, "w", encoding="utf-8")
     try:
         return begun(arguments)
     except KeyboardInterrupt:

@@ -18,12 +18,11 @@ def has_colour(stream):
 
 def say(name, why):
     """Says why something ended, after the name of the command."""
-    if sys.stderr is not None:
-        head = f"\x1b[1;31m{name}:\x1b[0m" if has_colour(sys.stderr) else f"{name}:"
-        print(f"{head} {why}", file=sys.stderr, flush=True)
+    head = f"\x1b[1;31m{name}:\x1b[0m" if has_colour(sys.stderr) else f"{name}:"
+    print(f"{head} {why}", file=sys.stderr, flush=True)
 
 
 def hint(line):
     """Says something to whoever sits before a terminal."""
-    if sys.stderr is not None and sys.stderr.isatty():
+    if sys.stderr.isatty():
         print(line, file=sys.stderr, flush=True)
