@@ -2,6 +2,7 @@
 import errno
 import os
 import selectors
+import signal
 import subprocess
 import sys
 
@@ -99,6 +100,11 @@ def pass_on(worker, file, pace, progress):
     return status, kept.decode("ascii", "replace").strip()
 
 
+def terminated(number, frame):
+    """Ends this with its program, which is none of the same terminal's if somebody sends a signal to this alone."""
+    raise SystemExit(128 + number)
+
+
 def call(name, words, source, *, doing, pace=None, after=""):
     """Runs a program by these words on a file, and returns its exit status; what went wrong is told on standard error.
 
@@ -107,6 +113,7 @@ def call(name, words, source, *, doing, pace=None, after=""):
     after  what is said after the message of an invalid input, with {} for its name
     """
     path, file = programs.required(name), opened(source)
+    signal.signal(signal.SIGTERM, terminated)
     progress = Progress(doing)
     try:
         worker = subprocess.Popen([path, *words], stdin=file, stdout=subprocess.PIPE)

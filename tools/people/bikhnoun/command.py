@@ -131,13 +131,8 @@ def end_by(number):
     os.kill(os.getpid(), number)
 
 
-def terminated(number, frame):
-    raise SystemExit(128 + number)
-
-
 def main(arguments):
     """Runs the command with these words, and returns its exit status."""
-    signal.signal(signal.SIGTERM, terminated)
     if sys.stderr is None:
         sys.stderr = open(os.devnull, "w", encoding="utf-8")
     try:
