@@ -28,7 +28,7 @@ class Built:
     def __init__(self, path=None):
         self.path = path or os.environ.get(self.variable) or programs.find(self.name)
         if not programs.is_runnable(self.path):
-            raise Broken(f"{self.path or self.name} is not a program; `make build` builds it")
+            raise Broken(f"{self.path or self.name} is not a program; `make demo` builds it")
 
     def answer(self, text, *words, statuses=(0,)):
         """What is written for a text by these words. A NoScript tells why it is refused."""
