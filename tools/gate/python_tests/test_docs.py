@@ -9,6 +9,7 @@ import sys
 from resctrl_sim import Program
 from resctrl_sim.mounting import PACKAGES
 from mounts import Mounts
+from test_pytest_plugin import python_with_pytest
 
 REPOSITORY = Path(__file__).resolve().parents[3]
 PAGE = REPOSITORY / "docs" / "MOUNT.md"
@@ -36,8 +37,7 @@ class Page(Mounts):
         self.assertEqual((done.stdout.split(), done.stderr), (wanted, ""))
 
     def test_pytest(self):
-        pythons = [sys.executable, "/usr/bin/python3"]
-        python = next((one for one in pythons if self.run_in(self.folder, one, "-c", "import pytest").returncode == 0), None)
+        python = python_with_pytest()
         if not python:
             self.skipTest("pytest is not here (Debian: python3-pytest)")
         _, conftest, tests = blocks("python")

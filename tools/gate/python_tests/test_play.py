@@ -1,7 +1,7 @@
 """Plays of scripts whose reports were worked out by hand, and the machine's line."""
 import unittest
 
-from resctrl_sim import Checker, Domain, Group, Machine, NoScript, Total, play
+from resctrl_sim import Checker, Domain, Group, Machine, NoScript, NotAsked, Total, play
 
 LINES = ["machine sets=1 ways=4", "tasks 1-2", "phase", "thread"]
 
@@ -13,7 +13,7 @@ class Plays(unittest.TestCase):
         self.assertEqual(report.total, Total(accesses=6, commands=0, hits=1, misses=5, refused=0))
         self.assertEqual(report.groups, (Group(gid=0, path="/", accesses=6, hits=1, misses=5),))
         self.assertEqual(report.domains, (Domain(domain=0, places=4, valid=4, rmids={0: 4}),))
-        self.assertEqual((report.commands, report.journal, report.windows), ((), None, None))
+        self.assertEqual(report.commands, ())
         self.assertAlmostEqual(report.group("/").miss_rate, 5 / 6)
 
     def test_commands(self):
@@ -28,11 +28,18 @@ class Plays(unittest.TestCase):
         # The group is exclusive on two ways from the flush on, so both of its two accesses are covered and the second hits.
         words = ["mkdir /a", "write /a/schemata L3:0=3", "write /schemata L3:0=c", "write /a/mode exclusive", "write /a/tasks 1"]
         report = play([*LINES, *words, "flush", "access 1 0 0", "access 1 0 0"], journal=True, windows=True, quiet=True)
-        self.assertIsNone(report.commands)
+        self.assertRaisesRegex(NotAsked, "no commands: it was played with quiet=True", lambda: report.commands)
         (journal,) = report.journal
         self.assertEqual([entry.split(" ", 3)[3].split(" ")[0] for entry in journal.entries], ["raise"] * 3 + ["flush"] + ["access"] * 2)
         (window,) = report.windows
         self.assertEqual((window.gid, window.ways, window.start, window.covered, window.covered_hits), (1, 2, 3, 2, 1))
+
+    def test_what_was_not_asked_for(self):
+        report = play([*LINES, "access 1 0 0"])
+        for name in ("journal", "windows"):
+            with self.assertRaisesRegex(NotAsked, f"this report has no {name}: play with {name}=True"):
+                getattr(report, name)
+        self.assertEqual(play(LINES, windows=True).windows, ())
 
     def test_threads(self):
         report = play([*LINES, "mkdir /a", "thread", "mkdir /a"], run=True)

@@ -11,7 +11,7 @@
 from .machine import Machine
 from .mounting import NotMounted, mounted
 from .program import Broken, Checker, NoScript, Program, play
-from .report import Command, Domain, Group, Report, Slice, Total, Window
+from .report import Command, Domain, Group, NotAsked, Report, Slice, Total, Window
 
 __all__ = [
     "Broken",
@@ -21,6 +21,7 @@ __all__ = [
     "Group",
     "Machine",
     "NoScript",
+    "NotAsked",
     "NotMounted",
     "Program",
     "Report",

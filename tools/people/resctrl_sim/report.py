@@ -91,29 +91,55 @@ class Window:
     private: int
 
 
+class NotAsked(AttributeError):
+    """The report does not have what it was not asked for."""
+
+
+# What a report may lack, each with why.
+WHY_NOT = {"commands": "it was played with quiet=True", "journal": "play with journal=True", "windows": "play with windows=True"}
+
+
 @dataclass(frozen=True)
 class Report:
-    """A whole report. What was not asked for is None: `commands` of a quiet play, `journal` and `windows`."""
+    """A whole report. `lists` has what was asked for of `commands`, `journal` and `windows`: the others raise NotAsked."""
 
     domains: tuple[Domain, ...]
     groups: tuple[Group, ...]
     total: Total
-    commands: tuple[Command, ...] | None = None
-    journal: tuple[Slice, ...] | None = None
-    windows: tuple[Window, ...] | None = None
+    lists: dict[str, tuple]
 
     @classmethod
     def of(cls, text):
         """The report of its JSON text."""
         parts = json.loads(text)
+        makers = {"commands": command_of, "journal": slice_of, "windows": window_of}
         return cls(
             domains=tuple(map(domain_of, parts["domains"])),
             groups=tuple(Group(**group) for group in parts["groups"]),
             total=Total(**parts["total"]),
-            commands=all_of(parts, "commands", command_of),
-            journal=all_of(parts, "journal", slice_of),
-            windows=all_of(parts, "windows", window_of),
+            lists={name: tuple(map(make, parts[name])) for name, make in makers.items() if name in parts},
         )
+
+    def asked(self, name):
+        """What was asked for."""
+        if name not in self.lists:
+            raise NotAsked(f"this report has no {name}: {WHY_NOT[name]}")
+        return self.lists[name]
+
+    @property
+    def commands(self) -> tuple[Command, ...]:
+        """The commands, in order."""
+        return self.asked("commands")
+
+    @property
+    def journal(self) -> tuple[Slice, ...]:
+        """The journal of each slice."""
+        return self.asked("journal")
+
+    @property
+    def windows(self) -> tuple[Window, ...]:
+        """The windows."""
+        return self.asked("windows")
 
     def group(self, path):
         """The last group that was made at this path. A KeyError tells that there was none."""
@@ -126,11 +152,6 @@ class Report:
     def refused(self):
         """The commands that were refused."""
         return tuple(command for command in self.commands if not command.accepted)
-
-
-def all_of(parts, key, make):
-    """What stands in a list, or None where the report does not have it."""
-    return tuple(map(make, parts[key])) if key in parts else None
 
 
 def command_of(part):
