@@ -59,10 +59,19 @@ class Files(Mounts):
         with mounted(MACHINE, TASKS) as tree:
             (tree / ".sim/access").write_text("sweep 1000 0 0 100 64\n")
             self.assertEqual((tree / "mon_data/mon_L3_00/llc_occupancy").read_text(), "6400\n")
-            self.errs(errno.EINVAL, (tree / ".sim/access").write_text, "access 1 0 0\n")
+            self.refuses(tree, "access 1 0 0\n", "access 1 0 0: unknown task: ")
+            self.refuses(tree, "sweep 1000 0 0 100 64\naccess 1000 9 0\n", "access 1000 9 0: bad argument: there is no CPU 9; ")
+            self.refuses(tree, "acess 1000 0 0\n", "acess is none of access, sweep, touch, flush, clflush, tick\n")
+            self.assertEqual((tree / "mon_data/mon_L3_00/llc_occupancy").read_text(), "6400\n")
+            self.assertEqual(self.ops(tree), ["sweep 1000 0 0 100 64"])
             script, journal = ((tree / ".sim" / name).read_text() for name in ("script", "journal"))
             self.assertTrue(journal.startswith(script + "journal 1\n"))
             self.assertEqual(Checker().check(journal), "yes")
+
+    def refuses(self, tree, lines, cause):
+        """Lines for `.sim/access` are refused, and `last_cmd_status` tells why until the next command."""
+        self.errs(errno.EINVAL, (tree / ".sim/access").write_text, lines)
+        self.assertTrue((tree / "info/last_cmd_status").read_text().startswith(cause))
 
 
 def umask():

@@ -1,4 +1,8 @@
-"""Records of mounts: made once, and gone on from."""
+"""Records of mounts: made once, and gone on from, also where the disk is full."""
+import errno
+import os
+import subprocess
+
 from resctrl_sim import NotMounted, mounted, play
 from mounts import MACHINE, TASKS, Mounts
 
@@ -15,6 +19,53 @@ class Records(Mounts):
             with mounted(MACHINE, TASKS, words=["--record", record]):
                 pass
         self.assertEqual(record.read_text(), before)
+
+    def test_force(self):
+        record = self.folder / "my.script"
+        record.write_text("machine ways=3\n# of yesterday\n")
+        with self.assertRaisesRegex(NotMounted, "--force goes with --record"), mounted(words=["--force"]):
+            pass
+        with mounted(MACHINE, words=["--force", "--record", record]) as tree:
+            (tree / "p0").mkdir()
+        self.assertEqual(record.read_text(), f"{MACHINE.line}\nphase\nthread\nmkdir /p0\n")
+        with self.assertRaisesRegex(NotMounted, "bad machine line"), mounted("ways=0", words=["--force", "--record", record]):
+            pass
+        self.assertIn("mkdir /p0", record.read_text())
+
+    def test_full_disk(self):
+        if os.geteuid() != 0:
+            self.skipTest("only root has a small disk")
+        # Two pages: one is for the record, which the tasks nearly fill, and one for another file.
+        subprocess.run(["mount", "-t", "tmpfs", "-o", "size=8k", "small", self.folder], check=True)
+        self.addCleanup(subprocess.run, ["umount", "--lazy", self.folder], check=True)
+        record, other = self.folder / "my.script", self.folder / "other"
+        other.write_text("another file\n")
+        tasks = " ".join(map(str, range(1000, 1800)))
+        with mounted(MACHINE, tasks, words=["--record", record]) as tree:
+            made = self.fill(tree)
+            self.assertFalse((tree / f"a{made}").exists())
+            self.errs(errno.ENOSPC, (tree / "schemata").read_text)
+            self.errs(errno.ENOSPC, (tree / ".sim/access").write_text, "tick\n")
+            self.assertEqual((tree / "info/last_cmd_status").read_text(), "not recorded, and so not done: No space left on device\n")
+            self.assertEqual(record.read_text(), (tree / ".sim/script").read_text())
+            self.assertEqual(self.ops(tree), [f"mkdir /a{number}" for number in range(made)])
+            other.unlink()
+            (tree / "after").mkdir()
+            self.assertEqual((tree / "info/last_cmd_status").read_text(), "ok\n")
+            self.assertEqual(self.ops(tree)[made:], ["mkdir /after"])
+            self.assertEqual(record.read_text(), (tree / ".sim/script").read_text())
+        groups = [group.path for group in play(record.read_text()).groups]
+        self.assertEqual(groups, ["/", *(f"/a{number}" for number in range(made)), "/after"])
+
+    def fill(self, tree):
+        """Makes groups until the disk is full, and gives how many there are."""
+        for number in range(10):
+            try:
+                (tree / f"a{number}").mkdir()
+            except OSError as why:
+                self.assertEqual(why.errno, errno.ENOSPC)
+                return number
+        return self.fail("the disk is never full")
 
     def test_resume(self):
         record = self.folder / "my.script"
@@ -37,7 +88,7 @@ class Records(Mounts):
     def test_what_cannot_be_resumed(self):
         script = self.folder / "none.script"
         script.write_text("machine colour=1\n")
-        for words, why in [(["--resume", script], "line 1: bad machine line"), (["--resume", self.folder / "no"], "No such file")]:
+        for words, why in [(["--resume", script], "none.script: line 1: bad machine line: there is no key `colour`"), (["--resume", self.folder / "no"], "No such file")]:
             with self.assertRaisesRegex(NotMounted, why), mounted(words=words):
                 pass
         with self.assertRaisesRegex(NotMounted, "--machine and --tasks do not go with --resume"), mounted(MACHINE, words=["--resume", script]):

@@ -7,7 +7,10 @@ import time
 
 from resctrl_sim import Program
 from resctrl_sim.mounting import PACKAGES, interpreter
+from resctrl_sim.names import tool_name
 from mounts import Mounts
+
+NAME = tool_name("mount")
 
 
 class Servers(Mounts):
@@ -20,7 +23,7 @@ class Servers(Mounts):
         said = subprocess.run(command(self.folder), env=environment(), capture_output=True, text=True, check=False)
         subprocess.run(["fusermount3", "-u", self.folder], check=True)
         self.assertEqual(said.returncode, 1)
-        self.assertEqual(said.stderr, f"mount: {self.folder} is what an ended mount has left: fusermount3 -u {self.folder}\n")
+        self.assertEqual(said.stderr, f"{NAME}: {self.folder} is what an ended mount has left: fusermount3 -u {self.folder}\n")
 
     def test_run(self):
         if os.geteuid() != 0:
@@ -30,15 +33,40 @@ class Servers(Mounts):
         done = subprocess.run([*run, script], env=environment(), capture_output=True, text=True, check=False)
         self.assertEqual((done.returncode, done.stdout), (7, "L3:0=f\n1\n1\n"))
         self.assertNotIn("resctrl_sim", Path("/proc/mounts").read_text())
+        shown = "grep -c ' - resctrl resctrl ' $0; exec grep -c '^resctrl /sys/fs/resctrl resctrl ' /proc/self/mounts"
+        done = subprocess.run([*run, shown, "/proc/self/mountinfo"], env=environment(), capture_output=True, text=True, check=False)
+        # The command itself sees it. Another process that it starts does not, unless it is one of those that are known to look there.
+        self.assertEqual(done.stdout, "0\n1\n")
         done = subprocess.run([*run, "kill -TERM $$"], env=environment(), capture_output=True, check=False)
         self.assertEqual(done.returncode, 128 + signal.SIGTERM)
         done = subprocess.run([*run[:-2], "no_such_command"], env=environment(), capture_output=True, text=True, check=False)
-        self.assertEqual((done.returncode, done.stderr), (127, "mount: no_such_command: No such file or directory\n"))
+        self.assertEqual((done.returncode, done.stderr), (127, f"{NAME}: no_such_command: No such file or directory\n"))
+
+    def says(self, *words):
+        """What a mount that fails says, and that it ends with status 1."""
+        done = subprocess.run(command(*words, self.folder), env=environment(), capture_output=True, text=True, check=False)
+        self.assertEqual(done.returncode, 1)
+        return done.stderr
+
+    def test_words_that_no_machine_has(self):
+        self.assertEqual(
+            self.says("--machine", "sets=3"),
+            f"{NAME}: --machine: bad machine line: sets 3 is not a power of two; the next powers of two are 2 and 4\n",
+        )
+        self.assertEqual(self.says("--tasks", "1-3,0"), f"{NAME}: --tasks: bad tasks line: there is no task 0; tasks are numbered from 1\n")
+
+    def test_other_programs(self):
+        for program, why in [
+            ("/bin/true", "/bin/true is not resctrl_sim: it does not play a script"),
+            ("/bin/false", "/bin/false is not resctrl_sim: /bin/false ended with status 1"),
+            ("/dev/null", "/dev/null is not a program; `make build` builds it"),
+        ]:
+            self.assertEqual(self.says("--program", program), f"{NAME}: {why}\n")
 
     def test_directory_with_something_in_it(self):
         (self.folder / "kept").touch()
         said = subprocess.run(command(self.folder), env=environment(), capture_output=True, text=True, check=False)
-        self.assertEqual((said.returncode, said.stderr), (1, f"mount: {self.folder} is not empty\n"))
+        self.assertEqual((said.returncode, said.stderr), (1, f"{NAME}: {self.folder} is not empty\n"))
 
 
 def command(*words):

@@ -1,18 +1,29 @@
 """The program and the checker, the plays of scripts by the one and the journals of the other."""
 import os
+import re
 import subprocess
 
 from . import programs
 from .report import Report
 
+PROBE = "machine sets=1 ways=1\nphase\nthread\nread /mode\n"
+PROBED = """0 0.0 read /mode: ok
+|shareable
+group 0 /: accesses 0 hits 0 misses 0
+domain 0: valid 0 of 1
+total: commands 1 refused 0 accesses 0 hits 0 misses 0
+"""
+
 
 class NoScript(ValueError):
     """The bytes are no script: the program's own line says why."""
 
+    LINE = re.compile(r"line (\d+): (.*)")
+
     def __init__(self, told):
         super().__init__(told)
-        where, _, self.what = told.partition(": ")
-        self.line = int(where.removeprefix("line "))
+        line, self.what = self.LINE.match(told).groups()
+        self.line = int(line)
 
 
 class Broken(RuntimeError):
@@ -32,9 +43,12 @@ class Built:
 
     def answer(self, text, *words, statuses=(0,)):
         """What is written for a text by these words. A NoScript tells why it is refused."""
-        done = subprocess.run([self.path, *words], input=text.encode("ascii"), stdout=subprocess.PIPE, check=False)
-        written = done.stdout.decode("ascii")
-        if done.returncode == 1:
+        try:
+            done = subprocess.run([self.path, *words], input=text.encode("ascii"), stdout=subprocess.PIPE, check=False)
+        except OSError as why:
+            raise Broken(f"{self.path} is not a program: {why.strerror}") from why
+        written = done.stdout.decode("ascii", "replace")
+        if done.returncode == 1 and NoScript.LINE.match(written):
             raise NoScript(written.rstrip("\n"))
         if done.returncode not in statuses:
             raise Broken(f"{self.path} ended with status {done.returncode}")
@@ -45,6 +59,15 @@ class Program(Built):
     """`resctrl_sim`; its variable is RESCTRL_SIM."""
 
     name, variable = "resctrl_sim", "RESCTRL_SIM"
+
+    def require(self):
+        """Raises Broken where the path leads to another program: the report of a script of one command has to be that of FORMAT.md."""
+        try:
+            is_other = self.play(PROBE) != PROBED
+        except (NoScript, Broken) as why:
+            raise Broken(f"{self.path} is not {self.name}: {why}") from why
+        if is_other:
+            raise Broken(f"{self.path} is not {self.name}: it does not play a script")
 
     def play(self, script, *words):
         """The report of a script, as text, by `step` or the words that are given."""

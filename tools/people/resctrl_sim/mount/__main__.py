@@ -2,21 +2,32 @@
 import os
 import sys
 
+from ..hints import because
 from ..program import Broken, NoScript, Program
 from . import record
-from .recording import Recording, head_of
-from .words import Stopped, check, say, words_of
+from .recording import Recording, head_of, script_of
+from .words import NAME, Stopped, check, machine_of, say, words_of
 
 
 def recording_of(given):
     """The recording that is asked for. What the program does not take as a script is told before anything is mounted."""
     program = Program(given.program and os.path.abspath(given.program))
+    program.require()
     name = given.record or given.resume
     file = record.Record(os.path.abspath(name)) if name else record.Unrecorded()
     head = record.lines_of(given.resume) if given.resume else head_of(given.machine, given.tasks)
-    recording = Recording(program, head, file)
-    (file.replace if given.resume else file.begin)(recording.script())
+    try:
+        recording = Recording(program, head, file)
+    except NoScript as why:
+        raise Stopped(": ".join([place_of(given, why.line), why.what, *because(script_of(head), why)])) from why
+    (file.replace if given.resume or given.force else file.begin)(recording.script())
     return recording
+
+
+def place_of(given, line):
+    """Where a line of the first script was told: in a file, or in an option."""
+    options = {1: "--machine", 2: "--tasks"}
+    return f"{given.resume}: line {line}" if given.resume else options.get(line, "--tasks")
 
 
 def serve(given):
@@ -57,9 +68,12 @@ def main(arguments=None):
     given = words_of(arguments)
     try:
         check(given)
+        given.machine = machine_of(given)
         return run(given) if given.run else serve(given)
-    except (Stopped, record.NoRecord, NoScript, Broken, UnicodeEncodeError, OSError) as why:
-        sys.exit(f"mount: {why}")
+    except OSError as why:
+        sys.exit(f"{NAME}: {': '.join(filter(None, [why.filename, why.strerror]))}")
+    except (Stopped, record.NoRecord, Broken, UnicodeEncodeError) as why:
+        sys.exit(f"{NAME}: {why}")
 
 
 if __name__ == "__main__":

@@ -4,8 +4,10 @@ import stat
 
 from fusepy import FuseOSError
 
-from ..program import Broken, Checker, NoScript
+from ..hints import because
+from ..program import Broken, Checker
 from .kinds import below
+from .texts import Refused
 
 FOLDER = "/.sim"
 SCRIPT = "/.sim/script"
@@ -44,19 +46,20 @@ def journal(recording):
         raise FuseOSError(errno.ENOSYS) from why
 
 
-def write(recording, data):
-    """Plays whole lines that were written to `.sim/access`, all of them or none. What stands after the last newline is given back."""
-    lines, newline, rest = data.rpartition(b"\n")
-    play(recording, lines)
-    return rest
-
-
-def play(recording, lines):
-    """Plays these lines, unless one is no line of such an op."""
+def ops_of(lines):
+    """The ops in lines for `.sim/access`. A Refused tells of the first that is none."""
     try:
         ops = [line for line in lines.decode("ascii").splitlines() if line.strip()]
-        if any(op.split()[0] not in WORDS for op in ops):
-            raise FuseOSError(errno.EINVAL)
-        recording.keep(ops)
-    except (NoScript, UnicodeDecodeError) as why:
-        raise FuseOSError(errno.EINVAL) from why
+    except UnicodeDecodeError as why:
+        raise Refused(errno.EINVAL, "a line has a byte that is not ASCII") from why
+    for op in ops:
+        if op.split()[0] not in WORDS:
+            raise Refused(errno.EINVAL, f"{op.split()[0]} is none of {', '.join(WORDS)}")
+    return ops
+
+
+def cause_of(recording, ops, why):
+    """Why the program does not take these ops: the one that is meant, and what is wrong with it."""
+    at = why.line - 1 - len(recording.script().splitlines())
+    told = ": ".join([why.what, *because(recording.script(ops), why)])
+    return f"{ops[at]}: {told}" if 0 <= at < len(ops) else told

@@ -11,8 +11,9 @@ from .attributes import Table
 from .kinds import MODES, NAME_BYTES, Kind, Kinds, is_name, is_path
 from .nothing import NotThere
 from .opens import Opens
+from .recording import Unrecordable
 from .strict import Strict
-from .words import say
+from .words import warn
 
 BLOCK_BYTES = 4096
 
@@ -34,8 +35,10 @@ class Files(Opens, NotThere, Operations):
         self.table = Table()
         self.handles = {}
         self.next_handle = 1
-        # Why the mount refused a text that no script can hold, until the next command that sets a status.
+        # Why the mount itself refused an operation, until the next command that sets a status.
         self.cause = None
+        # Whether it was said that nothing can be recorded now.
+        self.is_stuck = False
 
     def init(self, path):
         self.ready()
@@ -71,14 +74,23 @@ class Files(Opens, NotThere, Operations):
     # ---- commands
 
     def asked(self, question):
-        """What the program answers, unless the script has no room for more, or the program finds no memory."""
+        """What the program answers, unless the script or the record has no room for more, or the program finds no memory."""
+        count = self.recording.count
         try:
-            return question()
+            answer = question()
         except NoScript as why:
             raise FuseOSError(errno.EFBIG if why.what == "script too large" else errno.EINVAL) from why
         except Broken as why:
-            say(why)
+            warn(why)
             raise FuseOSError(errno.EIO) from why
+        except Unrecordable as why:
+            self.cause = f"not recorded, and so not done: {why.strerror}"
+            if not self.is_stuck:
+                warn(f"an operation was {self.cause}; others are refused too, until they can be recorded")
+            self.is_stuck = True
+            raise
+        self.is_stuck = self.is_stuck and self.recording.count == count
+        return answer
 
     def command(self, op, play=None):
         """The answer of an accepted command; a refusal's name is the error."""

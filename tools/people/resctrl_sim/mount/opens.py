@@ -4,6 +4,8 @@ import os
 
 from fusepy import FuseOSError, fuse_get_context
 
+from ..kernel_texts import Unread
+from ..program import NoScript
 from . import extras, texts
 from .kinds import Kind
 from .texts import Handle, Refused
@@ -63,9 +65,10 @@ class Opens:
     def text(self, path):
         if extras.is_extra(path):
             return extras.read(self.recording, path)
-        if path == LAST_STATUS and self.cause and not self.strict:
+        if path == LAST_STATUS and self.cause:
             return self.cause + "\n"
         text = self.command(f"read {path}").text
+        text = self.processes.shown(path, text) if self.processes else text
         return self.strict.shown(path, text) if self.strict else text
 
     def write(self, path, data, offset, fh):
@@ -76,7 +79,9 @@ class Opens:
         if offset != 0 and not goes_on:
             raise FuseOSError(errno.EINVAL)
         if extras.is_extra(path):
-            handle.written = extras.write(self.recording, handle.written + data)
+            lines, _, rest = (handle.written + data).rpartition(b"\n")
+            self.play_lines(lines)
+            handle.written = rest
         else:
             self.write_text(handle, path, data, goes_on and handle.is_cut)
         self.table.modify(path)
@@ -88,7 +93,24 @@ class Opens:
         handle = self.handles[fh]
         if path and extras.is_extra(path) and handle.written:
             handle.written, last = b"", handle.written
-            extras.play(self.recording, last)
+            self.play_lines(last)
+
+    def play_lines(self, lines):
+        """Plays whole lines that were written to `.sim/access`, all of them or none."""
+        try:
+            ops = extras.ops_of(lines)
+            self.asked(lambda: self.keep(ops))
+        except Refused as why:
+            self.cause = why.cause
+            raise
+
+    def keep(self, ops):
+        """Plays ops and keeps them. A Refused tells of what the program does not take."""
+        try:
+            self.recording.keep(ops)
+        except NoScript as why:
+            number = errno.EFBIG if why.what == "script too large" else errno.EINVAL
+            raise Refused(number, extras.cause_of(self.recording, ops, why)) from why
 
     def write_text(self, handle, path, data, is_rest):
         """Writes a text, or the rest of one, which takes its place if no other operation came between."""
@@ -98,27 +120,43 @@ class Opens:
         again = is_rest and handle.count == self.recording.count
         written = handle.written + data if again else data
         try:
-            op = texts.op_of(path, written)
+            texts.op_of(path, written)
+            text, ended = self.met(path, written, again)
+            if text or ended is None:
+                self.write_op(handle, texts.op_of(path, text), written, again)
+            if ended is not None:
+                raise Refused(errno.ESRCH, f"no task {ended}")
         except Refused as why:
             self.cause = why.cause or self.cause
             raise
-        if self.processes:
-            self.processes.declare(path, written)
-        handle.written = written
+
+    def write_op(self, handle, op, written, again):
+        """Does the command of a write. The handle has what was written once it is kept, accepted or refused."""
+        before = self.recording.count
         try:
             self.command(op, self.recording.do_again if again else self.recording.do)
         finally:
-            handle.count = self.recording.count
+            if self.recording.count != before:
+                handle.written, handle.count = written, self.recording.count
+
+    def met(self, path, text, again=False):
+        """What a write moves before it meets a process that has ended, and the id of that, or None. Processes are declared."""
+        if not self.processes:
+            return text, None
+        self.asked(lambda: self.processes.meet(path, text, again))
+        ended = self.processes.first_ended(path, text)
+        return (text, None) if ended is None else (text[: ended.start()].rstrip(b", \t"), int(ended[0]))
 
     def write_strictly(self, handle, path, data, is_rest):
         """Writes a text as a kernel reads it, who takes the rest of one for a text of its own."""
-        handle.written = data
+        handle.written, self.cause = data, None
         texts.require_whole(path, data, is_rest)
         writer = fuse_get_context()[2]
         text, fault = self.strict.text(path, data, writer)
-        if self.processes:
-            self.processes.declare(path, text.encode("ascii"))
+        text, ended = self.met(path, text.encode("ascii"))
+        if ended is not None:
+            fault = Unread(errno.ESRCH, f"No task {ended}\nError while processing task {ended}\n")
         if text or not fault:
-            self.command(texts.op_of(path, text.encode("ascii")))
+            self.command(texts.op_of(path, text))
         if fault:
             self.strict.refuse(path, fault)

@@ -1,4 +1,6 @@
 """The file that records the script of a mount."""
+from contextlib import suppress
+import errno
 import os
 
 
@@ -7,33 +9,68 @@ class NoRecord(Exception):
 
 
 class Record:
-    """A file that always holds the script so far. An op that comes is one write at its end; all else is written whole."""
+    """A file that always holds the script so far, in whole lines. Ops that come are written at its end; all else is written whole.
+
+    An OSError of `add` or `replace` says that nothing was recorded: the file holds what it held before.
+    """
 
     def __init__(self, path):
         self.path = path
         self.file = None
+        # How many bytes are recorded, and whether the file may have more than these, of a write that failed halfway.
+        self.size = 0
+        self.is_torn = False
 
     def begin(self, script):
         """Makes the file, which was not there."""
         try:
             self.file = open(self.path, "xb", buffering=0)
         except FileExistsError as why:
-            raise NoRecord(f"{self.path} is there already; --resume {self.path} goes on from it") from why
-        self.file.write(script.encode("ascii"))
+            raise NoRecord(f"{self.path} is there already; --resume {self.path} goes on from it, --force makes it anew") from why
+        try:
+            self.append(script.encode("ascii"))
+        except OSError:
+            os.unlink(self.path)
+            raise
 
     def add(self, ops):
-        """Writes ops at the end."""
-        self.file.write("".join(op + "\n" for op in ops).encode("ascii"))
+        """Writes ops at the end, all of them or none."""
+        self.append("".join(op + "\n" for op in ops).encode("ascii"))
+
+    def append(self, data):
+        """Writes bytes at the end. What a write left that failed halfway is cut off: at once, or else before the next write."""
+        if self.is_torn:
+            self.cut()
+        try:
+            write_all(self.file, data)
+        except OSError:
+            self.is_torn = True
+            with suppress(OSError):
+                self.cut()
+            raise
+        self.size += len(data)
+
+    def cut(self):
+        """Cuts the file back to what is recorded."""
+        self.file.truncate(self.size)
+        self.file.seek(self.size)
+        self.is_torn = False
 
     def replace(self, script):
         """Writes the whole script: under another name first, so that the file is never without one."""
-        beside = self.path + ".new"
-        with open(beside, "wb") as file:
-            file.write(script.encode("ascii"))
-        os.replace(beside, self.path)
+        beside, data = self.path + ".new", script.encode("ascii")
+        file = open(beside, "wb", buffering=0)
+        try:
+            write_all(file, data)
+            os.replace(beside, self.path)
+        except OSError:
+            file.close()
+            with suppress(OSError):
+                os.unlink(beside)
+            raise
         if self.file:
             self.file.close()
-        self.file = open(self.path, "ab", buffering=0)
+        self.file, self.size, self.is_torn = file, len(data), False
 
 
 class Unrecorded:
@@ -47,6 +84,15 @@ class Unrecorded:
 
     def replace(self, script):
         pass
+
+
+def write_all(file, data):
+    """Writes all of these bytes to an unbuffered file, which may take fewer at a time."""
+    while data:
+        count = file.write(data)
+        if not count:
+            raise OSError(errno.EIO, os.strerror(errno.EIO))
+        data = data[count:]
 
 
 def lines_of(path):

@@ -2,10 +2,19 @@
 from .answers import last_answers
 
 
+class Unrecordable(OSError):
+    """What a client does cannot be recorded, so it is not done."""
+
+
 def head_of(machine, tasks):
     """The lines of a script before its first op."""
     declared = [f"tasks {tasks}"] if tasks else []
     return [f"machine {machine}".rstrip(), *declared, "phase", "thread"]
+
+
+def script_of(lines):
+    """The text of a script's lines."""
+    return "\n".join(lines) + "\n"
 
 
 class Recording:
@@ -22,18 +31,19 @@ class Recording:
 
     def script(self, more=()):
         """The script so far, with more ops at its end."""
-        return "\n".join([*self.head, *self.ops, *more]) + "\n"
+        return script_of([*self.head, *self.ops, *more])
 
     def ask(self, *ops):
         """What these commands would answer now. None of them is kept."""
         return last_answers(self.program.play(self.script(ops)), len(ops))
 
     def keep(self, ops):
-        """Plays these ops and keeps them, unless the program says that they make no script."""
-        self.report = self.program.play(self.script(ops))
+        """Plays these ops and keeps them, unless the program says that they make no script, or they cannot be recorded."""
+        report = self.program.play(self.script(ops))
+        self.record_by(self.record.add, ops)
+        self.report = report
         self.ops += ops
         self.count += 1
-        self.record.add(ops)
 
     def do(self, op):
         """The answer of a command that is kept."""
@@ -42,23 +52,28 @@ class Recording:
 
     def do_again(self, op):
         """The answer of a command that takes the place of the last one."""
-        before = self.ops.pop()
-        try:
-            self.report = self.program.play(self.script([op]))
-        except Exception:
-            self.ops.append(before)
-            raise
-        self.ops.append(op)
+        script = script_of([*self.head, *self.ops[:-1], op])
+        report = self.program.play(script)
+        self.record_by(self.record.replace, script)
+        self.report = report
+        self.ops[-1] = op
         self.count += 1
-        self.record.replace(self.script())
         return last_answers(self.report, 1)[0]
 
     def declare(self, tasks):
         """Declares more tasks, as if they had been declared before the first command."""
         if tasks:
             at = next(at for at, line in enumerate(self.head) if line.split()[:1] == ["phase"])
-            self.head.insert(at, f"tasks {' '.join(map(str, tasks))}")
-            self.record.replace(self.script())
+            head = [*self.head[:at], f"tasks {' '.join(map(str, tasks))}", *self.head[at:]]
+            self.record_by(self.record.replace, script_of([*head, *self.ops]))
+            self.head = head
+
+    def record_by(self, write, what):
+        """Records, or raises Unrecordable: then nothing of it is recorded, and nothing may be kept."""
+        try:
+            write(what)
+        except OSError as why:
+            raise Unrecordable(why.errno, why.strerror) from why
 
     def declared(self):
         """The tasks that are declared, as pairs of a first and a last id."""
