@@ -1,5 +1,4 @@
 """A command in a mount namespace of its own, where the tree stands as on a machine that has resctrl."""
-import ctypes
 import os
 from pathlib import Path
 import signal
@@ -7,16 +6,15 @@ import subprocess
 import tempfile
 
 from ..mounting import NotMounted, mounted
-from .words import Stopped, say
+from . import mountinfo
+from .covering import cover, enter_namespace, file_of, lines_of, mount
+from .words import NAME, Stopped, warn
 
 TREE = "/sys/fs/resctrl"
 # What tools look for on a machine with cache allocation and cache monitoring.
 FLAGS = ("rdt_a", "cat_l3", "cqm", "cqm_llc", "cqm_occup_llc")
 KIND = "nodev\tresctrl"
 
-LIBC = ctypes.CDLL(None, use_errno=True)
-NEW_MOUNTS = 0x20000
-BIND = 0x1000
 CANNOT_START = 127
 
 
@@ -27,32 +25,22 @@ def run_within(given):
     enter_namespace()
     try:
         with tempfile.TemporaryDirectory() as folder, mounted(given.machine, given.tasks, words=words_of_server(given)) as tree:
+            kept = []
             try:
                 place(Path(folder), tree)
-                return run(given.run)
+                kept = [mountinfo.cover_program(Path(folder), program) for program in mountinfo.READERS]
+                return run(given.run, Path(folder))
             finally:
-                subprocess.run(["umount", "--lazy", TREE], stderr=subprocess.DEVNULL, check=False)
+                for path in filter(None, [TREE, *kept]):
+                    subprocess.run(["umount", "--lazy", path], stderr=subprocess.DEVNULL, check=False)
     except NotMounted as why:
-        raise Stopped(str(why).removeprefix("mount: ")) from why
+        raise Stopped(str(why).removeprefix(f"{NAME}: ")) from why
 
 
 def words_of_server(given):
     """What the server is told besides machine and tasks."""
     words = [word for name in ("program", "record", "resume") if (value := getattr(given, name)) for word in (f"--{name}", value)]
-    return words + [f"--{name}" for name in ("pids", "strict") if getattr(given, name)]
-
-
-def enter_namespace():
-    """What is mounted from here on is seen by this process and by those that it starts, and is gone with them."""
-    if LIBC.unshare(NEW_MOUNTS) != 0:
-        raise Stopped("a mount namespace of its own is refused here")
-    mount("--make-rprivate", "/")
-
-
-def mount(*words, command="mount"):
-    done = subprocess.run([command, *map(str, words)], stderr=subprocess.PIPE, text=True, check=False)
-    if done.returncode != 0:
-        raise Stopped(done.stderr.strip())
+    return words + [f"--{name}" for name in ("force", "pids", "strict") if getattr(given, name)]
 
 
 def place(folder, tree):
@@ -62,15 +50,15 @@ def place(folder, tree):
         make_room(folder)
     mount("--bind", tree, TREE)
     others = [line for line in mounts if line.split()[1] not in (TREE, str(tree))]
-    cover(folder, "mounts", [*others, f"resctrl {TREE} resctrl rw,relatime 0 0"])
     kinds = [line for line in lines_of("filesystems") if line != KIND]
-    cover(folder, "filesystems", [*kinds, KIND])
-    cover(folder, "cpuinfo", [with_flags(line) if line.startswith("flags") else line for line in lines_of("cpuinfo")])
-
-
-def lines_of(name):
-    """The lines of a file of /proc."""
-    return Path("/proc", name).read_text().splitlines()
+    shown = {
+        "mounts": [*others, f"resctrl {TREE} resctrl rw,relatime 0 0"],
+        "filesystems": [*kinds, KIND],
+        "cpuinfo": [with_flags(line) if line.startswith("flags") else line for line in lines_of("cpuinfo")],
+    }
+    for name, lines in shown.items():
+        cover(file_of(folder / name, lines), name)
+    mountinfo.prepare(folder, TREE)
 
 
 def with_flags(line):
@@ -91,23 +79,12 @@ def make_room(folder):
     os.mkdir(TREE)
 
 
-def cover(folder, name, lines):
-    """Shows these lines in place of a file of /proc. `mounts` is a link there, and is covered itself and not what it leads to."""
-    file = folder / name
-    file.write_text("".join(line + "\n" for line in lines))
-    link = os.open(f"/proc/{name}", os.O_PATH | os.O_NOFOLLOW)
-    # The command `mount` would follow the link.
-    if LIBC.mount(os.fsencode(file), f"/proc/self/fd/{link}".encode(), None, BIND, None) != 0:
-        raise Stopped(f"/proc/{name} cannot be covered: {os.strerror(ctypes.get_errno())}")
-    os.close(link)
-
-
-def run(command):
+def run(command, folder):
     """The status of a command, and that of a shell where it cannot be started. What is sent to end it, it gets."""
     try:
-        child = subprocess.Popen(command)
+        child = subprocess.Popen(command, preexec_fn=lambda: mountinfo.cover_own(folder))
     except OSError as why:
-        say(f"mount: {command[0]}: {why.strerror}")
+        warn(f"{command[0]}: {why.strerror}")
         return CANNOT_START
     signal.signal(signal.SIGINT, lambda *_: None)
     signal.signal(signal.SIGTERM, lambda *_: child.terminate())
