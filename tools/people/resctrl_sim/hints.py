@@ -1,15 +1,8 @@
-"""Why a script is refused, in the words of tools/explain, whose package stands beside this one."""
-import os
-import sys
-
-PACKAGES = os.path.dirname(os.path.dirname(os.path.realpath(__file__)))
+"""Why a script is refused, in the words of `explain`, whose package stands beside this one."""
 
 
 def reader():
-    """What reads a script as tools/explain does, or None where its package is not here."""
-    for folder in (PACKAGES, os.path.dirname(PACKAGES)):
-        if os.path.exists(os.path.join(folder, "explained", "reader.py")) and folder not in sys.path:
-            sys.path.append(folder)
+    """What reads a script as `explain` does, or None where its package is not here."""
     try:
         from explained.reader import read_script
     except ImportError:
