@@ -54,6 +54,10 @@ class Records(Mounts):
             self.assertEqual((tree / "info/last_cmd_status").read_text(), "ok\n")
             self.assertEqual(self.ops(tree)[made:], ["mkdir /after"])
             self.assertEqual(record.read_text(), (tree / ".sim/script").read_text())
+        # The disk is full again, by the record's own second page: there is no room for one to go on from.
+        with self.assertRaisesRegex(NotMounted, f"{record}: No space left on device"), mounted(words=["--resume", record]):
+            pass
+        self.assertEqual(sorted(os.listdir(self.folder)), ["my.script"])
         groups = [group.path for group in play(record.read_text()).groups]
         self.assertEqual(groups, ["/", *(f"/a{number}" for number in range(made)), "/after"])
 
@@ -88,7 +92,7 @@ class Records(Mounts):
     def test_what_cannot_be_resumed(self):
         script = self.folder / "none.script"
         script.write_text("machine colour=1\n")
-        for words, why in [(["--resume", script], "none.script: line 1: bad machine line: there is no key `colour`"), (["--resume", self.folder / "no"], "No such file")]:
+        for words, why in [(["--resume", script], "none.script: line 1: bad machine line: there is no key `colour`"), (["--resume", self.folder / "no"], f"{self.folder / 'no'}: No such file or directory")]:
             with self.assertRaisesRegex(NotMounted, why), mounted(words=words):
                 pass
         with self.assertRaisesRegex(NotMounted, "--machine and --tasks do not go with --resume"), mounted(MACHINE, words=["--resume", script]):

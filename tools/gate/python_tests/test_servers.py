@@ -28,11 +28,12 @@ class Servers(Mounts):
     def test_run(self):
         if os.geteuid() != 0:
             self.skipTest("only root has a mount namespace")
+        before = mounts_at_the_tree()
         script = "cat /sys/fs/resctrl/schemata; grep -c ' /sys/fs/resctrl resctrl ' /proc/mounts; grep -c resctrl /proc/filesystems; exit 7"
         run = [*command("--machine", "ways=4", "--run"), "sh", "-c"]
         done = subprocess.run([*run, script], env=environment(), capture_output=True, text=True, check=False)
         self.assertEqual((done.returncode, done.stdout), (7, "L3:0=f\n1\n1\n"))
-        self.assertNotIn("resctrl_sim", Path("/proc/mounts").read_text())
+        self.assertEqual(mounts_at_the_tree(), before)
         shown = "grep -c ' - resctrl resctrl ' $0; exec grep -c '^resctrl /sys/fs/resctrl resctrl ' /proc/self/mounts"
         done = subprocess.run([*run, shown, "/proc/self/mountinfo"], env=environment(), capture_output=True, text=True, check=False)
         # The command itself sees it. Another process that it starts does not, unless it is one of those that are known to look there.
@@ -41,6 +42,18 @@ class Servers(Mounts):
         self.assertEqual(done.returncode, 128 + signal.SIGTERM)
         done = subprocess.run([*run[:-2], "no_such_command"], env=environment(), capture_output=True, text=True, check=False)
         self.assertEqual((done.returncode, done.stderr), (127, f"{NAME}: no_such_command: No such file or directory\n"))
+
+    def test_a_program_that_looks_into_its_own_mountinfo(self):
+        if os.geteuid() != 0:
+            self.skipTest("only root has a mount namespace")
+        reader = self.folder / "runc"
+        reader.write_text("#!/usr/bin/python3\nprint(*(line for line in open('/proc/self/mountinfo') if ' /sys/fs/resctrl ' in line))\n")
+        reader.chmod(0o755)
+        path = environment() | {"PATH": f"{self.folder}:{os.environ['PATH']}"}
+        run = command("--machine", "ways=4", "--run", "sh", "-c", "runc; cat $(command -v runc) | head -n 1")
+        done = subprocess.run(run, env=path, capture_output=True, text=True, check=False)
+        self.assertRegex(done.stdout, r"^\d+ \d+ \d+:\d+ / /sys/fs/resctrl .* - resctrl resctrl rw\n\n#!/bin/sh\n$")
+        self.assertTrue(reader.read_text().startswith("#!/usr/bin/python3\n"))
 
     def says(self, *words):
         """What a mount that fails says, and that it ends with status 1."""
@@ -67,6 +80,11 @@ class Servers(Mounts):
         (self.folder / "kept").touch()
         said = subprocess.run(command(self.folder), env=environment(), capture_output=True, text=True, check=False)
         self.assertEqual((said.returncode, said.stderr), (1, f"{NAME}: {self.folder} is not empty\n"))
+
+
+def mounts_at_the_tree():
+    """What is mounted where a kernel has its tree, or around it."""
+    return [line for line in Path("/proc/mounts").read_text().splitlines() if line.split()[1].startswith("/sys/fs")]
 
 
 def command(*words):

@@ -69,6 +69,19 @@ class Tasks(Mounts):
             self.assertIn(f"\ntasks {process.pid}\nphase\n", script)
             self.assertEqual(play(script).refused[0].reason, f"no task {2**22 + 1}")
 
+    def test_a_process_that_has_ended(self):
+        with mounted(MACHINE, TASKS, words=["--pids", "--strict"]) as tree, subprocess.Popen(["sleep", "60"]) as process:
+            (tree / "p0").mkdir()
+            write(tree / "p0/tasks", f"{process.pid}\n")
+            self.errs(errno.EINVAL, write, tree / "p0/mode", "pseudo-locksetup\n")
+            process.kill()
+            process.wait()
+            self.errs(errno.ESRCH, write, tree / "p0/tasks", f"{process.pid}\n")
+            status = f"No task {process.pid}\nError while processing task {process.pid}\n"
+            self.assertEqual((tree / "info/last_cmd_status").read_text(), status)
+            write(tree / "p0/mode", "pseudo-locksetup\n")
+            self.assertEqual(self.ops(tree)[-2:], [f"write /tasks {process.pid}", "write /p0/mode pseudo-locksetup"])
+
     def test_processes_are_no_tasks_unasked(self):
         record = self.folder / "my.script"
         with mounted(MACHINE, TASKS, words=["--record", record]) as tree:

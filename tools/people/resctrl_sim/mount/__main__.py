@@ -20,7 +20,10 @@ def recording_of(given):
         recording = Recording(program, head, file)
     except NoScript as why:
         raise Stopped(": ".join([place_of(given, why.line), why.what, *because(script_of(head), why)])) from why
-    (file.replace if given.resume or given.force else file.begin)(recording.script())
+    try:
+        (file.replace if given.resume or given.force else file.begin)(recording.script())
+    except OSError as why:
+        raise Stopped(f"{name}: {why.strerror}") from why
     return recording
 
 
@@ -71,8 +74,10 @@ def main(arguments=None):
         given.machine = machine_of(given)
         return run(given) if given.run else serve(given)
     except OSError as why:
-        sys.exit(f"{NAME}: {': '.join(filter(None, [why.filename, why.strerror]))}")
-    except (Stopped, record.NoRecord, Broken, UnicodeEncodeError) as why:
+        sys.exit(f"{NAME}: {why.filename or 'mount'}: {why.strerror}")
+    except UnicodeEncodeError as why:
+        sys.exit(f"{NAME}: {why.object[why.start]!r} is not ASCII, as a script has to be")
+    except (Stopped, record.NoRecord, Broken) as why:
         sys.exit(f"{NAME}: {why}")
 
 

@@ -100,7 +100,9 @@ def lines_of(path):
     try:
         with open(path, encoding="ascii") as file:
             lines = file.read().splitlines()
-    except (OSError, UnicodeDecodeError) as why:
-        raise NoRecord(why) from why
+    except OSError as why:
+        raise NoRecord(f"{path}: {why.strerror}") from why
+    except UnicodeDecodeError as why:
+        raise NoRecord(f"{path} is not ASCII, as a script has to be") from why
     opened = [word for line in lines for word in line.split()[:1] if word in ("phase", "thread")]
     return lines if opened == ["phase", "thread"] else [*lines, "phase", "thread"]
