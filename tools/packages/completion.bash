@@ -8,7 +8,7 @@ _bikhnoun_flags() {
         play | run) echo "--help --version --journal --json --windows --quiet" ;;
         cdp | levels) echo "--help --version --quiet" ;;
         explain) echo "--help --version --program" ;;
-        mount) echo "--help --version --machine --tasks --pids --strict --program --record --resume --run" ;;
+        mount) echo "--help --version --machine --tasks --pids --strict --program --record --force --resume --run" ;;
         traces) echo "--help --version --machine --tasks --head --l1 --l2 --ratio --rest --code --most" ;;
         ways) echo "--help --version --program --lowest --curve --scheduler" ;;
         timeline) echo "--help --version --program --domain --rows --svg" ;;

@@ -8,7 +8,7 @@ import tempfile
 from ..mounting import NotMounted, mounted
 from . import mountinfo
 from .covering import cover, enter_namespace, file_of, lines_of, mount
-from .words import NAME, Stopped, warn
+from .words import SERVER, Stopped, warn
 
 TREE = "/sys/fs/resctrl"
 # What tools look for on a machine with cache allocation and cache monitoring.
@@ -34,7 +34,8 @@ def run_within(given):
                 for path in filter(None, [TREE, *kept]):
                     subprocess.run(["umount", "--lazy", path], stderr=subprocess.DEVNULL, check=False)
     except NotMounted as why:
-        raise Stopped(str(why).removeprefix(f"{NAME}: ")) from why
+        # The server names itself, which may be another name than this one was called by.
+        raise Stopped(str(why).removeprefix(f"{SERVER}: ")) from why
 
 
 def words_of_server(given):

@@ -15,6 +15,8 @@ EXAMPLE = """examples:
   sudo %(prog)s --run pqos -I -s"""
 
 NAME = tool_name("mount")
+# A server that another process starts is called by no other name.
+SERVER = "bikhnoun mount"
 
 
 class Stopped(Exception):
