@@ -6,11 +6,13 @@ import subprocess
 import time
 
 from resctrl_sim import Program
+from resctrl_sim.host import Host, machine_keys
 from resctrl_sim.mounting import PACKAGES, interpreter
 from resctrl_sim.names import tool_name
 from mounts import Mounts
 
 NAME = tool_name("mount")
+LONGEST_SECONDS = 60
 
 
 class Servers(Mounts):
@@ -43,6 +45,16 @@ class Servers(Mounts):
         done = subprocess.run([*run[:-2], "no_such_command"], env=environment(), capture_output=True, text=True, check=False)
         self.assertEqual((done.returncode, done.stderr), (127, f"{NAME}: no_such_command: No such file or directory\n"))
 
+    def test_machine_of_this_host(self):
+        if os.geteuid() != 0:
+            self.skipTest("only root has a mount namespace")
+        for words, asked in [((), "host"), (("--machine", "host ways=4"), "host ways=4"), (("--machine", ""), None)]:
+            run = command(*words, "--run", "head", "-n", "1", "/sys/fs/resctrl/.sim/script")
+            done = subprocess.run(run, env=environment(), capture_output=True, text=True, check=False)
+            keys = machine_keys(asked, Host.read())[0] if asked else ""
+            self.assertEqual(done.stdout, f"machine {keys}".rstrip() + "\n")
+            self.assertEqual(done.stderr.startswith(f"{NAME}: the machine is this host's: {keys}"), bool(asked))
+
     def test_a_program_that_looks_into_its_own_mountinfo(self):
         if os.geteuid() != 0:
             self.skipTest("only root has a mount namespace")
@@ -57,7 +69,8 @@ class Servers(Mounts):
 
     def says(self, *words):
         """What a mount that fails says, and that it ends with status 1."""
-        done = subprocess.run(command(*words, self.folder), env=environment(), capture_output=True, text=True, check=False)
+        run = command(*words, self.folder)
+        done = subprocess.run(run, env=environment(), capture_output=True, text=True, check=False, timeout=LONGEST_SECONDS)
         self.assertEqual(done.returncode, 1)
         return done.stderr
 
