@@ -92,7 +92,10 @@ class Records(Mounts):
     def test_what_cannot_be_resumed(self):
         script = self.folder / "none.script"
         script.write_text("machine colour=1\n")
-        for words, why in [(["--resume", script], "none.script: line 1: bad machine line: there is no key `colour`"), (["--resume", self.folder / "no"], f"{self.folder / 'no'}: No such file or directory")]:
+        for words, why in [
+            (["--resume", script], "none.script: line 1: bad machine line: there is no key `colour`"),
+            (["--resume", self.folder / "no"], f"{self.folder / 'no'}: No such file or directory"),
+        ]:
             with self.assertRaisesRegex(NotMounted, why), mounted(words=words):
                 pass
         with self.assertRaisesRegex(NotMounted, "--machine and --tasks do not go with --resume"), mounted(MACHINE, words=["--resume", script]):

@@ -32,7 +32,7 @@ def words_of(arguments):
         formatter_class=argparse.RawDescriptionHelpFormatter,
     )
     parser.add_argument("directory", metavar="DIR", nargs="?", help="an empty directory, where the tree is shown")
-    parser.add_argument("--machine", metavar="KEYS", help="the keys of the machine line; `host` is for those of this host, which --run has by default")
+    parser.add_argument("--machine", metavar="KEYS", help="the keys of the machine line; `host` is for this host's, --run's default")
     parser.add_argument("--tasks", default="", metavar="IDS", help="the tasks that are declared, as 1-8, 1000-1999 or 3,5")
     parser.add_argument("--pids", action="store_true", help="processes of this machine are declared as they are written to `tasks`")
     parser.add_argument("--strict", action="store_true", help="answer as a kernel where the simulator does not; docs/MOUNT.md says where")
