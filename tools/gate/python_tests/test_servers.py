@@ -85,7 +85,7 @@ class Servers(Mounts):
         for program, why in [
             ("/bin/true", "/bin/true is not resctrl_sim: it does not play a script"),
             ("/bin/false", "/bin/false is not resctrl_sim: /bin/false ended with status 1"),
-            ("/dev/null", "/dev/null is not a program; `make build` builds it"),
+            ("/dev/null", "/dev/null is not a program; `make demo` builds it"),
         ]:
             self.assertEqual(self.says("--program", program), f"{NAME}: {why}\n")
 
