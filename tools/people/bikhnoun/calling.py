@@ -10,6 +10,7 @@ from resctrl_sim import programs
 
 from .progress import Progress
 from .telling import Stopped, hint
+from .workers import started
 
 # A message of an invalid input is one short line: of that much output nothing is passed on until the exit status is known.
 MESSAGE = 4096
@@ -116,15 +117,12 @@ def call(name, words, source, *, doing, pace=None, after=""):
     signal.signal(signal.SIGTERM, terminated)
     progress = Progress(doing)
     try:
-        worker = subprocess.Popen([path, *words], stdin=file, stdout=subprocess.PIPE)
-    except OSError as why:
+        with started([path, *words], stdin=file, stdout=subprocess.PIPE) as worker:
+            status, message = pass_on(worker, file, pace, progress)
+    except PermissionError as why:
         raise Stopped(f"{path}: {why.strerror}", programs.UNREAD) from None
-    try:
-        status, message = pass_on(worker, file, pace, progress)
     finally:
         progress.end()
-        worker.kill()
-        worker.wait()
     if message:
         shown = "standard input" if source == "-" else source
         raise Stopped(f"{shown}: {message}{after.format(source)}" if status == programs.INVALID else message, status)

@@ -2,6 +2,7 @@
 import subprocess
 
 from .progress import Progress
+from .workers import started
 
 WAIT = 0.5
 
@@ -9,18 +10,16 @@ WAIT = 0.5
 def played(command, data, doing="playing"):
     """What a command wrote for these bytes, and its exit status: as `subprocess.run` gives them."""
     progress = Progress(doing)
-    worker = subprocess.Popen(command, stdin=subprocess.PIPE, stdout=subprocess.PIPE)
     try:
-        given = data
-        while True:
-            try:
-                written, _ = worker.communicate(given, timeout=WAIT)
-                return subprocess.CompletedProcess(command, worker.returncode, written)
-            except subprocess.TimeoutExpired:
-                # What was given goes on being written.
-                given = None
-                progress.show()
+        with started(command, stdin=subprocess.PIPE, stdout=subprocess.PIPE) as worker:
+            given = data
+            while True:
+                try:
+                    written, _ = worker.communicate(given, timeout=WAIT)
+                    return subprocess.CompletedProcess(command, worker.returncode, written)
+                except subprocess.TimeoutExpired:
+                    # What was given goes on being written.
+                    given = None
+                    progress.show()
     finally:
         progress.end()
-        worker.kill()
-        worker.wait()
