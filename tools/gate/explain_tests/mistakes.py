@@ -30,6 +30,7 @@ REFUSED = (
     ("machine sets=4, ways=4\n", 1, 14, "bad machine line", "separated by blanks"),
     ("machine sets=4 # small\n", 1, 16, "bad machine line", "a # after words does not begin a comment"),
     ("machine caches=2\n", 1, 9, "bad machine line", "the key is domains"),
+    ("machine size=32M\n", 1, 9, "bad machine line", "sets times ways times 64 bytes: 32M is sets=32768 ways=16"),
     ("machine sets=4 sets=8\n", 1, 16, "bad machine line", "given twice"),
     ("machine sets=0x40\n", 1, 14, "bad machine line", "this number is decimal: 64"),
     ("machine sets=64K\n", 1, 14, "bad machine line", "65536"),
@@ -62,6 +63,7 @@ REFUSED = (
     (HEAD + "sweep 1 0 0 0 64\n", 5, 13, "bad argument", "one or more"),
     (HEAD + "sweep 1 0 0xffffffffffc0 2 64\n", 5, 11, "bad argument", "not below 2^48"),
     (HEAD + "flush 1\n", 5, 7, "bad argument", "from 0 to 0"),
+    (HEAD + "flush all\n", 5, 7, "bad argument", "`flush` alone empties all caches"),
     (HEAD + "flush 0x40\n", 5, 7, "bad argument", "clflush 0x40"),
     (HEAD + "clflush\n", 5, 8, "bad argument", "ADDR is missing"),
     (HEAD + "mkdir -p /a\n", 5, 10, "bad argument", "there are no options"),
@@ -81,6 +83,8 @@ REFUSED = (
     (HEAD + "write /tasks " + "1" * 4097 + "\n", 5, 14, "script too large", "4097 bytes"),
 )
 
+TWO = "machine sets=4 ways=8 domains=2 cpus=4\ntasks 1-2\nphase\nthread\nmkdir /p0\n"
+APART = "mkdir /p1\nwrite /p0/schemata L3:0=f\nwrite /p0/tasks 1\nwrite /p1/tasks 2\nwrite /p1/schemata L3:0=f0\naccess 1 0 0\naccess 2 0 64\n"
 TENANT = "mkdir /t\nwrite /t/schemata L3:0=3\nwrite /schemata L3:0=c\nwrite /t/mode exclusive\nwrite /t/tasks 1\n"
 
 # Lawful scripts with a mistake: the line that is meant, and a piece of the remark.
@@ -96,6 +100,24 @@ LAWFUL = (
     (HEAD + TENANT + "access 1 0 0\n", 8, "a flush after it"),
     (HEAD + TENANT + "flush\naccess 1 0 64\naccess 2 0 64\naccess 1 0 64\n", 11, "used in line 12 too"),
     (HEAD + TENANT.replace("write /t/tasks 1\n", "") + "access 1 0 0\n", 5, "no access of the script is its"),
+    (TWO + "write /p0/shemata L3:0=f\n", 6, "the name is `schemata`: /p0/schemata"),
+    (TWO + "write /po/schemata L3:0=f\n", 6, "before its files are there"),
+    (TWO + "read /info/L3/cbm_masks\n", 6, "the name is `cbm_mask`: /info/L3/cbm_mask"),
+    (TWO + "write /p0/schemata L3:0=f;L3:1=f\n", 6, "named once in a line: L3:0=f;1=f"),
+    (TWO + "write /p0/schemata L3:2=f\n", 6, "numbered from 0 to 1"),
+    (TWO + "write /p0/mode Exclusive\n", 6, "the mode is `exclusive`, in small letters"),
+    (TWO + "write /p0/mode exlusive\n", 6, "the mode is `exclusive`, a mode is one of"),
+    (TWO + "write /p0/mode pseudo-locked\n", 6, "write pseudo-locksetup, and then the schemata"),
+    (TWO + "write /p0/tasks 1 2\n", 6, "numbers are separated by commas: 1,2"),
+    (TWO + "write /p0/cpus 0-3\n", 6, "a list belongs in cpus_list; as a mask it is f"),
+    (TWO + "write /p0/cpus_list f\n", 6, "a mask belongs in cpus"),
+    (TWO + "write /p0/schemata L3:0=f L3:1=f\n", 6, "separated by a semicolon: L3:0=f;1=f"),
+    (TWO + "write /p0/schemata L3:0=1ff\n", 6, "all 8 ways are ff"),
+    (TWO + "write /p0/schemata L3:0=0\n", 6, "one way at least"),
+    (TWO + "write /p0/schemata L3:0=5\n", 6, "unless the machine line has sparse=1"),
+    (TWO + "write /p0/schemata L2:0=f\n", 6, "the resource is L3"),
+    (TWO + "write /p0/schemata L3:f\n", 6, "an entry is DOMAIN=MASK"),
+    (TWO + APART, 10, "/p0 and /p1 have no way in common, but neither is exclusive"),
     ("machine\nphase\n", 2, "without a thread"),
     ("machine\ntasks 1\n", 0, "no phase"),
 )

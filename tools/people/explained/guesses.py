@@ -5,6 +5,7 @@ import re
 from .lines import Refused, refuse
 from .ops import USAGES
 
+BAD = re.compile("[^\t -~]")
 OTHER_WORDS = {
     "echo": "write PATH TEXT, for echo TEXT > PATH", "printf": "write PATH TEXT", "cat": "read PATH", "ls": "list PATH",
     "rm": "rmdir PATH", "load": "access TASK CPU ADDR", "store": "access TASK CPU ADDR", "wbinvd": "flush",
@@ -24,7 +25,7 @@ PAIRS = {
 
 def check_bytes(line, at):
     """Refuses a line for its first byte that no script has."""
-    if bad := re.search("[^\t -~]", line):
+    if bad := BAD.search(line):
         raise Refused("bad byte", bad.start(), 1, f"byte 0x{ord(bad.group()):02x}", byte_hint(line, bad.start(), at))
 
 

@@ -1,12 +1,12 @@
 """The lines of a script, their words with the columns where they stand, and why a line is refused."""
-from dataclasses import dataclass
 import re
+from typing import NamedTuple
 
+WORD = re.compile(r"[^ \t]+")
 COMMENT = "a # after words does not begin a comment: give the comment a line of its own"
 
 
-@dataclass(frozen=True)
-class Word:
+class Word(NamedTuple):
     """A word of a line, and the column of its first byte, from 0."""
 
     text: str
@@ -41,4 +41,4 @@ def lines_of(data):
 
 def words_of(line):
     """The words of a line, which blanks and tabs separate."""
-    return [Word(word.group(), word.start()) for word in re.finditer(r"[^ \t]+", line)]
+    return [Word(word.group(), word.start()) for word in WORD.finditer(line)]

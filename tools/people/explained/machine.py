@@ -45,10 +45,27 @@ class Machine:
         return self.domains * self.slices
 
 
-def key_hint(key):
+def key_hint(key, keys):
     """Which key was probably meant."""
-    near = OTHER_NAMES.get(key.lower()) or next(iter(get_close_matches(key.lower(), DEFAULTS)), None)
-    return f"the key is {near}" if near else "the keys are " + ", ".join(DEFAULTS)
+    near = OTHER_NAMES.get(key.lower()) or next(iter(get_close_matches(key.lower(), keys)), None)
+    return f"the key is {near}" if near in keys else "the keys are " + ", ".join(keys)
+
+
+SIZES = ("size", "capacity", "bytes", "cache", "cachesize", "cache_size", "l3", "llc")
+UNITS = {"": 1, "k": 2**10, "m": 2**20, "g": 2**30}
+LINE_BYTES = 64
+
+
+def size_hint(text):
+    """What a cache of this size may be, which a machine line has no key for."""
+    rule = "a cache has no size of its own: it is sets times ways times 64 bytes"
+    found = re.fullmatch("([0-9]{1,12})([kKmMgG]?)i?[bB]?", text)
+    size = int(found[1]) * UNITS[found[2].lower()] if found else 0
+    for ways in (16, 8, 12, 20, 11, 15):
+        sets, rest = divmod(size, ways * LINE_BYTES)
+        if sets and not rest and not sets & (sets - 1) and sets * ways <= LINES and sets <= 65536:
+            return f"{rule}: {text} is sets={sets} ways={ways}, for example"
+    return rule
 
 
 def read_value(word, key, text):
@@ -66,14 +83,14 @@ def read_value(word, key, text):
     return int(text.removeprefix("0x"), 16)
 
 
-def read_key(word, given):
-    """Reads one KEY=VALUE."""
+def read_key(word, given, keys=tuple(DEFAULTS)):
+    """Reads one KEY=VALUE, where these are the keys."""
     key, equals, text = word.text.partition("=")
     if not equals:
-        hint = f"{key}=NUMBER, without blanks around the =" if key in DEFAULTS else key_hint(key)
+        hint = f"{key}=NUMBER, without blanks around the =" if key in keys else key_hint(key, keys)
         refuse(WHAT, word, f"`{word.text}` is not KEY=VALUE", hint)
-    if key not in DEFAULTS:
-        refuse(WHAT, word, f"there is no key `{key}`", key_hint(key))
+    if key not in keys:
+        refuse(WHAT, word, f"there is no key `{key}`", size_hint(text) if key.lower() in SIZES else key_hint(key, keys))
     if key in given:
         refuse(WHAT, word, f"`{key}` is given twice", f"it stands in column {given[key][1].start + 1} too")
     given[key] = (read_value(word, key, text), word)
@@ -88,9 +105,10 @@ def powers_around(number):
 class Ranges:
     """Tests the numbers that were given against their ranges."""
 
-    def __init__(self, given, line):
+    def __init__(self, given, line, prefix=""):
         self.given = given
         self.line = line
+        self.prefix = prefix
         self.numbers = {key: given[key][0] if key in given else default for key, default in DEFAULTS.items()}
 
     def fail(self, key, because, hint=""):
@@ -100,7 +118,7 @@ class Ranges:
     def within(self, key, low, high, hint=""):
         value = self.numbers[key]
         if not low <= value <= high:
-            self.fail(key, f"{key} {value} is not from {low} to {high}", hint)
+            self.fail(key, f"{self.prefix}{key} {value} is not from {low} to {high}", hint)
 
     def check(self):
         """The machine, where each number is in its range."""
@@ -108,7 +126,7 @@ class Ranges:
         self.within("domains", 1, 8)
         self.within("sets", 1, 65536, "65,536 sets at most; docs/MACHINES.md says how a larger cache is modelled")
         if n["sets"] & (n["sets"] - 1):
-            self.fail("sets", f"sets {n['sets']} is not a power of two", powers_around(n["sets"]))
+            self.fail("sets", f"{self.prefix}sets {n['sets']} is not a power of two", powers_around(n["sets"]))
         self.within("ways", 1, 32)
         self.within("classes", 1, 64)
         self.within("rmids", 1, 256)
@@ -138,7 +156,7 @@ class Ranges:
             self.fail(key, f"{n['domains']} domains of {n['slices']} slices are {n['domains'] * n['slices']} slices; {SLICES} at most")
         lines = n["domains"] * n["sets"] * n["ways"]
         if lines > LINES:
-            key = next(key for key in ("sets", "ways", "domains") if key in self.given)
+            key = next((key for key in ("sets", "ways", "domains") if key in self.given), "sets")
             self.fail(key, f"domains times sets times ways are {lines} lines; {LINES} at most", "docs/MACHINES.md: one slice for all")
 
 

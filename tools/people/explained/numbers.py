@@ -19,7 +19,7 @@ def suggestion(text, hexadecimal):
         return "numbers have no sign"
     if size := re.fullmatch(r"([0-9]+)([kKmMgG])i?[bB]?", text):
         return f"there are no suffixes: {int(size[1]) * SUFFIXES[size[2].lower()]}"
-    if re.fullmatch(r"[0-9a-fA-F]+,", text) or re.fullmatch(r"[0-9]+(,[0-9]+)+", text):
+    if re.fullmatch(r"[0-9a-fA-F]+,([a-z_0-9]+=.*)?", text) or re.fullmatch(r"[0-9]+(,[0-9]+)+", text):
         return "words are separated by blanks, and digits by nothing"
     if re.fullmatch(r"[0-9a-fA-F_']+", text) and re.search(r"[_']", text):
         return "digits stand without separators"

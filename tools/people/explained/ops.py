@@ -7,6 +7,8 @@ from .numbers import decimal, number
 from .paths import check_length, check_path, is_mode, is_occupancy, is_schemata, read_text
 
 WHAT = "bad argument"
+# What is written for all caches, and is no domain.
+EVERY = ("all", "*", "/", "any", "each", "every")
 
 USAGES = {
     "mkdir": "mkdir PATH", "rmdir": "rmdir PATH", "read": "read PATH", "list": "list PATH", "write": "write PATH TEXT",
@@ -100,6 +102,8 @@ def read_flush(line, words, machine, tasks):
     if len(words) == 2:
         if re.fullmatch("0[xX].+", words[1].text):
             refuse(WHAT, words[1], f"DOMAIN `{words[1].text}` is not a decimal number", f"of one line: clflush {words[1].text}")
+        if words[1].text.lower() in EVERY:
+            refuse(WHAT, words[1], f"DOMAIN `{words[1].text}` is not a decimal number", "`flush` alone empties all caches")
         if decimal(WHAT, words[1], "DOMAIN") >= machine.domains:
             hint = f"domains are numbered from 0 to {machine.domains - 1}; the line of an address is flushed by clflush"
             refuse(WHAT, words[1], f"there is no domain {words[1].text}", hint)

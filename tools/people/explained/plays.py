@@ -1,25 +1,14 @@
 """What is likely a mistake in a valid script, by its report."""
 from bisect import bisect_right
 from collections import Counter
+from itertools import combinations
 import re
 
+from .refusals import hint_of
 from .remarks import Remark
 
 MOST_REFUSALS = 5
 ACCESS = re.compile(r"\d+ (\d+)\.(\d+) e\d+ access group (\d+) .* line (\d+) (?:hit|fill) ")
-
-HINTS = {
-    "ENOENT no such file or directory": "a group is made by mkdir before its files are there",
-    "EINVAL missing ':'": "each line of the text begins with L3: ; a \\n at its end opens an empty one",
-    "EINVAL overlaps with exclusive group": "the exclusive group has to give the ways back first",
-    "EINVAL schemata overlaps": "take the group's ways out of the masks of all other groups first, the default group's too",
-    "EINVAL task list is not numbers": "one number a line: 1\\n2",
-    "EBUSY RMIDs are in limbo": "a tick frees those whose lines are gone",
-    "ENOSPC out of CLOSIDs": "`classes` of the machine line says how many groups there can be, the default group with them",
-    "ENOSPC out of RMIDs": "`rmids` of the machine line says how many groups can be counted, the default group with them",
-    "EINVAL unknown domain": "domains are numbered from 0, as `domains` of the machine line says",
-}
-
 
 def line_of(script, thread, op):
     """The line of an op."""
@@ -31,9 +20,11 @@ def line_of(script, thread, op):
 def of_refusals(script, report):
     """Commands that were refused."""
     refused = [command for command in report["commands"] if not command["result"].startswith("ok")]
+    made = {path for _, path in accepted(report, "mkdir (/[^/]+)")}
     for command in refused[:MOST_REFUSALS]:
         at = line_of(script, command["thread"], command["op"])
-        yield Remark(at, "", f"refused: {command['result']}", HINTS.get(command["result"], ""))
+        hint = hint_of(script.machine, command["words"], command["result"], made)
+        yield Remark(at, "", f"refused: {command['result']}", hint)
     if len(refused) > MOST_REFUSALS:
         yield Remark(0, "", f"{len(refused)} commands are refused in all; the first {MOST_REFUSALS} of them are told")
 
@@ -87,6 +78,29 @@ def of_shared_lines(script, report):
         yield Remark(at, "", because, f"address {line * 64:#x}, for one, is used in line {other} too")
 
 
+def masks_written(report, path):
+    """The masks that a group was given last, by their domains."""
+    masks = {}
+    for _, text in accepted(report, f"write {re.escape(path)}/schemata (.*)"):
+        masks.update({int(domain): int(mask, 16) for domain, mask in re.findall(r"([0-9]+)[ \t]*=[ \t]*(?:0[xX])?([0-9a-fA-F]+)", text)})
+    return masks
+
+
+def of_groups_apart(script, report):
+    """Two groups with ways of their own that nothing but their masks keeps apart: nothing is promised of their accesses."""
+    ever = {path for _, path in accepted(report, "write (/[^/]+)/mode [ \t]*(?:exclusive|pseudo-locksetup)[ \t]*")}
+    busy = [group["path"] for group in report["groups"] if group["accesses"] and group["path"] not in ever and group["path"] != "/"]
+    masks = {path: masks_written(report, path) for path in busy}
+    for one, other in combinations(busy, 2):
+        both = masks[one].keys() & masks[other].keys()
+        if both and not any(masks[one][domain] & masks[other][domain] for domain in both):
+            command, _ = list(accepted(report, f"write ({re.escape(other)})/schemata .*"))[-1]
+            at = line_of(script, command["thread"], command["op"])
+            because = f"{one} and {other} have no way in common, but neither is exclusive: there is no window, and nothing is promised of them"
+            yield Remark(at, "", because, f"write {one}/mode exclusive once no other mask has its ways, and then flush")
+            return
+
+
 def of_idle_groups(script, report):
     """Control groups that were made and get no access."""
     counts = Counter({group["path"]: group["accesses"] for group in report["groups"]})
@@ -101,5 +115,5 @@ def of_idle_groups(script, report):
 
 def of_report(script, report):
     """All remarks that need the report in JSON, with its journal and its windows."""
-    finders = (of_refusals, of_windows, of_shared_lines, of_idle_groups)
+    finders = (of_refusals, of_windows, of_shared_lines, of_idle_groups, of_groups_apart)
     return [remark for find in finders for remark in find(script, report)]

@@ -1,5 +1,6 @@
 """Reads a script line by line, as docs/FORMAT.md says, and stops at the first line that is refused."""
 from dataclasses import dataclass, field
+import re
 
 from . import limits
 from .guesses import check_bytes, no_machine, unknown_word
@@ -8,6 +9,10 @@ from .machine import read_machine
 from .numbers import decimal
 from .ops import READERS, WHAT, USAGES, check_count
 from .tasks import Tasks
+
+
+# The usual form of an access, which needs no look at each word.
+PLAIN_ACCESS = re.compile("access ([1-9][0-9]{0,9}) ([0-9]{1,2}) (?:[0-9]{1,14}|0x[0-9a-fA-F]{1,12})")
 
 
 @dataclass
@@ -57,8 +62,21 @@ class Script:
     def threads(self):
         return [thread for phase in self.phases for thread in phase.threads]
 
+    def read_plain_access(self, line, at):
+        """Reads an access of the usual form, where it is valid, and answers whether it did."""
+        found = PLAIN_ACCESS.fullmatch(line)
+        if not found or self.machine is None or not self.phases or not self.phases[-1].threads or self.weight >= limits.WEIGHT:
+            return False
+        if int(found[2]) >= self.machine.cpus or not self.tasks.has(int(found[1])):
+            return False
+        self.add(at, 1, 1)
+        self.after_phase = False
+        return True
+
     def read(self, line, at):
         """Reads one line."""
+        if self.read_plain_access(line, at):
+            return
         check_bytes(line, at)
         words = words_of(line)
         if not words or words[0].text.startswith("#"):
@@ -122,13 +140,17 @@ class Script:
             because = "no thread line yet in this phase" if self.phases else "no phase line and no thread line yet"
             refuse("out of place", words[0], because, "a line `thread` before it" if self.phases else "`phase`, and then `thread`")
         weight = READERS[words[0].text](line, words, self.machine, self.tasks)
-        self.weight += weight
-        if self.weight > limits.WEIGHT:
-            because = f"the weight of all ops is {self.weight} by here, {weight} of them this line's; {limits.WEIGHT} at most"
+        if self.weight + weight > limits.WEIGHT:
+            because = f"the weight of all ops is {self.weight + weight} by here, {weight} of them this line's; {limits.WEIGHT} at most"
             refuse("script too large", words[0], because, "a sweep weighs one for each of its accesses")
+        self.add(at, weight, weight if words[0].text in ("access", "sweep") else 1)
+
+    def add(self, at, weight, count):
+        """Adds a line of so many ops to the open thread."""
+        self.weight += weight
         thread = self.phases[-1].threads[-1]
         thread.ops[thread.length] = at
-        thread.length += weight if words[0].text in ("access", "sweep") else 1
+        thread.length += count
 
 
 def read_script(data):
