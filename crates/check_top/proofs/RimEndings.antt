@@ -101,6 +101,7 @@ module _ (source : Reading) (sink : Writing) where
       is_run = is.reported.1.is_run;
       plays = is.reported.1.plays;
       isolates = is.reported.1.isolates;
+      reads_back = is.reported.1.reads_back;
       text = subst (Takes sink) is.reported.1.told is.report;
     }
 

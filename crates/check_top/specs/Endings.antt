@@ -18,6 +18,8 @@ use Rattle.journal_check.specs.Verdicts.{IsVerdict}
 use Rattle.journal_check.specs.declared.verdict.Clause.{Clause}
 use Rattle.journal_check.specs.declared.verdict.Verdict.{Verdict}
 use Rattle.journal_check.specs.declared.verdict.Verdict.TheVariants as verdicts
+use Rattle.journal_lines.specs.Lines.{journal_text}
+use Rattle.journal_text.specs.Readings.{IsTextOf}
 use Rattle.resctrl_top.specs.Isolation.{BeginsGroupWindows, BeginsLockWindows, HoldsRegions, IsolatesGroups}
 use Rattle.run_law.specs.Journals.{JournalsValue}
 use Rattle.run_law.specs.Runs.{IsRun}
@@ -61,7 +63,7 @@ IsolatesBy verdicts.Yes script run = Isolates script run
 IsolatesBy (verdicts.No clause) script run = Unit {0}
 
 -- The bytes that the source had are a lawful script, the journals are those of its play, and the sink took its export, all of it or a
--- beginning. The source has nothing left.
+-- beginning. The text of the journals reads back as these journals. The source has nothing left.
 pub record IsExported (c : Call) (journals : Option JournalsValue) (Takes : Writing → List ℕ → Type 0) : Type 0 where
   pub play : Play
   pub bytes : List ℕ
@@ -76,6 +78,7 @@ pub record IsExported (c : Call) (journals : Option JournalsValue) (Takes : Writ
   pub is_run : IsRun script run
   pub plays : PlaysAs play script run
   pub isolates : Isolates script run
+  pub reads_back : IsTextOf script (journal_text script.machine run) run
   pub text : Takes c.sink (export_text bytes script.machine run)
 
 -- The bytes that the source had hold a lawful script and journals, of which this is the verdict, and the sink took its line, all of it or a

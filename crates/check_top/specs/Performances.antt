@@ -14,6 +14,8 @@ use Rattle.check_parts.specs.declared.form.Play.{Play}
 use Rattle.check_top.specs.Endings.{Isolates, IsolatesBy, PlaysAs}
 use Rattle.check_top.specs.declared.checked.Checked.{Checked}
 use Rattle.journal_check.specs.Verdicts.{IsVerdict}
+use Rattle.journal_lines.specs.Lines.{journal_text}
+use Rattle.journal_text.specs.Readings.{IsTextOf}
 use Rattle.run_law.specs.Journals.{JournalsValue}
 use Rattle.run_law.specs.Runs.{IsRun}
 use Rattle.script_ops.specs.Values.{IsLawful, ScriptValue}
@@ -24,7 +26,7 @@ pub record Refuses (form : Form) (bytes line : List ℕ) : Type 0 where
   pub is_bad : IsBad form bytes bad
   pub told : line ≡ bad_line bad
 
--- the input has a script, the journals are those of its play, and the text is its export
+-- the input has a script, the journals are those of its play, their text reads back as these, and the text is its export
 pub record Exports (play : Play) (bytes : List ℕ) (run : JournalsValue) (text : List ℕ) : Type 0 where
   pub script : ScriptValue
   pub has_script : HasScript (Export play) bytes script
@@ -32,6 +34,7 @@ pub record Exports (play : Play) (bytes : List ℕ) (run : JournalsValue) (text 
   pub is_run : IsRun script run
   pub plays : PlaysAs play script run
   pub isolates : Isolates script run
+  pub reads_back : IsTextOf script (journal_text script.machine run) run
   pub told : text ≡ export_text bytes script.machine run
 
 -- the input holds a script and these journals, and the text is the line of their verdict
@@ -52,3 +55,7 @@ TellsBad bad performed.NoMemory = Unit {0}
 -- what is proved of every run of a lawful script holds of it
 abbrev pub RunsIsolate : Type 0
 RunsIsolate = (script : ScriptValue) (run : JournalsValue) → IsLawful script → IsRun script run → Isolates script run
+
+-- the text of the journals of every run of a lawful script reads back as these journals
+abbrev pub RunsReadBack : Type 0
+RunsReadBack = (script : ScriptValue) (run : JournalsValue) → IsLawful script → IsRun script run → IsTextOf script (journal_text script.machine run) run

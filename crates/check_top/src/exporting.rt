@@ -9,7 +9,7 @@ ghost use Rattle.check_top.specs.Endings.{PlaysAs};
 ghost use Rattle.check_top.specs.Performances.{Exports, Refuses, TellsBad};
 ghost use Rattle.run_law.specs.Runs.{IsRun};
 
-use crate::theorems::runs_isolate;
+use crate::theorems::{runs_isolate, runs_read_back};
 use call_rim::Performed;
 use check_parts::{BadInput, InputError, bad_line_of, export_text, script_in};
 use rc_base::NoMemory;
@@ -43,6 +43,7 @@ fn export_of(
     // A script that was read is lawful.
     let _threads = script.threads();
     runs_isolate();
+    runs_read_back();
     match export_text(alloc, bytes, script.machine(), &journals) {
         Ok(report) => Performed::Reported {
             outcome: journals,

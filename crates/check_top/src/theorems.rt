@@ -1,7 +1,8 @@
 //! What holds of every run.
-ghost use Rattle.check_top.specs.Performances.{RunsIsolate};
+ghost use Rattle.check_top.specs.Performances.{RunsIsolate, RunsReadBack};
 
 use run_windows::theorems::{regions_hold, windows_are_isolated, windows_are_one};
+use writable_runs::theorems::runs_are_writable;
 
 /// Every run of a lawful script isolates groups and holds regions, whoever made its journals.
 pub fn runs_isolate()
@@ -10,4 +11,11 @@ pub fn runs_isolate()
     windows_are_isolated();
     windows_are_one();
     regions_hold();
+}
+
+/// The text of every run of a lawful script reads back as its journals, whoever made them.
+pub fn runs_read_back()
+    ensures { RunsReadBack }
+{
+    runs_are_writable();
 }

@@ -1,0 +1,10 @@
+mod Arguments
+mod Commands
+mod Entries
+mod Follows
+mod Growth
+mod Histories
+mod Numbers
+mod Runs
+mod Tags
+mod Waiting
