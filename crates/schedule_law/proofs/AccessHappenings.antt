@@ -39,8 +39,8 @@ label_may_happen script some t n task cpu addr hs found is at r fit =
       moves = Moves-next_state e t 0 s (record { next = (thread_at s t).next; place = Tagged (tag_of script.machine (tree_after script s.journals.tree) (length s.journals.tree) task cpu) }) turn.within
           (ap (λ (l : List TreeEntryValue). record { next = (thread_at s t).next; place = Tagged (tag_of script.machine (tree_after script l) (length l) task cpu) }) (sym tree.0));
     } in
-    AreReached-state_after script some e t 0 (tree_part hs None ∷ thread_part t v true found ∷ []) at r
-    (AreStepParts-tree e t 0 hs None v true found (λ b. refl) (λ es. refl)) turn.within (inr (λ es. refl))
+    AreReached-state_after script some e t 0 (Access task cpu addr) (tree_part hs None ∷ thread_part t v true found ∷ []) at r
+    (AreStepParts-tree e t 0 hs None v true found (λ b. refl) (λ es. refl)) turn.is turn.within (inr (λ es. refl))
     (step_tags script t task cpu addr s now turn.phase turn.is turn.place tree.1 row)
     (λ op made place _. absurd (let there = row.moves.there in cc))
 
@@ -80,8 +80,8 @@ touch_may_happen script some t n task cpu addr tag list x found is fresh pays lo
       holder = refl;
       moves = Moves-next_state e t i s (record { next = (thread_at s t).next + 1; place = Ready }) turn.within refl;
     } in
-    AreReached-state_after script some e t i (slice_part i list ∷ thread_part t v true found ∷ []) at r
-    (AreStepParts-slice e t i list v true found (λ b. refl) (λ hs holder. (refl, refl))) turn.within (inl within)
+    AreReached-state_after script some e t i (Access task cpu addr) (slice_part i list ∷ thread_part t v true found ∷ []) at r
+    (AreStepParts-slice e t i list v true found (λ b. refl) (λ hs holder. (refl, refl))) turn.is turn.within (inl within)
     (step_touches script t task cpu addr tag s now turn.phase turn.is turn.place (subst (λ l. floor_of l ≤ tag.epoch) (sym there) fresh) row)
     (λ op made place _. absurd (let there = row.moves.there in cc))
 
@@ -100,7 +100,7 @@ again_may_happen script some t n task cpu addr tag list found is stale at r fit 
       holder = refl;
       moves = Moves-next_state e t i s (record { next = (thread_at s t).next; place = Ready }) turn.within refl;
     } in
-    AreReached-state_after script some e t i (slice_part i list ∷ thread_part t v true found ∷ []) at r
-    (AreStepParts-slice e t i list v true found (λ b. refl) (λ hs holder. (refl, refl))) turn.within (inr (λ es. refl))
+    AreReached-state_after script some e t i (Access task cpu addr) (slice_part i list ∷ thread_part t v true found ∷ []) at r
+    (AreStepParts-slice e t i list v true found (λ b. refl) (λ hs holder. (refl, refl))) turn.is turn.within (inr (λ es. refl))
     (step_stale script t task cpu addr tag s now turn.phase turn.is turn.place (subst (λ l. tag.epoch < floor_of l) (sym there) stale) row)
     (λ op made place _. absurd (let there = row.moves.there in cc))

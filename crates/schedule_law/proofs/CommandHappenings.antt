@@ -35,8 +35,8 @@ take_may_happen script some t n op hs found is command at r fit =
       holder = refl;
       moves = Moves-next_state e t 0 s (record { next = (thread_at s t).next; place = Looking 0 }) turn.within refl;
     } in
-    AreReached-state_after script some e t 0 (tree_part hs None ∷ thread_part t v true found ∷ []) at r
-    (AreStepParts-tree e t 0 hs None v true found (λ b. refl) (λ es. refl)) turn.within (inr (λ es. refl))
+    AreReached-state_after script some e t 0 op (tree_part hs None ∷ thread_part t v true found ∷ []) at r
+    (AreStepParts-tree e t 0 hs None v true found (λ b. refl) (λ es. refl)) turn.is turn.within (inr (λ es. refl))
     (step_takes script t op s now turn.phase turn.is command turn.place tree.1 row)
     (λ other made place is_other. take_looked script t other s now turn.place tree.1 row (so_far script s some r.reached))
 
@@ -67,8 +67,8 @@ look_may_happen script some t n op hs found job list x is distinct next pays low
       moves = Moves-next_state e t i s (record { next = (thread_at s t).next; place = Looking (made + 1) }) turn.within
           (ap (λ (y : Thread). thread_after e y) here.0 ∙ ap (λ (m : ℕ). record { next = m; place = Looking (made + 1) }) (sym turn.next));
     } in
-    AreReached-state_after script some e t i (slice_part i list ∷ tree_part hs (Some t) ∷ thread_part t v true found ∷ []) at r
-    (AreStepParts-both e t i list hs (Some t) v true found (λ b. refl)) turn.within (inl within)
+    AreReached-state_after script some e t i op (slice_part i list ∷ tree_part hs (Some t) ∷ thread_part t v true found ∷ []) at r
+    (AreStepParts-both e t i list hs (Some t) v true found (λ b. refl)) turn.is turn.within (inl within)
     (step_looks script t made op s now turn.phase turn.is turn.place (slice_get_within (looks_of script s.journals.tree (length s.journals.tree) op) made job job_is) row)
     (λ other m place is_other.
     let had : HasLooked script s t op found = subst (λ l. HasLooked script s t op l) here.2 (r.looked t made op turn.place turn.is) in
@@ -127,8 +127,8 @@ decide_may_happen script some t n op hs found h last is looked thread number may
       holder = ap (λ (o : Option ℕ). if last then None else o) tree.1 ∙ holder_behind-last t made jobs last ends_here;
       moves = Moves-next_state e t 0 s (place_behind (thread_at s t).next made jobs) turn.within (place_behind-last (thread_at s t).next (thread_at s t).next made jobs last ends_here refl);
     } in
-    AreReached-state_after script some e t 0 (tree_part hs (Some t) ∷ thread_part t v true found ∷ []) at r
-    (AreStepParts-tree e t 0 hs (Some t) v true found (λ b. refl) (λ es. refl)) turn.within (inr (λ es. refl))
+    AreReached-state_after script some e t 0 op (tree_part hs (Some t) ∷ thread_part t v true found ∷ []) at r
+    (AreStepParts-tree e t 0 hs (Some t) v true found (λ b. refl) (λ es. refl)) turn.is turn.within (inr (λ es. refl))
     (step_decides script t made op s now turn.phase turn.is turn.place (subst (λ (l : List TreeEntryValue). length (looks_of script l (length l) op) ≤ made) (sym tree.0) looked) row)
     (λ other m place is_other. absurd (place_behind-not_looking (thread_at s t).next made jobs m (ap (λ (y : Thread). y.place) (sym row.moves.there) ∙ place)))
 
@@ -161,7 +161,7 @@ follow_may_happen script some t n made position op hs job list x last found is d
       moves = Moves-next_state e t i s (place_behind (thread_at s t).next (made + 1) jobs) turn.within
           (ap (λ (y : Thread). thread_after e y) here.0 ∙ place_behind-last n (thread_at s t).next (made + 1) jobs last ends_here (sym turn.next));
     } in
-    AreReached-state_after script some e t i (slice_part i list ∷ tree_part hs (Some t) ∷ thread_part t v true found ∷ []) at r
-    (AreStepParts-both e t i list hs (Some t) v true found (λ b. refl)) turn.within (inl within)
+    AreReached-state_after script some e t i op (slice_part i list ∷ tree_part hs (Some t) ∷ thread_part t v true found ∷ []) at r
+    (AreStepParts-both e t i list hs (Some t) v true found (λ b. refl)) turn.is turn.within (inl within)
     (step_follows script t made op s now turn.phase turn.is turn.place row)
     (λ other m place is_other. absurd (place_behind-not_looking (thread_at s t).next (made + 1) jobs m (ap (λ (y : Thread). y.place) (sym row.moves.there) ∙ place)))

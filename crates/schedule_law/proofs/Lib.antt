@@ -2,9 +2,14 @@ pub mod AccessHappenings
 pub mod CommandHappenings
 pub mod Events
 pub mod Happenings
+pub mod LiveAccesses
+pub mod LiveApart
+pub mod LiveCommands
 pub mod LiveEndings
 pub mod LiveHappenings
 pub mod LiveOpenings
+pub mod LivePhases
+pub mod LivePlaces
 pub mod OrderedPlays
 pub mod OwnOrders
 pub mod PartNumbers

@@ -1,25 +1,26 @@
 -- The journals at the end.
-use Rattle.std.proofs.Common.{◌≡◌, ℕ, zero, suc, ◌+◌, ◌<◌, List, [], ◌∷◌, length, map, get_or, ap, subst, arith}
-use Rattle.cache_core.specs.declared.entry.SliceEntry.{SliceEntry}
+use Rattle.std.proofs.Common.{◌≡◌, ℕ, zero, suc, ◌<◌, List, [], ◌∷◌, length, map, get_or, sym, ap, subst, arith}
+use Rattle.std.specs.Prelude.{Contains}
 use Rattle.run_law.specs.Entries.{entry_value}
 use Rattle.script_ops.specs.Values.{ScriptValue}
-use Rattle.schedule_law.specs.LiveParts.{LeavesScheduled, live_lists, part_of, reached}
-use Rattle.schedule_law.specs.Parts.{number_of_slice}
+use Rattle.schedule_law.specs.LiveParts.{LeavesScheduled, live_phase, live_slice, live_tree, part_of, reached}
 use Rattle.schedule_law.specs.declared.part.Part.{Part}
-use Rattle.schedule_law.specs.declared.part.Part.TheVariants as parts
 use Rattle.schedule_law.proofs.ReachedParts.{states_close}
 use Rattle.shared_parts.specs.Parts.{Fits}
 
--- what a state has of slices that are parts of it
-Fits-lists : (at : ℕ → Part) (i k n : ℕ) (lists : List (List SliceEntry)) → Fits at (live_lists i lists) → k < length lists → n ≡ i + k → at (number_of_slice n) ≡ parts.Slice (get_or lists k [])
-Fits-lists at i k n [] fit low is = absurd (omega (arith, low))
-Fits-lists at i zero n (list ∷ lists) fit low is = let same : i ≡ n = omega (arith, is) in subst (λ m. at (number_of_slice m) ≡ parts.Slice list) same fit.0
-Fits-lists at i (suc k) n (list ∷ lists) fit low is = Fits-lists at (i + 1) k n lists fit.1 (omega (arith, low)) (omega (arith, is))
+-- a state has each of its parts
+Fits-get_or : (at : ℕ → Part) (xs : List (ℕ × Part)) (k : ℕ) (x : ℕ × Part) → Fits at xs → k < length xs → get_or xs k x ≡ x → at x.0 ≡ x.1
+Fits-get_or at [] k x fit low is = absurd (omega (arith, low))
+Fits-get_or at (y ∷ ys) zero x fit low is = subst (λ (z : ℕ × Part). at z.0 ≡ z.1) is fit.0
+Fits-get_or at (y ∷ ys) (suc k) x fit low is = Fits-get_or at ys k x fit.1 (omega (arith, low)) is
+
+Fits-contains : (at : ℕ → Part) (xs : List (ℕ × Part)) (x : ℕ × Part) → Fits at xs → Contains xs x → at x.0 ≡ x.1
+Fits-contains at xs x fit there = Fits-get_or at xs there.0 x fit there.1 there.2
 
 -- they are scheduled
 pub leaves_scheduled : (script : ScriptValue) (xs : List (ℕ × Part)) → ((at : ℕ → Part) × reached script at × Fits at xs) → LeavesScheduled script xs
-leaves_scheduled script xs state history lists holder phase some over count is =
-    let fit : Fits state.0 ((0, parts.Tree history holder) ∷ (1, parts.Phase phase) ∷ live_lists 0 lists) = subst (Fits state.0) is state.2 in
-    states_close script (record { tree = map entry_value history; slices = lists }) holder phase (λ k. part_of (state.0 k)) some over count state.1
-    (ap part_of fit.0, (ap part_of fit.1.0, tt))
-    (λ i low. (ap part_of (Fits-lists state.0 0 i i lists fit.1.1 (omega (arith, low, count)) (omega arith)), tt))
+leaves_scheduled script xs state history lists holder phase ended some over count tree of_phase slices =
+    let at = state.0 in
+    states_close script (record { tree = map entry_value history; slices = lists }) holder phase ended (λ k. part_of (at k)) some over count state.1
+    (ap part_of (Fits-contains at xs (live_tree history holder) state.2 tree), (ap part_of (Fits-contains at xs (live_phase phase ended) state.2 of_phase), tt))
+    (λ i low. (ap part_of (Fits-contains at xs (live_slice i (get_or lists i [])) state.2 (slices i (subst (λ n. i < n) (sym count) low))), tt))

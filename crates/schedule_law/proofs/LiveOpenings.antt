@@ -17,29 +17,29 @@ use Rattle.shared_parts.proofs.laws.Parts.{Fits-append}
 
 -- the part with each number
 live_first : ℕ → Part
-live_first k = if k == 0 then parts.Tree [] None else if k == 1 then parts.Phase 0 else if k % 2 == 0 then parts.Slice [] else parts.Worker opening_thread false []
+live_first k = if k == 0 then parts.Tree [] None else if k == 1 then parts.Phase 0 0 else if k % 2 == 0 then parts.Slice [] else parts.Worker opening_thread false []
 
 live_first-slice : (i : ℕ) → live_first (number_of_slice i) ≡ parts.Slice []
 unfolding live_first
 live_first-slice i =
     let k : ℕ = number_of_slice i in
-    cond-false (k == 0) (parts.Tree [] None) (if k == 1 then parts.Phase 0 else if k % 2 == 0 then parts.Slice [] else parts.Worker opening_thread false []) (ne_eqb k 0 (λ h. omega (arith, h)))
-    ∙ (cond-false (k == 1) (parts.Phase 0) (if k % 2 == 0 then parts.Slice [] else parts.Worker opening_thread false []) (ne_eqb k 1 (λ h. omega (arith, h)))
+    cond-false (k == 0) (parts.Tree [] None) (if k == 1 then parts.Phase 0 0 else if k % 2 == 0 then parts.Slice [] else parts.Worker opening_thread false []) (ne_eqb k 0 (λ h. omega (arith, h)))
+    ∙ (cond-false (k == 1) (parts.Phase 0 0) (if k % 2 == 0 then parts.Slice [] else parts.Worker opening_thread false []) (ne_eqb k 1 (λ h. omega (arith, h)))
     ∙ cond-true (k % 2 == 0) (parts.Slice []) (parts.Worker opening_thread false []) (eq-eqb (k % 2) 0 (omega arith)))
 
 live_first-thread : (t : ℕ) → live_first (number_of_thread t) ≡ parts.Worker opening_thread false []
 unfolding live_first
 live_first-thread t =
     let k : ℕ = number_of_thread t in
-    cond-false (k == 0) (parts.Tree [] None) (if k == 1 then parts.Phase 0 else if k % 2 == 0 then parts.Slice [] else parts.Worker opening_thread false []) (ne_eqb k 0 (λ h. omega (arith, h)))
-    ∙ (cond-false (k == 1) (parts.Phase 0) (if k % 2 == 0 then parts.Slice [] else parts.Worker opening_thread false []) (ne_eqb k 1 (λ h. omega (arith, h)))
+    cond-false (k == 0) (parts.Tree [] None) (if k == 1 then parts.Phase 0 0 else if k % 2 == 0 then parts.Slice [] else parts.Worker opening_thread false []) (ne_eqb k 0 (λ h. omega (arith, h)))
+    ∙ (cond-false (k == 1) (parts.Phase 0 0) (if k % 2 == 0 then parts.Slice [] else parts.Worker opening_thread false []) (ne_eqb k 1 (λ h. omega (arith, h)))
     ∙ cond-false (k % 2 == 0) (parts.Slice []) (parts.Worker opening_thread false []) (ne_eqb (k % 2) 0 (λ h. omega (arith, h))))
 
 live_first-tree : live_first 0 ≡ parts.Tree [] None
 unfolding live_first
 live_first-tree = refl
 
-live_first-phase : live_first 1 ≡ parts.Phase 0
+live_first-phase : live_first 1 ≡ parts.Phase 0 0
 unfolding live_first
 live_first-phase = refl
 
@@ -54,8 +54,8 @@ Fits-threads t (suc n) = (live_first-thread t, Fits-threads (t + 1) n)
 -- its parts are those of the law
 first_part-live_first : (k : ℕ) → first_part k ≡ part_of (live_first k)
 unfolding first_part live_first
-first_part-live_first k = chosen (k == 0) (parts.Tree [] None) (if k == 1 then parts.Phase 0 else if k % 2 == 0 then parts.Slice [] else parts.Worker opening_thread false [])
-    (chosen (k == 1) (parts.Phase 0) (if k % 2 == 0 then parts.Slice [] else parts.Worker opening_thread false [])
+first_part-live_first k = chosen (k == 0) (parts.Tree [] None) (if k == 1 then parts.Phase 0 0 else if k % 2 == 0 then parts.Slice [] else parts.Worker opening_thread false [])
+    (chosen (k == 1) (parts.Phase 0 0) (if k % 2 == 0 then parts.Slice [] else parts.Worker opening_thread false [])
     (chosen (k % 2 == 0) (parts.Slice []) (parts.Worker opening_thread false []) refl))
   where
     chosen : (b : Bool) (x y : Part) {z : p.PartValue} → z ≡ part_of y → (if b then part_of x else z) ≡ part_of (if b then x else y)

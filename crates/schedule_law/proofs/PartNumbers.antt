@@ -27,6 +27,9 @@ tree_not_slice i = ne_eqb 0 (number_of_slice i) (λ h. omega (arith, h))
 pub tree_not_thread : (t : ℕ) → (0 == number_of_thread t) ≡ false
 tree_not_thread t = ne_eqb 0 (number_of_thread t) (λ h. omega (arith, h))
 
+pub phase_not_thread : (t : ℕ) → (1 == number_of_thread t) ≡ false
+phase_not_thread t = ne_eqb 1 (number_of_thread t) (λ h. omega (arith, h))
+
 pub slice_same : (i k : ℕ) → (number_of_slice i == number_of_slice k) ≡ (i == k)
 slice_same i k = elim (cases_Bool (i == k)) [
   | inl h ↦ eq-eqb (number_of_slice i) (number_of_slice k) (ap number_of_slice (eqb-true i k h)) ∙ sym h

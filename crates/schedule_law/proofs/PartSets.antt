@@ -20,7 +20,7 @@ use Rattle.schedule_law.proofs.StepStates.{AreStepParts, next_state, phase_in-pr
 use Rattle.shared_parts.specs.Parts.{has}
 
 -- a test of a list of one part
-has-only : (k : ℕ) (x : ℕ × PartValue) → has k (x ∷ []) ≡ (x.0 == k)
+pub has-only : (k : ℕ) (x : ℕ × PartValue) → has k (x ∷ []) ≡ (x.0 == k)
 has-only k x = elim (cases_Bool (x.0 == k)) [
   | inl h ↦ cond-true (x.0 == k) true false h ∙ sym h
   | inr h ↦ cond-false (x.0 == k) true false h ∙ sym h

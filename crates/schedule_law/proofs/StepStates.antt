@@ -19,7 +19,7 @@ use Rattle.step_world.proofs.LookedCounts.{others_looked}
 use Rattle.step_world.proofs.Schedules.{each_moment}
 use Rattle.step_world.specs.Looked.{HasLooked}
 use Rattle.step_world.proofs.StepRows.{moves_set}
-use Rattle.step_world.specs.Machine.{MachineValue, Moves, Notes, Step, Steps, opening_thread, thread_at}
+use Rattle.step_world.specs.Machine.{HasEnded, MachineValue, Moves, Notes, Step, Steps, opening_thread, thread_at}
 use Rattle.step_world.specs.Moments.{IsRunSoFar, progress_by}
 use Rattle.step_world.specs.declared.place.Place.{Place}
 use Rattle.step_world.specs.declared.place.Place.TheVariants.{Ready, Looking, Following, Tagged}
@@ -56,11 +56,11 @@ pub same_slices : (e : HappeningValue) (i : ℕ) (s : MachineValue) → ((es : L
 same_slices e i s id = ap (λ l. set s.journals.slices i l) (id (slice_at s.journals i)) ∙ set-get_or s.journals.slices i []
 
 -- where the machine takes that step, the parts after it are those of a state that is reached
-pub AreReached-state_after : (script : ScriptValue) → 0 < script.machine.slices → (e : HappeningValue) (t i : ℕ) (xs : List (ℕ × PartValue)) (at : ℕ → PartValue) (r : AreReached script at) → AreStepParts e t i xs
-    → t < length r.state.threads → ((i < length r.state.journals.slices) ⊎ ((es : List SliceEntry) → list_after e es ≡ es)) → Steps script t r.state (next_state e t i r.state)
+pub AreReached-state_after : (script : ScriptValue) → 0 < script.machine.slices → (e : HappeningValue) (t i : ℕ) (op : Op) (xs : List (ℕ × PartValue)) (at : ℕ → PartValue) (r : AreReached script at) → AreStepParts e t i xs
+    → op_at script t (thread_at r.state t).next ≡ Some op → t < length r.state.threads → ((i < length r.state.journals.slices) ⊎ ((es : List SliceEntry) → list_after e es ≡ es)) → Steps script t r.state (next_state e t i r.state)
     → ((op : Op) (made : ℕ) → (thread_at (next_state e t i r.state) t).place ≡ Looking made → op_at script t (thread_at (next_state e t i r.state) t).next ≡ Some op → HasLooked script (next_state e t i r.state) t op (found_after e (r.found t)))
     → AreReached script (state_after part_after e xs at)
-AreReached-state_after script some e t i xs at r of there within step own =
+AreReached-state_after script some e t i op xs at r of is there within step own =
     let s = r.state in
     let now : MachineValue = next_state e t i s in
     let found : ℕ → List ℕ = λ u. if t == u then found_after e (r.found u) else r.found u in
@@ -114,16 +114,27 @@ AreReached-state_after script some e t i xs at r of there within step own =
                 ∙ (r.threads u ∙ (λ j. Worker (sym now_at j) (r.begun u) (sym (cond-false (t == u) (found_after e (r.found u)) (r.found u) other) j)))
           ];
       begins = r.begins;
-      looked = λ u made op place is.
+      ended = r.ended;
+      ends = λ u low.
           elim (cases_Bool (t == u)) [
             | inl same ↦
-                subst (λ l. HasLooked script now u op l) (sym (cond-true (t == u) (found_after e (r.found u)) (r.found u) same))
-                (subst (λ n. (thread_at now n).place ≡ Looking made → op_at script n (thread_at now n).next ≡ Some op → HasLooked script now n op (found_after e (r.found n))) (eqb-true t u same) (own op made) place is)
+                let end : HasEnded script t (thread_at s t) = subst (λ n. HasEnded script n (thread_at s n)) (sym (eqb-true t u same)) (r.ends u low) in
+                let left : (thread_at s t).next < length (ops_of script t) = slice_get_within (ops_of script t) (thread_at s t).next op is in
+                absurd (omega (arith, end.0, left))
             | inr other ↦
                 let now_at : thread_at now u ≡ thread_at s u = get_or-set_other s.threads t u (thread_after e (thread_at s t)) opening_thread (λ same. eqb-false t u other (sym same)) in
-                subst (λ l. HasLooked script now u op l) (sym (cond-false (t == u) (found_after e (r.found u)) (r.found u) other))
-                (others_looked script u t op s now (r.found u) (λ same. eqb-false t u other (sym same)) (so_far script s some r.reached) step
-                (r.looked u made op (sym (ap (λ (x : Thread). x.place) now_at) ∙ place) (sym (ap (λ (x : Thread). op_at script u x.next) now_at) ∙ is)))
+                subst (λ (v : Thread). HasEnded script u v) (sym now_at) (r.ends u low)
+          ];
+      looked = λ u made its place is_its.
+          elim (cases_Bool (t == u)) [
+            | inl same ↦
+                subst (λ l. HasLooked script now u its l) (sym (cond-true (t == u) (found_after e (r.found u)) (r.found u) same))
+                (subst (λ n. (thread_at now n).place ≡ Looking made → op_at script n (thread_at now n).next ≡ Some its → HasLooked script now n its (found_after e (r.found n))) (eqb-true t u same) (own its made) place is_its)
+            | inr other ↦
+                let now_at : thread_at now u ≡ thread_at s u = get_or-set_other s.threads t u (thread_after e (thread_at s t)) opening_thread (λ same. eqb-false t u other (sym same)) in
+                subst (λ l. HasLooked script now u its l) (sym (cond-false (t == u) (found_after e (r.found u)) (r.found u) other))
+                (others_looked script u t its s now (r.found u) (λ same. eqb-false t u other (sym same)) (so_far script s some r.reached) step
+                (r.looked u made its (sym (ap (λ (x : Thread). x.place) now_at) ∙ place) (sym (ap (λ (x : Thread). op_at script u x.next) now_at) ∙ is_its)))
           ];
     }
 

@@ -20,7 +20,7 @@ use Rattle.script_ops.specs.declared.op.Op.{Op}
 use Rattle.script_ops.specs.declared.op.Op.TheVariants.{Access}
 use Rattle.step_world.specs.declared.place.Place.TheVariants.{Ready, Looking, Following, Tagged}
 use Rattle.tree_law.specs.Steps.{needs}
-use Rattle.schedule_law.specs.Parts.{Again, AreReached, Begin, Decide, Follow, Label, Look, PartValue, Pass, Take, Touch, opening_parts, part_after, phase_part, slice_part, thread_part, tree_part}
+use Rattle.schedule_law.specs.Parts.{Again, AreReached, Begin, Decide, End, Follow, Label, Look, PartValue, Pass, Take, Touch, opening_parts, part_after, phase_part, slice_part, thread_part, tree_part}
 use Rattle.schedule_law.specs.Schedules.{IsScheduled}
 use Rattle.step_world.specs.Machine.{HasEnded}
 use Rattle.step_world.specs.declared.place.Thread.{Thread}
@@ -97,23 +97,20 @@ AgainMayHappen script =
 -- the phase of a thread is found to have begun
 abbrev pub BeginMayHappen : ScriptValue → Type 0
 BeginMayHappen script =
-    (p t : ℕ) (v : Thread) (begun : Bool) (found : List ℕ) → phase_in script.phases t ≤ p
-    → MayHappen (AreReached script) part_after Begin (phase_part p ∷ thread_part t v begun found ∷ [])
+    (p ended t : ℕ) (v : Thread) (begun : Bool) (found : List ℕ) → phase_in script.phases t ≤ p
+    → MayHappen (AreReached script) part_after Begin (phase_part p ended ∷ thread_part t v begun found ∷ [])
 
--- a thread of whose end these parts know
-pub record IsEndedIn (script : ScriptValue) (t : ℕ) (parts : List (ℕ × PartValue)) : Type 0 where
-  pub place : ℕ
-  pub thread : Thread
-  pub begun : Bool
-  pub found : List ℕ
-  pub there : At parts place (thread_part t thread begun found)
-  pub ended : HasEnded script t thread
+-- a thread is found to be at its end, after all threads before it
+abbrev pub EndMayHappen : ScriptValue → Type 0
+EndMayHappen script =
+    (p t : ℕ) (v : Thread) (begun : Bool) (found : List ℕ) → HasEnded script t v
+    → MayHappen (AreReached script) part_after End (phase_part p t ∷ thread_part t v begun found ∷ [])
 
--- all threads of a phase are at their ends: the next one begins
+-- all threads of a phase were found to be at their ends: the next one begins
 abbrev pub PassMayHappen : ScriptValue → Type 0
 PassMayHappen script =
-    (p : ℕ) (parts : List (ℕ × PartValue)) → ((t : ℕ) → phase_in script.phases t ≡ p → IsEndedIn script t parts)
-    → MayHappen (AreReached script) part_after Pass (phase_part p ∷ parts)
+    (p ended : ℕ) → ((t : ℕ) → phase_in script.phases t ≡ p → t < ended)
+    → MayHappen (AreReached script) part_after Pass (phase_part p ended ∷ [])
 
 pub record AllMayHappen (script : ScriptValue) : Type 0 where
   pub take : TakeMayHappen script
@@ -124,6 +121,7 @@ pub record AllMayHappen (script : ScriptValue) : Type 0 where
   pub touch : TouchMayHappen script
   pub again : AgainMayHappen script
   pub begin : BeginMayHappen script
+  pub ends : EndMayHappen script
   pub pass : PassMayHappen script
 
 -- each step that a live thread takes may happen to its parts
@@ -145,8 +143,8 @@ SlicesHaveRoom =
 -- the parts that are left when the last phase is over have journals that are scheduled
 abbrev pub StatesClose : Type 0
 StatesClose =
-    (script : ScriptValue) (journals : JournalsValue) (holder : Option ℕ) (p : ℕ) (at : ℕ → PartValue) → 0 < script.machine.slices → length script.phases ≤ p
+    (script : ScriptValue) (journals : JournalsValue) (holder : Option ℕ) (p ended : ℕ) (at : ℕ → PartValue) → 0 < script.machine.slices → length script.phases ≤ p
     → length journals.slices ≡ slice_count script.machine
-    → AreReached script at → Fits at (tree_part journals.tree holder ∷ phase_part p ∷ [])
+    → AreReached script at → Fits at (tree_part journals.tree holder ∷ phase_part p ended ∷ [])
     → ((i : ℕ) → i < slice_count script.machine → Fits at (slice_part i (slice_at journals i) ∷ []))
     → IsScheduled script journals

@@ -1,4 +1,5 @@
 pub mod Law
 pub mod LiveParts
+pub mod LiveSteps
 pub mod Parts
 pub mod Schedules

@@ -1,5 +1,5 @@
 -- The parts of the machine's state, and what happens to them.
-use Rattle.std.specs.Prelude.{List, None, Option, Some, true, false, Bool, [], if◌then◌else◌, length, ℕ, zero, suc, ◌++◌, ◌+◌, ◌*◌, ◌∷◌, ◌≡◌, ◌≤◌}
+use Rattle.std.specs.Prelude.{List, None, Option, Some, true, false, Bool, [], if◌then◌else◌, length, ℕ, zero, suc, ◌++◌, ◌+◌, ◌*◌, ◌<◌, ◌∷◌, ◌≡◌, ◌≤◌}
 use Rattle.cache_core.specs.declared.entry.SliceEntry.{SliceEntry}
 use Rattle.cache_core.specs.declared.entry.What.{What}
 use Rattle.cache_core.specs.declared.entry.What.TheVariants as whats
@@ -11,7 +11,7 @@ use Rattle.run_law.specs.TreeHistory.{TreeEntryValue}
 use Rattle.script_ops.specs.Values.{ScriptValue, op_at, threads_of}
 use Rattle.script_ops.specs.declared.op.Op.{Op}
 use Rattle.step_world.specs.Looked.{HasLooked}
-use Rattle.step_world.specs.Machine.{Event, IsOpening, MachineValue, Plays, opening_thread, thread_at}
+use Rattle.step_world.specs.Machine.{Event, HasEnded, IsOpening, MachineValue, Plays, opening_thread, thread_at}
 use Rattle.step_world.specs.declared.place.Place.{Place}
 use Rattle.step_world.specs.declared.place.Place.TheVariants.{Ready, Looking, Following, Tagged}
 use Rattle.step_world.specs.declared.place.Thread.{Thread}
@@ -21,7 +21,7 @@ pub data PartValue : Type 0 where
   Tree : List TreeEntryValue → Option ℕ → PartValue  -- the tree's journal, and who holds the tree
   Slice : List SliceEntry → PartValue  -- the journal of a slice
   Worker : Thread → Bool → List ℕ → PartValue  -- where a thread is, whether its phase is known to have begun, and what its looks found
-  Phase : ℕ → PartValue  -- the number of the present phase
+  Phase : ℕ → ℕ → PartValue  -- the number of the present phase, and of the first thread that is not known to be at its end
 
 -- what happens; where the flag is set nothing follows the command
 pub data HappeningValue : Type 0 where
@@ -33,6 +33,7 @@ pub data HappeningValue : Type 0 where
   Touch : SliceEntry → HappeningValue
   Again : HappeningValue
   Begin : HappeningValue
+  End : HappeningValue
   Pass : HappeningValue
 
 -- the numbers of the parts: 0 is the tree, 1 the phase, then slices and threads in turn
@@ -49,19 +50,21 @@ pub record IsReached (script : ScriptValue) (s : MachineValue) : Type 0 where
   pub opening : IsOpening script first
   pub plays : Plays script events first s
 
--- A state that can be reached, in parts. Where a thread's phase is said to have begun it has, and where its command looks it has
--- found these numbers.
+-- A state that can be reached, in parts. Where a thread's phase is said to have begun it has, where its command looks it has found
+-- these numbers, and the threads that are said to be at their ends are there.
 pub record AreReached (script : ScriptValue) (at : ℕ → PartValue) : Type 0 where
   pub state : MachineValue
   pub reached : IsReached script state
   pub count : length state.threads ≡ length (threads_of script)
   pub begun : ℕ → Bool
   pub found : ℕ → List ℕ
+  pub ended : ℕ
   pub tree : at 0 ≡ Tree state.journals.tree state.holder
-  pub phase : at 1 ≡ Phase state.phase
+  pub phase : at 1 ≡ Phase state.phase ended
   pub slices : (i : ℕ) → at (number_of_slice i) ≡ Slice (slice_at state.journals i)
   pub threads : (t : ℕ) → at (number_of_thread t) ≡ Worker (thread_at state t) (begun t) (found t)
   pub begins : (t : ℕ) → begun t ≡ true → phase_in script.phases t ≤ state.phase
+  pub ends : (t : ℕ) → t < ended → HasEnded script t (thread_at state t)
   pub looked : (t made : ℕ) (op : Op) → (thread_at state t).place ≡ Looking made → op_at script t (thread_at state t).next ≡ Some op → HasLooked script state t op (found t)
 
 -- ---- what happens to a part
@@ -88,6 +91,7 @@ thread_after (Label tag) v = moved v (Tagged tag)
 thread_after (Touch e) v = done v
 thread_after Again v = moved v Ready
 thread_after Begin v = v
+thread_after End v = v
 thread_after Pass v = v
 
 abbrev pub history_after : HappeningValue → List TreeEntryValue → List TreeEntryValue
@@ -127,11 +131,16 @@ abbrev pub phase_after : HappeningValue → ℕ → ℕ
 phase_after Pass n = n + 1
 phase_after e n = n
 
+-- the first thread that is not known to be at its end
+abbrev pub ended_after : HappeningValue → ℕ → ℕ
+ended_after End n = n + 1
+ended_after e n = n
+
 abbrev pub part_after : HappeningValue → ℕ → PartValue → PartValue
 part_after e k (Tree history holder) = Tree (history_after e history) (holder_after e holder)
 part_after e k (Slice list) = Slice (list_after e list)
 part_after e k (Worker thread begun found) = Worker (thread_after e thread) (begun_after e begun) (found_after e found)
-part_after e k (Phase number) = Phase (phase_after e number)
+part_after e k (Phase number ended) = Phase (phase_after e number) (ended_after e ended)
 
 -- a part with its number
 abbrev pub tree_part : List TreeEntryValue → Option ℕ → ℕ × PartValue
@@ -143,8 +152,8 @@ slice_part i list = (number_of_slice i, Slice list)
 abbrev pub thread_part : ℕ → Thread → Bool → List ℕ → ℕ × PartValue
 thread_part t v begun found = (number_of_thread t, Worker v begun found)
 
-abbrev pub phase_part : ℕ → ℕ × PartValue
-phase_part p = (1, Phase p)
+abbrev pub phase_part : ℕ → ℕ → ℕ × PartValue
+phase_part p ended = (1, Phase p ended)
 
 -- ---- the start
 
@@ -159,4 +168,4 @@ thread_parts t (suc n) = thread_part t opening_thread false [] ∷ thread_parts 
 
 -- all parts before the first step
 abbrev pub opening_parts : ScriptValue → List (ℕ × PartValue)
-opening_parts script = tree_part [] None ∷ phase_part 0 ∷ slice_parts 0 (slice_count script.machine) ++ thread_parts 0 (length (threads_of script))
+opening_parts script = tree_part [] None ∷ phase_part 0 0 ∷ slice_parts 0 (slice_count script.machine) ++ thread_parts 0 (length (threads_of script))

@@ -2,10 +2,14 @@
 //! machine of steps as a state that threads share.
 #![tactic(auto)]
 
+pub mod accesses;
+pub mod commands;
 pub mod machine_of;
 pub mod part;
+pub mod phases;
 pub mod sharing;
 pub mod theorems;
 
 pub use machine_of::MachineOf;
 pub use part::{Happening, Part};
+pub use sharing::Parts;

@@ -22,9 +22,10 @@ pub enum Part {
         begun: bool,
         found: LinkedList<u64>,
     },
-    /// The number of the present phase.
+    /// The number of the present phase, and of the first thread that is not known to be at its end.
     Phase {
         number: u64,
+        ended: u64,
     },
 }
 
@@ -62,6 +63,8 @@ pub enum Happening {
     Again,
     /// The phase of a thread is found to have begun.
     Begin,
+    /// A thread is found to be at its end, after all threads before it.
+    End,
     /// The next phase begins.
     Pass,
 }

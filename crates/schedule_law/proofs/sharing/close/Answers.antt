@@ -1,5 +1,5 @@
 use Rattle.schedule_law.proofs.LiveEndings.{leaves_scheduled}
 use Rattle.schedule_law.proofs.sharing.close.Goals as goal
 
-pub returns : goal.returns
-returns g c = leaves_scheduled g.N.Named.script c.args.all.now.parts c.know.ensures.reached
+pub returns-clause-scheduled : goal.returns-clause-scheduled
+returns-clause-scheduled g c = leaves_scheduled g.N.Named.script c.args.all.now.parts c.know.ensures.reached

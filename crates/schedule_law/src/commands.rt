@@ -1,0 +1,94 @@
+//! The steps of a command, on the parts that its thread and the locks have.
+ghost use Rattle.std.specs.Prelude.{◌≡◌, ◌<◌, [], ◌++◌};
+ghost use Rattle.schedule_law.specs.LiveParts.{after};
+ghost use Rattle.schedule_law.specs.LiveSteps.{MayDecide, MayFollow, MayLetGo, MayLook, MayTake};
+ghost use Rattle.schedule_law.specs.declared.part.Happening.TheVariants.{Decide, Follow, Look, Take};
+ghost use Rattle.shared_parts.specs.Parts.{first_of, parts_after, rest_of};
+ghost use Rattle.shared_parts.specs.Words.{word_of};
+
+use crate::machine_of::Named;
+use crate::part::Happening;
+use crate::sharing::Parts;
+use cache_core::SliceEntry;
+use run_law::TreeEntry;
+
+/// The command of a thread takes the tree, which is free, under its lock. The thread has the tree's part, before its own.
+pub fn take<N: Named>(tree: &mut Parts<N>, worker: &mut Parts<N>, lock: usize, thread: u64)
+    requires table { tree.old.table ≡ worker.old.table }
+    requires lock { word_of lock < worker.old.table.words }
+    requires may { MayTake N.script tree.old.parts worker.old.parts thread }
+    ensures table { (tree.new.table ≡ tree.old.table) × (worker.new.table ≡ worker.old.table) }
+    ensures tree { tree.new.parts ≡ [] }
+    ensures worker { worker.new.parts ≡ parts_after after (Take thread) (tree.old.parts ++ worker.old.parts) }
+{
+    worker.absorb(tree);
+    worker.step(lock, &Happening::Take { thread });
+}
+
+/// It looks in a slice, under its lock, and the slice has the entry last.
+pub fn look<N: Named>(slice: &mut Parts<N>, worker: &mut Parts<N>, lock: usize, entry: SliceEntry)
+    requires table { slice.old.table ≡ worker.old.table }
+    requires lock { word_of lock < worker.old.table.words }
+    requires may { MayLook N.script slice.old.parts worker.old.parts entry }
+    ensures table { (slice.new.table ≡ slice.old.table) × (worker.new.table ≡ worker.old.table) }
+    ensures slice { slice.new.parts ≡ parts_after after (Look entry) slice.old.parts }
+    ensures worker { worker.new.parts ≡ parts_after after (Look entry) worker.old.parts }
+{
+    worker.step_with(lock, slice, &Happening::Look { entry });
+}
+
+/// It is decided after so many looks, and the entry, which is given back, goes last in the tree's history. Where nothing follows it,
+/// the tree is let go.
+pub fn decide<N: Named>(
+    worker: &mut Parts<N>,
+    lock: usize,
+    command: TreeEntry,
+    last: bool,
+    made: u64,
+) -> TreeEntry
+    requires lock { word_of lock < worker.old.table.words }
+    requires may { MayDecide N.script worker.old.parts command last made }
+    ensures table { worker.new.table ≡ worker.old.table }
+    ensures worker { worker.new.parts ≡ parts_after after (Decide command last made) worker.old.parts }
+    ensures command { result ≡ command }
+{
+    let happening = Happening::Decide {
+        command,
+        last,
+        made,
+    };
+    worker.step(lock, &happening);
+    let Happening::Decide { command, .. } = happening else {
+        unreachable!()
+    };
+    command
+}
+
+/// What follows it is done in a slice, under its lock, and the slice has the entry last. After the last one the tree is let go.
+pub fn follow<N: Named>(
+    slice: &mut Parts<N>,
+    worker: &mut Parts<N>,
+    lock: usize,
+    entry: SliceEntry,
+    last: bool,
+)
+    requires table { slice.old.table ≡ worker.old.table }
+    requires lock { word_of lock < worker.old.table.words }
+    requires may { MayFollow N.script slice.old.parts worker.old.parts entry last }
+    ensures table { (slice.new.table ≡ slice.old.table) × (worker.new.table ≡ worker.old.table) }
+    ensures slice { slice.new.parts ≡ parts_after after (Follow entry last) slice.old.parts }
+    ensures worker { worker.new.parts ≡ parts_after after (Follow entry last) worker.old.parts }
+{
+    worker.step_with(lock, slice, &Happening::Follow { entry, last });
+}
+
+/// The thread, whose command has let the tree go, gives its part back to the share under the tree's lock.
+pub fn release<N: Named>(tree: &mut Parts<N>, worker: &mut Parts<N>)
+    requires table { tree.old.table ≡ worker.old.table }
+    requires may { MayLetGo tree.old.parts worker.old.parts }
+    ensures table { (tree.new.table ≡ tree.old.table) × (worker.new.table ≡ worker.old.table) }
+    ensures tree { tree.new.parts ≡ first_of worker.old.parts }
+    ensures worker { worker.new.parts ≡ rest_of worker.old.parts }
+{
+    worker.hand_first(tree);
+}
