@@ -6,9 +6,9 @@ use Rattle.std.proofs.lemmas.Bool.{cases_Bool, eqb-true}
 use Rattle.std.proofs.lemmas.List.{take_all, take-append-drop, take-append-le}
 use Rattle.lackey_text.specs.declared.line.LackeyLine.{LackeyLine}
 use Rattle.lackey_text.specs.declared.uses.LineUse.{LineUse}
-use Rattle.trace_curves.proofs.FirstLines.{IsOpen-more, IsOpen-nil, lines-last, lines-newline}
-use Rattle.trace_curves.specs.Reading.{IsGood, IsOpen, TraceValue}
-use Rattle.trace_curves.specs.TraceTexts.{said_of, uses_from, uses_with}
+use Rattle.way_curve.proofs.FirstLines.{IsOpen-more, IsOpen-nil, lines-last, lines-newline}
+use Rattle.way_curve.specs.Reading.{IsGood, IsOpen, TraceValue}
+use Rattle.way_curve.specs.TraceTexts.{said_of, uses_from, uses_with}
 use Rattle.plan_top.specs.Beginnings.{HasNoBadLine}
 
 -- what follows a newline has lines of its own

@@ -1,6 +1,6 @@
 -- Beginnings of a trace.
 use Rattle.std.specs.Prelude.{◌≡◌, ℕ, List, [], ◌∷◌, ◌++◌, IsOk}
-use Rattle.trace_curves.specs.TraceTexts.{trace_of}
+use Rattle.way_curve.specs.TraceTexts.{trace_of}
 
 -- No line of these bytes that has ended is bad: each beginning of them that ends with a newline is a trace.
 abbrev pub HasNoBadLine : List ℕ → Type 0

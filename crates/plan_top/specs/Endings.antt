@@ -13,7 +13,7 @@ use Rattle.plan_top.specs.declared.form.Form.{Form}
 use Rattle.plan_top.specs.declared.form.Form.TheVariants.{Curve, Divide}
 use Rattle.script_ops.specs.declared.limits.TheConstants.{MOST_SCRIPT_BYTES}
 use Rattle.top_parts.specs.Meaning.{meaning}
-use Rattle.trace_curves.specs.TraceTexts.{trace_of}
+use Rattle.way_curve.specs.TraceTexts.{trace_of}
 
 -- ---- the status that is due
 

@@ -1,6 +1,5 @@
 -- What the words after the program's name ask for: `curve SETS WAYS` or `divide`.
 use Rattle.std.specs.Prelude.{ℕ, ◌+◌, ◌==◌, if◌then◌else◌, List, [], ◌∷◌, ◌++◌, codes, string_bytes, String, Option, Some, None, option_map}
-use Rattle.std.specs.Int.{is_power_of_two}
 use Rattle.std.specs.Option.{option_and_then}
 use Rattle.std.specs.declared.alloc.Global.{Global}
 use Rattle.num_text.specs.Numbers.{below, dec_of}
@@ -10,9 +9,9 @@ use Rattle.plan_top.specs.declared.form.Form.{Form}
 use Rattle.plan_top.specs.declared.form.Form.TheVariants.{Curve, Divide}
 use Rattle.plan_top.specs.declared.limits.TheConstants.{MOST_SETS, MOST_WAYS}
 
--- a number of sets: a power of two up to the most, in decimal digits
+-- a number of sets: from 1 to the most, in decimal digits
 abbrev pub sets_in : List ℕ → Option ℕ
-sets_in text = option_and_then (λ n. if is_power_of_two n then Some n else None) (below (MOST_SETS + 1) (dec_of text))
+sets_in text = option_and_then (λ n. if n == 0 then None else Some n) (below (MOST_SETS + 1) (dec_of text))
 
 -- a number of ways: from 1 to the most, in decimal digits
 abbrev pub ways_in : List ℕ → Option ℕ

@@ -5,9 +5,9 @@ use Rattle.run_law.specs.Journals.{JournalsValue}
 use Rattle.run_law.specs.Runs.{IsRun}
 use Rattle.script_ops.specs.Values.{ScriptValue}
 use Rattle.step_world.specs.Play.{IsPlay}
-use Rattle.trace_curves.specs.TraceTexts.{trace_of}
-use Rattle.curve_report.specs.CurveTexts.{bad_line_text, report_of}
-use Rattle.plan_report.specs.Planned.{TellsPlan}
+use Rattle.way_curve.specs.TraceTexts.{trace_of}
+use Rattle.way_curve.specs.CurveTexts.{bad_line_text, report_of}
+use Rattle.way_plans.specs.Planned.{TellsPlan}
 use Rattle.top_parts.specs.Meaning.{meaning, refusal_line}
 use Rattle.top_parts.specs.declared.refusal.Refusal.{Refusal}
 use Rattle.plan_top.specs.CurveForms.{CurveWords}

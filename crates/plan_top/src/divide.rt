@@ -8,13 +8,13 @@ ghost use Rattle.script_ops.specs.declared.limits.TheConstants.{MOST_SCRIPT_BYTE
 ghost use Rattle.top_parts.specs.Meaning.{meaning};
 
 use call_rim::{Ended, Performed, Program, call};
-use plan_report::{plan_of, plan_report};
 use rc_base::NoMemory;
 use rc_stream::{Sink, Source};
 use script_ops::{MOST_SCRIPT_BYTES, Script};
 use std::alloc::Global;
 use step_world::play;
 use top_parts::{InputError, Refusal, line_of, script_in};
+use way_plans::{plan_of, plan_report};
 
 // Has a script played, and tells the plan of it.
 #[derive(Drop)]

@@ -1,6 +1,5 @@
 //! What the words after the program's name ask for.
-ghost use Rattle.std.specs.Prelude.{◌≡◌, ◌≤◌, IsTrue};
-ghost use Rattle.std.specs.Int.{is_power_of_two};
+ghost use Rattle.std.specs.Prelude.{◌≡◌, ◌<◌, ◌≤◌};
 
 use std::marker::Model;
 
@@ -13,7 +12,7 @@ pub enum Form {
     Divide,
 }
 
-/// What `curve SETS WAYS` asks for: the hits of caches of so many sets, a power of two, with each number of ways up to this one.
+/// What `curve SETS WAYS` asks for: the hits of caches of so many sets, 1 at least, with each number of ways up to this one.
 #[derive(Drop)]
 pub struct CurveForm {
     sets: u32,
@@ -33,17 +32,17 @@ impl Model for CurveForm {
 impl CurveForm {
     /// What these numbers ask for.
     pub fn new(sets: u32, ways: u8) -> CurveForm
-        requires power { IsTrue (is_power_of_two sets) }
+        requires some { 0 < sets }
         requires few { ways ≤ 32 }
         ensures { result ≡ record { sets = sets; ways = ways } }
     {
         CurveForm { sets, ways }
     }
 
-    /// How many sets the caches have: a power of two.
+    /// How many sets the caches have, 1 at least.
     pub fn sets(&self) -> u32
         ensures sets { result ≡ self.now.sets }
-        ensures power { IsTrue (is_power_of_two result) }
+        ensures some { 0 < result }
     {
         self.sets
     }

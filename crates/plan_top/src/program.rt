@@ -2,20 +2,21 @@
 ghost use Rattle.std.specs.Prelude.{◌≡◌, ◌≤◌, ℕ, List, IfOk, Err};
 ghost use Rattle.call_rim.specs.Performing.{Performs};
 ghost use Rattle.lackey_text.specs.declared.uses.LineUse.{LineUse as Use};
-ghost use Rattle.trace_curves.specs.Counting.{HaveCounted};
-ghost use Rattle.trace_curves.specs.Reading.{AreOf, HasRead};
-ghost use Rattle.trace_curves.specs.TraceTexts.{trace_of};
-ghost use Rattle.curve_report.specs.CurveTexts.{bad_line_text, report_of};
+ghost use Rattle.way_curve.specs.Counting.{HaveCounted};
+ghost use Rattle.way_curve.specs.Reading.{AreOf, HasRead};
+ghost use Rattle.way_curve.specs.TraceTexts.{trace_of};
+ghost use Rattle.way_curve.specs.CurveTexts.{bad_line_text, report_of};
 ghost use Rattle.plan_top.specs.Beginnings.{HasNoBadLine};
 ghost use Rattle.plan_top.specs.CurveForms.{CurveWords};
 ghost use Rattle.plan_top.specs.Plans.{RefusesTrace, reports_of};
 
 use crate::form::CurveForm;
 use call_rim::{Performed, StreamProgram, Taken};
-use curve_report::{MOST_REFUSAL_BYTES, MOST_REPORT_BYTES, push_bad_line, push_report};
 use rc_base::{NoMemory, TextBuf};
 use std::alloc::Global;
-use trace_curves::{BadTrace, Trace, UseCurves};
+use way_curve::{
+    BadTrace, MOST_REFUSAL_BYTES, MOST_REPORT_BYTES, Trace, UseCurves, push_bad_line, push_report,
+};
 
 // The report of curves, for each number of ways up to this one.
 fn report(alloc: Global, curves: &UseCurves, ways: u8) -> Result<Vec<u8>, NoMemory>

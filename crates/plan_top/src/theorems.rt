@@ -7,7 +7,7 @@ ghost use Rattle.way_curve.specs.declared.recent_lines.TheConstants.{MOST_WAYS a
 
 /// The limits are these numbers (this project's profile). Every other clause cites a limit by its name.
 pub fn limits_are_stated()
-    ensures sets { MOST_SETS ≡ 65_536 }
+    ensures sets { MOST_SETS ≡ 1_048_576 }
     ensures ways { MOST_WAYS ≡ 32 }
     ensures curve_ways { MOST_CURVE_WAYS ≡ 32 }
     ensures usage { USAGE.now ≡ usage_line }

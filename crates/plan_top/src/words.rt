@@ -1,6 +1,5 @@
 //! The words after the program's name.
-ghost use Rattle.std.specs.Prelude.{◌≡◌, ◌≤◌, IfSome, IsTrue, option_map};
-ghost use Rattle.std.specs.Int.{is_power_of_two};
+ghost use Rattle.std.specs.Prelude.{◌≡◌, ◌<◌, ◌≤◌, IfSome, option_map};
 ghost use Rattle.plan_top.specs.Forms.{curve_in, form_of as form_in, sets_in, usage_line, ways_in};
 ghost use Rattle.plan_top.specs.declared.form.Form.TheVariants.{Curve};
 
@@ -15,10 +14,10 @@ pub const USAGE: &str = "usage: resctrl_plan curve SETS WAYS | divide\n";
 // The number of sets that a word is.
 fn sets_of(text: &[u8]) -> Option<u32>
     ensures said { result ≡ sets_in text.now }
-    ensures power { IfSome result (λ n. IsTrue (is_power_of_two n)) }
+    ensures some { IfSome result (λ n. 0 < n) }
 {
     match read_dec(text) {
-        Some(n) if n <= MOST_SETS && n.is_power_of_two() => Some(n as u32),
+        Some(n) if 1 <= n && n <= MOST_SETS => Some(n as u32),
         _ => None,
     }
 }

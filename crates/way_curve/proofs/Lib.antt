@@ -1,7 +1,15 @@
 mod Alive
+pub mod Appends
+pub mod Counts
+pub mod CurveLines
 mod CurveSteps
+pub mod FewUses
+pub mod FirstLines
 mod Fronts
 mod Powers
-mod Shifted
 mod SetHits
+mod Shifted
+pub mod Steps
 mod Totals
+pub mod UseLists
+pub mod UsesFrom

@@ -1,7 +1,7 @@
 -- Numbers that are powers of two.
-use Rattle.std.proofs.Common.{◌≡◌, ℕ, ◌-◌, ◌%◌, ◌<◌, bit_and, true, ap, subst, sym, ◌∙◌}
+use Rattle.std.proofs.Common.{◌≡◌, ℕ, ◌-◌, ◌%◌, bit_and, true, ap, sym, ◌∙◌}
 use Rattle.std.specs.Int.{is_power_of_two}
-use Rattle.std.proofs.lemmas.Nat.{and_mask, pow_pos}
+use Rattle.std.proofs.lemmas.Nat.{and_mask}
 use Rattle.std.proofs.lemmas.Bool.{eqb-true}
 use Rattle.lists.proofs.Powers.{count_ones-one}
 
@@ -10,9 +10,3 @@ pub and-below_power : (n power : ℕ) → is_power_of_two power ≡ true → bit
 and-below_power n power is =
     let k = count_ones-one power (eqb-true _ 1 is) in
     ap (λ (p : ℕ). bit_and n (p - 1)) k.1 ∙ (and_mask n k.0 ∙ ap (λ (p : ℕ). n % p) (sym k.1))
-
--- it is not 0
-pub power-positive : (power : ℕ) → is_power_of_two power ≡ true → 0 < power
-power-positive power is =
-    let k = count_ones-one power (eqb-true _ 1 is) in
-    subst (λ (p : ℕ). 0 < p) (sym k.1) (pow_pos k.0)

@@ -1,7 +1,6 @@
 -- Which lists of uses a curve has counted, and what a use adds.
 -- (For functions and proofs: no promise of the program stands on it.)
-use Rattle.std.specs.Prelude.{◌≡◌, ℕ, ◌^◌, ◌<◌, ◌≤◌, List, [], ◌∷◌, ◌++◌, length, reverse, take, sum, slice_index_or, IsTrue}
-use Rattle.std.specs.Int.{is_power_of_two}
+use Rattle.std.specs.Prelude.{◌≡◌, ℕ, ◌^◌, ◌<◌, ◌≤◌, List, [], ◌∷◌, ◌++◌, length, reverse, take, sum, slice_index_or}
 use Rattle.private_lru.specs.Private.{alive}
 use Rattle.way_curve.specs.Curves.{uses_of_set, set_hits_of}
 
@@ -23,8 +22,8 @@ pub record IsCurve (curve : CurveValue) (lines : List ℕ) : Type 0 where
 abbrev pub AddsUse : CurveValue → CurveValue → ℕ → Type 0
 AddsUse old new line = (lines : List ℕ) → IsCurve old lines → IsCurve new (lines ++ line ∷ [])
 
--- a curve's parts: the sets are as many as a power of two, and no more uses came at some distance than there are
+-- a curve's parts: there is a set, and no more uses came at some distance than there are
 pub record IsKept (sets uses : ℕ) (at_distance : List ℕ) : Type 0 where
-  pub power : IsTrue (is_power_of_two sets)
+  pub some : 0 < sets
   pub within : sum at_distance ≤ uses
   pub fits : uses < 2 ^ 64

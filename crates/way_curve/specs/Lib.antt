@@ -1,5 +1,9 @@
+pub mod Counting
+pub mod CurveTexts
 pub mod Curves
 pub mod Distances
 pub mod IsCurve
 pub mod Laws
+pub mod Reading
 pub mod Shifts
+pub mod TraceTexts

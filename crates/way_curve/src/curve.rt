@@ -1,6 +1,5 @@
 //! The curve of the hits by ways.
-ghost use Rattle.std.specs.Prelude.{◌≡◌, ℕ, ◌+◌, ◌-◌, ◌^◌, ◌<◌, ◌≤◌, ◌%◌, List, [], replicate, IsTrue, IfOk};
-ghost use Rattle.std.specs.Int.{is_power_of_two};
+ghost use Rattle.std.specs.Prelude.{◌≡◌, ℕ, ◌+◌, ◌-◌, ◌^◌, ◌<◌, ◌≤◌, ◌%◌, List, [], replicate, IfOk};
 ghost use Rattle.way_curve.specs.Curves.{set_hits_of};
 ghost use Rattle.way_curve.specs.IsCurve.{AddsUse, IsCurve};
 
@@ -35,10 +34,10 @@ impl Model for Curve {
 }
 
 impl Curve {
-    /// A curve of no uses, for caches of so many sets: a power of two, up to 65,536 in a machine. NoMemory where the allocator
-    /// gives no room for the last lines of each set, which take 264 bytes. No other call takes memory.
+    /// A curve of no uses, for caches of so many sets, 1 at least. NoMemory where the allocator gives no room for the last lines
+    /// of each set, which take 264 bytes. No other call takes memory.
     pub fn create(alloc: Global, sets: u32) -> Result<Curve, NoMemory>
-        requires { IsTrue (is_power_of_two sets) }
+        requires { 0 < sets }
         ensures sets { IfOk result (λ c. c.sets ≡ sets) }
         ensures uses { IfOk result (λ c. c.uses ≡ 0) }
         ensures empty { IfOk result (λ c. IsCurve c []) }
@@ -91,12 +90,17 @@ impl Curve {
     }
 }
 
-// The set of a line, where there are as many as a power of two, so that nothing is divided.
+// The set of a line. Where there are as many as a power of two nothing is divided.
 fn set_of(sets: usize, line: u64) -> usize
-    requires { IsTrue (is_power_of_two sets) }
+    requires { 0 < sets }
     ensures { result ≡ line % sets }
 {
-    (line & (sets as u64 - 1)) as usize
+    let sets = sets as u64;
+    if sets.is_power_of_two() {
+        (line & (sets - 1)) as usize
+    } else {
+        (line % sets) as usize
+    }
 }
 
 // So many sets of which no line was used.

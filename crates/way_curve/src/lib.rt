@@ -1,4 +1,6 @@
-//! How many hits a private cache of each number of ways would have, counted in one pass over the lines that are used.
+//! How many hits a private cache of each number of ways would have, counted in one pass over the lines that are used (`Curve`); the
+//! same of a trace that Valgrind's lackey wrote, whose text comes in pieces (`Trace`); and the report of that. What is printed is
+//! added to a text that has room for it. A call that runs out of memory answers NoMemory.
 //!
 //! A cache of w ways that replaces the line used longest ago keeps the w lines used last of each set. So one list of the last
 //! 32 lines of a set serves every number of ways: a line at place d of the list hits with more than d ways, and with no fewer.
@@ -9,9 +11,25 @@
 #![tactic(auto)]
 
 pub mod curve;
+pub mod curves;
 mod distances;
+pub mod limits;
+mod numbers;
 mod recent_lines;
+pub mod refusal;
+pub mod report;
+pub mod report_limits;
+pub mod report_theorems;
+mod said;
 mod shifting;
 pub mod theorems;
+pub mod trace;
+pub mod trace_theorems;
 
 pub use curve::Curve;
+pub use curves::UseCurves;
+pub use limits::{MOST_LINE_BYTES, MOST_TRACE_BYTES};
+pub use refusal::push_bad_line;
+pub use report::push_report;
+pub use report_limits::{MOST_REFUSAL_BYTES, MOST_REPORT_BYTES};
+pub use trace::{BadTrace, Trace};

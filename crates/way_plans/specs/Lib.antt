@@ -1,1 +1,10 @@
+pub mod Divisions
+pub mod GroupLines
+pub mod Masks
+pub mod NoWays
+pub mod Noted
+pub mod PlanTexts
+pub mod Planned
 pub mod Plans
+pub mod Rows
+pub mod Values

@@ -2,7 +2,7 @@
 use Rattle.std.specs.Prelude.{ℕ, ◌-◌, Bool, false, not, ◌&&◌, nat_lt, List, map, filter, length, slice_index_or, Option, Some, None}
 use Rattle.std.specs.List.{range_with_len}
 use Rattle.cbm.specs.Masks.{has_way}
-use Rattle.group_curves.specs.GroupLines.{lines_of}
+use Rattle.way_plans.specs.GroupLines.{lines_of}
 use Rattle.group_tree.specs.declared.group.Group.{Group}
 use Rattle.machine.specs.declared.parameters.Parameters.{Parameters}
 use Rattle.pseudo_lock.specs.declared.region.Region.{Region}
@@ -12,8 +12,8 @@ use Rattle.script_ops.specs.Values.{ScriptValue}
 use Rattle.tree_law.specs.Counted.{is_counted}
 use Rattle.tree_law.specs.State.{State}
 use Rattle.way_curve.specs.Curves.{set_hits_of}
-use Rattle.way_division.specs.Divisions.{IsBestDivision, IsDivision}
-use Rattle.way_division.specs.declared.span.Span.{Span}
+use Rattle.way_plans.specs.Divisions.{IsBestDivision, IsDivision}
+use Rattle.way_plans.specs.declared.span.Span.{Span}
 
 -- the groups that get ways: the control groups that are shareable or exclusive, in order of creation and so of their gids
 abbrev pub planned : State → List Group

@@ -3,20 +3,19 @@ ghost use Rattle.std.specs.Prelude.{◌≡◌, ◌<◌, ◌≤◌, All, IfOk, If
 ghost use Rattle.run_law.specs.Runs.{IsRun};
 ghost use Rattle.run_law.specs.TreeHistory.{tree_after};
 ghost use Rattle.script_ops.specs.Values.{IsLawful};
-ghost use Rattle.way_division.specs.declared.limits.TheConstants.{MOST_GROUPS, MOST_MISSES};
-ghost use Rattle.way_division.specs.declared.span.Span.{Span};
+ghost use Rattle.way_plans.specs.declared.division_limits.TheConstants.{MOST_GROUPS, MOST_MISSES};
+ghost use Rattle.way_plans.specs.declared.span.Span.{Span};
 ghost use Rattle.way_plans.specs.Plans.{IsBestPlan, IsPlan, misses_in, planned};
 
 use crate::free::free_ways;
 use crate::rows::misses_of;
-use group_curves::group_curve;
+use crate::{MOST_WAYS, Span, divide, group_curve};
 use group_tree::Group;
 use rc_base::NoMemory;
 use run_law::Journals;
 use script_ops::Script;
 use std::alloc::Global;
 use tree_core::Tree;
-use way_division::{MOST_WAYS, Span, divide};
 
 /// What is planned for a domain.
 #[derive(Drop)]

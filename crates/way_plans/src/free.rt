@@ -4,11 +4,11 @@ ghost use Rattle.cbm.specs.Masks.{has_way};
 ghost use Rattle.machine.specs.Maps.{parameters_of};
 ghost use Rattle.way_plans.specs.Plans.{free_ways, is_free, is_locked};
 
+use crate::MOST_WAYS;
 use cbm::has_way;
 use machine::Machine;
 use pseudo_lock::Region;
 use tree_core::Tree;
-use way_division::MOST_WAYS;
 
 // Whether a region has a way.
 fn is_locked(region: Option<Region>, way: u8) -> bool

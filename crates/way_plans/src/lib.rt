@@ -1,13 +1,49 @@
 //! How the ways of each domain are best divided among the groups that a script leaves, by what each would have missed with each
-//! number of ways.
+//! number of ways, and the text of such a plan. A call that runs out of memory answers NoMemory.
+//!
+//! The curve of a group counts its accesses that the journals have since the last flush or lock of each slice, from where its
+//! windows begin too. What is flushed line by line in between is left out: the private caches of a curve only ever lose a line to
+//! another one.
+//!
+//! The groups get their ways in order, from way 0 up. For the groups from one on and the ways from one on, the fewest misses
+//! of all their divisions are known once they are known for the groups after it: the first of the groups gets some ways side by
+//! side, and the others what lies behind. So a table of as many rows as there are groups has the answer, in as many steps as
+//! there are groups, first ways and numbers of ways.
 #![tactic(auto)]
 
+mod choice;
+mod curves;
+mod division;
+pub mod division_limits;
+pub mod division_theorems;
+mod divisions;
 mod domain_plan;
+mod domain_uses;
+mod domains;
 mod final_tree;
 mod free;
 mod groups;
+pub mod limits;
+mod masks;
+pub mod plan;
+mod report;
+pub mod report_theorems;
+mod row;
 mod rows;
+mod schemata;
+mod slice_lines;
+mod span;
+mod table;
+pub mod theorems;
+mod writes;
 
+pub use division::divide;
+pub use division_limits::{MOST_GROUPS, MOST_MISSES, MOST_WAYS};
 pub use domain_plan::{DomainPlan, plan_domain};
+pub use domain_uses::group_curve;
 pub use final_tree::replay_all;
 pub use groups::planned_groups;
+pub use limits::MOST_USES;
+pub use plan::{Plan, plan_of};
+pub use report::plan_report;
+pub use span::Span;

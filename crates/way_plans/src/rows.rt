@@ -3,8 +3,8 @@ ghost use Rattle.std.specs.Prelude.{◌≡◌, ℕ, List};
 ghost use Rattle.way_curve.specs.IsCurve.{IsCurve};
 ghost use Rattle.way_plans.specs.Plans.{misses_of};
 
+use crate::MOST_WAYS;
 use way_curve::Curve;
-use way_division::MOST_WAYS;
 
 /// What misses with each number of ways, from 0 to 32.
 pub(crate) fn misses_of(curve: &Curve) -> [u64; MOST_WAYS + 1]

@@ -18,6 +18,15 @@ ways 1: accesses 1 hits 0 misses 1
 ways 2: accesses 1 hits 0 misses 1
 ";
 
+// In caches of three sets each of the three lines is alone in its own.
+const REPORT_OF_THREE_SETS: &[u8] = b"data and code:
+ways 1: accesses 7 hits 4 misses 3
+data:
+ways 1: accesses 6 hits 3 misses 3
+code:
+ways 1: accesses 1 hits 0 misses 1
+";
+
 const PIECES: [usize; 3] = [1, 7, 4096];
 
 #[test]
@@ -27,6 +36,9 @@ fn traces_have_their_curves(rt: HostRuntime) -> Result<(), Fail> {
         assert_eq!(rt; status, Status::Done);
         assert_eq!(rt; taken.as_slice(), REPORT);
     }
+    let (status, taken) = told_by(rt.alloc(), &["curve", "3", "1"], TRACE, 64, &[])?;
+    assert_eq!(rt; status, Status::Done);
+    assert_eq!(rt; taken.as_slice(), REPORT_OF_THREE_SETS);
     Ok(())
 }
 
@@ -64,8 +76,8 @@ fn what_is_no_trace_is_told(rt: HostRuntime) -> Result<(), Fail> {
 }
 
 const NO_FORMS: [&[&str]; 10] = [
-    &["curve", "3", "1"],
-    &["curve", "131072", "1"],
+    &["curve", "1048577", "1"],
+    &["curve", "4294967297", "1"],
     &["curve", "0", "1"],
     &["curve", "1", "0"],
     &["curve", "1", "33"],

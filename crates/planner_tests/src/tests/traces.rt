@@ -5,13 +5,13 @@ ghost use Rattle.std.specs.Prelude.{◌≡◌, IfOk};
 use rc_base::NoMemory;
 use std::alloc::Global;
 use std::test::Fail;
-use trace_curves::{BadTrace, Trace};
+use way_curve::{BadTrace, Trace};
 
-// A trace for caches of so many sets, a power of two.
+// A trace for caches of so many sets, 1 at least.
 fn trace_of(alloc: Global, sets: u32) -> Result<Trace, NoMemory>
     ensures { IfOk result (λ t. t.bytes ≡ 0) }
 {
-    if !sets.is_power_of_two() {
+    if sets == 0 {
         return Err(NoMemory);
     }
     Trace::create(alloc, sets)

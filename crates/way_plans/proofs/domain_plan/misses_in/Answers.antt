@@ -1,7 +1,7 @@
 use Rattle.std.proofs.Common.{◌≡◌, ℕ, ◌^◌, ◌≤◌, List, [], ◌∷◌, ◌++◌, length, take, get_or, sym, subst, ap, ◌∙◌, arith}
 use Rattle.std.specs.Prelude.{All}
 use Rattle.std.proofs.lemmas.List.Elements.{All-push}
-use Rattle.group_curves.specs.GroupLines.{lines_of}
+use Rattle.way_plans.specs.GroupLines.{lines_of}
 use Rattle.group_tree.specs.declared.group.Group.{Group}
 use Rattle.way_plans.specs.Plans.{misses_in, misses_of}
 use Rattle.way_plans.proofs.FewMisses.{few-misses_of}

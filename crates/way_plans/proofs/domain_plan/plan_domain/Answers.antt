@@ -1,14 +1,14 @@
 use Rattle.std.proofs.Common.{ℕ, ◌^◌, ◌≤◌, Bool, List, length, sym, ap, ◌∙◌, subst, arith, take_all}
 use Rattle.std.specs.Prelude.{All, IfSome}
 use Rattle.std.proofs.lemmas.List.{length-map}
-use Rattle.group_curves.specs.GroupLines.{lines_of}
+use Rattle.way_plans.specs.GroupLines.{lines_of}
 use Rattle.group_tree.specs.declared.group.Group.{Group}
 use Rattle.machine.specs.declared.parameters.Parameters.{Parameters}
 use Rattle.run_law.proofs.laws.SoundHistories.{IsSound-take}
 use Rattle.run_law.specs.TreeHistory.{TreeEntryValue, tree_after}
 use Rattle.tree_law.specs.Sound.{IsSound}
 use Rattle.tree_law.specs.State.{State}
-use Rattle.way_division.specs.Divisions.{IsBestDivision, IsDivision}
+use Rattle.way_plans.specs.Divisions.{IsBestDivision, IsDivision}
 use Rattle.way_plans.specs.Plans.{free_ways, misses_in, misses_of, planned}
 use Rattle.way_plans.proofs.FewGroups.{length-planned}
 use Rattle.way_plans.proofs.domain_plan.plan_domain.Goals as goal

@@ -1,6 +1,6 @@
 use Rattle.std.proofs.Common.{[]}
 use Rattle.std.proofs.lemmas.Result.{IfOk-weaker}
-use Rattle.trace_curves.specs.Reading.{HasRead}
+use Rattle.way_curve.specs.Reading.{HasRead}
 use Rattle.plan_top.specs.Beginnings.{HasNoBadLine}
 use Rattle.plan_top.proofs.EndedLines.{HasNoBadLine-nil}
 use Rattle.plan_top.proofs.program.CurveFormStreamProgram.begin.Goals as goal

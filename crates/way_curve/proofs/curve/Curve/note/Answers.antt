@@ -1,6 +1,5 @@
 use Rattle.std.proofs.Common.{◌≡◌, ℕ, ◌+◌, ◌-◌, ◌%◌, ◌<◌, List, [], ◌∷◌, ◌++◌, length, set, take, get_or, sum, vec_len, rules, refl, arith, sym, ap, ◌∙◌, subst, length-set}
-use Rattle.std.specs.Prelude.{◌^◌, ◌==◌, IsTrue, position}
-use Rattle.std.specs.Int.{is_power_of_two}
+use Rattle.std.specs.Prelude.{◌^◌, ◌==◌, position}
 use Rattle.std.proofs.Math.Nat.{mod-lt}
 use Rattle.std.proofs.lemmas.List.{get_or_default, take_all}
 use Rattle.lists.proofs.Sums.{one_if-le}
@@ -8,7 +7,6 @@ use Rattle.way_curve.specs.Distances.{is_below}
 use Rattle.way_curve.specs.IsCurve.{CurveValue, IsCurve}
 use Rattle.way_curve.specs.Shifts.{without_first}
 use Rattle.way_curve.proofs.CurveSteps.{IsCurve-more}
-use Rattle.way_curve.proofs.Powers.{power-positive}
 use Rattle.way_curve.proofs.curve.Curve.note.Goals as goal
 
 pub invariant_of-self : goal.invariant_of-self
@@ -20,7 +18,7 @@ invariant_of-self c =
     let old : sum (take 32 c.self.inside.at_distance) ≡ sum c.self.inside.at_distance = ap sum (take_all 32 c.self.inside.at_distance (omega (arith, full))) in
     let more = c.count.ensures 32 (omega (arith, full)) in
     record {
-      power = subst (λ (n : ℕ). IsTrue (is_power_of_two n)) (sym (length-set sets c.set_of-set.result c.note-distance.new.self)) c.self.invariant.power;
+      some = subst (λ (n : ℕ). 0 < n) (sym (length-set sets c.set_of-set.result c.note-distance.new.self)) c.self.invariant.some;
       within = omega (arith, new, old, more, one_if-le (is_below 32 c.note-distance.result), c.self.invariant.within);
       fits = omega (arith, room);
     }
@@ -31,7 +29,7 @@ returns-clause-line c = λ lines curve.
     let full : length c.self.inside.at_distance ≡ 32 = search rules in
     let long : vec_len c.self.inside.recent ≡ length sets = search rules in
     let place : c.set_of-set.result ≡ c.args.line % length sets = c.set_of-set.ensures ∙ ap (λ (n : ℕ). c.args.line % n) (c.len.ensures ∙ long) in
-    let below : c.args.line % length sets < length sets = mod-lt c.args.line (power-positive (length sets) c.self.invariant.power) in
+    let below : c.args.line % length sets < length sets = mod-lt c.args.line c.self.invariant.some in
     let own : c.index_mut.result.now ≡ get_or sets (c.args.line % length sets) [] = c.index_mut.ensures.value ∙ (ap (λ (k : ℕ). get_or sets k c.index_mut.result.now) place ∙ get_or_default sets (c.args.line % length sets) c.index_mut.result.now [] below) in
     let distance : c.note-distance.result ≡ position (λ (y : ℕ). y == c.args.line) (get_or sets (c.args.line % length sets) []) = c.note-distance.ensures.distance ∙ ap (λ (l : List ℕ). position (λ (y : ℕ). y == c.args.line) l) own in
     let is : IsCurve _ lines = subst (λ (v : CurveValue). IsCurve v lines) (sym c.self.view_is) curve in

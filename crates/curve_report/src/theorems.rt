@@ -1,9 +1,0 @@
-//! The limits of what is written by their numbers.
-ghost use Rattle.std.specs.Prelude.{◌≡◌};
-ghost use Rattle.curve_report.specs.declared.limits.TheConstants.{MOST_REFUSAL_BYTES, MOST_REPORT_BYTES};
-
-/// The limits are these numbers (this project's profile). Every other clause cites a limit by its name.
-pub fn limits_are_stated()
-    ensures report { MOST_REPORT_BYTES ≡ 10_800 }
-    ensures refusal { MOST_REFUSAL_BYTES ≡ 48 }
-{}

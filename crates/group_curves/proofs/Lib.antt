@@ -1,3 +1,0 @@
-mod Emptied
-mod Lines
-mod Uses

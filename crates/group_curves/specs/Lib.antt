@@ -1,2 +1,0 @@
-pub mod GroupLines
-pub mod Noted

@@ -1,4 +1,0 @@
-mod NoWays
-pub mod PartLists
-mod PlanMasks
-pub mod Powers

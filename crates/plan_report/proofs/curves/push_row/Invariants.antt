@@ -1,7 +1,0 @@
-use Rattle.std.proofs.Common.{◌≡◌, ◌++◌}
-use Rattle.std.specs.List.{flat_map, range_with_len}
-use Rattle.plan_report.specs.PlanTexts.{row_line}
-use Rattle.plan_report.proofs.curves.push_row.Given as goal
-
-abbrev pub invariant-loop-fewer : goal.invariant-loop-fewer
-invariant-loop-fewer l = l.text ≡ l.initial.text ++ flat_map (row_line l.row) (range_with_len 1 l.fewer)

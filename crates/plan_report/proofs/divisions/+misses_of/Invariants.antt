@@ -1,5 +1,0 @@
-use Rattle.std.proofs.Common.{length}
-use Rattle.plan_report.proofs.divisions.+misses_of.Given as goal
-
-abbrev pub decreases-misses_of : goal.decreases-misses_of
-decreases-misses_of l = length l.rows.now

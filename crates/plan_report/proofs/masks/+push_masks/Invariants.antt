@@ -1,5 +1,0 @@
-use Rattle.std.proofs.Common.{length}
-use Rattle.plan_report.proofs.masks.+push_masks.Given as goal
-
-abbrev pub decreases-push_masks : goal.decreases-push_masks
-decreases-push_masks l = length l.plans.now

@@ -1,6 +1,0 @@
-use Rattle.std.proofs.Common.{◌≡◌, ◌+◌, take}
-use Rattle.trace_curves.specs.Reading.{ReadsOn}
-use Rattle.trace_curves.proofs.trace.Trace.take.Given as goal
-
-abbrev pub invariant-loop-byte : goal.invariant-loop-byte
-invariant-loop-byte l = record { bytes : l.self.bytes ≡ l.initial.self.bytes + l.byte-index; read : ReadsOn l.initial.self l.self (take l.byte-index l.piece) }

@@ -1,0 +1,148 @@
+//! A trace whose text comes in pieces.
+ghost use Rattle.std.specs.Prelude.{◌≡◌, ◌+◌, ◌≤◌, ◌<◌, ℕ, List, [], ◌∷◌, ◌++◌, length, IfOk, IfSome, MatchResult, Err, None, false};
+ghost use Rattle.way_curve.specs.Reading.{AreOf, HasRead, IsGood, ReadsOn};
+ghost use Rattle.way_curve.specs.TraceTexts.{trace_of};
+ghost use Rattle.way_curve.specs.declared.limits.TheConstants.{MOST_TRACE_BYTES};
+
+use crate::curves::UseCurves;
+use crate::limits::MOST_LINE_BYTES;
+use crate::said::{said_of, said_of_ended};
+use rc_base::NoMemory;
+use std::alloc::Global;
+use std::marker::Model;
+
+/// A line is none of a trace, or it is too long.
+#[derive(Clone, Copy, Debug, PartialEq, Eq)]
+pub struct BadTrace {
+    /// The number of the first such line, counted from 1.
+    pub line: u64,
+}
+
+/// The curves of a trace whose text comes in pieces. Contracts see which text was read (`HasRead`).
+#[derive(Drop)]
+pub struct Trace {
+    bytes: u64,
+    ended: u64,
+    rest: Vec<u8>,
+    is_bad: bool,
+    curves: UseCurves,
+}
+
+impl Model for Trace {
+    ghost use Rattle.std.specs.Prelude.{vec_capacity};
+    ghost use Rattle.way_curve.specs.Reading.{IsRoomy, TraceValue};
+
+    ghost Value = { TraceValue };
+
+    ghost view = { λ t. record { bytes = t.bytes; ended = t.ended; rest = t.rest.items; is_bad = t.is_bad; curves = t.curves } };
+
+    ghost invariant = { λ t. IsRoomy t.bytes t.ended t.rest.items (vec_capacity t.rest) t.curves };
+}
+
+impl Trace {
+    /// A trace of no text, for caches of so many sets, 1 at least. NoMemory where the allocator gives no room for the
+    /// longest line and for the last lines of each set. No other call takes memory.
+    pub fn create(alloc: Global, sets: u32) -> Result<Trace, NoMemory>
+        requires { 0 < sets }
+        ensures bytes { IfOk result (λ t. t.bytes ≡ 0) }
+        ensures empty { IfOk result (λ t. HasRead sets t []) }
+    {
+        let rest = Vec::with_capacity(alloc, MOST_LINE_BYTES + 1)?;
+        let curves = UseCurves::create(alloc, sets)?;
+        Ok(Trace {
+            bytes: 0,
+            ended: 0,
+            rest,
+            is_bad: false,
+            curves,
+        })
+    }
+
+    /// Takes the next piece of the text, which may end anywhere.
+    pub fn take(&mut self, piece: &[u8])
+        requires room { self.old.bytes + length piece.now ≤ MOST_TRACE_BYTES }
+        ensures bytes { self.new.bytes ≡ self.old.bytes + length piece.now }
+        ensures piece { ReadsOn self.old self.new piece.now }
+    {
+        for byte in piece {
+            self.take_byte(*byte);
+        }
+    }
+
+    fn take_byte(&mut self, byte: u8)
+        requires room { self.old.bytes < MOST_TRACE_BYTES }
+        ensures bytes { self.new.bytes ≡ self.old.bytes + 1 }
+        ensures byte { ReadsOn self.old self.new (byte ∷ []) }
+    {
+        if self.is_bad {
+            self.bytes += 1;
+        } else if byte == b'\n' {
+            self.end_line();
+        } else if self.rest.len() <= MOST_LINE_BYTES {
+            self.bytes += 1;
+            self.rest.push_reserved(byte);
+        } else {
+            self.bytes += 1;
+            self.is_bad = true;
+        }
+    }
+
+    // Takes a newline, which ends a line.
+    fn end_line(&mut self)
+        requires good { self.old.is_bad ≡ false }
+        requires room { self.old.bytes < MOST_TRACE_BYTES }
+        ensures bytes { self.new.bytes ≡ self.old.bytes + 1 }
+        ensures newline { ReadsOn self.old self.new (10 ∷ []) }
+    {
+        let said = said_of_ended(&self.rest);
+        self.bytes += 1;
+        match said {
+            Some(said) => {
+                self.curves.note_line(&said);
+                self.rest.clear();
+                self.ended += 1;
+            }
+            None => self.is_bad = true,
+        }
+    }
+
+    /// The first line that is none of a trace, whatever follows. None where each line that has ended is one of a trace, and the
+    /// next one is not too long so far.
+    pub fn bad_line(&self) -> Option<BadTrace>
+        ensures told { IfSome result (λ bad. (sets : ℕ) (text more : List ℕ) → HasRead sets self.now text → trace_of (text ++ more) ≡ Err bad.line) }
+        ensures none { result ≡ None → (sets : ℕ) (text : List ℕ) → HasRead sets self.now text → IsGood sets self.now text }
+    {
+        if !self.is_bad {
+            return None;
+        }
+        Some(BadTrace {
+            line: self.ended + 1,
+        })
+    }
+
+    /// The curves of the whole text, whose last line may lack its newline; or the first line that is none of a trace.
+    pub fn finish(self) -> Result<UseCurves, BadTrace>
+        ensures { (sets : ℕ) (text : List ℕ) → HasRead sets self text → MatchResult result (λ curves. AreOf sets curves text) (λ bad. trace_of text ≡ Err bad.line) }
+    {
+        let Trace {
+            bytes: _,
+            ended,
+            rest,
+            is_bad,
+            mut curves,
+        } = self;
+        if is_bad {
+            return Err(BadTrace { line: ended + 1 });
+        }
+        if rest.is_empty() {
+            return Ok(curves);
+        }
+        match said_of(&rest) {
+            Some(said) => {
+                curves.note_line(&said);
+                Ok(curves)
+            }
+            None => Err(BadTrace { line: ended + 1 }),
+        }
+    }
+}

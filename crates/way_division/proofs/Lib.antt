@@ -1,2 +1,0 @@
-pub mod BestChoices
-pub mod BestRows

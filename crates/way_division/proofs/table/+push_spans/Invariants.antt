@@ -1,5 +1,0 @@
-use Rattle.std.proofs.Common.{length}
-use Rattle.way_division.proofs.table.+push_spans.Given as goal
-
-abbrev pub decreases-push_spans : goal.decreases-push_spans
-decreases-push_spans l = length l.groups.now

@@ -1,2 +1,0 @@
-pub mod Divisions
-pub mod Rows

@@ -1,0 +1,35 @@
+-- The plan of a script that was played, and the text that tells it.
+use Rattle.std.specs.Prelude.{◌≡◌, ℕ, ◌+◌, List, [], ◌∷◌, length, Option, Some, None}
+use Rattle.way_plans.specs.PlanTexts.{DomainPart, plan_text}
+use Rattle.run_law.specs.Journals.{JournalsValue}
+use Rattle.run_law.specs.TreeHistory.{tree_after}
+use Rattle.script_ops.specs.Values.{ScriptValue}
+use Rattle.way_plans.specs.declared.span.Span.{Span}
+use Rattle.way_plans.specs.Plans.{IsBestPlan, IsPlan, misses_in, planned}
+
+-- The ways of a domain for the groups that a script leaves, such that no other division has fewer misses in all; None where there
+-- is no division.
+abbrev pub IsBestIfAny : ScriptValue → JournalsValue → ℕ → Option (List Span) → Type 0
+IsBestIfAny script j domain None = (spans : List Span) → IsPlan script j domain spans → ⊥
+IsBestIfAny script j domain (Some spans) = IsBestPlan script j domain spans
+
+-- What is planned for a domain.
+pub record IsPart (script : ScriptValue) (j : JournalsValue) (domain : ℕ) (part : DomainPart) : Type 0 where
+  pub misses : part.misses ≡ misses_in script j domain (planned (tree_after script j.tree))
+  pub division : IsBestIfAny script j domain part.spans
+
+-- the same of each of these domains, numbered from this one
+abbrev pub ArePartsFrom : ScriptValue → JournalsValue → ℕ → List DomainPart → Type 0
+ArePartsFrom script j domain [] = Unit {0}
+ArePartsFrom script j domain (part ∷ parts) = IsPart script j domain part × ArePartsFrom script j (domain + 1) parts
+
+-- The plan of a script has a part for each domain.
+pub record AreParts (script : ScriptValue) (j : JournalsValue) (parts : List DomainPart) : Type 0 where
+  pub all : length parts ≡ script.machine.domains
+  pub each : ArePartsFrom script j 0 parts
+
+-- The text tells a plan of the script.
+pub record TellsPlan (script : ScriptValue) (j : JournalsValue) (text : List ℕ) : Type 0 where
+  pub parts : List DomainPart
+  pub are_parts : AreParts script j parts
+  pub is_text : text ≡ plan_text script.names script.machine.ways (planned (tree_after script j.tree)) parts
