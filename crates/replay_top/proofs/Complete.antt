@@ -1,0 +1,206 @@
+-- Which status is due, from how a call ended.
+use Rattle.std.proofs.Common.{◌≡◌, ℕ, ◌<◌, ◌⊎◌, Bool, true, false, List, Option, Some, refl, sym, subst, ap, ◌∙◌, inl, inr, arith}
+use Rattle.call_rim.specs.Endings.{Call, Ends, IsRefused, IsReported}
+use Rattle.call_rim.specs.Outside.{IsToTheEnd, Writing}
+use Rattle.call_rim.specs.declared.status.Status.{Status}
+use Rattle.call_rim.specs.declared.status.Status.TheVariants.{Done, Refused, Usage, ReadFault, WriteFault, NoMemory}
+use Rattle.check_parts.specs.BadInputs.{IsBad}
+use Rattle.check_parts.specs.Division.{journal_part}
+use Rattle.check_parts.specs.Inputs.{HoldsJournals}
+use Rattle.check_parts.specs.declared.bad_input.BadInput.{BadInput}
+use Rattle.check_parts.specs.declared.bad_input.BadInput.TheVariants.{BadJournal, BadScript, NoJournal, TooLarge}
+use Rattle.check_parts.specs.declared.division.Division.{Division}
+use Rattle.check_parts.specs.declared.form.Form.TheVariants.{Check}
+use Rattle.journal_check.specs.Verdicts.{Holds, IsFirstFalse}
+use Rattle.journal_check.specs.declared.verdict.Clause.{Clause}
+use Rattle.journal_check.specs.declared.verdict.Clause.TheVariants as clauses
+use Rattle.journal_text.specs.Laws.{TextsAreOfOneValue}
+use Rattle.journal_text.specs.Readings.{IsTextOf}
+use Rattle.replay_top.specs.Endings.{HasInput, IsComplete, IsGood, says_no_run}
+use Rattle.replay_top.specs.Reports.{Finds, refuses, reports}
+use Rattle.replay_top.specs.declared.outcome.Replayed.{Replayed}
+use Rattle.replay_top.specs.declared.outcome.Replayed.TheVariants as outcomes
+use Rattle.run_law.specs.Clauses.{MeetsClauses, RunsByClauses}
+use Rattle.run_law.specs.Journals.{JournalsValue}
+use Rattle.run_law.specs.Runs.{IsRun}
+use Rattle.script_ops.specs.Values.{IsLawful, ScriptValue}
+
+-- ---- an input
+
+-- the bytes that a source had, where they are known
+IsToTheEnd-known : (left : Option (List ℕ)) (had bytes : List ℕ) → left ≡ Some had → IsToTheEnd left bytes → bytes ≡ had
+IsToTheEnd-known left had bytes known all = let at : IsToTheEnd (Some had) bytes = subst (λ (l : Option (List ℕ)). IsToTheEnd l bytes) known all in at
+
+-- an input that holds journals is not bad
+HoldsJournals-good : (bytes : List ℕ) (script : ScriptValue) (run : JournalsValue) (why : BadInput) → HoldsJournals bytes script run → IsBad Check bytes why → ⊥
+HoldsJournals-good bytes script run TooLarge holds bad = omega (arith, holds.has_script.few, bad)
+HoldsJournals-good bytes script run (BadScript fault) holds bad = let is = holds.has_script.is_script in let no = bad.1 in absurd cc
+HoldsJournals-good bytes script run NoJournal holds bad = let is = holds.divides in let no = bad.none in absurd cc
+HoldsJournals-good bytes script run (BadJournal line) holds bad =
+    let same_script : script ≡ bad.script = (let is = holds.has_script.is_script in let is' = bad.has_script.is_script in cc) in
+    let same_division : holds.division ≡ bad.division = (let is = holds.divides in let is' = bad.divides in cc) in
+    bad.bad.no_journals run
+    (subst (λ (d : Division). IsTextOf bad.script (journal_part d bytes) run) same_division (subst (λ (s : ScriptValue). IsTextOf s (journal_part holds.division bytes) run) same_script holds.text))
+
+-- two readings of one input have the same script
+HoldsJournals-script : (bytes : List ℕ) (s t : ScriptValue) (j k : JournalsValue) → HoldsJournals bytes s j → HoldsJournals bytes t k → s ≡ t
+HoldsJournals-script bytes s t j k a b = let x = a.has_script.is_script in let y = b.has_script.is_script in cc
+
+-- and, where that is lawful, the same journals
+HoldsJournals-journals : TextsAreOfOneValue → (bytes : List ℕ) (s t : ScriptValue) (j k : JournalsValue) → IsLawful s → HoldsJournals bytes s j → HoldsJournals bytes t k → j ≡ k
+HoldsJournals-journals texts bytes s t j k lawful a b =
+    let same_script = HoldsJournals-script bytes s t j k a b in
+    let same_division : b.division ≡ a.division = (let x = a.divides in let y = b.divides in cc) in
+    let text : IsTextOf s (journal_part a.division bytes) k = subst (λ (d : Division). IsTextOf s (journal_part d bytes) k) same_division (subst (λ (u : ScriptValue). IsTextOf u (journal_part b.division bytes) k) (sym same_script) b.text) in
+    texts s (journal_part a.division bytes) j k lawful a.text text
+
+-- ---- what was found
+
+-- each clause holds of journals that meet all
+Holds-clause : (script : ScriptValue) (j : JournalsValue) (clause : Clause) → MeetsClauses script j → Holds script j clause
+Holds-clause script j clauses.CommandsStandOnce meets = meets.commands_once
+Holds-clause script j clauses.TreeIsLegal meets = meets.tree_legal
+Holds-clause script j clauses.SlicesAreLegal meets = meets.slices_legal
+Holds-clause script j clauses.AccessesAreTrue meets = meets.accesses_true
+Holds-clause script j clauses.OthersAreTrue meets = meets.others_true
+Holds-clause script j clauses.StandAfterCommands meets = meets.after_commands
+Holds-clause script j clauses.LooksAreMatched meets = meets.looks_matched
+Holds-clause script j clauses.EntriesStandOnce meets = meets.entries_once
+Holds-clause script j clauses.MarksInOrder meets = meets.marks
+Holds-clause script j clauses.EntriesInOrder meets = meets.entries_in_order
+
+-- journals with a false clause are no run
+IsRun-first_false : RunsByClauses → (script : ScriptValue) (j : JournalsValue) (clause : Clause) → IsFirstFalse script j clause → IsRun script j → ⊥
+IsRun-first_false runs script j clause first run = first.false_here (Holds-clause script j clause ((runs script j run.all_slices).0 run))
+
+-- the script and the journals of an input of which this was found
+record IsFoundOf (bytes : List ℕ) (found : Replayed) : Type 0 where
+  script : ScriptValue
+  run : JournalsValue
+  holds : HoldsJournals bytes script run
+  lawful : IsLawful script
+  no_run : says_no_run (Some found) ≡ true → IsRun script run → ⊥
+  is_run : says_no_run (Some found) ≡ false → IsRun script run
+
+IsFoundOf-reported : RunsByClauses → (bytes : List ℕ) (found : Replayed) (text : List ℕ) → Finds bytes found text → IsFoundOf bytes found
+IsFoundOf-reported runs bytes (outcomes.Ordered run) text is =
+    record { script = is.script; run = run; holds = is.holds; lawful = is.lawful; no_run = λ said run. absurd (let never : false ≡ true = said in cc); is_run = λ yes_run. is.is_run }
+IsFoundOf-reported runs bytes (outcomes.NoRun clause) text is = record {
+  script = is.script;
+  run = is.run;
+  holds = is.holds;
+  lawful = is.lawful;
+  no_run = λ no_run run. IsRun-first_false runs is.script is.run clause is.says run;
+  is_run = λ is_run. absurd (let never : true ≡ false = is_run in cc);
+}
+IsFoundOf-reported runs bytes outcomes.NoOrder text is =
+    record { script = is.script; run = is.run; holds = is.holds; lawful = is.lawful; no_run = λ said run. absurd (let never : false ≡ true = said in cc); is_run = λ yes_run. is.is_run }
+IsFoundOf-reported runs bytes outcomes.TooLong text is =
+    record { script = is.script; run = is.run; holds = is.holds; lawful = is.lawful; no_run = λ said run. absurd (let never : false ≡ true = said in cc); is_run = λ yes_run. is.is_run }
+
+-- what is refused is bad
+refused_same : (read text bytes : List ℕ) → read ≡ bytes → refuses read text → IsGood bytes → ⊥
+refused_same read text bytes same (inl large) good = good TooLarge (subst (λ (b : List ℕ). IsBad Check b TooLarge) same large.0)
+refused_same read text bytes same (inr few) good = good few.1.bad (subst (λ (b : List ℕ). IsBad Check b few.1.bad) same few.1.is_bad)
+
+-- a condition holds or not
+true-or-false : (b : Bool) → (b ≡ true) ⊎ (b ≡ false)
+true-or-false true = inl refl
+true-or-false false = inr refl
+
+-- and not both
+never-both : (b : Bool) → b ≡ true → b ≡ false → ⊥
+never-both b yes_b no_b = let never : true ≡ false = sym yes_b ∙ no_b in absurd cc
+
+module _ (texts : TextsAreOfOneValue) (runs : RunsByClauses) (c : Call) (outcome : Option Replayed) where
+  -- ---- a call that reported
+
+  module _ (Takes : Writing → List ℕ → Type 0) (is : IsReported refuses reports c outcome Takes) where
+    -- of the bytes that the source had
+    found_of : (bytes : List ℕ) → HasInput c bytes → IsFoundOf bytes is.found
+    found_of bytes has =
+        let same_bytes = IsToTheEnd-known c.source.left bytes is.bytes has.had is.to_the_end in
+        subst (λ (b : List ℕ). IsFoundOf b is.found) same_bytes (IsFoundOf-reported runs is.bytes is.found is.text is.reported.1)
+
+    reported_bad : (bytes : List ℕ) (why : BadInput) → HasInput c bytes → IsBad Check bytes why → ⊥
+    reported_bad bytes why has bad = let found = found_of bytes has in HoldsJournals-good bytes found.script found.run why found.holds bad
+
+    -- what holds of the script and the journals that were found holds of those that the input holds
+    reported_of : (bytes : List ℕ) (script : ScriptValue) (run : JournalsValue) → HasInput c bytes → HoldsJournals bytes script run → (P : ScriptValue → JournalsValue → Type 0) → (found : IsFoundOf bytes is.found) → P found.script found.run → P script run
+    reported_of bytes script run has holds P found p =
+        let same_script = HoldsJournals-script bytes found.script script found.run run found.holds holds in
+        let same_run = HoldsJournals-journals texts bytes found.script script found.run run found.lawful found.holds holds in
+        subst (λ (j : JournalsValue). P script j) same_run (subst (λ (s : ScriptValue). P s found.run) same_script p)
+
+    reported_run : (bytes : List ℕ) (script : ScriptValue) (run : JournalsValue) → HasInput c bytes → HoldsJournals bytes script run → IsRun script run → says_no_run outcome ≡ false
+    reported_run bytes script run has holds is_run = at (true-or-false (says_no_run (Some is.found)))
+      where
+        at : (says_no_run (Some is.found) ≡ true) ⊎ (says_no_run (Some is.found) ≡ false) → says_no_run outcome ≡ false
+        at (inl said) = let found = found_of bytes has in absurd (reported_of bytes script run has holds (λ s j. IsRun s j → ⊥) found (found.no_run said) is_run)
+        at (inr yes_run) = ap says_no_run is.has_outcome ∙ yes_run
+
+    reported_no_run : (bytes : List ℕ) (script : ScriptValue) (run : JournalsValue) → HasInput c bytes → HoldsJournals bytes script run → (IsRun script run → ⊥) → says_no_run outcome ≡ true
+    reported_no_run bytes script run has holds no_run = at (true-or-false (says_no_run (Some is.found)))
+      where
+        at : (says_no_run (Some is.found) ≡ true) ⊎ (says_no_run (Some is.found) ≡ false) → says_no_run outcome ≡ true
+        at (inl said) = ap says_no_run is.has_outcome ∙ said
+        at (inr yes_run) = let found = found_of bytes has in absurd (no_run (reported_of bytes script run has holds (λ s j. IsRun s j) found (found.is_run yes_run)))
+
+  -- ---- a call that refused its input
+
+  refused_good : (Takes : Writing → List ℕ → Type 0) (bytes : List ℕ) → IsRefused refuses reports c outcome Takes → HasInput c bytes → IsGood bytes → ⊥
+  refused_good Takes bytes is has good = refused_same is.bytes is.text bytes (IsToTheEnd-known c.source.left bytes is.bytes has.had is.to_the_end) is.refused good
+
+  refused_held : (Takes : Writing → List ℕ → Type 0) (bytes : List ℕ) (script : ScriptValue) (run : JournalsValue) → IsRefused refuses reports c outcome Takes → HasInput c bytes → HoldsJournals bytes script run → ⊥
+  refused_held Takes bytes script run is has holds = refused_good Takes bytes is has (λ why bad. HoldsJournals-good bytes script run why holds bad)
+
+  -- a call whose sink failed
+  sink_failed : (status : Status) → c.sink.faults < c.sink.faults_now → IsComplete c status outcome
+  sink_failed status fault = record {
+    bad = λ bytes why has bad. absurd (omega (arith, fault, has.writes_well));
+    good = λ bytes has good. absurd (omega (arith, fault, has.writes_well));
+    run = λ bytes script run has holds is_run. absurd (omega (arith, fault, has.writes_well));
+    no_run = λ bytes script run has holds no_run. absurd (omega (arith, fault, has.writes_well));
+    by_words = λ none well. absurd (omega (arith, fault, well));
+  }
+
+  -- the status that is due
+  pub complete : (status : Status) → Ends refuses reports c status outcome → IsComplete c status outcome
+  complete Done (read, is) = record {
+    bad = λ bytes why has bad. absurd (reported_bad _ is bytes why has bad);
+    good = λ bytes has good. inl refl;
+    run = λ bytes script run has holds is_run. reported_run _ is bytes script run has holds is_run;
+    no_run = λ bytes script run has holds no_run. inl (reported_no_run _ is bytes script run has holds no_run);
+    by_words = λ none well. absurd (never-both c.has_form is.form none);
+  }
+  complete Refused (read, is) = record {
+    bad = λ bytes why has bad. inl refl;
+    good = λ bytes has good. absurd (refused_good _ bytes is has good);
+    run = λ bytes script run has holds is_run. absurd (refused_held _ bytes script run is has holds);
+    no_run = λ bytes script run has holds no_run. absurd (refused_held _ bytes script run is has holds);
+    by_words = λ none well. absurd (never-both c.has_form is.form none);
+  }
+  complete Usage (read, is) = record {
+    bad = λ bytes why has bad. absurd (never-both c.has_form has.has_form is.no_form);
+    good = λ bytes has good. absurd (never-both c.has_form has.has_form is.no_form);
+    run = λ bytes script run has holds is_run. absurd (never-both c.has_form has.has_form is.no_form);
+    no_run = λ bytes script run has holds no_run. absurd (never-both c.has_form has.has_form is.no_form);
+    by_words = λ none well. refl;
+  }
+  complete ReadFault is = record {
+    bad = λ bytes why has bad. absurd (omega (arith, is.fault, has.reads_well));
+    good = λ bytes has good. absurd (omega (arith, is.fault, has.reads_well));
+    run = λ bytes script run has holds is_run. absurd (omega (arith, is.fault, has.reads_well));
+    no_run = λ bytes script run has holds no_run. absurd (omega (arith, is.fault, has.reads_well));
+    by_words = λ none well. absurd (never-both c.has_form is.form none);
+  }
+  complete WriteFault (read, inl is) = sink_failed WriteFault is.report.fault
+  complete WriteFault (read, inr (inl is)) = sink_failed WriteFault is.line.fault
+  complete WriteFault (read, inr (inr is)) = sink_failed WriteFault is.line.fault
+  complete NoMemory (read, is) = record {
+    bad = λ bytes why has bad. inr refl;
+    good = λ bytes has good. inr refl;
+    run = λ bytes script run has holds is_run. ap says_no_run is.no_outcome;
+    no_run = λ bytes script run has holds no_run. inr refl;
+    by_words = λ none well. absurd (never-both c.has_form is.form none);
+  }

@@ -1,0 +1,4 @@
+pub mod Endings
+pub mod Lines
+pub mod Reports
+pub mod Words

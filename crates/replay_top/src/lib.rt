@@ -1,0 +1,23 @@
+//! The top call of `resctrl_replay`: it reads a script with journals, finds an order of all steps that makes just these journals, and
+//! writes the script with that order. A call that runs out of memory answers NoMemory, and writes nothing.
+#![tactic(auto)]
+
+mod blocked_text;
+pub mod calls;
+pub mod ended;
+mod inserting;
+mod lines;
+mod numbers;
+mod ordering;
+pub mod outcome;
+pub mod program;
+mod replaying;
+mod same;
+mod same_reply;
+mod words;
+
+pub use calls::top_replay;
+pub use ended::ReplayEnded;
+pub use outcome::Replayed;
+pub use program::run_replayer;
+pub use words::USAGE;
