@@ -14,9 +14,10 @@
 PROGRAM = crates/resctrl_sim/out/resctrl_sim
 PLANNER = crates/resctrl_plan/out/resctrl_plan
 CHECKER = crates/resctrl_check/out/resctrl_check
+REPLAYER = crates/resctrl_replay/out/resctrl_replay
 CDP = crates/resctrl_cdp/out/resctrl_cdp
 LEVELS = crates/resctrl_l2/out/resctrl_l2
-PROGRAMS = $(PROGRAM) $(PLANNER) $(CHECKER) $(CDP) $(LEVELS)
+PROGRAMS = $(PROGRAM) $(PLANNER) $(CHECKER) $(REPLAYER) $(CDP) $(LEVELS)
 # They have the time at which make began, once the simulator, or every program, was proved and built from these sources: what is edited
 # meanwhile is newer.
 SIMULATOR_BUILT = crates/resctrl_sim/out/built

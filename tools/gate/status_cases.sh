@@ -1,5 +1,5 @@
-# What tools/gate/statuses, tools/gate/plan_statuses, tools/gate/check_statuses and tools/gate/pair_statuses count: cases of an exit status and of what was written, for programs that read an input and
-# write a report. Both set -u and name the program first.
+# What tools/gate/statuses, plan_statuses, check_statuses, replay_statuses and pair_statuses beside it count: cases of an exit status and
+# of what was written, for programs that read an input and write a report. Each sets -u and names the program first.
 passed=0
 failed=0
 folder=$(mktemp -d) || exit 1

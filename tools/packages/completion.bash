@@ -1,13 +1,14 @@
 # Completion of bikhnoun, of the programs behind it, and of the names of an earlier version, for bash.
 
 # The words, and then the flags of each. A test compares them with what --help says.
-_bikhnoun_words="play run explain check order export plan cdp levels mount traces ways timeline page kernel version"
+_bikhnoun_words="play run explain check statement order export plan cdp levels mount traces ways timeline page kernel version"
 
 _bikhnoun_flags() {
     case $1 in
         play | run) echo "--help --version --journal --json --windows --quiet" ;;
         cdp | levels) echo "--help --version --quiet" ;;
-        explain) echo "--help --version --program" ;;
+        explain) echo "--help --version --machine --for --program" ;;
+        check | statement) echo "--help --version --program" ;;
         mount) echo "--help --version --machine --tasks --pids --strict --program --record --force --resume --run" ;;
         traces) echo "--help --version --machine --tasks --head --l1 --l2 --ratio --rest --code --most" ;;
         ways) echo "--help --version --program --lowest --curve --scheduler" ;;
@@ -34,6 +35,8 @@ _bikhnoun() {
         _bikhnoun_offer "$_bikhnoun_words --help --version"
     elif [[ ${COMP_WORDS[COMP_CWORD]} = -* ]]; then
         _bikhnoun_offer "$(_bikhnoun_flags "$word")"
+    elif [ "${COMP_WORDS[COMP_CWORD - 1]}" = --for ]; then
+        _bikhnoun_offer "sim cdp l2 journals trace"
     elif [ "$COMP_CWORD" -eq 2 ] && [ "$word" = export ]; then
         _bikhnoun_offer "step run"
     elif [ "$COMP_CWORD" -eq 2 ] && [ "$word" = plan ]; then

@@ -91,6 +91,10 @@ PROGRAMS = (
         ("check_top: check_top run_check",),
     ),
     Layer(
+        "orders", "Orders", "What `resctrl_replay` writes: `top_replay`, and `run_replayer`, by which `main` calls it.",
+        ("replay_top: top_replay run_replayer",),
+    ),
+    Layer(
         "cdp", "Code and data", "What `resctrl_cdp` reports: `top_cdp`, and `run_cdp`, by which `main` calls it.",
         ("pair_top: top_cdp run_cdp",),
     ),
@@ -145,6 +149,11 @@ BULLETS = (
         "worlds", "Isolation: one slice, and two worlds",
         "The law of one slice (`private_lru::theorems`), and what two worlds agree in (`run_windows::theorems::worlds_agree`).",
         ("run_windows: worlds_agree", "private_lru"), is_reached=False,
+    ),
+    Layer(
+        "written", "The checker: what can be written",
+        "That the journals of every run have a text (`writable_runs::theorems`), so that what is exported reads back.",
+        ("writable_runs",), is_reached=False,
     ),
 )
 LAYERS = SIMULATOR + PROGRAMS + LAWS + BULLETS

@@ -4,6 +4,7 @@ import subprocess
 import unittest
 
 from bikhnoun.command import WORDS
+from explained.kinds import KINDS
 from installed import EVERYWHERE, PROGRAMS, options_of, tree
 
 OLD = ("explain", "kernel", "mount", "page", "timeline", "traces", "ways")
@@ -34,6 +35,7 @@ class Completion(unittest.TestCase):
         self.assertEqual(completed("bikhnoun", "p"), {"play", "plan", "page"})
         self.assertEqual(completed("bikhnoun", "export", ""), {"step", "run"})
         self.assertEqual(completed("bikhnoun", "plan", "d"), {"divide", "draw"})
+        self.assertEqual(completed("bikhnoun", "explain", "--for", ""), set(KINDS))
         self.assertEqual(completed("resctrl_check", "export", ""), {"step", "run"})
 
     def test_flags_are_those_of_the_help(self):

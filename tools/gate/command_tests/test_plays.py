@@ -30,17 +30,22 @@ class Plays(unittest.TestCase):
         # It has one thread, so that all its runs are one.
         self.is_same("resctrl_sim", ["run"], ["run"], EXAMPLES / "mask_rewrite.script")
 
-    def test_export_and_check(self):
+    def test_export(self):
         script = EXAMPLES / "mask_rewrite.script"
         for how in ("step", "run"):
             self.is_same("resctrl_check", ["export", how], ["export", how], script)
-        self.assertEqual(bikhnoun("check", EXAMPLES / "journals" / "administrators.journal").stdout, b"yes\n")
 
-    def test_no_is_an_answer(self):
+    def test_check_has_the_proved_answer_first(self):
+        journal = EXAMPLES / "journals" / "administrators.journal"
+        lines = journal.read_bytes().splitlines(keepends=True)
         # docs/JOURNALS.md has this one: its flush is never taken.
-        lines = (EXAMPLES / "journals" / "administrators.journal").read_bytes().splitlines(keepends=True)
-        done = bikhnoun("check", data=b"".join(lines[:18] + lines[19:]))
-        self.assertEqual((done.returncode, done.stdout, done.stderr), (6, b"no D15.1\n", b""))
+        no = b"".join(lines[:18] + lines[19:])
+        for words, data, status in (([journal], None, 0), (["-"], b"".join(lines), 0), ([], no, 6)):
+            done = bikhnoun("check", *words, data=data)
+            first, *more = done.stdout.splitlines(keepends=True)
+            self.assertEqual((done.returncode, done.stderr), (status, b""))
+            self.assertEqual(first, program("resctrl_check", "check", data=data or journal.read_bytes()).stdout)
+            self.assertTrue(more and all(line.startswith(b"not proved: ") for line in more), msg=more)
 
     def test_plan(self):
         self.is_same("resctrl_plan", ["divide"], ["plan", "divide"], EXAMPLES / "three_tenants.script")
@@ -64,7 +69,8 @@ class Plays(unittest.TestCase):
         self.assertIn(b"bikhnoun order: resctrl_replay is missing", done.stderr)
 
     def test_tools(self):
-        for words in (["explain", SCRIPT], ["timeline", SCRIPT], ["ways", EXAMPLES / "ways_for_a_loop.script", "/"]):
+        journal = EXAMPLES / "journals" / "administrators.journal"
+        for words in (["explain", SCRIPT], ["statement", journal], ["timeline", SCRIPT], ["ways", EXAMPLES / "ways_for_a_loop.script", "/"]):
             done = bikhnoun(*words)
             self.assertEqual((done.returncode, done.stderr), (0, b""), msg=words)
             self.assertTrue(done.stdout, msg=words)

@@ -1,4 +1,5 @@
 """The line of progress and colour: on a terminal, and nowhere else."""
+import io
 import os
 import pty
 import re
@@ -6,7 +7,9 @@ import subprocess
 import tempfile
 import time
 import unittest
+from unittest import mock
 
+from bikhnoun import progress
 from installed import EXAMPLES, PATH, bikhnoun, command, stand_in
 
 SCRIPT = EXAMPLES / "isolated_tenant.script"
@@ -30,6 +33,13 @@ def on_terminal(words, programs, stdin=None):
         shown += part
     os.close(ours)
     return shown.decode(), worker.wait()
+
+
+class Terminal(io.StringIO):
+    """Standard error, as a terminal."""
+
+    def isatty(self):
+        return True
 
 
 class Lines(unittest.TestCase):
@@ -57,13 +67,22 @@ class Lines(unittest.TestCase):
         sparse = f"{self.big}.sparse"
         with open(sparse, "wb") as file:
             file.truncate(1100 << 20)
-        shown, _ = on_terminal(["check", sparse], stand_in(os.path.dirname(sparse), "head -c 1000 > /dev/null; sleep 3; echo yes", "resctrl_check"))
-        self.assertRegex(shown, r"\r\x1b\[Kchecking: 0 of 1100 MB read, \d s, [23]\d %, about [78] s left")
+        shown, _ = on_terminal(["play", sparse], stand_in(os.path.dirname(sparse), "head -c 1000 > /dev/null; sleep 3; echo done"))
+        self.assertRegex(shown, r"\r\x1b\[Kplaying: 0 of 1100 MB read, \d s, [3-6]\d %, about [2-4] s left")
 
     def test_tools_have_the_line_too(self):
         programs = self.programs | {"NO_COLOR": "1"}
         shown, _ = on_terminal(["explain", str(SCRIPT)], programs)
         self.assertRegex(shown, r"\r\x1b\[Kplaying: \d s")
+
+    def test_work_of_a_tool_itself_has_the_line_too(self):
+        ends = time.time() + 20
+        with mock.patch.multiple(progress, FIRST=0, NEXT=0.01), mock.patch("sys.stderr", Terminal()) as terminal:
+            with progress.shown("looking where"):
+                while not terminal.getvalue() and time.time() < ends:
+                    time.sleep(0.01)
+        self.assertRegex(terminal.getvalue(), r"^\r\x1b\[Klooking where: 1 s")
+        self.assertTrue(terminal.getvalue().endswith(progress.CLEAR))
 
     def test_colour_is_for_terminals(self):
         shown, status = on_terminal(["play", "/not_there"], {})

@@ -32,6 +32,17 @@ def opened(name):
         raise Stopped(f"{name}: {why.strerror}", programs.UNREAD) from None
 
 
+def bytes_of(name):
+    """All bytes of the input."""
+    with opened(name) as file:
+        return file.read()
+
+
+def name_of(name):
+    """The input, as messages name it."""
+    return "standard input" if name == "-" else name
+
+
 def share_done(file, worker, pace, spent):
     """Which share of its work a program has done, or None, and what it has read, in words. The place in a file is the program's and ours.
 
@@ -124,8 +135,7 @@ def call(name, words, source, *, doing, pace=None, after=""):
     finally:
         progress.end()
     if message:
-        shown = "standard input" if source == "-" else source
-        raise Stopped(f"{shown}: {message}{after.format(source)}" if status == programs.INVALID else message, status)
+        raise Stopped(f"{name_of(source)}: {message}{after.format(source)}" if status == programs.INVALID else message, status)
     if status not in (0, programs.NO):
         raise Stopped(programs.ended(name, status), status if status > 0 else 128 - status)
     return status

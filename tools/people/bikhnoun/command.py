@@ -9,7 +9,7 @@ import sys
 
 from resctrl_sim.names import old_word, tool_name
 from resctrl_sim.program import Broken
-from resctrl_sim.programs import UNREAD, UNWRITTEN, Missing
+from resctrl_sim.programs import NO_MEMORY, UNREAD, UNWRITTEN, Missing
 
 from . import mounting, proved, versions
 from .telling import Stopped, say
@@ -30,8 +30,9 @@ def tool(module):
 WORDS = {
     "play": (proved.one("play"), proved.WORDS["play"].purpose),
     "run": (proved.one("run"), proved.WORDS["run"].purpose),
-    "explain": (tool("explained.command"), "says at which word and why a script is invalid, and warns about likely mistakes"),
-    "check": (proved.one("check"), proved.WORDS["check"].purpose),
+    "explain": (tool("explained.command"), "says at which word and why a script, a journal or a trace is invalid, and warns about likely mistakes"),
+    "check": (tool("judged.command"), "says whether journals are a run of their script: yes, or no and the clause that is false; and where"),
+    "statement": (tool("stated.command"), "writes a page about journals for an auditor, ready to be signed"),
     "order": (proved.one("order"), proved.WORDS["order"].purpose),
     "export": (proved.export, "plays a script, and writes it with the journals of this play"),
     "plan": (proved.plan, "counts how often programs hit with each number of ways, divides ways, and draws the curves"),
@@ -102,6 +103,9 @@ def begun(arguments):
         say(tool_name(word), f"the input is not text in {why.encoding.upper()}: byte {why.start} is {why.object[why.start]:02x}")
     except (Missing, Broken) as why:
         say(tool_name(word), why)
+    except MemoryError:
+        say(tool_name(word), "out of memory")
+        return NO_MEMORY
     except Exception as why:
         if DEBUG:
             raise

@@ -1,5 +1,7 @@
 """A line on the terminal for whatever takes over two seconds. Where standard error is no terminal nothing is written."""
+from contextlib import contextmanager
 import sys
+from threading import Event, Thread
 import time
 
 FIRST, NEXT = 2.0, 0.5
@@ -43,3 +45,22 @@ class Progress:
             self.stream.write(CLEAR)
             self.stream.flush()
             self.last = None
+
+
+@contextmanager
+def shown(what):
+    """The line while this Python itself works, which does not stop to write it."""
+    progress, is_done = Progress(what), Event()
+
+    def show():
+        while not is_done.wait(NEXT):
+            progress.show()
+
+    writer = Thread(target=show, daemon=True)
+    writer.start()
+    try:
+        yield
+    finally:
+        is_done.set()
+        writer.join()
+        progress.end()

@@ -14,12 +14,18 @@ FLAG_HELPS = {
     "--quiet": "the report has no lines of commands",
 }
 STATUSES = """exit status: 0 all is written; 1 the input is invalid; 2 the command line is wrong; 3 the input could not be read, or the
-program is missing; 4 the output could not be written; 5 out of memory{}. What the program writes is passed on byte for byte,
-but for the message of an invalid input, which goes to standard error."""
+program is missing; 4 the output could not be written; 5 out of memory{}.
+What the program writes is passed on byte for byte, but for the message of an invalid input, which goes to standard error."""
+NO_ORDER = "; 6 the journals are no run, or no order was found"
 EXPLAINED = "; `bikhnoun explain {}` says more"
-
+CHECKED = "; `bikhnoun check {}` says more"
 
 MB = 1 << 20
+
+
+def explained_as(kind):
+    """What is said after the message of an invalid input of this kind, which `explain` could take for another."""
+    return f"; `bikhnoun explain --for {kind} {{}}` says more"
 
 
 class Proved(NamedTuple):
@@ -42,16 +48,17 @@ WORDS = {
         programs.SIMULATOR, ("run",), "SCRIPT", REPORT_FLAGS, "playing", 50 * MB,
         "plays a script with a real thread for each of its threads, and writes its report", EXPLAINED,
     ),
-    "check": Proved(
-        programs.CHECKER, ("check",), "JOURNAL", (), "checking", 110 * MB, "says whether journals are a run of their script: yes, or no and the clause that is false"
-    ),
     "order": Proved(
-        programs.REPLAY, ("order",), "JOURNAL", (), "ordering", 50 * MB, "writes the script of journals with an order in which `play` gives the same journals"
+        programs.REPLAY, ("order",), "JOURNAL", (), "ordering", 50 * MB, "writes the script of journals with an order in which `play` gives the same journals",
+        CHECKED,
     ),
     "cdp": Proved(
-        programs.CDP, (), "SCRIPT", ("--quiet",), "playing", 25 * MB, "plays a script with traces on an L3 with masks for code and masks for data"
+        programs.CDP, (), "SCRIPT", ("--quiet",), "playing", 25 * MB, "plays a script with traces on an L3 with masks for code and masks for data",
+        explained_as("cdp"),
     ),
-    "levels": Proved(programs.LEVELS, (), "SCRIPT", ("--quiet",), "playing", 35 * MB, "plays a script on an L2 and an L3 with masks of their own"),
+    "levels": Proved(
+        programs.LEVELS, (), "SCRIPT", ("--quiet",), "playing", 35 * MB, "plays a script on an L2 and an L3 with masks of their own", explained_as("l2")
+    ),
 }
 EXPORTS = {
     "step": Proved(programs.CHECKER, ("export", "step"), "SCRIPT", (), "playing", 100 * MB, "plays it step by step", EXPLAINED),
@@ -59,7 +66,8 @@ EXPORTS = {
 }
 PLANS = {
     "curve": Proved(
-        programs.PLANNER, ("curve",), "TRACE", (), "counting", None, "counts how often the program of a trace hits with each number of ways"
+        programs.PLANNER, ("curve",), "TRACE", (), "counting", None, "counts how often the program of a trace hits with each number of ways",
+        explained_as("trace"),
     ),
     "divide": Proved(
         programs.PLANNER, ("divide",), "SCRIPT", (), "dividing", 60 * MB, "counts this for the groups of a script, and divides the ways among them", EXPLAINED
@@ -91,7 +99,7 @@ def one(word):
 
     def main(arguments, name):
         proved = WORDS[word]
-        words = parser_of(name, proved.purpose, "; 6 the answer is no" if word == "check" else "")
+        words = parser_of(name, proved.purpose, NO_ORDER if word == "order" else "")
         add_input(words, proved)
         return run(proved, words.parse_args(arguments))
 
@@ -114,7 +122,7 @@ def plan(arguments, name):
     for form, proved in PLANS.items():
         part = forms.add_parser(form, help=proved.purpose, description=proved.purpose[0].upper() + proved.purpose[1:] + ".", allow_abbrev=False)
         if form == "curve":
-            part.add_argument("sets", metavar="SETS", help="the sets of the cache: a power of two up to 65536")
+            part.add_argument("sets", metavar="SETS", help="the sets of the cache, from 1 to 1048576")
             part.add_argument("ways", metavar="WAYS", help="its ways, up to 32")
         add_input(part, proved)
     draw = forms.add_parser("draw", help="draws the curves that divide prints, with its plan", allow_abbrev=False)

@@ -6,9 +6,10 @@ import subprocess
 
 @contextmanager
 def held(*numbers):
-    """Signals that come within the block come after it."""
+    """Signals that come within the block come after it. One that is ignored stays so, here and in what is started."""
     came = []
-    before = {number: signal.signal(number, lambda number, frame: came.append(number)) for number in numbers}
+    heard = [number for number in numbers if signal.getsignal(number) is not signal.SIG_IGN]
+    before = {number: signal.signal(number, lambda number, frame: came.append(number)) for number in heard}
     try:
         yield
     finally:

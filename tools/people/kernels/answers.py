@@ -1,4 +1,8 @@
-"""The answers of a kernel."""
+"""The answers of a kernel.
+
+What a kernel answered to the probes is kept, with its version. So another kernel that answers differently is noticed, also where a rule
+would cover it.
+"""
 from dataclasses import dataclass
 import errno
 import re

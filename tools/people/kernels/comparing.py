@@ -2,7 +2,8 @@
 
 A command that only one of the two accepts leaves two trees that are not the same. It is told, and then left out on both sides, and the
 script is played once more without it: so what follows is compared too. Where a text alone makes the difference, the trees do not matter,
-and all such commands are left out at once.
+and all such commands are left out at once. To go on after such a command would compare two different trees; to end at it would leave most
+of a script uncompared.
 """
 from collections import defaultdict
 from concurrent.futures import ThreadPoolExecutor

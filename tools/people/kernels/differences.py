@@ -1,4 +1,8 @@
-"""Where a kernel's answer to a command is not the simulator's."""
+"""Where a kernel's answer to a command is not the simulator's.
+
+Limbo is emptied after each command, unless occupancy is asked for. A kernel tests RMIDs by the clock, and most scripts would differ by
+nothing else.
+"""
 from dataclasses import dataclass
 from enum import Enum
 import errno

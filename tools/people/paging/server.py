@@ -1,4 +1,7 @@
-"""A server of the page for this machine alone: each request needs the token of the address, and the address as its host."""
+"""A server of the page for this machine alone: each request needs the token of the address, and the address as its host.
+
+The token stands in the path of the address, so that the addresses of the page's files need not name it.
+"""
 from hmac import compare_digest
 from http.server import BaseHTTPRequestHandler, ThreadingHTTPServer
 import secrets

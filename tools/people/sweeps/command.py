@@ -18,7 +18,10 @@ NOTES = """The script has a line, `write GROUP/schemata TEXT`, that gives the gr
 every domain, and the others are left out. The table is written tab after tab, with a row for each mask and group. Where the machine
 refuses a mask, as one that overlaps an exclusive group's, the row says so. The column `overlaps` names the groups that have some of
 the mask's ways too when the script has ended: of these the group does not have its misses alone. To see this, a phase of reads is
-put after the script; where it has no room for one, the column has a question mark."""
+put after the script; where it has no room for one, the column has a question mark. Reads anywhere else would change the order of the
+threads' steps. An overlap with a group that was removed before the end is not told.
+
+The workers of a cluster get scripts and answer reports; they need the program and Dask, and nothing of this repository."""
 
 
 @contextmanager

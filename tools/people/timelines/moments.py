@@ -1,4 +1,9 @@
-"""What a cache holds after each entry of its history: the lines of each group, and the masks in force."""
+"""What a cache holds after each entry of its history: the lines of each group, and the masks in force.
+
+Time is counted in entries of a cache's history, the one order that is the same for all who look at it. Entries of several slices, which
+have no order between them, stand by their epochs. The masks are those that writes and accesses tell. A new group's first mask is in no
+journal, so it is shown from the group's first access or write on.
+"""
 from collections import Counter
 from dataclasses import dataclass
 import re

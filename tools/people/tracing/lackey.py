@@ -1,7 +1,8 @@
 """Traces of valgrind's tool lackey (`--trace-mem=yes`).
 
 Lines are `I  ADDR,SIZE` for an instruction, ` L ADDR,SIZE` for a load, ` S ADDR,SIZE` for a store and ` M ADDR,SIZE` for both,
-with ADDR in hexadecimal digits and SIZE in bytes. What valgrind says of itself begins with `==`. Other lines are the program's own.
+with ADDR in hexadecimal digits and SIZE in bytes. What valgrind says of itself begins with `==`. Other lines are skipped: they are
+what the program itself wrote to standard error.
 """
 import os
 

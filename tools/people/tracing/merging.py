@@ -1,4 +1,12 @@
-"""Several traces as one list of accesses."""
+"""Several traces as one list of accesses.
+
+They come by turns in one thread. Threads with an order line would cost a number for each step, and say the same. A turn counts uses before
+the first levels, since programs run side by side at the pace of their uses and not of their misses. Merging ends with the first trace that
+ends, after which there is no ratio, unless the rest is asked for.
+
+Addresses are shifted by whole regions of 4 GiB, numbered in order of first use: with a fixed shift for each trace, two or more would not
+lie below 2^48. No cache has more sets than 4 GiB have lines, so each line keeps its set.
+"""
 from itertools import islice
 
 from . import BadTrace

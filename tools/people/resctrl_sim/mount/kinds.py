@@ -1,4 +1,8 @@
-"""What stands at a path, by the program's own word."""
+"""What stands at a path, by the program's own word.
+
+It is asked in batches: one play lists a directory, and one asks a list, a read and a write at each of its names. From then on only
+`mkdir` and `rmdir` change what is there. Asked path by path, `ls -l` of a new group took nine plays.
+"""
 from enum import Enum
 import stat
 

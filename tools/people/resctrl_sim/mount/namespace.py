@@ -1,4 +1,8 @@
-"""A command in a mount namespace of its own, where the tree stands as on a machine that has resctrl."""
+"""A command in a mount namespace of its own, where the tree stands as on a machine that has resctrl.
+
+`/proc/mounts` is covered itself, though it is a link into each process's own folder. A file can be mounted on a link, and `/proc` stays as
+it is for whoever reads processes there.
+"""
 import os
 from pathlib import Path
 import signal

@@ -1,4 +1,7 @@
-"""Processes of this machine as tasks of the tree, each declared when it is first written to a `tasks` file, until it ends."""
+"""Processes of this machine as tasks of the tree, each declared when it is first written to a `tasks` file, until it ends.
+
+An id that was refused once is not declared later: the record has its refusal, and would show another answer where it is played again.
+"""
 import os
 from pathlib import Path
 import re

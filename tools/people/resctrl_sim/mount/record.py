@@ -1,4 +1,8 @@
-"""The file that records the script of a mount."""
+"""The file that records the script of a mount.
+
+Each operation is written at its end, by one call. The file is written whole, under another name, only where an operation takes the place
+of the last, or a process is declared. Written whole each time, a record of ten thousand operations took a millisecond of each.
+"""
 from contextlib import suppress
 import errno
 import os

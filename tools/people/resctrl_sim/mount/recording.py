@@ -1,4 +1,8 @@
-"""A recording: one script, which grows by an op for each operation of a client."""
+"""A recording: one script, which grows by an op for each operation of a client.
+
+After a script of several threads it goes on in a phase of its own, so that what follows is played after all of the script, whatever its
+`order` lines say.
+"""
 from .answers import last_answers
 
 

@@ -1,4 +1,8 @@
-"""`last_cmd_status` as a kernel keeps it."""
+"""`last_cmd_status` as a kernel keeps it.
+
+Of what the mount itself refuses, the cause is the mount's own word, until the next command that sets it. Without it a tool would read the
+cause of another command.
+"""
 from ..kernel_words import FORMATTED
 
 STATUS_BYTES = 512

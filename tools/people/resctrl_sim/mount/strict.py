@@ -1,6 +1,10 @@
 """What a kernel answers otherwise than the simulator, as far as the call of a client and the answers of the simulator tell it.
 
 What would need another state is not imitated: docs/MOUNT.md names it.
+
+If a text comes in two calls, the second is refused, and not taken as a text of its own as a kernel does: no tool means that. A text is
+read once, by a reader of a kernel's rules, and the simulator is given its meaning. So a text that only a kernel takes, as `010` for task 8,
+needs no second way through the mount.
 """
 import errno
 import os
