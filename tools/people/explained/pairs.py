@@ -8,7 +8,7 @@ from .numbers import decimal
 from .ops import USAGES, WHAT, check_count, check_task, read_access, read_cpu
 from .pair_machine import read_machine
 from .paths import check_length, check_path, read_text
-from .reader import Fault
+from .reader import Fault, first_fault
 from .tasks import Tasks
 
 COMMANDS = 20_000
@@ -137,18 +137,10 @@ class PairScript:
 
 def read_pair_script(data, kind):
     """The script of these bytes, or its first fault."""
-    if len(data) > limits.SCRIPT_BYTES:
-        return Fault(0, "", Refused("script too large", 0, 1, f"{len(data)} bytes; {limits.SCRIPT_BYTES} at most"))
-    script, lines = PairScript(kind), lines_of(data)
-    for at, line in enumerate(lines, 1):
-        try:
-            script.read(line, at)
-        except Refused as why:
-            return Fault(at, line, why)
-    if script.machine is None:
-        because = "no line says anything" if lines else "the script is empty"
-        return Fault(len(lines) + 1, "", Refused("no machine line", 0, 1, because, "machine sets=64 ways=8, for example"))
+    script = PairScript(kind)
+    if fault := first_fault(script, data):
+        return fault
     if script.trace_line:
         because = f"the trace that line {script.trace_line} begins has no end"
-        return Fault(len(lines) + 1, "", Refused(BAD_TRACE, 0, 1, because, "a line `end` closes it"))
+        return Fault(len(lines_of(data)) + 1, "", Refused(BAD_TRACE, 0, 1, because, "a line `end` closes it"))
     return script

@@ -153,11 +153,11 @@ class Script:
         thread.length += count
 
 
-def read_script(data):
-    """The script of these bytes, or its first fault."""
+def first_fault(script, data):
+    """Reads the lines of these bytes into a script of any kind, and gives the first fault, or None."""
     if len(data) > limits.SCRIPT_BYTES:
         return Fault(0, "", Refused("script too large", 0, 1, f"{len(data)} bytes; {limits.SCRIPT_BYTES} at most"))
-    script, lines = Script(), lines_of(data)
+    lines = lines_of(data)
     for at, line in enumerate(lines, 1):
         try:
             script.read(line, at)
@@ -166,4 +166,10 @@ def read_script(data):
     if script.machine is None:
         because = "no line says anything" if lines else "the script is empty"
         return Fault(len(lines) + 1, "", Refused("no machine line", 0, 1, because, "machine sets=64 ways=8, for example"))
-    return script
+    return None
+
+
+def read_script(data):
+    """The script of these bytes, or its first fault."""
+    script = Script()
+    return first_fault(script, data) or script
