@@ -1,8 +1,8 @@
 #!/usr/bin/env python3
 """Times additions to a shared journal and looks at it, by one thread and by four that share a lock.
 
-usage: journals.py TESTS      TESTS is the test program of the crate, after `rt test` in crates/run_tests:
-                              crates/run_tests/out/run_tests_tests
+usage: journals.py TESTS      TESTS is the test program of the crate, after `rt test` in crates/library_tests:
+                              crates/library_tests/out/library_tests_tests
 
 Four workers add 100,000 entries each, once without looks and once with four looks after each entry, and hand their passes to
 one another now and then. Prints nanoseconds of the clock for each addition and each look, the lock and what else a turn costs
@@ -22,7 +22,7 @@ def seconds(program, test):
     best = float("inf")
     for _ in range(RUNS):
         start = time.monotonic()
-        subprocess.run([program, f"tests::journals::{test}"], check=True, stdout=subprocess.DEVNULL)
+        subprocess.run([program, f"run_tests::journals::{test}"], check=True, stdout=subprocess.DEVNULL)
         best = min(best, time.monotonic() - start)
     return best
 

@@ -4,7 +4,7 @@ use Rattle.std.specs.List.{after_first, before_first, list_any, position_or_len,
 use Rattle.std.proofs.lemmas.Bool.{cases_lt}
 use Rattle.std.proofs.lemmas.List.{length-take}
 use Rattle.lists.proofs.Cuts.{before_first-none, list_any-position_ge, slice_split-none, slice_split-some}
-use Rattle.journal_lines.specs.Lines.{first_line}
+use Rattle.journal_text.specs.Lines.{first_line}
 use Rattle.journal_text.specs.Readings.{parts_of}
 use Rattle.rc_base.specs.Texts.{is_text}
 use Rattle.check_parts.specs.Division.{after_line, division_from}

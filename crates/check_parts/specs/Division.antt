@@ -1,6 +1,6 @@
 -- Where an input is divided into a script and journals: at its first line `journal 1`.
 use Rattle.std.specs.Prelude.{ℕ, ◌+◌, if◌then◌else◌, List, [], ◌∷◌, length, take, drop, Option, Some, None}
-use Rattle.journal_lines.specs.Lines.{first_line}
+use Rattle.journal_text.specs.Lines.{first_line}
 use Rattle.journal_text.specs.Readings.{parts_of}
 use Rattle.rc_base.specs.Texts.{is_text}
 use Rattle.check_parts.specs.declared.division.Division.{Division}

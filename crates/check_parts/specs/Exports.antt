@@ -1,6 +1,6 @@
 -- What an export writes: a script, and after it the text of its journals.
 use Rattle.std.specs.Prelude.{ℕ, ◌-◌, ◌==◌, Bool, false, if◌then◌else◌, List, [], ◌∷◌, ◌++◌, length, slice_get, Option, Some, None}
-use Rattle.journal_lines.specs.Lines.{journal_text}
+use Rattle.journal_text.specs.Lines.{journal_text}
 use Rattle.machine.specs.declared.parameters.Parameters.{Parameters}
 use Rattle.run_law.specs.Journals.{JournalsValue}
 

@@ -1,7 +1,7 @@
 //! The division of an input into a script and journals.
 ghost use Rattle.std.specs.Prelude.{◌≡◌, ◌≤◌, ◌^◌, IfSome, length};
 ghost use Rattle.check_parts.specs.Division.{after_line as division_after, division_of, journal_part as journal_bytes, script_part as script_bytes};
-ghost use Rattle.journal_lines.specs.Lines.{first_line};
+ghost use Rattle.journal_text.specs.Lines.{first_line};
 
 use num_text::cut;
 use rc_base::is_text;

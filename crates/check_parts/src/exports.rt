@@ -41,7 +41,7 @@ pub fn export_text(
     requires { length journals.now.slices ≡ slice_count (parameters_of machine.now) }
     ensures { IfOk result (λ text. text.items ≡ text_of bytes.items (parameters_of machine.now) journals.now) }
 {
-    let journal = journal_lines::print(alloc, journals, machine)?;
+    let journal = journal_text::print(alloc, journals, machine)?;
     let mut text = end_line(bytes)?;
     text.extend_from_slice(&journal)?;
     Ok(text)

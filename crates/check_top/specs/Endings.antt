@@ -18,7 +18,7 @@ use Rattle.journal_check.specs.Verdicts.{IsVerdict}
 use Rattle.journal_check.specs.declared.verdict.Clause.{Clause}
 use Rattle.journal_check.specs.declared.verdict.Verdict.{Verdict}
 use Rattle.journal_check.specs.declared.verdict.Verdict.TheVariants as verdicts
-use Rattle.journal_lines.specs.Lines.{journal_text}
+use Rattle.journal_text.specs.Lines.{journal_text}
 use Rattle.journal_text.specs.Readings.{IsTextOf}
 use Rattle.resctrl_top.specs.Isolation.{BeginsGroupWindows, BeginsLockWindows, HoldsRegions, IsolatesGroups}
 use Rattle.run_law.specs.Journals.{JournalsValue}

@@ -14,7 +14,7 @@ use Rattle.check_parts.specs.declared.form.Play.{Play}
 use Rattle.check_top.specs.Endings.{Isolates, IsolatesBy, PlaysAs}
 use Rattle.check_top.specs.declared.checked.Checked.{Checked}
 use Rattle.journal_check.specs.Verdicts.{IsVerdict}
-use Rattle.journal_lines.specs.Lines.{journal_text}
+use Rattle.journal_text.specs.Lines.{journal_text}
 use Rattle.journal_text.specs.Readings.{IsTextOf}
 use Rattle.run_law.specs.Journals.{JournalsValue}
 use Rattle.run_law.specs.Runs.{IsRun}

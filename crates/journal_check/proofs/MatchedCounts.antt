@@ -6,11 +6,11 @@ use Rattle.std.specs.declared.alloc.Global.{Global}
 use Rattle.std.specs.declared.collections.BTreeMap.{BTreeMap}
 use Rattle.std.proofs.lemmas.Option.{get_or_from_slice_get, slice_get_within}
 use Rattle.journal_check.proofs.LegalTrees.{CommandMayFollow-at, IsCommandThat-to}
-use Rattle.journal_tables.proofs.laws.TakenPlaces.{command-legal}
-use Rattle.journal_tables.proofs.laws.Told.{IsSome-some, number_at-op, slice_at-nil}
-use Rattle.journal_tables.specs.Places.{AreOwnPlaces, ArePlaces}
+use Rattle.journal_check.proofs.laws.TakenPlaces.{command-legal}
+use Rattle.journal_check.proofs.laws.Told.{IsSome-some, number_at-op, slice_at-nil}
+use Rattle.journal_check.specs.Places.{AreOwnPlaces, ArePlaces}
 use Rattle.journal_check.specs.FirstLooks.{AreAllFirstLooks, AreCounted, found_in, look_key, looked_in, noted_for}
-use Rattle.journal_tables.specs.Tables.{IsTableOf, number_at}
+use Rattle.journal_check.specs.Tables.{IsTableOf, number_at}
 use Rattle.journal_check.specs.Traces.{IsTrace}
 use Rattle.journal_check.specs.declared.trace.Step.{Step}
 use Rattle.machine.specs.Ranges.{InRange}

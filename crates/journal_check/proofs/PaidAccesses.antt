@@ -6,13 +6,13 @@ use Rattle.cache_core.specs.declared.entry.SliceEntry.{SliceEntry}
 use Rattle.cache_core.specs.declared.entry.What.{What}
 use Rattle.cache_core.specs.declared.entry.What.TheVariants as whats
 use Rattle.journal_check.specs.Asks.{AreAsks, IsAnswered, IsAsked, IsAskOf, IsPaid}
-use Rattle.journal_check.specs.Replays.{IsReplayed}
+use Rattle.journal_check.specs.CheckReplays.{IsReplayed}
 use Rattle.journal_check.specs.Tags.{IsTagOf, access_of}
 use Rattle.journal_check.specs.Traces.{is_access}
 use Rattle.journal_check.specs.declared.asks.Ask.{Ask}
-use Rattle.journal_tables.proofs.laws.OpKinds.{is_access_of-some, is_access_of-true}
-use Rattle.journal_tables.proofs.laws.Told.{slice_at-past}
-use Rattle.journal_tables.specs.OpKinds.{is_access_of}
+use Rattle.journal_check.proofs.laws.OpKinds.{is_access_of-some, is_access_of-true}
+use Rattle.journal_check.proofs.laws.Told.{slice_at-past}
+use Rattle.journal_check.specs.OpKinds.{is_access_of}
 use Rattle.run_law.specs.Clauses.{AccessesAreTrue}
 use Rattle.run_law.specs.Journals.{At, JournalsValue, slice_at}
 use Rattle.run_law.specs.Ops.{is_command}

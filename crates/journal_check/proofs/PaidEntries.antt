@@ -9,9 +9,9 @@ use Rattle.cache_core.specs.declared.entry.SliceEntry.{SliceEntry}
 use Rattle.journal_check.proofs.RestLists.{owed-rest}
 use Rattle.journal_check.specs.Payments.{AreAllPaid, AreEnded, ArePaid, PaysNext, rest}
 use Rattle.journal_check.specs.declared.trace.Step.{Step}
-use Rattle.journal_tables.proofs.laws.Told.{number_at-op, some-IsSome}
-use Rattle.journal_tables.specs.Places.{ArePlaces}
-use Rattle.journal_tables.specs.Tables.{AreZero, IsTableOf, number_at}
+use Rattle.journal_check.proofs.laws.Told.{number_at-op, some-IsSome}
+use Rattle.journal_check.specs.Places.{ArePlaces}
+use Rattle.journal_check.specs.Tables.{AreZero, IsTableOf, number_at}
 use Rattle.lists.proofs.Updates.{slice_get-set_other, slice_get-set_same}
 use Rattle.machine.specs.declared.parameters.Parameters.{Parameters}
 use Rattle.run_law.proofs.laws.GrownLists.{filter_push_false, filter_push_true}

@@ -6,9 +6,9 @@ use Rattle.journal_check.proofs.TrueOthers.{owed_by_command-step}
 use Rattle.journal_check.specs.Payments.{AreAllPaid}
 use Rattle.journal_check.specs.Traces.{IsTrace}
 use Rattle.journal_check.specs.declared.trace.Step.{Step}
-use Rattle.journal_tables.proofs.laws.TakenPlaces.{command-legal}
-use Rattle.journal_tables.proofs.laws.Told.{some-IsSome}
-use Rattle.journal_tables.specs.Homes.{AccessesStandOnce, IsHomeCount}
+use Rattle.journal_check.proofs.laws.TakenPlaces.{command-legal}
+use Rattle.journal_check.proofs.laws.Told.{some-IsSome}
+use Rattle.journal_check.specs.Homes.{AccessesStandOnce, IsHomeCount}
 use Rattle.run_law.proofs.laws.Pairs.{both_eqb-same, both_eqb-true}
 use Rattle.run_law.proofs.laws.Positions.{slice_get-within}
 use Rattle.run_law.specs.Journals.{JournalsValue, slice_at}

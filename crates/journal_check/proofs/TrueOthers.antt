@@ -6,11 +6,11 @@ use Rattle.std.proofs.lemmas.Bool.{cases_Bool}
 use Rattle.cache_core.specs.declared.entry.SliceEntry.{SliceEntry}
 use Rattle.cache_core.specs.declared.entry.What.{What}
 use Rattle.cache_core.specs.declared.entry.What.TheVariants as whats
-use Rattle.journal_tables.specs.Places.{ArePlaces}
-use Rattle.journal_tables.specs.Tables.{AreTakenOnce, number_at}
+use Rattle.journal_check.specs.Places.{ArePlaces}
+use Rattle.journal_check.specs.Tables.{AreTakenOnce, number_at}
 use Rattle.journal_check.specs.Traces.{IsStepOf, IsTrace, IsTrueOther, is_access, owed_by_step}
 use Rattle.journal_check.specs.declared.trace.Step.{Step}
-use Rattle.journal_tables.proofs.laws.TakenPlaces.{At-filter_some}
+use Rattle.journal_check.proofs.laws.TakenPlaces.{At-filter_some}
 use Rattle.run_law.proofs.laws.OpKinds.{from_kind, of_command}
 use Rattle.run_law.proofs.laws.Pairs.{both_eqb-same, both_eqb-true}
 use Rattle.run_law.specs.Journals.{At}

@@ -4,8 +4,8 @@ use Rattle.std.specs.Prelude.{◌≡◌, ℕ, ◌<◌, ◌≤◌, All, Contains,
 use Rattle.cache_core.specs.declared.entry.SliceEntry.{SliceEntry}
 use Rattle.journal_check.specs.Traces.{is_access}
 use Rattle.journal_check.specs.declared.asks.Ask.{Ask}
-use Rattle.journal_tables.specs.Begun.{IsSeen}
-use Rattle.journal_tables.specs.OpKinds.{is_access_of}
+use Rattle.journal_check.specs.Begun.{IsSeen}
+use Rattle.journal_check.specs.OpKinds.{is_access_of}
 use Rattle.run_law.specs.Journals.{At, JournalsValue, slice_at}
 use Rattle.run_law.specs.TreeHistory.{TreeEntryValue}
 use Rattle.run_law.specs.Truth.{IsTrueAccess}

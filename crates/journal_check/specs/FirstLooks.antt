@@ -7,7 +7,7 @@ use Rattle.std.specs.Ordering.{nat_cmp}
 use Rattle.std.specs.declared.alloc.Global.{Global}
 use Rattle.std.specs.declared.collections.BTreeMap.{BTreeMap}
 use Rattle.cache_core.specs.declared.entry.SliceEntry.{SliceEntry}
-use Rattle.journal_tables.specs.Tables.{number_at}
+use Rattle.journal_check.specs.Tables.{number_at}
 use Rattle.run_law.specs.Journals.{JournalsValue, slice_at}
 use Rattle.run_law.specs.Looks.{first_look, first_of, look_number, sum_of_all}
 use Rattle.run_law.specs.Truth.{is_made_by}

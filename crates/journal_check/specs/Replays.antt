@@ -1,21 +1,77 @@
--- A tree that is taken through its history anew.
+-- A slice that is replayed entry by entry.
 -- (For functions and proofs: no promise of the program stands on it.)
-use Rattle.std.specs.Prelude.{◌≡◌, List, length}
-use Rattle.machine.specs.declared.parameters.Parameters.{Parameters}
-use Rattle.run_law.specs.TreeHistory.{IsLegalTree, TreeEntryValue, tree_after}
-use Rattle.script_ops.specs.Values.{ScriptValue}
-use Rattle.script_ops.specs.declared.op.Op.{Op}
-use Rattle.tree_core.specs.Values.{TreeValue}
-use Rattle.tree_law.specs.State.{State}
-use Rattle.tree_law.specs.Steps.{needs, next}
+use Rattle.std.specs.Prelude.{◌≡◌, ℕ, ◌+◌, ◌*◌, ◌/◌, ◌%◌, ◌<◌, ◌≤◌, ◌==◌, if◌then◌else◌, false, true, Bool, IfSome, List, length, Option, Some}
+use Rattle.cache_core.specs.History.{Shape, decides, floor_of, held, is_own, left_by, lines_of, sets_floor, used, uses, ways_below}
+use Rattle.cache_core.specs.declared.entry.What.TheVariants.{Access}
+use Rattle.rc_base.specs.declared.names.Gid.{Gid}
+use Rattle.cache_core.specs.declared.entry.SliceEntry.{SliceEntry}
+use Rattle.cache_core.specs.declared.place.Place.{Place}
+use Rattle.journal_check.specs.RmidCounts.{Recounts, count_at}
+use Rattle.journal_check.specs.Slots.{Puts, left_place, place_at, resident_of, rmid_of}
+use Rattle.journal_check.specs.declared.region.Region.{Region}
+use Rattle.journal_check.specs.declared.replay.Replay.{Replay}
 
--- an entry has as many counts as the op needs in this state, and its reply is the state's
-abbrev pub IsAnswer : Parameters → State → Op → TreeEntryValue → Type 0
-IsAnswer m s op h = (length h.looks ≡ length (needs m s op)) × (h.reply ≡ (next m s op h.looks).reply)
+-- a slice of a cache as large as a machine may have, which is divided into whole slices
+pub record IsWhole (m : Shape) : Type 0 where
+  pub some_set : 0 < m.sets
+  pub few_sets : m.sets ≤ 65536
+  pub few_ways : m.ways ≤ 32
+  pub inside : m.slice < m.slices
+  pub whole : m.sets % m.slices ≡ 0
 
--- the tree is that of the script after these entries, which are a legal history
-pub record IsReplayed (script : ScriptValue) (before : List TreeEntryValue) (t : TreeValue) : Type 0 where
-  pub machine : t.machine ≡ script.machine
-  pub state : t.state ≡ tree_after script before
-  pub epoch : t.epoch ≡ length before
-  pub legal : IsLegalTree script before
+-- a place is what the entries leave there
+pub record IsPlace (m : Shape) (es : List SliceEntry) (set way : ℕ) (place : Option Place) : Type 0 where
+  pub resident : held m es set way ≡ resident_of place
+  pub age : (p : Place) → place ≡ Some p → used m es set way ≡ p.used
+  pub named : (p : Place) → place ≡ Some p → p.rmid < 65536
+
+-- what is kept of a slice is what these entries leave
+pub record StandsFor (m : Shape) (es : List SliceEntry) (r : Replay) : Type 0 where
+  pub divided : IsWhole m
+  pub shape : r.slots.shape ≡ m
+  pub places : (set way : ℕ) → set < m.sets → way < m.ways → IsPlace m es set way (place_at r.slots set way)
+  pub counts : (rmid : ℕ) → rmid < 65536 → count_at r.counts rmid ≡ lines_of m es rmid
+  pub floor : r.floor ≡ floor_of es
+  pub slots_generation : r.slots.generation ≤ length es
+  pub counts_generation : r.counts.generation ≤ length es
+
+-- one place is written, and its line is counted where the set is the slice's own
+pub record Writes (old new : Replay) (set way : ℕ) (place : Option Place) : Type 0 where
+  pub slots : Puts old.slots new.slots set way place
+  pub floor : new.floor ≡ old.floor
+  pub generation : new.counts.generation ≡ old.counts.generation
+  pub own : is_own old.slots.shape set ≡ true → Recounts old.counts new.counts (rmid_of (place_at old.slots set way)) (rmid_of place)
+  pub other : is_own old.slots.shape set ≡ false → new.counts ≡ old.counts
+
+-- every place is emptied, and a region is left
+pub record Empties (old new : Replay) (epoch : ℕ) (region : Region) : Type 0 where
+  pub shape : new.slots.shape ≡ old.slots.shape
+  pub places : (set way : ℕ) → place_at new.slots set way ≡ left_place old.slots.shape region set way
+  pub counts : (rmid : ℕ) → count_at new.counts rmid ≡ (if rmid == 0 then old.slots.shape.sets / old.slots.shape.slices * ways_below region.mask old.slots.shape.ways else 0)
+  pub floor : new.floor ≡ epoch
+  pub slots_generation : new.slots.generation ≡ old.slots.generation + 1
+  pub counts_generation : new.counts.generation ≡ old.counts.generation + 1
+
+-- the RMID of a line after an access: that of a hit stays
+pub record IsRmidAfter (place : Option Place) (hit : Bool) (rmid after : ℕ) : Type 0 where
+  pub filled : hit ≡ false → after ≡ rmid
+  pub kept : hit ≡ true → IfSome (rmid_of place) (λ r. after ≡ r)
+
+-- an entry is an access
+pub record IsAccessOf (e : SliceEntry) (hit : Bool) (way rmid line : ℕ) : Type 0 where
+  pub owner : Gid
+  pub mask : ℕ
+  pub is : e.what ≡ Access hit way owner rmid mask line
+
+-- an entry empties every place, and leaves a region
+pub record LeavesRegion (m : Shape) (es : List SliceEntry) (e : SliceEntry) (region : Region) : Type 0 where
+  pub decides_all : (set way : ℕ) → decides m set way e.what ≡ true
+  pub leaves : (set way : ℕ) → left_by m set way e.what ≡ resident_of (left_place m region set way)
+  pub ages : (set way : ℕ) (p : Place) → left_place m region set way ≡ Some p → (uses m set way e.what ≡ true) × (p.used ≡ length es + 1)
+  pub sets : sets_floor e.what ≡ true
+
+-- an entry leaves every place and the floor as they are
+pub record IsQuiet (m : Shape) (e : SliceEntry) : Type 0 where
+  pub decides_none : (set way : ℕ) → decides m set way e.what ≡ false
+  pub uses_none : (set way : ℕ) → uses m set way e.what ≡ false
+  pub leaves_floor : sets_floor e.what ≡ false

@@ -2,7 +2,7 @@
 -- (For functions and proofs: no promise of the program stands on it.)
 use Rattle.std.specs.List.{flat_map}
 use Rattle.std.specs.Prelude.{◌≡◌, ℕ, ◌+◌, ◌++◌, All, Bool, true, false, IsTrue, List, Some, length, slice_get, take}
-use Rattle.journal_check.specs.Replays.{IsAnswer, IsReplayed}
+use Rattle.journal_check.specs.CheckReplays.{IsAnswer, IsReplayed}
 use Rattle.journal_check.specs.declared.trace.Step.{Step}
 use Rattle.machine.specs.declared.parameters.Parameters.{Parameters}
 use Rattle.run_law.specs.Journals.{At}

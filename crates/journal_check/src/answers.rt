@@ -3,8 +3,8 @@ ghost use Rattle.std.specs.Prelude.{◌≡◌, IfOk, length};
 ghost use Rattle.journal_check.specs.Traces.{IsTrace};
 ghost use Rattle.journal_check.specs.Verdicts.{HoldBefore, IsVerdict};
 ghost use Rattle.journal_check.specs.declared.verdict.Clause.TheVariants as clauses;
-ghost use Rattle.journal_tables.specs.Places.{AreOwnPlaces, ArePlaces};
-ghost use Rattle.journal_tables.specs.Tables.{IsTableOf};
+ghost use Rattle.journal_check.specs.Places.{AreOwnPlaces, ArePlaces};
+ghost use Rattle.journal_check.specs.Tables.{IsTableOf};
 ghost use Rattle.machine.specs.Slices.{slice_count};
 
 use crate::legal_slices::are_slices_legal;
@@ -14,7 +14,7 @@ use crate::other_entries::are_owed;
 use crate::tags::are_accesses_true;
 use crate::trace::{Step, trace};
 use crate::verdict::{Clause, Verdict};
-use journal_tables::{
+use crate::{
     OpTable, are_after_commands, are_entries_in_order, are_marks_in_order, are_taken_once,
     places_of, starts_of,
 };

@@ -5,9 +5,9 @@ ghost use Rattle.journal_check.specs.Asks.{AreAsks, IsAsked, epoch_of};
 ghost use Rattle.machine.specs.Slices.{slice_count};
 ghost use Rattle.run_law.specs.Journals.{slice_at};
 
+use crate::is_access_at;
 use crate::owed::is_access;
 use cache_core::SliceEntry;
-use journal_tables::is_access_at;
 use rc_base::NoMemory;
 use run_law::Journals;
 use script_ops::Script;

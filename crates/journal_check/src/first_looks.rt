@@ -2,11 +2,11 @@
 ghost use Rattle.std.specs.Prelude.{◌≡◌, ℕ, ◌+◌, ◌<◌, ◌≤◌, ◌↔◌, IfOk, IsTrue, MatchOption, OnOk, Some, length, unwrap_or};
 ghost use Rattle.std.specs.BTreeMap.{Updates, get_by};
 ghost use Rattle.std.specs.Ordering.{nat_cmp};
-ghost use Rattle.journal_tables.specs.Places.{AreOwnPlaces};
+ghost use Rattle.journal_check.specs.Places.{AreOwnPlaces};
 ghost use Rattle.journal_check.specs.FirstLooks.{AreCounted, AreFirstLooks, NotesFirst, NotesLook, found_in, look_key, looked_in, sum_found};
 
+use crate::OpTable;
 use cache_core::{SliceEntry, What};
-use journal_tables::OpTable;
 use rc_base::NoMemory;
 use std::alloc::Global;
 use std::collections::BTreeMap;

@@ -6,10 +6,10 @@ ghost use Rattle.run_law.specs.Clauses.{SlicesAreLegal};
 ghost use Rattle.run_law.specs.Journals.{slice_at};
 ghost use Rattle.run_law.specs.Slices.{shape_in};
 
+use crate::is_legal;
 use rc_base::NoMemory;
 use run_law::Journals;
 use script_ops::Script;
-use slice_replay::is_legal;
 use std::alloc::Global;
 
 // Whether the history of slice i is legal.

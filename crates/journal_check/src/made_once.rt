@@ -2,15 +2,15 @@
 ghost use Rattle.std.specs.Prelude.{◌≡◌, ◌↔◌, IfOk, IsTrue, length};
 ghost use Rattle.journal_check.specs.Payments.{AreSlicesPaid};
 ghost use Rattle.journal_check.specs.Traces.{IsTrace};
-ghost use Rattle.journal_tables.specs.Places.{AreOwnPlaces, ArePlaces};
-ghost use Rattle.journal_tables.specs.Tables.{IsTableOf};
+ghost use Rattle.journal_check.specs.Places.{AreOwnPlaces, ArePlaces};
+ghost use Rattle.journal_check.specs.Tables.{IsTableOf};
 ghost use Rattle.machine.specs.Slices.{slice_count};
 ghost use Rattle.run_law.specs.Clauses.{EntriesStandOnce};
 ghost use Rattle.run_law.specs.TreeHistory.{IsLegalTree};
 
 use crate::payments::are_all_paid;
 use crate::trace::Step;
-use journal_tables::{OpTable, are_accesses_once, are_known};
+use crate::{OpTable, are_accesses_once, are_known};
 use rc_base::NoMemory;
 use run_law::Journals;
 use script_ops::Script;

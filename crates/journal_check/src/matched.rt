@@ -1,17 +1,17 @@
 //! Whether each command was given what its looks counted.
 ghost use Rattle.std.specs.Prelude.{◌≡◌, ◌↔◌, IfOk, IsTrue, length};
-ghost use Rattle.journal_tables.specs.Places.{AreOwnPlaces, ArePlaces};
+ghost use Rattle.journal_check.specs.Places.{AreOwnPlaces, ArePlaces};
 ghost use Rattle.journal_check.specs.FirstLooks.{AreAllFirstLooks};
-ghost use Rattle.journal_tables.specs.Tables.{IsTableOf};
+ghost use Rattle.journal_check.specs.Tables.{IsTableOf};
 ghost use Rattle.journal_check.specs.Traces.{IsTrace};
 ghost use Rattle.machine.specs.Ranges.{InRange};
 ghost use Rattle.machine.specs.Slices.{slice_count};
 ghost use Rattle.run_law.specs.Looks.{AreMatched};
 ghost use Rattle.run_law.specs.TreeHistory.{IsLegalTree};
 
+use crate::OpTable;
 use crate::first_looks::{are_counted, first_looks};
 use crate::trace::Step;
-use journal_tables::OpTable;
 use rc_base::NoMemory;
 use run_law::Journals;
 use script_ops::Script;

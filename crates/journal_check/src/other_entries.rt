@@ -1,7 +1,7 @@
 //! Whether every entry but those of accesses is one that its command owes.
 ghost use Rattle.std.specs.Prelude.{◌≡◌, ◌<◌, ◌↔◌, IsTrue, length};
-ghost use Rattle.journal_tables.specs.Places.{AreOwnPlaces, ArePlaces};
-ghost use Rattle.journal_tables.specs.Tables.{AreTakenOnce, IsTableOf};
+ghost use Rattle.journal_check.specs.Places.{AreOwnPlaces, ArePlaces};
+ghost use Rattle.journal_check.specs.Tables.{AreTakenOnce, IsTableOf};
 ghost use Rattle.run_law.specs.Clauses.{OthersAreTrue};
 ghost use Rattle.journal_check.specs.Traces.{AreTrueOthers, IsTrace, IsTrueOther};
 ghost use Rattle.machine.specs.Slices.{slice_count};
@@ -9,8 +9,8 @@ ghost use Rattle.run_law.specs.Journals.{slice_at};
 
 use crate::owed::{is_access, is_owed};
 use crate::trace::Step;
+use crate::{OpTable, is_access_at};
 use cache_core::SliceEntry;
-use journal_tables::{OpTable, is_access_at};
 use run_law::Journals;
 use script_ops::Script;
 

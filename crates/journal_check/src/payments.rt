@@ -2,16 +2,16 @@
 ghost use Rattle.std.specs.Prelude.{◌≡◌, ℕ, ◌+◌, ◌<◌, ◌≤◌, ◌↔◌, [], ◌∷◌, IfOk, IsTrue, List, false, length, slice_index, slice_set, take};
 ghost use Rattle.journal_check.specs.Payments.{AreAllPaid, AreEnded, ArePaid, PaysNext, rest};
 ghost use Rattle.journal_check.specs.Traces.{IsTrace};
-ghost use Rattle.journal_tables.specs.Places.{AreOwnPlaces, ArePlaces};
-ghost use Rattle.journal_tables.specs.Tables.{AreZero, IsTableOf};
+ghost use Rattle.journal_check.specs.Places.{AreOwnPlaces, ArePlaces};
+ghost use Rattle.journal_check.specs.Tables.{AreZero, IsTableOf};
 ghost use Rattle.machine.specs.Maps.{parameters_of};
 ghost use Rattle.run_law.specs.Journals.{slice_at};
 ghost use Rattle.run_law.specs.Owed.{Owed, paid_by};
 
+use crate::OpTable;
 use crate::dues::{is_ended, next_due};
 use crate::trace::Step;
 use cache_core::SliceEntry;
-use journal_tables::OpTable;
 use machine::Machine;
 use rc_base::NoMemory;
 use run_law::Journals;

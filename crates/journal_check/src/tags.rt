@@ -3,10 +3,10 @@ ghost use Rattle.std.specs.Prelude.{◌≡◌, ℕ, ◌+◌, ◌<◌, ◌≤◌,
 ghost use Rattle.std.specs.List.Sorted.{IsNonDecreasingBy};
 ghost use Rattle.cache_core.specs.declared.entry.What.TheVariants.{Access};
 ghost use Rattle.journal_check.specs.Asks.{AreAsks, IsAskOf, IsHeld, IsPaid, epoch_of};
-ghost use Rattle.journal_check.specs.Replays.{IsReplayed};
+ghost use Rattle.journal_check.specs.CheckReplays.{IsReplayed};
 ghost use Rattle.journal_check.specs.Tags.{IsTagOf, access_of};
-ghost use Rattle.journal_tables.specs.OpKinds.{is_access_of};
-ghost use Rattle.journal_tables.specs.Tables.{AreTakenOnce};
+ghost use Rattle.journal_check.specs.OpKinds.{is_access_of};
+ghost use Rattle.journal_check.specs.Tables.{AreTakenOnce};
 ghost use Rattle.machine.specs.Slices.{slice_count};
 ghost use Rattle.run_law.specs.Clauses.{AccessesAreTrue};
 ghost use Rattle.run_law.specs.Journals.{slice_at};

@@ -1,7 +1,7 @@
 //! What each command of the tree's history needed, and what followed it.
 ghost use Rattle.std.specs.Prelude.{◌≡◌, ℕ, ◌+◌, ◌<◌, All, IfOk, IsTrue, MatchOption, length, map, take};
-ghost use Rattle.journal_tables.specs.Tables.{AreTakenOnce};
-ghost use Rattle.journal_check.specs.Replays.{IsAnswer, IsReplayed};
+ghost use Rattle.journal_check.specs.Tables.{AreTakenOnce};
+ghost use Rattle.journal_check.specs.CheckReplays.{IsAnswer, IsReplayed};
 ghost use Rattle.journal_check.specs.Traces.{IsTrace, Takes, TakesCommand, TakesEntry};
 ghost use Rattle.run_law.specs.Entries.{entry_value};
 ghost use Rattle.run_law.specs.Ops.{is_command};
@@ -12,9 +12,9 @@ ghost use Rattle.tree_law.specs.LawsCounts.{CanLook};
 ghost use Rattle.tree_law.specs.State.{tasks_of};
 ghost use Rattle.tree_law.specs.Steps.{needs};
 
+use crate::is_command;
 use crate::needs::Needs;
 use crate::replies::is_same;
-use journal_tables::is_command;
 use rc_base::NoMemory;
 use run_law::TreeEntry;
 use script_ops::{MOST_WEIGHT, Op, Script};

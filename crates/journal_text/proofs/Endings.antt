@@ -2,7 +2,7 @@
 use Rattle.std.proofs.Common.{◌≡◌, ℕ, ◌+◌, ◌-◌, true, false, List, [], ◌∷◌, ◌++◌, length, take, sym, ap, subst, ◌∙◌, arith, append_assoc, length-append}
 use Rattle.std.specs.List.{after_first, before_first, list_any}
 use Rattle.std.proofs.lemmas.List.{append-nil, append_cancel_left, length_push, take_at}
-use Rattle.journal_lines.specs.Lines.{journal_lines, text_of}
+use Rattle.journal_text.specs.Lines.{journal_lines, text_of}
 use Rattle.journal_text.proofs.Fillers.{Begins-held}
 use Rattle.journal_text.proofs.OneLines.{whole_lines-journals}
 use Rattle.journal_text.proofs.Order.{LeadOn-parts, LeadOn-same}

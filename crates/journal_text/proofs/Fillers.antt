@@ -5,8 +5,8 @@ use Rattle.std.proofs.lemmas.List.{append-nil, length-replicate, map-append}
 use Rattle.std.proofs.lemmas.List.Elements.{All-append, All-nil, All-replicate}
 use Rattle.cache_core.specs.declared.entry.SliceEntry.{SliceEntry}
 use Rattle.cache_core.specs.declared.entry.What.TheVariants.{Raise}
-use Rattle.journal_lines.specs.Lines.{entry_line, journal_lines, last_line, lines_from, slice_line}
-use Rattle.journal_lines.specs.Writable.{IsWritable, IsWritableCommand, IsWritableEntry, IsWritableSlice}
+use Rattle.journal_text.specs.Lines.{entry_line, journal_lines, last_line, lines_from, slice_line}
+use Rattle.journal_text.specs.Writable.{IsWritable, IsWritableCommand, IsWritableEntry, IsWritableSlice}
 use Rattle.journal_text.proofs.SliceLines.{lines_from-append}
 use Rattle.journal_text.specs.Readings.{Begins}
 use Rattle.journal_text.specs.States.{Holds, HoldsJournals, HoldsSlices, HoldsTree, IsBefore, PartsRead, journals_in, tree_lines}

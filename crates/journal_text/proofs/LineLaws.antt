@@ -1,10 +1,10 @@
 -- The lines of the journals of a script tell what they are made of, and none has a newline.
 use Rattle.std.proofs.Common.{◌≡◌, ℕ, ◌<◌, ◌≤◌, ◌^◌, arith}
 use Rattle.cache_core.specs.declared.entry.SliceEntry.{SliceEntry}
-use Rattle.journal_lines.specs.Lines.{command_line, entry_line, slice_line}
-use Rattle.journal_lines.specs.Writable.{IsWritableCommand, IsWritableEntry}
-use Rattle.journal_lines.proofs.laws.Newlines.{HasNoNewline, HasNoNewline-command_line, HasNoNewline-entry_line, HasNoNewline-slice_line}
-use Rattle.journal_lines.proofs.laws.Values as values
+use Rattle.journal_text.specs.Lines.{command_line, entry_line, slice_line}
+use Rattle.journal_text.specs.Writable.{IsWritableCommand, IsWritableEntry}
+use Rattle.journal_text.proofs.laws.Newlines.{HasNoNewline, HasNoNewline-command_line, HasNoNewline-entry_line, HasNoNewline-slice_line}
+use Rattle.journal_text.proofs.laws.Values as values
 use Rattle.machine.specs.Slices.{slice_count}
 use Rattle.run_law.specs.TreeHistory.{TreeEntryValue}
 use Rattle.script_ops.specs.Values.{IsLawful, ScriptValue, total_weight}

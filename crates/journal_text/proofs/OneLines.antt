@@ -3,9 +3,9 @@ use Rattle.std.proofs.Common.{◌≡◌, ℕ, suc, ◌+◌, List, [], ◌∷◌,
 use Rattle.std.specs.List.{All}
 use Rattle.std.proofs.lemmas.List.Elements.{All-append, All-cons, All-map, All-nil, All-weaker}
 use Rattle.cache_core.specs.declared.entry.SliceEntry.{SliceEntry}
-use Rattle.journal_lines.specs.Lines.{command_line, entry_line, first_line, journal_lines, last_line, lines_from, slice_line}
-use Rattle.journal_lines.specs.Writable.{IsWritable, IsWritableCommand, IsWritableEntry, IsWritableSlice}
-use Rattle.journal_lines.proofs.laws.Newlines.{HasNoNewline, HasNoNewline-first_line, HasNoNewline-last_line}
+use Rattle.journal_text.specs.Lines.{command_line, entry_line, first_line, journal_lines, last_line, lines_from, slice_line}
+use Rattle.journal_text.specs.Writable.{IsWritable, IsWritableCommand, IsWritableEntry, IsWritableSlice}
+use Rattle.journal_text.proofs.laws.Newlines.{HasNoNewline, HasNoNewline-first_line, HasNoNewline-last_line}
 use Rattle.journal_text.proofs.LineLaws.{command_line-one, entry_line-one, slice_line-one}
 use Rattle.journal_text.proofs.TextLines.{whole_lines-text_of}
 use Rattle.journal_text.specs.Readings.{IsTextOf, whole_lines}

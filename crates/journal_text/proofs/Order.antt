@@ -1,6 +1,6 @@
 -- The places that lines lead to, one after the other.
 use Rattle.std.proofs.Common.{◌≡◌, ℕ, ◌+◌, List, [], ◌∷◌, ◌++◌, refl, sym, ap, subst, ◌∙◌, arith, inl, inr}
-use Rattle.journal_lines.proofs.laws.FirstWords.{command_line-last_line, command_line-slice_line}
+use Rattle.journal_text.proofs.laws.FirstWords.{command_line-last_line, command_line-slice_line}
 use Rattle.journal_text.proofs.LineLaws.{slice_line-injective}
 use Rattle.journal_text.specs.Places.{IsCommandLine, IsSliceLine, LeadOn, Leads, LeadsFromEntries, LeadsFromSlices}
 use Rattle.journal_text.specs.declared.place.Place.{Place}

@@ -1,7 +1,7 @@
 -- Lines that may not stand.
 use Rattle.std.proofs.Common.{◌≡◌, ℕ, ◌<◌, ◌≤◌, true, false, List, codes, refl, ap, ◌∙◌, arith, inl, inr}
 use Rattle.rc_base.specs.Texts.{is_text}
-use Rattle.journal_lines.specs.Lines.{first_line, last_line}
+use Rattle.journal_text.specs.Lines.{first_line, last_line}
 use Rattle.journal_text.specs.Places.{IsEntryLine, LeadsFromEntries, LeadsFromSlices}
 use Rattle.journal_text.specs.declared.place.Place.{Place}
 use Rattle.journal_text.specs.declared.place.Place.TheVariants.{Start, InTree, InSlice, Over}

@@ -1,7 +1,7 @@
 -- The lines of slices in two parts.
 use Rattle.std.proofs.Common.{◌≡◌, ℕ, ◌+◌, List, [], ◌∷◌, ◌++◌, length, sym, ap, ◌∙◌, arith, append_assoc}
 use Rattle.cache_core.specs.declared.entry.SliceEntry.{SliceEntry}
-use Rattle.journal_lines.specs.Lines.{lines_from, slice_lines}
+use Rattle.journal_text.specs.Lines.{lines_from, slice_lines}
 use Rattle.machine.specs.declared.parameters.Parameters.{Parameters}
 
 -- the lines of slices, and those of the slices after them

@@ -4,10 +4,10 @@ use Rattle.std.specs.List.{All}
 use Rattle.std.proofs.lemmas.List.{append-nil, length_push, map-append}
 use Rattle.std.proofs.lemmas.List.Elements.{All-nil, All-push}
 use Rattle.cache_core.specs.declared.entry.SliceEntry.{SliceEntry}
-use Rattle.journal_lines.specs.Lines.{command_line, entry_line, first_line, journal_lines, lines_from, slice_line}
-use Rattle.journal_lines.specs.Writable.{IsWritableCommand, IsWritableEntry, IsWritableSlice}
+use Rattle.journal_text.specs.Lines.{command_line, entry_line, first_line, journal_lines, lines_from, slice_line}
+use Rattle.journal_text.specs.Writable.{IsWritableCommand, IsWritableEntry, IsWritableSlice}
 use Rattle.journal_text.proofs.Order.{LeadOn-push}
-use Rattle.journal_lines.proofs.laws.Texts.{lines_from-push}
+use Rattle.journal_text.proofs.laws.Texts.{lines_from-push}
 use Rattle.journal_text.specs.Places.{LeadOn, Leads, LeadsFromSlices}
 use Rattle.journal_text.specs.States.{HasTaken, Holds, HoldsSlices, HoldsTree, IsBefore, PartsRead, ReaderState, tree_lines, whole_slices}
 use Rattle.journal_text.specs.declared.place.Place.{Place}

@@ -7,9 +7,9 @@ use Rattle.std.proofs.lemmas.List.Sums.{passes_at_first, split_at_first}
 use Rattle.std.proofs.lemmas.List.Splits.{length-slice_split}
 use Rattle.lists.proofs.Cuts.{list_any-position_ge, slice_split-none, slice_split-some}
 use Rattle.num_text.proofs.laws.Pieces.{Cut-append}
-use Rattle.journal_lines.specs.Lines.{text_of}
-use Rattle.journal_lines.proofs.laws.Newlines.{HasNoNewline}
-use Rattle.journal_lines.proofs.laws.Texts.{text_of-append, text_of-one}
+use Rattle.journal_text.specs.Lines.{text_of}
+use Rattle.journal_text.proofs.laws.Newlines.{HasNoNewline}
+use Rattle.journal_text.proofs.laws.Texts.{text_of-append, text_of-one}
 use Rattle.journal_text.specs.Readings.{whole_lines}
 
 -- whether a byte is a newline

@@ -4,9 +4,9 @@ use Rattle.std.specs.List.{All}
 use Rattle.std.proofs.lemmas.List.{length-map}
 use Rattle.std.proofs.lemmas.List.Elements.{All-head, All-tail}
 use Rattle.cache_core.specs.declared.entry.SliceEntry.{SliceEntry}
-use Rattle.journal_lines.specs.Lines.{command_line, entry_line, first_line, journal_lines, last_line, lines_from, slice_line, slice_lines}
-use Rattle.journal_lines.specs.Writable.{IsWritable, IsWritableCommand, IsWritableEntry, IsWritableSlice}
-use Rattle.journal_lines.proofs.laws.FirstWords.{command_line-last_line, command_line-slice_line}
+use Rattle.journal_text.specs.Lines.{command_line, entry_line, first_line, journal_lines, last_line, lines_from, slice_line, slice_lines}
+use Rattle.journal_text.specs.Writable.{IsWritable, IsWritableCommand, IsWritableEntry, IsWritableSlice}
+use Rattle.journal_text.proofs.laws.FirstWords.{command_line-last_line, command_line-slice_line}
 use Rattle.journal_text.proofs.ListParts.{append-same, cons-same}
 use Rattle.journal_text.proofs.LineLaws.{command_line-injective, entry_line-injective, slice_line-injective}
 use Rattle.journal_text.proofs.OneLines.{whole_lines-journals}

@@ -3,8 +3,8 @@ use Rattle.std.proofs.Common.{◌≡◌, ℕ, suc, ◌+◌, ◌<◌, List, [], �
 use Rattle.std.specs.List.{All}
 use Rattle.std.proofs.lemmas.List.Elements.{All-head, All-tail}
 use Rattle.cache_core.specs.declared.entry.SliceEntry.{SliceEntry}
-use Rattle.journal_lines.specs.Lines.{command_line, entry_line, first_line, journal_lines, last_line, lines_from, slice_line}
-use Rattle.journal_lines.specs.Writable.{IsWritable, IsWritableCommand, IsWritableEntry, IsWritableSlice}
+use Rattle.journal_text.specs.Lines.{command_line, entry_line, first_line, journal_lines, last_line, lines_from, slice_line}
+use Rattle.journal_text.specs.Writable.{IsWritable, IsWritableCommand, IsWritableEntry, IsWritableSlice}
 use Rattle.journal_text.proofs.Order.{LeadOn-append}
 use Rattle.journal_text.specs.Places.{LeadOn, Leads, LeadsFromSlices}
 use Rattle.journal_text.specs.declared.place.Place.{Place}

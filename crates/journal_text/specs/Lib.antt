@@ -1,5 +1,10 @@
 pub mod Endings
+pub mod Heads
+pub mod Kinds
 pub mod Laws
+pub mod Lines
 pub mod Places
 pub mod Readings
 pub mod States
+pub mod Taken
+pub mod Writable

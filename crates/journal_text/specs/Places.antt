@@ -2,8 +2,8 @@
 -- (For functions and proofs: no promise of the program stands on it.)
 use Rattle.std.specs.Prelude.{◌≡◌, ℕ, ◌+◌, ◌<◌, ◌≤◌, ◌⊎◌, List, [], ◌∷◌}
 use Rattle.cache_core.specs.declared.entry.SliceEntry.{SliceEntry}
-use Rattle.journal_lines.specs.Lines.{command_line, entry_line, first_line, last_line, slice_line}
-use Rattle.journal_lines.specs.Writable.{IsWritableCommand, IsWritableEntry}
+use Rattle.journal_text.specs.Lines.{command_line, entry_line, first_line, last_line, slice_line}
+use Rattle.journal_text.specs.Writable.{IsWritableCommand, IsWritableEntry}
 use Rattle.journal_text.specs.declared.place.Place.{Place}
 use Rattle.journal_text.specs.declared.place.Place.TheVariants.{Start, InTree, InSlice, Over}
 use Rattle.machine.specs.Slices.{slice_count}

@@ -1,8 +1,8 @@
 -- The journals that a text holds, or its first bad line.
 use Rattle.std.specs.Prelude.{◌≡◌, ℕ, ◌+◌, ◌-◌, ◌≤◌, ◌==◌, List, ◌++◌, length, take, Result, Ok, Err}
 use Rattle.std.specs.List.{slice_split}
-use Rattle.journal_lines.specs.Lines.{journal_lines, journal_text}
-use Rattle.journal_lines.specs.Writable.{IsWritable}
+use Rattle.journal_text.specs.Lines.{journal_lines, journal_text}
+use Rattle.journal_text.specs.Writable.{IsWritable}
 use Rattle.journal_text.specs.declared.fault.ReadError.{ReadError}
 use Rattle.journal_text.specs.declared.fault.ReadError.TheVariants as errors
 use Rattle.run_law.specs.Journals.{JournalsValue}

@@ -2,8 +2,8 @@
 -- (For functions and proofs: no promise of the program stands on it.)
 use Rattle.std.specs.Prelude.{◌≡◌, ℕ, ◌+◌, ◌<◌, ◌≤◌, Bool, true, false, List, [], ◌∷◌, ◌++◌, length, map, All}
 use Rattle.cache_core.specs.declared.entry.SliceEntry.{SliceEntry}
-use Rattle.journal_lines.specs.Lines.{command_line, entry_line, first_line, journal_lines, lines_from, slice_line}
-use Rattle.journal_lines.specs.Writable.{IsWritable, IsWritableCommand, IsWritableEntry, IsWritableSlice}
+use Rattle.journal_text.specs.Lines.{command_line, entry_line, first_line, journal_lines, lines_from, slice_line}
+use Rattle.journal_text.specs.Writable.{IsWritable, IsWritableCommand, IsWritableEntry, IsWritableSlice}
 use Rattle.journal_text.specs.Places.{LeadOn, Leads, LeadsFromSlices}
 use Rattle.journal_text.specs.declared.place.Place.{Place}
 use Rattle.journal_text.specs.declared.place.Place.TheVariants.{Start, InTree, InSlice, Over}

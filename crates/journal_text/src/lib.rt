@@ -1,15 +1,29 @@
-//! Journals read from their text: one text for a value, so what is printed reads back.
-//! A call that runs out of memory answers NoMemory.
+//! Journals as text: what is written of each entry, and how a text is read back; there is one text for each value, so what is
+//! written reads back. A call that runs out of memory answers NoMemory.
 #![tactic(auto)]
 
+mod commands;
+mod counts;
+mod cursor;
+mod entries;
 pub mod fault;
+mod fields;
+mod kind;
 mod place;
+mod printing;
+mod pushing;
 mod reader;
 mod reading;
+mod reasons;
 mod slices;
 mod taking;
 pub mod theorems;
 mod weight;
+mod whats;
 
+pub use commands::command_of_line;
+pub use counts::count_of_line;
+pub use entries::entry_of_line;
 pub use fault::ReadError;
+pub use printing::print;
 pub use reading::read;

@@ -5,8 +5,8 @@ ghost use Rattle.journal_text.specs.declared.place.Place.{Place};
 ghost use Rattle.machine.specs.Slices.{slice_count};
 ghost use Rattle.script_ops.specs.Values.{total_weight};
 
+use crate::count_of_line;
 use crate::place::Place;
-use journal_lines::count_of_line;
 use rc_base::is_text;
 use script_ops::Script;
 

@@ -9,7 +9,7 @@ ghost use Rattle.script_ops.specs.Values.{total_weight};
 use crate::place::Place;
 use crate::reader::Reader;
 use crate::slices::after_slices;
-use journal_lines::{command_of_line, entry_of_line};
+use crate::{command_of_line, entry_of_line};
 use rc_base::{NoMemory, is_text};
 use script_ops::Script;
 use std::alloc::Global;

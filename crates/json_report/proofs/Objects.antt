@@ -2,14 +2,14 @@
 use Rattle.std.proofs.Common.{◌≡◌, ℕ, Bool, true, false, not, List, [], ◌∷◌, ◌++◌, refl, sym, ap, ◌∙◌}
 use Rattle.std.proofs.lemmas.List.{append_assoc, append-nil}
 use Rattle.std.specs.Prelude.{codes}
-use Rattle.json_parts.proofs.laws.Objects.{Member, compact_text-members, members_told-then}
-use Rattle.json_parts.proofs.laws.Pieces.{compact_text-object}
-use Rattle.json_parts.specs.Domains.{domain_values}
-use Rattle.json_parts.specs.Pieces.{members_told}
-use Rattle.json_parts.specs.SliceValues.{journal_part}
-use Rattle.json_parts.specs.Totals.{total_value}
-use Rattle.json_parts.specs.Values.{array_of, whole}
-use Rattle.json_parts.specs.WindowValues.{windows_part}
+use Rattle.json_report.proofs.laws.Objects.{Member, compact_text-members, members_told-then}
+use Rattle.json_report.proofs.laws.Pieces.{compact_text-object}
+use Rattle.json_report.specs.Domains.{domain_values}
+use Rattle.json_report.specs.Pieces.{members_told}
+use Rattle.json_report.specs.SliceValues.{journal_part}
+use Rattle.json_report.specs.Totals.{total_value}
+use Rattle.json_report.specs.Values.{array_of, whole}
+use Rattle.json_report.specs.WindowValues.{windows_part}
 use Rattle.json_report.specs.Commands.{command_members, command_value, command_values, text_member}
 use Rattle.json_report.specs.Groups.{group_values}
 use Rattle.json_report.specs.Reporting.{commands_part, json_of, report_members}

@@ -1,7 +1,7 @@
 -- The values of commands.
 use Rattle.std.specs.Prelude.{ℕ, ◌+◌, List, [], ◌∷◌, ◌++◌, codes, map, Option, Some, None}
 use Rattle.std.specs.Str.Lines.{lines}
-use Rattle.json_parts.specs.Values.{array_of, object_of, whole}
+use Rattle.json_report.specs.Values.{array_of, object_of, whole}
 use Rattle.report_pieces.specs.Results.{result_of, words_of}
 use Rattle.run_replay.specs.Playbacks.{given}
 use Rattle.run_law.specs.Journals.{JournalsValue}

@@ -1,6 +1,6 @@
 -- The values of control groups.
 use Rattle.std.specs.Prelude.{List, map}
-use Rattle.json_parts.specs.GroupValues.{group_of_counts}
+use Rattle.json_report.specs.GroupValues.{group_of_counts}
 use Rattle.machine.specs.Slices.{slice_count}
 use Rattle.run_counts.specs.Counts.{is_access_of}
 use Rattle.run_replay.specs.Made.{Control, controls}

@@ -1,3 +1,10 @@
 pub mod Commands
+pub mod Domains
+pub mod GroupValues
 pub mod Groups
+pub mod Pieces
 pub mod Reporting
+pub mod SliceValues
+pub mod Totals
+pub mod Values
+pub mod WindowValues

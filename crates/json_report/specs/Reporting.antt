@@ -1,10 +1,10 @@
 -- The JSON report: one object, whose keys and those of every object in it are in byte order, in compact text and with a newline.
 use Rattle.std.specs.Prelude.{ℕ, Bool, if◌then◌else◌, List, [], ◌∷◌, ◌++◌, codes}
-use Rattle.json_parts.specs.Domains.{domain_values}
-use Rattle.json_parts.specs.SliceValues.{journal_part}
-use Rattle.json_parts.specs.Totals.{total_value}
-use Rattle.json_parts.specs.Values.{array_of, object_of}
-use Rattle.json_parts.specs.WindowValues.{windows_part}
+use Rattle.json_report.specs.Domains.{domain_values}
+use Rattle.json_report.specs.SliceValues.{journal_part}
+use Rattle.json_report.specs.Totals.{total_value}
+use Rattle.json_report.specs.Values.{array_of, object_of}
+use Rattle.json_report.specs.WindowValues.{windows_part}
 use Rattle.json_report.specs.Commands.{command_values}
 use Rattle.json_report.specs.Groups.{group_values}
 use Rattle.run_law.specs.Journals.{JournalsValue}

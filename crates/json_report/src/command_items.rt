@@ -1,6 +1,6 @@
 //! The value of a command.
 ghost use Rattle.std.specs.Prelude.{◌≡◌, ◌+◌, ◌≤◌, ◌++◌, OnOk, length, true};
-ghost use Rattle.json_parts.specs.Pieces.{members_told};
+ghost use Rattle.json_report.specs.Pieces.{members_told};
 ghost use Rattle.json_report.specs.Commands.{command_value, text_member};
 ghost use Rattle.rc_base.specs.declared.text_buf.TheConstants.{TEXT_MAX};
 ghost use Rattle.run_counts.specs.Touches.{TellsTouch};
@@ -9,7 +9,7 @@ ghost use Rattle.run_replay.specs.Playbacks.{given};
 ghost use Rattle.run_replay.specs.Replayed.{HasFewLooks, IsAnswered, IsReplay};
 ghost use Rattle.serde_json.specs.Written.{compact_text};
 
-use json_parts::{push_number, push_result_text, push_text_lines, push_words_text};
+use crate::{push_number, push_result_text, push_text_lines, push_words_text};
 use rc_base::{NoMemory, TextBuf};
 use report_pieces::ReportText;
 use run_law::{Journals, TreeEntry};

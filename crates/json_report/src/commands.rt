@@ -1,7 +1,7 @@
 //! The values of commands.
 ghost use Rattle.std.specs.Prelude.{◌≡◌, ◌++◌, IfOk, OnOk, false};
 ghost use Rattle.json_report.specs.Commands.{command_values};
-ghost use Rattle.json_parts.specs.Pieces.{items_told, members_told};
+ghost use Rattle.json_report.specs.Pieces.{items_told, members_told};
 ghost use Rattle.json_report.specs.Reporting.{commands_part};
 ghost use Rattle.run_replay.specs.Made.{made_from};
 ghost use Rattle.run_replay.specs.Replayed.{AreKnownGroups};
@@ -9,7 +9,7 @@ ghost use Rattle.run_law.specs.Runs.{IsRun};
 ghost use Rattle.tree_law.specs.State.{opening};
 
 use crate::command_items::push_command;
-use json_parts::{push_comma, push_key};
+use crate::{push_comma, push_key};
 use rc_base::{NoMemory, TEXT_MAX, TextBuf};
 use report_pieces::ReportText;
 use run_counts::Touches;

@@ -1,101 +1,52 @@
 //! The values of control groups.
-ghost use Rattle.std.specs.Prelude.{◌≡◌, ◌<◌, ◌++◌, ◌∷◌, [], OnOk, codes, length, map, true};
-ghost use Rattle.json_parts.specs.Pieces.{items_told, members_told};
-ghost use Rattle.json_parts.specs.Values.{array_of};
-ghost use Rattle.json_report.specs.Groups.{group_value, group_values};
-ghost use Rattle.machine.specs.Slices.{slice_count};
-ghost use Rattle.run_counts.specs.Tallies.{IsTallyOf};
-ghost use Rattle.run_replay.specs.Made.{control_of, default_control, made_from};
-ghost use Rattle.run_replay.specs.Replayed.{AreKnownGroups};
-ghost use Rattle.serde_json.specs.Written.{comma_if, compact_text};
-ghost use Rattle.tree_law.specs.State.{opening};
+ghost use Rattle.std.specs.Prelude.{◌≡◌, ◌++◌, ◌∷◌, [], OnOk, codes, length, true};
+ghost use Rattle.json_report.specs.GroupValues.{group_of_counts};
+ghost use Rattle.json_report.specs.Pieces.{members_told};
+ghost use Rattle.path_names.specs.NamesIn.{AreKnown, path_ids};
+ghost use Rattle.path_names.specs.PathTexts.{path_text};
+ghost use Rattle.serde_json.specs.Data.{string};
+ghost use Rattle.serde_json.specs.Written.{compact_text};
 
-use json_parts::{push_group, push_key};
-use path_names::{DirRef, PathRef};
+use crate::members::{push_number, push_text};
+use path_names::{Names, PathRef};
 use rc_base::NoMemory;
 use report_pieces::ReportText;
-use run_counts::Tally;
-use run_law::Journals;
-use run_replay::Made;
-use script_ops::Script;
+use run_counts::Counts;
 use std::alloc::Global;
 
-// Adds a control group that was made, after those before it.
-fn push_made_group(
+// Adds the member that is a path.
+fn push_path(
     alloc: Global,
     report: &mut ReportText,
-    script: &Script,
-    journals: &Journals,
-    made: Made,
-    tally: &Tally,
+    names: &Names,
+    path: PathRef,
 ) -> Result<(), NoMemory>
-    requires known { made.name.0 < length script.now.names }
-    requires counts { IsTallyOf journals.now (slice_count script.now.machine) tally.now }
-    ensures { OnOk result (report.new ≡ report.old ++ (comma_if true ++ compact_text (group_value script.now journals.now (control_of script.now.names made)))) }
+    requires { AreKnown (length names.now) (path_ids path) }
+    ensures { OnOk result (report.new ≡ report.old ++ members_told true ((codes "path", string (path_text names.now path)) ∷ [])) }
 {
-    let path = PathRef::Dir(DirRef::Ctrl(made.name));
-    report.push(b",".as_slice())?;
-    push_group(
-        alloc,
-        report,
-        script.names(),
-        made.gid,
-        path,
-        tally.of(made.gid),
-    )
+    let mut text = ReportText::create(alloc)?;
+    text.push_path(names, path)?;
+    push_text(report, "path", &text.into_bytes())
 }
 
-// Adds the control groups that were made.
-fn push_made(
+/// Adds the value of a control group with this gid, this path and these counts.
+#[tactic(auto, unfolding(crate::specs::GroupValues::group_of_counts))]
+pub fn push_group(
     alloc: Global,
     report: &mut ReportText,
-    script: &Script,
-    journals: &Journals,
-    made: &[Made],
-    tally: &Tally,
+    names: &Names,
+    gid: u32,
+    path: PathRef,
+    counts: Counts,
 ) -> Result<(), NoMemory>
-    requires known { AreKnownGroups script.now.names made.now }
-    requires counts { IsTallyOf journals.now (slice_count script.now.machine) tally.now }
-    ensures { OnOk result (report.new ≡ report.old ++ items_told true (map (group_value script.now journals.now) (map (control_of script.now.names) made.now))) }
+    requires { AreKnown (length names.now) (path_ids path) }
+    ensures { OnOk result (report.new ≡ report.old ++ compact_text (group_of_counts gid (path_text names.now path) counts)) }
 {
-    for group in made {
-        push_made_group(alloc, report, script, journals, *group, tally)?;
-    }
-    Ok(())
-}
-
-// Adds the default group.
-fn push_default_group(
-    alloc: Global,
-    report: &mut ReportText,
-    script: &Script,
-    journals: &Journals,
-    tally: &Tally,
-) -> Result<(), NoMemory>
-    requires { IsTallyOf journals.now (slice_count script.now.machine) tally.now }
-    ensures { OnOk result (report.new ≡ report.old ++ compact_text (group_value script.now journals.now default_control)) }
-{
-    let root = PathRef::Dir(DirRef::Root);
-    push_group(alloc, report, script.names(), 0, root, tally.of(0))
-}
-
-/// Adds the groups: the default group, and those that were made.
-pub(crate) fn push_groups(
-    alloc: Global,
-    report: &mut ReportText,
-    script: &Script,
-    journals: &Journals,
-    made: &[Made],
-    tally: &Tally,
-) -> Result<(), NoMemory>
-    requires counts { IsTallyOf journals.now (slice_count script.now.machine) tally.now }
-    requires known { AreKnownGroups script.now.names made.now }
-    requires made { made.now ≡ made_from script.now (opening script.now.machine script.now.tasks) journals.now.tree }
-    ensures { OnOk result (report.new ≡ report.old ++ members_told true ((codes "groups", array_of (group_values script.now journals.now)) ∷ [])) }
-{
-    push_key(report, true, "groups")?;
-    report.push(b"[".as_slice())?;
-    push_default_group(alloc, report, script, journals, tally)?;
-    push_made(alloc, report, script, journals, made, tally)?;
-    report.push(b"]".as_slice())
+    report.push(b"{".as_slice())?;
+    push_number(report, false, "accesses", counts.accesses)?;
+    push_number(report, true, "gid", u64::from(gid))?;
+    push_number(report, true, "hits", counts.hits)?;
+    push_number(report, true, "misses", counts.misses)?;
+    push_path(alloc, report, names, path)?;
+    report.push(b"}".as_slice())
 }

@@ -4,8 +4,8 @@ ghost use Rattle.json_report.specs.Reporting.{json_of};
 ghost use Rattle.run_law.specs.Runs.{IsRun};
 
 use crate::commands::push_commands_part;
-use crate::groups::push_groups;
-use json_parts::{push_domains, push_journal_part, push_total, push_windows_part};
+use crate::json_groups::push_groups;
+use crate::{push_domains, push_journal_part, push_total, push_windows_part};
 use rc_base::NoMemory;
 use report_pieces::ReportText;
 use run_counts::RunCounts;

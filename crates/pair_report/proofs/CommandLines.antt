@@ -7,7 +7,7 @@ use Rattle.pair_law.specs.State.{PairState, opening}
 use Rattle.pair_law.specs.Steps.{next}
 use Rattle.pair_ops.specs.Values.{Machines, PairScriptValue, epoch_at, is_command, op_at}
 use Rattle.pair_ops.specs.declared.op.PairOp.{PairOp}
-use Rattle.pair_replay.specs.Replays.{HasTaken, ReplayValue}
+use Rattle.pair_windows.specs.Replays.{HasTaken, ReplayValue}
 use Rattle.pair_report.specs.LinesBefore.{commands_before, lines_before}
 use Rattle.pair_report.specs.PairCommands.{command_line, command_lines}
 use Rattle.pair_runs.proofs.laws.Playing.{filter-take_command, filter-take_use, state_at-epoch}

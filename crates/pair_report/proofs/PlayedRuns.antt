@@ -12,7 +12,7 @@ use Rattle.pair_ops.specs.declared.op.PairOp.{PairOp}
 use Rattle.pair_ops.specs.declared.side.Side.{Side}
 use Rattle.pair_ops.specs.declared.side.Side.TheVariants.{First, Second}
 use Rattle.pair_windows.specs.CdpJournals.{IsPlayed, cdp_journals}
-use Rattle.joint_windows.specs.LevelJournals.{IsPlayedOnLevels, level_journals}
+use Rattle.pair_windows.specs.LevelJournals.{IsPlayedOnLevels, level_journals}
 use Rattle.rc_base.specs.declared.replies.Reply.{Reply}
 use Rattle.run_law.specs.Entries.{entries_of}
 

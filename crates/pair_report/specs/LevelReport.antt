@@ -10,8 +10,8 @@ use Rattle.pair_report.specs.MadeGroups.{GroupPath, groups_of}
 use Rattle.pair_report.specs.PairCommands.{commands_part}
 use Rattle.pair_report.specs.PairCounts.{domain_line, owner_counts, total_line}
 use Rattle.pair_runs.specs.LevelRuns.{LevelJournalsValue, level}
-use Rattle.joint_windows.specs.JointWindows.{joint_windows}
-use Rattle.joint_windows.specs.declared.joint_window.JointWindow.{JointWindow}
+use Rattle.pair_windows.specs.JointWindows.{joint_windows}
+use Rattle.pair_windows.specs.declared.joint_window.JointWindow.{JointWindow}
 
 -- the level that a side is
 abbrev pub level_word : Side → List ℕ

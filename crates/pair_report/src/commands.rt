@@ -1,7 +1,7 @@
 //! The lines of commands.
 ghost use Rattle.std.specs.Prelude.{◌≡◌, ◌+◌, ◌<◌, ◌≤◌, ◌++◌, List, ℕ, OnOk, length};
 ghost use Rattle.pair_ops.specs.Values.{commands_of};
-ghost use Rattle.pair_replay.specs.Replays.{HasTaken, IsPlayable};
+ghost use Rattle.pair_windows.specs.Replays.{HasTaken, IsPlayable};
 ghost use Rattle.pair_report.specs.LinesBefore.{lines_before};
 ghost use Rattle.pair_report.specs.PairCommands.{command_line, commands_part, given_lines};
 ghost use Rattle.pair_tree.specs.Reads.{text_read};
@@ -11,9 +11,9 @@ ghost use Rattle.report_pieces.specs.Pieces.{barred};
 use crate::command_text::push_command;
 use crate::counts::reply_at;
 use pair_ops::PairOp;
-use pair_replay::{Replay, is_command};
 use pair_text::PairScript;
 use pair_tree::PairTree;
+use pair_windows::{Replay, is_command};
 use rc_base::{NoMemory, Reply, TEXT_MAX, TextBuf};
 use report_pieces::ReportText;
 use std::alloc::Global;

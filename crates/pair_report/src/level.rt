@@ -1,8 +1,8 @@
 //! The report of a run with two levels.
 ghost use Rattle.std.specs.Prelude.{◌≡◌, ◌<◌, ◌∷◌, ◌++◌, IfOk, OnOk, length, map};
 ghost use Rattle.std.specs.List.{flat_map, range_with_len};
-ghost use Rattle.joint_windows.specs.JointWindows.{joint_windows};
-ghost use Rattle.joint_windows.specs.LevelJournals.{IsPlayedOnLevels, level_journals};
+ghost use Rattle.pair_windows.specs.JointWindows.{joint_windows};
+ghost use Rattle.pair_windows.specs.LevelJournals.{IsPlayedOnLevels, level_journals};
 ghost use Rattle.machine.specs.Maps.{parameters_of};
 ghost use Rattle.pair_ops.specs.Values.{side_machine};
 ghost use Rattle.pair_ops.specs.declared.side.Side.TheVariants.{First, Second};
@@ -21,10 +21,10 @@ use crate::level_groups::push_groups;
 use crate::level_window_lines::push_windows;
 use crate::made::{Made, made_groups};
 use cache_core::SliceEntry;
-use joint_windows::JointWindow;
 use machine::Machine;
 use pair_ops::Side;
 use pair_text::PairScript;
+use pair_windows::JointWindow;
 use rc_base::{NoMemory, Reply};
 use report_pieces::ReportText;
 use run_counts::CacheCounts;

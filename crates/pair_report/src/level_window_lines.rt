@@ -3,7 +3,7 @@ ghost use Rattle.std.specs.Prelude.{◌≡◌, ◌++◌, OnOk};
 ghost use Rattle.std.specs.List.{flat_map};
 ghost use Rattle.pair_report.specs.LevelReport.{l2_counts, l3_counts, window_line, window_place};
 
-use joint_windows::JointWindow;
+use pair_windows::JointWindow;
 use rc_base::NoMemory;
 use report_pieces::ReportText;
 

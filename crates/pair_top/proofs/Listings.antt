@@ -1,7 +1,7 @@
 -- The windows that the reports list are all windows of the runs with uses.
-use Rattle.joint_windows.proofs.laws.UsedWindows.{AreJointWindowsOf-listed}
-use Rattle.joint_windows.specs.AllJointWindows.{AreJointWindowsOf}
-use Rattle.joint_windows.specs.JointWindows.{joint_windows}
+use Rattle.pair_windows.proofs.laws.JointUsedWindows.{AreJointWindowsOf-listed}
+use Rattle.pair_windows.specs.AllJointWindows.{AreJointWindowsOf}
+use Rattle.pair_windows.specs.JointWindows.{joint_windows}
 use Rattle.pair_ops.specs.Values.{PairScriptValue}
 use Rattle.pair_runs.specs.CdpRuns.{CdpJournalsValue, IsCdpRun}
 use Rattle.pair_runs.specs.LevelRuns.{IsLevelRun, LevelJournalsValue}

@@ -7,7 +7,7 @@ use Rattle.cache_core.specs.declared.entry.SliceEntry.{SliceEntry}
 use Rattle.machine.specs.declared.parameters.Parameters.{Parameters}
 use Rattle.pair_ops.specs.Values.{PairScriptValue}
 use Rattle.pair_play.specs.SoFar.{IsShort}
-use Rattle.pair_replay.specs.Replays.{IsPlayable}
+use Rattle.pair_windows.specs.Replays.{IsPlayable}
 use Rattle.pair_runs.specs.CdpRuns.{CdpJournalsValue, IsCdpRun}
 use Rattle.pair_runs.specs.Entries.{slice_in}
 use Rattle.pair_runs.specs.LevelRuns.{IsLevelRun, LevelJournalsValue}
@@ -16,7 +16,7 @@ use Rattle.pair_text.specs.declared.kind.PairKind.TheVariants.{Cdp, Levels}
 use Rattle.pair_top.specs.Ready.{IsReady}
 use Rattle.pair_windows.proofs.laws.ShortLists.{length-slice_in}
 use Rattle.pair_windows.specs.CdpJournals.{IsPlayed, cdp_journals}
-use Rattle.joint_windows.specs.LevelJournals.{IsPlayedOnLevels, level_journals}
+use Rattle.pair_windows.specs.LevelJournals.{IsPlayedOnLevels, level_journals}
 use Rattle.rc_base.specs.declared.replies.Reply.{Reply}
 use Rattle.run_law.specs.Entries.{entries_of}
 

@@ -2,8 +2,8 @@
 use Rattle.std.specs.Prelude.{◌≡◌, ℕ, Bool, List, Ok}
 use Rattle.call_rim.specs.Within.{ReportsWithin}
 use Rattle.cdp_masks.specs.Windows as cdp
-use Rattle.joint_windows.specs.AllJointWindows.{AreJointWindowsOf}
-use Rattle.joint_windows.specs.JointWindows.{joint_windows}
+use Rattle.pair_windows.specs.AllJointWindows.{AreJointWindowsOf}
+use Rattle.pair_windows.specs.JointWindows.{joint_windows}
 use Rattle.l2_level.specs.Windows as levels
 use Rattle.pair_ops.specs.Values.{PairScriptValue}
 use Rattle.pair_report.specs.CdpReport.{cdp_report_of}

@@ -14,10 +14,10 @@ ghost use Rattle.script_ops.specs.declared.limits.TheConstants.{MOST_SCRIPT_BYTE
 use crate::input::script_in;
 use crate::refusal::refuse;
 use call_rim::{Performed, Program};
-use joint_windows::joint_windows;
 use l2_level::{LevelJournals, play};
 use pair_report::level_report;
 use pair_text::{PairError, PairKind, PairScript};
+use pair_windows::joint_windows;
 use rc_base::NoMemory;
 use script_ops::MOST_SCRIPT_BYTES;
 use std::alloc::Global;

@@ -36,10 +36,10 @@ use Rattle.private_lru.specs.GroupCounts.{covered_private_hits, hits_of_group}
 use Rattle.private_lru.specs.Isolation.{IsIsolated, between}
 use Rattle.private_lru.specs.declared.counts.WindowCounts.{WindowCounts}
 use Rattle.run_law.specs.Journals.{At}
-use Rattle.window_counts.proofs.laws.FirstPlaces.{position_or_len-before, position_or_len-le, slice_get-drop}
-use Rattle.window_counts.specs.Ends.{held_len}
-use Rattle.window_counts.specs.Tallies.{AreCounted, IsCounted}
-use Rattle.window_counts.specs.declared.stay.Stay.{Stay}
+use Rattle.private_lru.proofs.laws.FirstPlaces.{position_or_len-before, position_or_len-le, slice_get-drop}
+use Rattle.private_lru.specs.Ends.{held_len}
+use Rattle.private_lru.specs.Tallies.{AreCounted, IsCounted}
+use Rattle.private_lru.specs.declared.stay.Stay.{Stay}
 
 module _ (script : PairScriptValue) (j : CdpJournalsValue) (domain from : ℕ) (opening : SliceEntry) (played : IsPlayed script j) (exists : domain < script.machines.machine.domains)
     (opens : At (slice_in j.slices domain) from opening) (flush : opening.what ≡ Flush) where

@@ -32,7 +32,7 @@ use Rattle.pair_windows.specs.declared.partition.Partition.{Partition}
 use Rattle.rc_base.specs.declared.names.Mode.{Mode}
 use Rattle.rc_base.specs.declared.names.Mode.TheVariants.{Shareable, Exclusive, LockSetup, Locked}
 use Rattle.run_law.specs.Journals.{At}
-use Rattle.window_counts.proofs.laws.FirstPlaces.{position_or_len-at, position_or_len-before, position_or_len-le, slice_get-drop}
+use Rattle.private_lru.proofs.laws.FirstPlaces.{position_or_len-at, position_or_len-before, position_or_len-le, slice_get-drop}
 
 -- ---- the condition of a window, as a test and as a fact
 

@@ -15,8 +15,8 @@ use Rattle.pair_windows.specs.Kept.{kept_from, kept_of, stay_of}
 use Rattle.pair_windows.specs.Partitions.{has_partition, partition_of, partitions_in, partitions_of}
 use Rattle.pair_windows.specs.declared.kept.Kept.{Kept}
 use Rattle.pair_windows.specs.declared.partition.Partition.{Partition}
-use Rattle.window_counts.specs.Ends.{RiseByGroup}
-use Rattle.window_counts.specs.declared.stay.Stay.{Stay}
+use Rattle.private_lru.specs.Ends.{RiseByGroup}
+use Rattle.private_lru.specs.declared.stay.Stay.{Stay}
 
 -- one owner before another
 abbrev pub Before : Partition → Partition → Type 0

@@ -1,4 +1,6 @@
--- Lemmas for the crates above.
+-- Lemmas that crates above cite.
+pub mod JoinedCounts
+pub mod JointUsedWindows
 pub mod Listings
 pub mod RisingEpochs
 pub mod RisingGroups

@@ -9,7 +9,7 @@ use Rattle.pair_runs.specs.CdpRuns.{owner_on}
 use Rattle.pair_windows.specs.Partitions.{is_kept, kept_within, partitions_in}
 use Rattle.pair_windows.specs.declared.kept.Kept.{Kept}
 use Rattle.pair_windows.specs.declared.partition.Partition.{Partition}
-use Rattle.window_counts.specs.declared.stay.Stay.{Stay}
+use Rattle.private_lru.specs.declared.stay.Stay.{Stay}
 
 -- a partition that is kept up to this epoch
 abbrev pub kept_to : ℕ → Partition → Kept

@@ -1,7 +1,16 @@
 pub mod AllCdpWindows
+pub mod AllJointWindows
 pub mod CdpJournals
 pub mod CdpWindows
 pub mod Counted
 pub mod Fronts
+pub mod Hits
+pub mod Holdings
+pub mod Joined
+pub mod JointCounted
+pub mod JointWindows
 pub mod Kept
+pub mod LevelJournals
 pub mod Partitions
+pub mod Replays
+pub mod Segments

@@ -2,23 +2,22 @@
 ghost use Rattle.std.specs.Prelude.{◌≡◌, ◌+◌, ◌-◌, ◌^◌, ◌<◌, ◌≤◌, ◌∷◌, [], ◌++◌, All, IfOk, OnOk, filter, length, map};
 ghost use Rattle.cache_core.specs.declared.entry.What.TheVariants.{Flush as TheFlush};
 ghost use Rattle.pair_ops.specs.Values.{commands_of};
-ghost use Rattle.pair_replay.specs.Replays.{HasTaken, IsPlayable};
+ghost use Rattle.pair_windows.specs.Replays.{HasTaken, IsPlayable};
 ghost use Rattle.pair_windows.specs.CdpWindows.{is_used};
 ghost use Rattle.pair_windows.specs.Counted.{counted_window, counted_windows};
 ghost use Rattle.pair_windows.specs.Kept.{kept_from, stay_of};
 ghost use Rattle.pair_windows.specs.declared.kept.Kept.{Kept as KeptValue};
-ghost use Rattle.window_counts.specs.Ends.{RiseByGroup};
-ghost use Rattle.window_counts.specs.Tallies.{AreCounted};
+ghost use Rattle.private_lru.specs.Ends.{RiseByGroup};
+ghost use Rattle.private_lru.specs.Tallies.{AreCounted};
 
+use crate::Replay;
 use crate::cdp_window::CdpWindow;
 use crate::kept::{Kept, keep_on, partitions, stays_of};
 use cache_core::{SliceEntry, What};
-use pair_replay::Replay;
 use pair_text::PairScript;
-use private_lru::WindowCounts;
+use private_lru::{WindowCounts, counts_of};
 use rc_base::NoMemory;
 use std::alloc::Global;
-use window_counts::counts_of;
 
 // Takes the commands up to this epoch.
 fn advance(replay: &mut Replay, script: &PairScript, epoch: u64)

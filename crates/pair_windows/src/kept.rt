@@ -11,9 +11,9 @@ ghost use Rattle.pair_windows.specs.declared.kept.Kept.{Kept as KeptValue};
 use crate::partition::Partition;
 use pair_ops::{PairGroup, Side};
 use pair_tree::PairTree;
+use private_lru::Stay;
 use rc_base::{Gid, Mode, NoMemory};
 use std::alloc::Global;
-use window_counts::Stay;
 
 /// A partition, and the last epoch up to which it is known to be kept.
 #[derive(Clone, Copy, Debug, PartialEq, Eq, Drop)]

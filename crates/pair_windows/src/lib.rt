@@ -1,15 +1,32 @@
-//! The windows of runs with code and data prioritization in which one side of a group has its ways for itself, each with its counts. A
-//! call that runs out of memory answers NoMemory.
+//! The windows of pair scripts, each with its counts: those of runs with code and data prioritization in which one side of a group
+//! has its ways for itself, and those of runs with two levels in which a group has its ways of an L3 domain, and of the L2 domains
+//! in it, for itself. The tree of groups is taken through the commands once more by `Replay`. A call that runs out of memory
+//! answers NoMemory.
 #![tactic(auto)]
 
 pub mod cdp_window;
+mod commands;
 mod counted;
+mod domains;
 mod fronts;
+mod hits;
+mod holdings;
+mod joint_counted;
+mod joint_listing;
+pub mod joint_theorems;
+pub mod joint_window;
 mod kept;
+mod line_uses;
 pub mod partition;
+pub mod replay;
+mod segments;
 pub mod theorems;
 mod windows;
 
 pub use cdp_window::CdpWindow;
+pub use commands::is_command;
+pub use joint_listing::joint_windows;
+pub use joint_window::JointWindow;
 pub use partition::Partition;
+pub use replay::Replay;
 pub use windows::cdp_windows;

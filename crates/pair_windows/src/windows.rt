@@ -2,7 +2,7 @@
 ghost use Rattle.std.specs.Prelude.{◌≡◌, ◌+◌, ◌-◌, ◌<◌, ◌++◌, IfOk, OnOk, length, map, slice_get};
 ghost use Rattle.cache_core.specs.declared.entry.SliceEntry.{SliceEntry as Entry};
 ghost use Rattle.cache_core.specs.declared.entry.What.TheVariants.{Flush as TheFlush};
-ghost use Rattle.pair_replay.specs.Replays.{HasTaken};
+ghost use Rattle.pair_windows.specs.Replays.{HasTaken};
 ghost use Rattle.pair_runs.specs.Entries.{slice_in};
 ghost use Rattle.pair_windows.specs.CdpJournals.{IsPlayed, cdp_journals};
 ghost use Rattle.pair_windows.specs.CdpWindows.{cdp_windows, windows_at, windows_from, windows_in};
@@ -10,11 +10,11 @@ ghost use Rattle.pair_windows.specs.Counted.{ComesBefore};
 ghost use Rattle.run_law.specs.Entries.{entries_of};
 ghost use Rattle.run_law.specs.Journals.{At};
 
+use crate::Replay;
 use crate::cdp_window::CdpWindow;
 use crate::counted::{counts_at, kept_between, push_counted};
 use crate::fronts::{front_len, is_flush};
 use cache_core::SliceEntry;
-use pair_replay::Replay;
 use pair_text::PairScript;
 use rc_base::{NoMemory, Reply};
 use std::alloc::Global;

@@ -1,5 +1,6 @@
 -- Lemmas that crates above cite.
 pub mod AloneEntries
 pub mod CoveredAccesses
+pub mod FirstPlaces
 pub mod LoadedWays
 pub mod SliceWindows

@@ -1,6 +1,9 @@
 pub mod Covered
+pub mod Ends
 pub mod GroupCounts
 pub mod Isolation
 pub mod Locked
 pub mod Private
 pub mod SliceLaws
+pub mod Tallies
+pub mod Uses

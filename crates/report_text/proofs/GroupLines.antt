@@ -16,11 +16,11 @@ use Rattle.run_law.specs.declared.window.Window.{Window}
 use Rattle.run_replay.specs.Made.{control_of, controls}
 use Rattle.run_replay.specs.declared.made.Made.{Made}
 use Rattle.script_ops.specs.Values.{ScriptValue}
-use Rattle.text_parts.specs.Domains.{domain_line}
-use Rattle.text_parts.specs.Groups.{group_told}
-use Rattle.text_parts.specs.SliceLines.{journal_part}
-use Rattle.text_parts.specs.Totals.{total_line}
-use Rattle.text_parts.specs.WindowLines.{windows_part}
+use Rattle.report_text.specs.Domains.{domain_line}
+use Rattle.report_text.specs.Groups.{group_told}
+use Rattle.report_text.specs.SliceLines.{journal_part}
+use Rattle.report_text.specs.Totals.{total_line}
+use Rattle.report_text.specs.WindowLines.{windows_part}
 
 -- the line of a group by its counts
 pub group_told-is : (script : ScriptValue) (j : JournalsValue) (gid : ℕ) (path : List ℕ) (counts : Counts) → counts ≡ counted_in (is_access_of gid) j (slice_count script.machine)

@@ -1,2 +1,5 @@
 pub mod CommandLines
+pub mod CountTexts
+pub mod DomainCounts
 pub mod GroupLines
+pub mod SliceTexts

@@ -8,11 +8,11 @@ use Rattle.run_law.specs.declared.flags.Flags.{Flags}
 use Rattle.run_law.specs.declared.window.Window.{Window}
 use Rattle.run_replay.specs.Made.{Control, controls}
 use Rattle.script_ops.specs.Values.{ScriptValue}
-use Rattle.text_parts.specs.Counts.{counts_text}
-use Rattle.text_parts.specs.Domains.{domain_line}
-use Rattle.text_parts.specs.SliceLines.{journal_part}
-use Rattle.text_parts.specs.Totals.{total_line}
-use Rattle.text_parts.specs.WindowLines.{windows_part}
+use Rattle.report_text.specs.Counts.{counts_text}
+use Rattle.report_text.specs.Domains.{domain_line}
+use Rattle.report_text.specs.SliceLines.{journal_part}
+use Rattle.report_text.specs.Totals.{total_line}
+use Rattle.report_text.specs.WindowLines.{windows_part}
 use Rattle.tree_law.specs.State.{opening}
 
 -- `group G PATH: accesses A hits H misses M`

@@ -7,7 +7,8 @@ ghost use Rattle.run_law.specs.Runs.{IsRun};
 ghost use Rattle.tree_law.specs.State.{opening};
 
 use crate::commands::push_commands;
-use crate::groups::push_groups;
+use crate::text_groups::push_groups;
+use crate::{push_domains, push_journal, push_total, push_windows};
 use rc_base::NoMemory;
 use report_pieces::ReportText;
 use run_counts::RunCounts;
@@ -15,7 +16,6 @@ use run_law::{Flags, Journals, Window};
 use run_replay::{Made, made_groups};
 use script_ops::Script;
 use std::alloc::Global;
-use text_parts::{push_domains, push_journal, push_total, push_windows};
 
 // Adds the lines of the commands, but not to a quiet report, and returns the control groups that they made.
 fn push_commands_part(

@@ -22,7 +22,7 @@ use Rattle.run_windows.proofs.IsolatedWindows.{IsIsolated-window}
 use Rattle.run_law.specs.Journals.{At, JournalsValue, slice_at}
 use Rattle.script_ops.specs.Values.{IsLawful, ScriptValue}
 use Rattle.run_windows.specs.Windows.{Ends, GoesOver, IsWindow, StaysExclusive, ends_window}
-use Rattle.window_counts.proofs.laws.FirstPlaces.{position_or_len-at, position_or_len-before, position_or_len-le, slice_get-drop}
+use Rattle.private_lru.proofs.laws.FirstPlaces.{position_or_len-at, position_or_len-before, position_or_len-le, slice_get-drop}
 
 -- an entry that does not end a window
 GoesOver-ends_window : (last : ℕ) (e : SliceEntry) → ends_window last e ≡ false → GoesOver last e

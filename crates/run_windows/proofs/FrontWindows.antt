@@ -13,12 +13,12 @@ use Rattle.run_law.specs.Journals.{At, JournalsValue, slice_at}
 use Rattle.run_law.specs.Runs.{IsRun}
 use Rattle.run_law.specs.declared.window.Window.{Window}
 use Rattle.run_windows.proofs.CountedWindows.{IsCountedWindow-from, IsWindow-from}
-use Rattle.window_counts.specs.Ends.{held_len}
+use Rattle.private_lru.specs.Ends.{held_len}
 use Rattle.run_windows.specs.Fronts.{front_of}
-use Rattle.window_counts.specs.Tallies.{IsCounted}
+use Rattle.private_lru.specs.Tallies.{IsCounted}
 use Rattle.run_windows.specs.WindowCounts.{IsCountedWindow}
 use Rattle.run_windows.specs.Windows.{StaysExclusive, ends_window}
-use Rattle.window_counts.specs.declared.stay.Stay.{Stay}
+use Rattle.private_lru.specs.declared.stay.Stay.{Stay}
 use Rattle.script_ops.specs.Values.{IsLawful, ScriptValue}
 
 -- an entry that empties the slice

@@ -27,7 +27,7 @@ use Rattle.tree_law.proofs.laws.RisingGroups.{AreRisen, AreRisen-next, AreRisen-
 use Rattle.run_windows.specs.Epochs.{state_at}
 use Rattle.run_windows.specs.Stays.{AreStays, is_same, stay_of, tenant_of, tenants_in}
 use Rattle.run_windows.specs.Windows.{IsExclusive, StaysExclusive}
-use Rattle.window_counts.specs.declared.stay.Stay.{Stay}
+use Rattle.private_lru.specs.declared.stay.Stay.{Stay}
 use Rattle.run_windows.specs.declared.stay.Tenant.{Tenant}
 use Rattle.script_ops.specs.Values.{IsLawful, ScriptValue}
 use Rattle.tree_law.specs.Existing.{group_of}

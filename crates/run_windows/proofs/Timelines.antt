@@ -17,7 +17,7 @@ use Rattle.run_windows.specs.Epochs.{state_at}
 use Rattle.run_windows.specs.Stays.{AreStays, is_in, stay_of, tenants_in}
 use Rattle.run_windows.specs.Timelines.{IsTimeline}
 use Rattle.run_windows.specs.declared.changes.Change.{Change}
-use Rattle.window_counts.specs.declared.stay.Stay.{Stay}
+use Rattle.private_lru.specs.declared.stay.Stay.{Stay}
 use Rattle.run_windows.specs.declared.timeline.Span.{Span}
 use Rattle.script_ops.specs.Values.{IsLawful, ScriptValue}
 

@@ -21,7 +21,7 @@ use Rattle.run_windows.specs.Epochs.{state_at}
 use Rattle.run_windows.specs.Sites.{Site}
 use Rattle.run_windows.specs.Stays.{AreStays}
 use Rattle.run_windows.specs.Windows.{IsExclusive}
-use Rattle.window_counts.specs.declared.stay.Stay.{Stay}
+use Rattle.private_lru.specs.declared.stay.Stay.{Stay}
 use Rattle.script_ops.specs.Values.{ScriptValue}
 
 -- what stands past the end of a list of these

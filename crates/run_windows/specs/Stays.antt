@@ -9,7 +9,7 @@ use Rattle.rc_base.specs.declared.names.Mode.TheVariants.{Exclusive}
 use Rattle.run_law.specs.Journals.{JournalsValue}
 use Rattle.run_windows.specs.Epochs.{state_at}
 use Rattle.run_windows.specs.Windows.{IsExclusive, StaysExclusive}
-use Rattle.window_counts.specs.declared.stay.Stay.{Stay}
+use Rattle.private_lru.specs.declared.stay.Stay.{Stay}
 use Rattle.run_windows.specs.declared.stay.Tenant.{Tenant}
 use Rattle.script_ops.specs.Values.{ScriptValue}
 

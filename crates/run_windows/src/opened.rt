@@ -7,21 +7,20 @@ ghost use Rattle.machine.specs.Slices.{slice_number};
 ghost use Rattle.run_law.specs.Journals.{slice_at};
 ghost use Rattle.run_law.specs.Runs.{IsRun};
 ghost use Rattle.run_windows.specs.AllWindows.{AreWindowsBefore, IsOpening, with_used};
-ghost use Rattle.window_counts.specs.Ends.{RiseByGroup};
+ghost use Rattle.private_lru.specs.Ends.{RiseByGroup};
 ghost use Rattle.run_windows.specs.Stays.{AreStays};
 ghost use Rattle.run_windows.specs.Fronts.{front_of};
-ghost use Rattle.window_counts.specs.Tallies.{AreCounted, IsCounted};
+ghost use Rattle.private_lru.specs.Tallies.{AreCounted, IsCounted};
 ghost use Rattle.run_windows.specs.Windows.{StaysExclusive};
 ghost use Rattle.script_ops.specs.Values.{IsLawful};
 
 use crate::counting::{Place, empties, window_of};
 use cache_core::SliceEntry;
-use private_lru::WindowCounts;
+use private_lru::{Stay, WindowCounts, counts_of};
 use rc_base::NoMemory;
 use run_law::{Journals, Window};
 use script_ops::Script;
 use std::alloc::Global;
-use window_counts::{Stay, counts_of};
 
 /// A flush or a lock: the domain, the slice in it, and the position there.
 #[derive(Clone, Copy, Debug, PartialEq, Eq)]

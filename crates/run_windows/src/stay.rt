@@ -6,10 +6,10 @@ ghost use Rattle.rc_base.specs.declared.names.Mode.TheVariants.{Exclusive};
 ghost use Rattle.run_windows.specs.Stays.{is_in, is_same, last_of, stay_of, tenants_in};
 
 use group_tree::{Group, GroupKind};
+use private_lru::Stay;
 use rc_base::{Gid, Mode, NoMemory};
 use std::alloc::Global;
 use tree_core::Tree;
-use window_counts::Stay;
 
 /// A group that is exclusive, with its mask in one domain.
 #[derive(Clone, Copy, Debug, PartialEq, Eq, Drop)]

@@ -11,11 +11,11 @@ ghost use Rattle.script_ops.specs.Values.{IsLawful};
 
 use crate::changes::Change;
 use crate::stay::stays_of;
+use private_lru::Stay;
 use rc_base::NoMemory;
 use run_law::Journals;
 use script_ops::Script;
 use std::alloc::Global;
-use window_counts::Stay;
 
 /// The groups that are exclusive in a domain from an epoch on, until those of the next change.
 #[derive(Drop)]

@@ -5,7 +5,7 @@ ghost use Rattle.machine.specs.Slices.{slice_count};
 
 use crate::tests::worked_run::{FILL, HIT, JOURNALS, RAISE, journals_of};
 use cache_core::SliceEntry;
-use journal_lines::{command_of_line, count_of_line, entry_of_line, print};
+use journal_text::{command_of_line, count_of_line, entry_of_line, print};
 use machine::{Machine, Parameters};
 use rc_base::{Reply, Why};
 use std::process::Abort;

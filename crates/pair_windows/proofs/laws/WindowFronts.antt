@@ -16,8 +16,8 @@ use Rattle.pair_windows.specs.declared.kept.Kept.{Kept}
 use Rattle.private_lru.specs.Covered.{covered}
 use Rattle.private_lru.specs.GroupCounts.{accesses_of, covered_private_hits, hits_of_group}
 use Rattle.private_lru.specs.declared.counts.WindowCounts.{WindowCounts}
-use Rattle.window_counts.specs.Ends.{held_len}
-use Rattle.window_counts.specs.Tallies.{IsCounted}
+use Rattle.private_lru.specs.Ends.{held_len}
+use Rattle.private_lru.specs.Tallies.{IsCounted}
 
 -- ---- the elements before the first that passes a test
 

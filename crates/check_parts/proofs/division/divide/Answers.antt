@@ -1,6 +1,6 @@
 use Rattle.std.proofs.Common.{◌≡◌, ◌<◌, ℕ, List, length, true, false, sym, ap, ◌∙◌, [], ◌∷◌, arith}
 use Rattle.std.specs.List.{after_first, before_first, list_any}
-use Rattle.journal_lines.specs.Lines.{first_line}
+use Rattle.journal_text.specs.Lines.{first_line}
 use Rattle.journal_text.specs.Readings.{parts_of}
 use Rattle.rc_base.specs.Texts.{is_text}
 use Rattle.check_parts.specs.Division.{division_from}

@@ -4,7 +4,7 @@ use Rattle.cache_core.specs.declared.entry.SliceEntry.{SliceEntry}
 use Rattle.journal_check.proofs.AskLists.{AreAsks-more, AreAsks-skip}
 use Rattle.journal_check.specs.Asks.{AreAsks}
 use Rattle.journal_check.specs.declared.asks.Ask.{Ask}
-use Rattle.journal_tables.proofs.laws.Told.{no_entry}
+use Rattle.journal_check.proofs.laws.Told.{no_entry}
 use Rattle.run_law.specs.Journals.{At, slice_at}
 use Rattle.journal_check.proofs.asks.add_ask.Goals as goal
 

@@ -1,6 +1,6 @@
 use Rattle.std.proofs.Common.{◌≡◌, ℕ, ◌+◌, Option, Some, sym, ◌∙◌, subst, arith}
 use Rattle.journal_check.proofs.FoundSums.{sum_found-over, sum_found-some}
-use Rattle.journal_tables.proofs.laws.Told.{is_false}
+use Rattle.journal_check.proofs.laws.Told.{is_false}
 use Rattle.journal_check.specs.FirstLooks.{found_in, sum_found}
 use Rattle.journal_check.proofs.first_looks.are_summed.Goals as goal
 

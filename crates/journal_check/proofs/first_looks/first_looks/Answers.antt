@@ -2,7 +2,7 @@ use Rattle.std.proofs.Common.{◌≡◌, ℕ, ◌+◌, ◌++◌, ◌∷◌, [], 
 use Rattle.std.specs.Prelude.{if◌then◌else◌}
 use Rattle.std.proofs.lemmas.List.{take_all, take_more}
 use Rattle.cache_core.specs.declared.entry.SliceEntry.{SliceEntry}
-use Rattle.journal_tables.proofs.laws.Told.{no_entry}
+use Rattle.journal_check.proofs.laws.Told.{no_entry}
 use Rattle.journal_check.specs.FirstLooks.{AreFirstLooks, look_key, noted_for}
 use Rattle.run_law.proofs.laws.MatchedLooks.{first_look_push}
 use Rattle.run_law.specs.Looks.{first_look, first_of, look_number}

@@ -1,6 +1,6 @@
 use Rattle.std.proofs.Common.{◌≡◌, true, false, below_more, sym, ap, ◌∙◌, arith}
 use Rattle.cache_core.specs.History.{IsLegal}
-use Rattle.journal_tables.proofs.laws.Told.{is_false, is_true}
+use Rattle.journal_check.proofs.laws.Told.{is_false, is_true}
 use Rattle.machine.specs.Slices.{slice_count}
 use Rattle.run_law.specs.Clauses.{SlicesAreLegal}
 use Rattle.run_law.specs.Journals.{slice_at}

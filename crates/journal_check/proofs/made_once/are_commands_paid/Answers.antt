@@ -1,6 +1,6 @@
 use Rattle.std.proofs.Common.{◌≡◌, ◌<◌, length, true, false, below_more, sym, ap, ◌∙◌, subst, arith}
 use Rattle.journal_check.specs.Payments.{AreAllPaid, AreSlicesPaid}
-use Rattle.journal_tables.proofs.laws.Told.{is_false, is_true}
+use Rattle.journal_check.proofs.laws.Told.{is_false, is_true}
 use Rattle.machine.specs.Slices.{slice_count}
 use Rattle.run_law.specs.Journals.{slice_at}
 use Rattle.journal_check.proofs.made_once.are_commands_paid.Goals as goal

@@ -1,6 +1,6 @@
 use Rattle.std.proofs.Common.{◌≡◌, ℕ, ◌<◌, length, true, false, sym, ◌∙◌, arith}
 use Rattle.journal_check.proofs.StandingOps.{EachStandsOnce, EachStandsOnce-accesses, EachStandsOnce-both, EachStandsOnce-commands}
-use Rattle.journal_tables.proofs.laws.Told.{is_false}
+use Rattle.journal_check.proofs.laws.Told.{is_false}
 use Rattle.machine.specs.Slices.{slice_count}
 use Rattle.run_law.specs.Clauses.{EntriesStandOnce}
 use Rattle.run_law.specs.Journals.{JournalsValue}

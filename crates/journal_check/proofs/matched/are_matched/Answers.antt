@@ -3,7 +3,7 @@ use Rattle.std.proofs.lemmas.Bool.{cases_lt}
 use Rattle.std.proofs.lemmas.List.{length-map}
 use Rattle.std.proofs.lemmas.Option.{slice_get_read, slice_get_within}
 use Rattle.journal_check.proofs.MatchedCounts.{AreCounted-same, counted-command, length-counts, place-command}
-use Rattle.journal_tables.proofs.laws.Told.{At-map, is_false, is_true}
+use Rattle.journal_check.proofs.laws.Told.{At-map, is_false, is_true}
 use Rattle.journal_check.specs.declared.trace.Step.{Step}
 use Rattle.machine.specs.declared.parameters.Parameters.{Parameters}
 use Rattle.run_law.specs.Entries.{entry_value}

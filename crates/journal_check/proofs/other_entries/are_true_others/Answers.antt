@@ -2,7 +2,7 @@ use Rattle.std.proofs.Common.{◌≡◌, inl, inr, List, length, get_or, ap, ◌
 use Rattle.std.proofs.lemmas.Bool.{cases_lt}
 use Rattle.std.proofs.lemmas.Option.{slice_get-get_or, slice_get_within}
 use Rattle.cache_core.specs.declared.entry.SliceEntry.{SliceEntry}
-use Rattle.journal_tables.proofs.laws.Told.{is_true, no_entry}
+use Rattle.journal_check.proofs.laws.Told.{is_true, no_entry}
 use Rattle.journal_check.specs.Traces.{AreTrueOthers, IsTrueOther}
 use Rattle.run_law.specs.Journals.{At, slice_at}
 use Rattle.journal_check.proofs.other_entries.are_true_others.Goals as goal

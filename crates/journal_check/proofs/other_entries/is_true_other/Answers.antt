@@ -1,14 +1,14 @@
 use Rattle.std.proofs.Common.{◌≡◌, ◌↔◌, ℕ, ◌+◌, ◌-◌, false, List, length, Some, None, refl, sym, ap, ◌∙◌, subst, arith}
 use Rattle.std.specs.Prelude.{Contains, IsTrue}
 use Rattle.std.proofs.lemmas.Option.{slice_get_read, slice_get_within}
-use Rattle.journal_tables.proofs.laws.OpKinds.{is_access_of-false, is_access_of-true}
-use Rattle.journal_tables.proofs.laws.Told.{IsSome-some, is_true, number_at-op, op_at-number, some-IsSome}
+use Rattle.journal_check.proofs.laws.OpKinds.{is_access_of-false, is_access_of-true}
+use Rattle.journal_check.proofs.laws.Told.{IsSome-some, is_true, number_at-op, op_at-number, some-IsSome}
 use Rattle.cache_core.specs.declared.entry.SliceEntry.{SliceEntry}
-use Rattle.journal_tables.specs.OpKinds.{is_access_of}
+use Rattle.journal_check.specs.OpKinds.{is_access_of}
 use Rattle.script_ops.specs.Values.{ScriptValue, op_at}
 use Rattle.script_ops.specs.declared.op.Op.{Op}
 use Rattle.journal_check.proofs.TrueOthers.{other-access, other-command, owed-step, place-once}
-use Rattle.journal_tables.specs.Tables.{IsTableOf, number_at}
+use Rattle.journal_check.specs.Tables.{IsTableOf, number_at}
 use Rattle.journal_check.specs.Traces.{IsTrueOther, owed_by_step}
 use Rattle.machine.specs.declared.parameters.Parameters.{Parameters}
 use Rattle.run_law.specs.Journals.{At}

@@ -2,7 +2,7 @@ use Rattle.std.proofs.Common.{◌≡◌, inl, inr, true, false, get_or, Some, sy
 use Rattle.std.specs.Prelude.{slice_get}
 use Rattle.std.proofs.lemmas.Bool.{cases_lt}
 use Rattle.std.proofs.lemmas.Option.{get_or_from_slice_get, slice_get_within}
-use Rattle.journal_tables.proofs.laws.Told.{is_false}
+use Rattle.journal_check.proofs.laws.Told.{is_false}
 use Rattle.journal_check.specs.Traces.{HasFollow}
 use Rattle.machine.specs.Maps.{parameters_of}
 use Rattle.run_law.specs.Owed.{is_entered_in, what_of}

@@ -3,7 +3,7 @@ use Rattle.std.proofs.lemmas.Bool.{cases_lt}
 use Rattle.std.proofs.lemmas.Option.{get_or_from_slice_get, slice_get-get_or, slice_get_within}
 use Rattle.journal_check.specs.Payments.{AreEnded, rest}
 use Rattle.journal_check.specs.declared.trace.Step.{Step}
-use Rattle.journal_tables.proofs.laws.Told.{is_false, is_true}
+use Rattle.journal_check.proofs.laws.Told.{is_false, is_true}
 use Rattle.machine.specs.Maps.{parameters_of}
 use Rattle.run_law.specs.Journals.{At}
 use Rattle.journal_check.proofs.payments.are_ended.Goals as goal

@@ -4,8 +4,8 @@ use Rattle.cache_core.specs.declared.entry.SliceEntry.{SliceEntry}
 use Rattle.journal_check.proofs.PaidEntries.{AreAllPaid-never, ArePaid-next, ArePaid-skip, made-none, made-own, made-there, made-zero}
 use Rattle.journal_check.specs.Payments.{PaysNext, rest}
 use Rattle.journal_check.specs.declared.trace.Step.{Step}
-use Rattle.journal_tables.proofs.laws.Told.{no_entry}
-use Rattle.journal_tables.specs.Tables.{number_at}
+use Rattle.journal_check.proofs.laws.Told.{no_entry}
+use Rattle.journal_check.specs.Tables.{number_at}
 use Rattle.machine.specs.declared.parameters.Parameters.{Parameters}
 use Rattle.run_law.specs.Journals.{At, slice_at}
 use Rattle.run_law.specs.Owed.{Owed, paid_by}

@@ -1,5 +1,5 @@
 use Rattle.std.proofs.Common.{◌≡◌, take, subst, arith}
-use Rattle.journal_check.specs.Replays.{IsReplayed}
+use Rattle.journal_check.specs.CheckReplays.{IsReplayed}
 use Rattle.journal_check.proofs.tags.advance.Goals as goal
 
 pub returns : goal.returns

@@ -3,9 +3,9 @@ use Rattle.std.specs.Prelude.{IsTrue}
 use Rattle.std.proofs.lemmas.Option.{get_or_from_slice_get}
 use Rattle.cache_core.specs.declared.entry.SliceEntry.{SliceEntry}
 use Rattle.journal_check.specs.Asks.{IsHeld, IsPaid}
-use Rattle.journal_check.specs.Replays.{IsReplayed}
-use Rattle.journal_tables.proofs.laws.Told.{is_false, no_entry}
-use Rattle.journal_tables.specs.OpKinds.{is_access_of}
+use Rattle.journal_check.specs.CheckReplays.{IsReplayed}
+use Rattle.journal_check.proofs.laws.Told.{is_false, no_entry}
+use Rattle.journal_check.specs.OpKinds.{is_access_of}
 use Rattle.run_law.specs.Journals.{At, slice_at}
 use Rattle.script_ops.specs.Values.{op_at}
 use Rattle.journal_check.proofs.tags.answer.Goals as goal

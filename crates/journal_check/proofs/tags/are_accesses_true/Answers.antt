@@ -1,6 +1,6 @@
 use Rattle.std.proofs.Common.{ap, ◌∙◌}
 use Rattle.journal_check.proofs.LegalTrees.{IsReplayed-zero}
-use Rattle.journal_tables.proofs.laws.FewCommands.{length-commands}
+use Rattle.journal_check.proofs.laws.FewCommands.{length-commands}
 use Rattle.tree_law.specs.State.{opening}
 use Rattle.journal_check.proofs.tags.are_accesses_true.Goals as goal
 

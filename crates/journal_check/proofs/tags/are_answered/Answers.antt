@@ -6,7 +6,7 @@ use Rattle.cache_core.specs.declared.entry.SliceEntry.{SliceEntry}
 use Rattle.journal_check.proofs.PaidAccesses.{AccessesAreTrue-answered, IsPaid-epoch, answered-AccessesAreTrue}
 use Rattle.journal_check.specs.Asks.{IsAnswered, IsPaid}
 use Rattle.journal_check.specs.declared.asks.Ask.{Ask}
-use Rattle.journal_tables.proofs.laws.Told.{is_false, is_true}
+use Rattle.journal_check.proofs.laws.Told.{is_false, is_true}
 use Rattle.run_law.specs.Clauses.{AccessesAreTrue}
 use Rattle.run_law.specs.Journals.{At, slice_at}
 use Rattle.journal_check.proofs.tags.are_answered.Goals as goal

@@ -1,6 +1,6 @@
 use Rattle.std.proofs.Common.{ℕ, ◌<◌, ◌≤◌, take}
 use Rattle.journal_check.specs.Asks.{IsAnswered}
-use Rattle.journal_check.specs.Replays.{IsReplayed}
+use Rattle.journal_check.specs.CheckReplays.{IsReplayed}
 use Rattle.journal_check.specs.declared.asks.Ask.{Ask}
 use Rattle.run_law.specs.Journals.{At}
 use Rattle.journal_check.proofs.tags.are_answered.Given as goal

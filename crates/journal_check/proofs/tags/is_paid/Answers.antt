@@ -1,6 +1,6 @@
 use Rattle.std.proofs.Common.{◌≡◌, true, false, take, Some, None, sym, ap, ◌∙◌, subst}
 use Rattle.journal_check.proofs.PaidAccesses.{IsPaid-tag}
-use Rattle.journal_tables.specs.OpKinds.{is_access_of}
+use Rattle.journal_check.specs.OpKinds.{is_access_of}
 use Rattle.run_law.proofs.laws.Tasks.{tasks_of-tree_after}
 use Rattle.script_ops.specs.Fits.{Fits}
 use Rattle.script_ops.specs.Values.{op_at}

@@ -2,7 +2,7 @@ use Rattle.std.proofs.Common.{◌≡◌, ◌↔◌, ℕ, refl, sym, subst}
 use Rattle.std.specs.Prelude.{IsTrue}
 use Rattle.cache_core.specs.declared.entry.What.{What}
 use Rattle.journal_check.specs.Tags.{IsTagOf}
-use Rattle.journal_tables.proofs.laws.Told.{is_true}
+use Rattle.journal_check.proofs.laws.Told.{is_true}
 use Rattle.machine.specs.declared.parameters.Parameters.{Parameters}
 use Rattle.script_ops.specs.Fits.{Fits}
 use Rattle.script_ops.specs.declared.op.Op.{Op}

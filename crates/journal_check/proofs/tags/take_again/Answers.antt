@@ -2,7 +2,7 @@ use Rattle.std.proofs.Common.{◌≡◌, ℕ, ◌<◌, List, length, map, Some, 
 use Rattle.std.proofs.lemmas.List.{length-map, length-take-le}
 use Rattle.std.proofs.lemmas.Option.{slice_get_read}
 use Rattle.journal_check.proofs.LegalTrees.{CommandMayFollow-at, Fits-replayed, IsAnswer-legal, IsCommandThat-none, IsReplayed-suc}
-use Rattle.journal_tables.proofs.laws.Told.{At-map}
+use Rattle.journal_check.proofs.laws.Told.{At-map}
 use Rattle.run_law.specs.Entries.{entry_value}
 use Rattle.run_law.specs.Journals.{At}
 use Rattle.run_law.specs.TreeHistory.{TreeEntryValue}

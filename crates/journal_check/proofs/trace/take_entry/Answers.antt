@@ -2,8 +2,8 @@ use Rattle.std.proofs.Common.{◌≡◌, length, map, Some, refl, sym, ap, ◌�
 use Rattle.std.specs.Prelude.{IsTrue}
 use Rattle.std.proofs.lemmas.Option.{slice_get_read}
 use Rattle.journal_check.proofs.LegalTrees.{CommandMayFollow-at, Fits-replayed, IfOk-steps, IsAnswer-legal, IsCommandThat-none, TakesEntry-takes}
-use Rattle.journal_tables.proofs.laws.Told.{At-map}
-use Rattle.journal_check.specs.Replays.{IsAnswer}
+use Rattle.journal_check.proofs.laws.Told.{At-map}
+use Rattle.journal_check.specs.CheckReplays.{IsAnswer}
 use Rattle.journal_check.specs.Traces.{TakesCommand, TakesEntry}
 use Rattle.journal_check.specs.declared.trace.Step.{Step}
 use Rattle.run_law.specs.Entries.{entry_value}

@@ -1,7 +1,7 @@
 use Rattle.std.proofs.Common.{◌≡◌, true, false, sym, ◌∙◌}
 use Rattle.std.specs.Prelude.{IsTrue}
 use Rattle.journal_check.proofs.LegalTrees.{IfOk-steps}
-use Rattle.journal_check.specs.Replays.{IsAnswer}
+use Rattle.journal_check.specs.CheckReplays.{IsAnswer}
 use Rattle.journal_check.specs.Traces.{Takes, TakesCommand}
 use Rattle.journal_check.specs.declared.trace.Step.{Step}
 use Rattle.run_law.specs.Entries.{entry_value}

@@ -1,7 +1,7 @@
 use Rattle.std.proofs.Common.{◌+◌, List, length, map, sym, ap, ◌∙◌, subst, arith}
 use Rattle.std.proofs.lemmas.List.{length-map}
 use Rattle.std.proofs.lemmas.Option.{MatchOption-at_some}
-use Rattle.journal_tables.proofs.laws.FewCommands.{length-commands}
+use Rattle.journal_check.proofs.laws.FewCommands.{length-commands}
 use Rattle.journal_check.proofs.LegalTrees.{IsReplayed-zero, IsTrace-suc, IsTrace-zero}
 use Rattle.journal_check.specs.Traces.{IsTrace, TakesEntry}
 use Rattle.journal_check.specs.declared.trace.Step.{Step}

@@ -2,8 +2,8 @@ use Rattle.std.proofs.Common.{true, [], ◌∷◌, ◌++◌, ap, ◌∙◌}
 use Rattle.std.specs.Prelude.{codes}
 use Rattle.json_report.proofs.Objects.{command_value-parts}
 use Rattle.report_pieces.proofs.laws.Results.{OnOk-map}
-use Rattle.json_parts.specs.Pieces.{members_told}
-use Rattle.json_parts.specs.Values.{whole}
+use Rattle.json_report.specs.Pieces.{members_told}
+use Rattle.json_report.specs.Values.{whole}
 use Rattle.run_law.specs.Entries.{entry_value}
 use Rattle.json_report.proofs.command_items.push_command.Goals as goal
 

@@ -1,8 +1,8 @@
 use Rattle.std.proofs.Common.{ℕ, ◌+◌, ◌++◌, List, length, map, take, ap, ◌∙◌, arith}
 use Rattle.std.proofs.lemmas.List.{append_assoc, length-map}
 use Rattle.std.specs.Prelude.{nat_lt}
-use Rattle.json_parts.proofs.laws.Pieces.{items_told-next}
-use Rattle.json_report.proofs.Positions.{command_values-take_suc, length-command_values_take}
+use Rattle.json_report.proofs.laws.Pieces.{items_told-next}
+use Rattle.json_report.proofs.JsonPositions.{command_values-take_suc, length-command_values_take}
 use Rattle.json_report.specs.Commands.{command_value, command_values}
 use Rattle.run_replay.proofs.laws.Playbacks.{HasFewLooks-taken, IsAnswered-taken, state-entries}
 use Rattle.run_counts.proofs.laws.Touches.{TellsTouch-entry}

@@ -1,6 +1,6 @@
 use Rattle.std.proofs.Common.{◌≡◌, ◌+◌, ◌≤◌, ◌++◌, false, length, map, take}
 use Rattle.json_report.specs.Commands.{command_values}
-use Rattle.json_parts.specs.Pieces.{items_told}
+use Rattle.json_report.specs.Pieces.{items_told}
 use Rattle.rc_base.specs.declared.text_buf.TheConstants.{TEXT_MAX}
 use Rattle.run_replay.specs.Playbacks.{HasTaken}
 use Rattle.run_law.specs.Entries.{entry_value}

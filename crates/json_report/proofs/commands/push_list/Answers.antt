@@ -1,6 +1,6 @@
 use Rattle.std.proofs.Common.{false, ◌++◌, ap, ◌∙◌}
 use Rattle.std.specs.Prelude.{codes}
-use Rattle.json_parts.proofs.laws.Pieces.{members_told-array}
+use Rattle.json_report.proofs.laws.Pieces.{members_told-array}
 use Rattle.json_report.specs.Commands.{command_values}
 use Rattle.tree_law.specs.State.{opening}
 use Rattle.json_report.proofs.commands.push_list.Goals as goal

@@ -1,6 +1,6 @@
 use Rattle.std.proofs.Common.{subst, sym}
 use Rattle.pair_top.proofs.PlayedRuns.{IsPlayedOnLevels-ready, level_journals-same}
-use Rattle.joint_windows.specs.LevelJournals.{IsPlayedOnLevels}
+use Rattle.pair_windows.specs.LevelJournals.{IsPlayedOnLevels}
 use Rattle.pair_top.proofs.levels.report_text.Goals as goal
 
 pub joint_windows-requires : goal.joint_windows-requires

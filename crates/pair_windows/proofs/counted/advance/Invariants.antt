@@ -1,5 +1,5 @@
 use Rattle.std.proofs.Common.{◌-◌, ◌≤◌}
-use Rattle.pair_replay.specs.Replays.{HasTaken}
+use Rattle.pair_windows.specs.Replays.{HasTaken}
 use Rattle.pair_windows.proofs.counted.advance.Given as goal
 
 abbrev pub invariant-loop-replay : goal.invariant-loop-replay

@@ -1,5 +1,5 @@
 use Rattle.std.proofs.Common.{◌≡◌, ◌-◌}
-use Rattle.pair_replay.specs.Replays.{HasTaken}
+use Rattle.pair_windows.specs.Replays.{HasTaken}
 use Rattle.pair_windows.specs.Kept.{kept_from}
 use Rattle.pair_windows.proofs.counted.keep_until.Given as goal
 

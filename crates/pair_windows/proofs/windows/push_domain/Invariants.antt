@@ -1,6 +1,6 @@
 use Rattle.std.proofs.Common.{◌≡◌, ◌++◌}
 use Rattle.std.specs.List.{flat_map, range_with_len, slice_get}
-use Rattle.pair_replay.specs.Replays.{HasTaken}
+use Rattle.pair_windows.specs.Replays.{HasTaken}
 use Rattle.pair_runs.specs.Entries.{slice_in}
 use Rattle.pair_windows.specs.CdpJournals.{cdp_journals}
 use Rattle.pair_windows.specs.CdpWindows.{windows_at}

@@ -16,8 +16,8 @@ use Rattle.pair_windows.specs.Kept.{kept_from, stay_of}
 use Rattle.pair_windows.specs.declared.cdp_window.CdpWindow.{CdpWindow}
 use Rattle.pair_windows.specs.declared.kept.Kept.{Kept}
 use Rattle.run_law.specs.Journals.{At}
-use Rattle.window_counts.specs.Ends.{RiseByGroup}
-use Rattle.window_counts.specs.Tallies.{AreCounted}
+use Rattle.private_lru.specs.Ends.{RiseByGroup}
+use Rattle.private_lru.specs.Tallies.{AreCounted}
 use Rattle.pair_windows.proofs.windows.push_flush.Goals as goal
 
 pub kept_between-requires-clause-later : goal.kept_between-requires-clause-later

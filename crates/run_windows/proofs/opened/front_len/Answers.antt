@@ -1,7 +1,7 @@
 use Rattle.std.proofs.Common.{length, unwrap_or, ap, ◌∙◌}
 use Rattle.cache_core.specs.Filled.{empties}
 use Rattle.cache_core.specs.declared.entry.SliceEntry.{SliceEntry}
-use Rattle.window_counts.proofs.laws.FirstPlaces.{unwrap_or-position}
+use Rattle.private_lru.proofs.laws.FirstPlaces.{unwrap_or-position}
 use Rattle.run_windows.proofs.opened.front_len.Goals as goal
 
 pub returns-clause-len : goal.returns-clause-len

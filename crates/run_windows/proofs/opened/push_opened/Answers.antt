@@ -10,7 +10,7 @@ use Rattle.run_windows.proofs.SiteOrder.{site}
 use Rattle.run_windows.proofs.WindowSteps.{AreWindowsBefore-end, AreWindowsBefore-next, first_past-next, no_entry, no_stay}
 use Rattle.run_windows.specs.AllWindows.{AreWindowsBefore}
 use Rattle.run_windows.specs.Fronts.{front_of}
-use Rattle.window_counts.specs.Tallies.{IsCounted}
+use Rattle.private_lru.specs.Tallies.{IsCounted}
 use Rattle.private_lru.specs.declared.counts.WindowCounts.{WindowCounts}
 use Rattle.run_windows.proofs.opened.push_opened.Goals as goal
 

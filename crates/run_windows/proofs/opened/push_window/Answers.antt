@@ -9,7 +9,7 @@ use Rattle.run_windows.proofs.WindowLists.{AreWindowsBefore-place}
 use Rattle.run_windows.proofs.SiteOrder.{site}
 use Rattle.run_windows.specs.AllWindows.{AreWindowsBefore, with_used}
 use Rattle.run_windows.specs.Fronts.{front_of}
-use Rattle.window_counts.specs.Tallies.{IsCounted}
+use Rattle.private_lru.specs.Tallies.{IsCounted}
 use Rattle.run_windows.specs.Windows.{StaysExclusive}
 use Rattle.run_windows.proofs.opened.push_window.Goals as goal
 

@@ -1,7 +1,7 @@
 use Rattle.std.proofs.Common.{List, length, ltb-false, sym, subst, arith}
 use Rattle.run_windows.proofs.SpanPlaces.{AreStays-place, place-within}
 use Rattle.run_windows.specs.Stays.{AreStays}
-use Rattle.window_counts.specs.declared.stay.Stay.{Stay}
+use Rattle.private_lru.specs.declared.stay.Stay.{Stay}
 use Rattle.run_windows.proofs.timeline.stays_at.Goals as goal
 
 pub unreachable-requires : goal.unreachable-requires

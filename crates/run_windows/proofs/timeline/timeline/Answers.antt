@@ -5,7 +5,7 @@ use Rattle.std.proofs.lemmas.List.{length-append}
 use Rattle.run_windows.proofs.Timelines.{IsTimeline-step, IsTimeline-whole, end_of-at}
 use Rattle.run_windows.specs.Stays.{is_in, stay_of}
 use Rattle.run_windows.specs.declared.changes.Change.{Change}
-use Rattle.window_counts.specs.declared.stay.Stay.{Stay}
+use Rattle.private_lru.specs.declared.stay.Stay.{Stay}
 use Rattle.run_windows.specs.declared.timeline.Span.{Span}
 use Rattle.run_windows.proofs.timeline.timeline.Goals as goal
 

@@ -1,7 +1,7 @@
 use Rattle.std.proofs.Common.{◌≡◌, ℕ, ◌∷◌, [], ◌++◌, List, map, ap, subst, ◌∙◌}
 use Rattle.std.proofs.lemmas.List.{map-append}
-use Rattle.journal_lines.specs.Lines.{command_line}
-use Rattle.journal_lines.specs.Writable.{IsWritableCommand}
+use Rattle.journal_text.specs.Lines.{command_line}
+use Rattle.journal_text.specs.Writable.{IsWritableCommand}
 use Rattle.script_ops.specs.Values.{total_weight}
 use Rattle.journal_text.proofs.Steps.{HasTaken-command}
 use Rattle.journal_text.specs.States.{ReaderState, state_of}

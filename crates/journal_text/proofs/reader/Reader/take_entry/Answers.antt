@@ -1,5 +1,5 @@
 use Rattle.std.proofs.Common.{ℕ, ◌-◌, List, refl, ap, subst, arith}
-use Rattle.journal_lines.specs.Writable.{IsWritableEntry}
+use Rattle.journal_text.specs.Writable.{IsWritableEntry}
 use Rattle.machine.specs.declared.parameters.Parameters.{Parameters}
 use Rattle.journal_text.proofs.Steps.{HasTaken-entry}
 use Rattle.journal_text.specs.States.{ReaderState, state_of}

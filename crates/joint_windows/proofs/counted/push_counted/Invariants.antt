@@ -1,6 +1,0 @@
-use Rattle.std.proofs.Common.{◌≡◌, ◌++◌, filter, take}
-use Rattle.joint_windows.specs.Counted.{counted_windows, is_used}
-use Rattle.joint_windows.proofs.counted.push_counted.Given as goal
-
-abbrev pub invariant-loop-i : goal.invariant-loop-i
-invariant-loop-i l = l.windows.items ≡ l.initial.windows.items ++ filter is_used (counted_windows l.domain l.from (take l.i l.held) (take l.i l.l2) (take l.i l.l3))

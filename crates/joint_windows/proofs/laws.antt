@@ -1,3 +1,0 @@
--- Lemmas for the crates above.
-pub mod JoinedCounts
-pub mod UsedWindows

@@ -1,0 +1,12 @@
+use Rattle.std.proofs.Common.{◌≡◌, ◌↔◌, ℕ, ◌%◌, ◌<◌, ◌≤◌, true, sym, ap, ◌∙◌, subst, arith}
+use Rattle.std.specs.Prelude.{IsTrue}
+use Rattle.std.proofs.Math.Nat.{mod-lt}
+use Rattle.journal_check.proofs.SameOutcomes.{place-held}
+use Rattle.journal_check.proofs.replay.Replay.holds.Goals as goal
+
+pub returns : goal.returns
+returns c =
+    let r = c.args.self.now in
+    let same = place-held c.args.before.now r c.requires (c.args.line % r.slots.shape.sets) (mod-lt c.args.line c.requires.divided.some_set) c.args.line c.args.way in
+    let told = c.is_place.ensures in
+    (λ shown. same.0 (told.0 shown), λ is. told.1 (same.1 is))

@@ -1,6 +1,0 @@
-use Rattle.std.proofs.Common.{◌≡◌, ◌++◌, map, take}
-use Rattle.journal_lines.specs.Lines.{entry_line, text_of}
-use Rattle.journal_lines.proofs.printing.push_entries.Given as goal
-
-abbrev pub invariant-loop-entry : goal.invariant-loop-entry
-invariant-loop-entry l = l.text ≡ l.initial.text ++ text_of (map entry_line (take l.entry-index l.entries))

@@ -1,7 +1,0 @@
-use Rattle.std.proofs.Common.{◌≡◌, ◌++◌, take}
-use Rattle.journal_lines.specs.Lines.{lines_from, text_of}
-use Rattle.machine.specs.Maps.{parameters_of}
-use Rattle.journal_lines.proofs.printing.push_slices.Given as goal
-
-abbrev pub invariant-loop-slice : goal.invariant-loop-slice
-invariant-loop-slice l = l.text ≡ l.initial.text ++ text_of (lines_from (parameters_of l.machine) 0 (take l.slice l.journals.slices))

@@ -1,9 +1,0 @@
-use Rattle.journal_tables.specs.Homes.{AreMarked}
-use Rattle.journal_tables.specs.Tables.{IsTableOf}
-use Rattle.journal_tables.proofs.homes.mark_slice.Given as goal
-
-abbrev pub invariant-loop-p : goal.invariant-loop-p
-invariant-loop-p l = record {
-  table : IsTableOf l.script l.marks;
-  marks : AreMarked l.script l.j l.i l.p l.marks;
-}

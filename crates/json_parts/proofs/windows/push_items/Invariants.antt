@@ -1,7 +1,0 @@
-use Rattle.std.proofs.Common.{◌≡◌, ◌++◌, false, map, take}
-use Rattle.json_parts.specs.Pieces.{items_told}
-use Rattle.json_parts.specs.WindowValues.{window_value}
-use Rattle.json_parts.proofs.windows.push_items.Given as goal
-
-abbrev pub invariant-loop-i : goal.invariant-loop-i
-invariant-loop-i l = l.report ≡ l.initial.report ++ items_told false (map window_value (take l.i l.windows))

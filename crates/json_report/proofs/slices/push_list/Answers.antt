@@ -1,0 +1,10 @@
+use Rattle.std.proofs.Common.{◌++◌, ap, ◌∙◌}
+use Rattle.json_report.proofs.laws.Pieces.{compact_text-array}
+use Rattle.report_pieces.proofs.laws.Results.{OnOk-map}
+use Rattle.json_report.specs.SliceValues.{slice_values}
+use Rattle.json_report.proofs.slices.push_list.Goals as goal
+
+pub returns : goal.returns
+returns c =
+    OnOk-map c.push-2.result (λ last. compact_text-array (slice_values c.args.script.now c.args.journals.now) c.args.report.now c.push.new.self c.push_slice_items.new.report c.push-2.new.self
+    (c.in_ok-push.ensures ∙ ap (λ t. c.args.report.now ++ t) c.as_slice.ensures) c.in_ok-push_slice_items.ensures (last ∙ ap (λ t. c.push_slice_items.new.report ++ t) c.as_slice-2.ensures)) c.push-2.ensures

@@ -1,0 +1,73 @@
+//! The texts of a command: its words, its result, and the lines that it gave.
+ghost use Rattle.std.specs.Prelude.{◌≡◌, ◌++◌, ◌∷◌, [], OnOk, codes, false, map, true};
+ghost use Rattle.std.specs.Str.Lines.{lines};
+ghost use Rattle.json_report.specs.Pieces.{items_told, members_told};
+ghost use Rattle.json_report.specs.Values.{array_of};
+ghost use Rattle.report_pieces.specs.Results.{result_of, words_of};
+ghost use Rattle.run_counts.specs.Touches.{TellsTouch};
+ghost use Rattle.run_law.specs.Entries.{entry_value};
+ghost use Rattle.serde_json.specs.Data.{string};
+
+use crate::members::{push_comma, push_key, push_text};
+use crate::strings::push_string;
+use rc_base::NoMemory;
+use report_pieces::{ReportText, push_result, push_words};
+use run_law::{Journals, TreeEntry};
+use script_ops::{Script, next_line};
+use std::alloc::Global;
+
+// Adds lines.
+fn push_lines(report: &mut ReportText, text: &[u8]) -> Result<(), NoMemory>
+    ensures { OnOk result (report.new ≡ report.old ++ items_told false (map string (lines text.now))) }
+{
+    let mut left = text;
+    let mut later = false;
+    while let Some((line, rest)) = next_line(left) {
+        push_comma(report, later)?;
+        push_string(report, line)?;
+        later = true;
+        left = rest;
+    }
+    Ok(())
+}
+
+/// Adds the member that is the lines of a text, after others.
+pub fn push_text_lines(report: &mut ReportText, text: &[u8]) -> Result<(), NoMemory>
+    ensures { OnOk result (report.new ≡ report.old ++ members_told true ((codes "text", array_of (map string (lines text.now))) ∷ [])) }
+{
+    push_key(report, true, "text")?;
+    report.push(b"[".as_slice())?;
+    push_lines(report, text)?;
+    report.push(b"]".as_slice())
+}
+
+/// Adds the member that is the result of a command, after others: `ok` or its error, and for an accepted touch whether it hit.
+pub fn push_result_text(
+    alloc: Global,
+    report: &mut ReportText,
+    script: &Script,
+    journals: &Journals,
+    entry: &TreeEntry,
+    hit: Option<bool>,
+) -> Result<(), NoMemory>
+    requires { TellsTouch journals.now (entry_value entry.now) hit }
+    ensures { OnOk result (report.new ≡ report.old ++ members_told true ((codes "result", string (result_of script.now journals.now (entry_value entry.now))) ∷ [])) }
+{
+    let mut text = ReportText::create(alloc)?;
+    push_result(&mut text, script, journals, entry, hit)?;
+    push_text(report, "result", &text.into_bytes())
+}
+
+/// Adds the member that is the words of a command, after others.
+pub fn push_words_text(
+    alloc: Global,
+    report: &mut ReportText,
+    script: &Script,
+    entry: &TreeEntry,
+) -> Result<(), NoMemory>
+    ensures { OnOk result (report.new ≡ report.old ++ members_told true ((codes "words", string (words_of script.now (entry_value entry.now))) ∷ [])) }
+{
+    let mut text = ReportText::create(alloc)?;
+    push_words(&mut text, script, entry)?;
+    push_text(report, "words", &text.into_bytes())
+}

@@ -1,2 +1,0 @@
-pub mod FittingOps
-pub mod NextOps

@@ -1,0 +1,20 @@
+use Rattle.std.proofs.Common.{◌≡◌, ℕ, ap, ◌∙◌}
+use Rattle.pair_windows.proofs.LineUses.{use_in-other, use_in-own}
+use Rattle.machine.specs.Maps.{domain_of}
+use Rattle.pair_ops.specs.declared.side.Side.TheVariants.{Second}
+use Rattle.pair_runs.specs.LevelRuns.{domain_on}
+use Rattle.pair_windows.proofs.line_uses.use_of.Goals as goal
+
+pub returns-then-own-domain : goal.returns-then-own-domain
+returns-then-own-domain c = λ code.
+    let script = c.args.script.now in
+    let cpu : ℕ = c.args.cpu in
+    let here : c.domain_of-own.result ≡ domain_on script Second cpu = c.domain_of-own.ensures.domain ∙ ap (λ p. domain_of p cpu) c.machine.ensures in
+    use_in-other script c.args.tree.now.state c.args.domain c.args.task cpu c.args.line code c.domain_of-own.result here c.if-own-domain.true
+
+pub returns : goal.returns
+returns c = λ code.
+    let script = c.args.script.now in
+    let cpu : ℕ = c.args.cpu in
+    let here : c.domain_of-own.result ≡ domain_on script Second cpu = c.domain_of-own.ensures.domain ∙ ap (λ p. domain_of p cpu) c.machine.ensures in
+    use_in-own script c.args.tree.now.state c.args.domain c.args.task cpu c.args.line code c.domain_of-own.result here c.resolve.result.owner (ap (λ t. t.owner) c.resolve.ensures) c.if-own-domain.false

@@ -1,4 +1,0 @@
-use Rattle.run_tests.proofs.tests.journals.threads.run_named.Given as goal
-
-abbrev pub ghosts-run : goal.ghosts-run
-ghosts-run g a = record { name = a.journal.name }

@@ -1,7 +1,0 @@
-use Rattle.std.proofs.Common.{◌≡◌, ◌<◌, ◌≤◌, arith}
-use Rattle.slice_replay.proofs.Told.{is_true}
-use Rattle.slice_replay.specs.Outcomes.{AreNotOlder}
-use Rattle.slice_replay.proofs.victims.are_not_older.Goals as goal
-
-pub returns : goal.returns
-returns c = is_true (AreNotOlder c.args.slots.now c.args.set c.args.mask c.args.way c.args.used) (λ w less has. c.loop-w.invariant w (omega (arith, less, c.loop-w-test.false, c.requires.ways)) has)

@@ -1,6 +1,0 @@
-use Rattle.std.proofs.Common.{ℕ, ◌<◌}
-use Rattle.slice_replay.specs.Slots.{HasLine, place_at}
-use Rattle.slice_replay.proofs.victims.is_missing.Given as goal
-
-abbrev pub invariant-loop-way : goal.invariant-loop-way
-invariant-loop-way l = (i : ℕ) → i < l.way → HasLine (place_at l.slots l.set i) l.line → ⊥

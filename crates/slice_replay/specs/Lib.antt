@@ -1,4 +1,0 @@
-pub mod Outcomes
-pub mod Replays
-pub mod RmidCounts
-pub mod Slots

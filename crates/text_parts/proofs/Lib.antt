@@ -1,3 +1,0 @@
-pub mod CountTexts
-pub mod DomainCounts
-pub mod SliceTexts

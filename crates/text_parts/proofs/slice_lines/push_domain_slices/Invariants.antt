@@ -1,7 +1,0 @@
-use Rattle.std.proofs.Common.{◌≡◌, ◌++◌}
-use Rattle.std.specs.List.{flat_map, range_with_len}
-use Rattle.text_parts.specs.SliceLines.{slice_text}
-use Rattle.text_parts.proofs.slice_lines.push_domain_slices.Given as goal
-
-abbrev pub invariant-loop-slice : goal.invariant-loop-slice
-invariant-loop-slice l = l.report ≡ l.initial.report ++ flat_map (slice_text l.script l.journals l.domain) (range_with_len 0 l.slice)

@@ -1,7 +1,0 @@
-mod CountedFronts
-mod CoveredEnds
-mod HighEpochs
-mod LineUses
-mod RisingStays
-mod TallySteps
-pub mod laws

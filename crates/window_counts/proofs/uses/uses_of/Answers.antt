@@ -1,9 +1,0 @@
-use Rattle.std.proofs.Common.{ap}
-use Rattle.std.specs.BTreeMap.{is_at}
-use Rattle.std.specs.Map.{lookup}
-use Rattle.std.specs.Ordering.{nat_cmp}
-use Rattle.window_counts.proofs.LineUses.{AreUses-none}
-use Rattle.window_counts.proofs.uses.uses_of.Goals as goal
-
-pub loop-at-init : goal.loop-at-init
-loop-at-init c = AreUses-none c.args.entries.now c.new-uses.result (λ x. ap (lookup (is_at (nat_cmp x))) c.new-uses.ensures.empty)
