@@ -2,7 +2,7 @@
 use Rattle.std.proofs.Common.{◌≡◌, ℕ, ◌<◌, List, length, take, Option, Some, None, refl, sym, subst, arith}
 use Rattle.std.specs.Prelude.{IsSome}
 use Rattle.std.proofs.lemmas.Option.{get_or_from_slice_get, slice_get_within}
-use Rattle.journal_lines.specs.Writable.{IsWritableCommand, IsWritableReply}
+use Rattle.journal_text.specs.Writable.{IsWritableCommand, IsWritableReply}
 use Rattle.machine.specs.Ranges.{InRange}
 use Rattle.machine.specs.declared.parameters.Parameters.{Parameters}
 use Rattle.rc_base.proofs.laws.Histories.{EachFollows-at}
@@ -18,7 +18,8 @@ use Rattle.tree_law.proofs.laws.Counts.{NamesDomain-fits}
 use Rattle.tree_law.specs.Refusals.{Refusal, reply_of}
 use Rattle.tree_law.specs.State.{State}
 use Rattle.tree_law.specs.Steps.{needs, next, refusal}
-use Rattle.writable_runs.proofs.Arguments.{IsSmall, IsSmall-refusal}
+use Rattle.writable_runs.proofs.Arguments.{IsSmall-refusal}
+use Rattle.writable_runs.proofs.SmallReasons.{IsSmall}
 use Rattle.writable_runs.proofs.Numbers.{most_counts-light, numbers-op_at}
 
 -- the reply that a reason with an argument of 64 bits gives

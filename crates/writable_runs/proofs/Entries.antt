@@ -10,7 +10,7 @@ use Rattle.cache_core.specs.History.{EntryMayFollow, MayHappen}
 use Rattle.cache_core.specs.declared.entry.SliceEntry.{SliceEntry}
 use Rattle.cache_core.specs.declared.entry.What.{What}
 use Rattle.cache_core.specs.declared.entry.What.TheVariants as whats
-use Rattle.journal_lines.specs.Writable.{HasText, IsLine, IsLineIn, IsMask, IsWritableEntry}
+use Rattle.journal_text.specs.Writable.{HasText, IsLine, IsLineIn, IsMask, IsWritableEntry}
 use Rattle.lists.proofs.Pairs.{All-flat_map}
 use Rattle.lists.proofs.Tests.{All-one}
 use Rattle.lists.specs.Sums.{one_if}

@@ -5,7 +5,7 @@ use Rattle.std.specs.Option.{option_map_or}
 use Rattle.std.proofs.lemmas.List.Elements.{All-map, All-nil}
 use Rattle.cbm.specs.Masks.{ways_of}
 use Rattle.group_tree.specs.declared.group.Group.{Group}
-use Rattle.journal_lines.specs.Writable.{IsLine, IsMask}
+use Rattle.journal_text.specs.Writable.{IsLine, IsMask}
 use Rattle.lists.proofs.Choices.{cond-both}
 use Rattle.lists.proofs.Tests.{All-one}
 use Rattle.machine.specs.Maps.{bytes_of, domain_of, line_of}

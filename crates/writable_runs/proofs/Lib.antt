@@ -6,5 +6,8 @@ mod Growth
 mod Histories
 mod Numbers
 mod Runs
+mod SchemataArguments
+mod SmallReasons
 mod Tags
+mod TextArguments
 mod Waiting

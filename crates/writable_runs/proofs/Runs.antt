@@ -3,7 +3,7 @@ use Rattle.std.proofs.Common.{◌≡◌, ℕ, zero, suc, ◌<◌, List, [], ◌�
 use Rattle.std.specs.List.{All}
 use Rattle.std.proofs.lemmas.Option.{get_or_from_slice_get, slice_get_within}
 use Rattle.cache_core.specs.declared.entry.SliceEntry.{SliceEntry}
-use Rattle.journal_lines.specs.Writable.{IsWritableCommand, IsWritableEntry, IsWritableSlice}
+use Rattle.journal_text.specs.Writable.{IsWritableCommand, IsWritableEntry, IsWritableSlice}
 use Rattle.run_law.specs.Journals.{At, slice_at}
 use Rattle.script_ops.specs.Values.{total_weight}
 use Rattle.writable_runs.proofs.Commands.{IsWritableCommand-at}

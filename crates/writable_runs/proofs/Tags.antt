@@ -7,7 +7,7 @@ use Rattle.cbm.proofs.laws.Ways.{length-ways_of}
 use Rattle.cbm.specs.Masks.{ways_of}
 use Rattle.group_tree.specs.Records.{has_gid}
 use Rattle.group_tree.specs.declared.group.Group.{Group}
-use Rattle.journal_lines.specs.Writable.{IsLine, IsMask}
+use Rattle.journal_text.specs.Writable.{IsLine, IsMask}
 use Rattle.lists.proofs.Tests.{IsFound-all}
 use Rattle.machine.proofs.laws.Domains.{domain_of-lt}
 use Rattle.machine.specs.Ranges.{InRange}

@@ -1,6 +1,6 @@
 -- The journals of a run can be written.
 -- (For functions and proofs: no promise of the program stands on it.)
-use Rattle.journal_lines.specs.Writable.{IsWritable}
+use Rattle.journal_text.specs.Writable.{IsWritable}
 use Rattle.run_law.specs.Journals.{JournalsValue}
 use Rattle.run_law.specs.Runs.{IsRun}
 use Rattle.script_ops.specs.Values.{IsLawful, ScriptValue}
