@@ -153,6 +153,12 @@ def masks_among_many(script, count):
         script.write(f"write /tenant{at % MANY}/schemata L3:{masks}\n")
 
 
+def window_of_scattered(script, count):
+    """One window of a group that goes over lines far from one another."""
+    script.write("machine sets=1024 ways=2\ntasks 1\nphase\nthread\nwrite /schemata L3:0=2\nmkdir /tenant\nwrite /tenant/schemata L3:0=1\n")
+    script.write(f"write /tenant/mode exclusive\nwrite /tenant/tasks 1\nflush\nsweep 1 0 0 {count} {64 * 2_000}\n")
+
+
 def windows_of_many(script, count):
     """A window of each of 31 exclusive groups after each flush, with an access of one of them."""
     tenants(script, "machine sets=1024", 1)
@@ -178,6 +184,7 @@ ROWS = (
     ("CPU lists", 15_000, cpu_lists),
     ("masks among many", MOST_WEIGHT // 10, masks_among_many),
     ("window of many", MOST_WEIGHT - 100_000, window_of_many, "--windows"),
+    ("scattered window", MOST_WEIGHT - 20_000, window_of_scattered, "--windows"),
     ("windows of many", (MOST_WEIGHT - 100_000) // 3, windows_of_many, "--windows"),
 )
 

@@ -42,7 +42,7 @@ position_or_len-is p (x ∷ xs) (suc r) le before there =
 
 -- ---- one group
 
-module _ (sets : ℕ) (opening : What) (entries : List SliceEntry) (s : Stay) (end : ℕ) (is : IsEnd sets opening entries (length entries) s end) where
+module _ (sets : ℕ) (opening : What) (entries : List SliceEntry) (s : Stay) (end : ℕ) (is : IsEnd sets opening entries s end) where
   abbrev group : ℕ
   group = s.gid.0
 
@@ -62,27 +62,25 @@ module _ (sets : ℕ) (opening : What) (entries : List SliceEntry) (s : Stay) (e
   length-window = length-take-le held entries (held_len-le entries s.last)
 
   -- an entry of the window by its place
-  IsHeld-window : (q : ℕ) (e : SliceEntry) → slice_get window q ≡ Some e → IsHeld entries (length entries) s.last q e
+  IsHeld-window : (q : ℕ) (e : SliceEntry) → slice_get window q ≡ Some e → IsHeld entries s.last q e
   IsHeld-window q e at =
       let within = slice_get_within window q e at in
       let len = length-window in
-      let most = held_len-le entries s.last in
       record {
         at = sym (slice_get-take held q entries (omega (arith, within, len))) ∙ at;
-        early = omega (arith, within, len, most);
         held = omega (arith, within, len);
       }
 
-  window-IsHeld : (q : ℕ) (e : SliceEntry) → IsHeld entries (length entries) s.last q e → slice_get window q ≡ Some e
+  window-IsHeld : (q : ℕ) (e : SliceEntry) → IsHeld entries s.last q e → slice_get window q ≡ Some e
   window-IsHeld q e h = slice_get-take held q entries h.held ∙ h.at
 
   -- one that passes a test
-  list_any-IsHeld : (p : SliceEntry → Bool) (q : ℕ) (e : SliceEntry) → IsHeld entries (length entries) s.last q e → p e ≡ true → list_any p window ≡ true
+  list_any-IsHeld : (p : SliceEntry → Bool) (q : ℕ) (e : SliceEntry) → IsHeld entries s.last q e → p e ≡ true → list_any p window ≡ true
   list_any-IsHeld p q e h passes =
       let at = window-IsHeld q e h in
       list_any_at p window q e (slice_get_within window q e at) (ap p (get_or_from_slice_get window q e e at) ∙ passes)
 
-  IsHeld-list_any : (p : SliceEntry → Bool) → list_any p window ≡ true → (q : ℕ) × (e : SliceEntry) × IsHeld entries (length entries) s.last q e × (p e ≡ true)
+  IsHeld-list_any : (p : SliceEntry → Bool) → list_any p window ≡ true → (q : ℕ) × (e : SliceEntry) × IsHeld entries s.last q e × (p e ≡ true)
   IsHeld-list_any p some =
       let a = Any-from_list_any p window some in
       (a.0, a.1, IsHeld-window a.0 a.1 (slice_get-get_or window a.0 a.1 a.2 ∙ ap (λ (y : SliceEntry). Some y) a.3), a.4)
@@ -162,7 +160,7 @@ module _ (sets : ℕ) (opening : What) (entries : List SliceEntry) (s : Stay) (e
 
 -- ---- all groups
 
-pub AreCounted-tallies : (sets : ℕ) (opening : What) (entries : List SliceEntry) (stays : List Stay) (ends : List ℕ) (tallies : List WindowCounts) → AreEnds sets opening entries (length entries) stays ends
+pub AreCounted-tallies : (sets : ℕ) (opening : What) (entries : List SliceEntry) (stays : List Stay) (ends : List ℕ) (tallies : List WindowCounts) → AreEnds sets opening entries stays ends
     → AreTallies entries (length entries) stays ends tallies → AreCounted sets opening entries stays tallies
 AreCounted-tallies sets opening entries stays ends tallies are counted = record {
   same = counted.same;

@@ -1,5 +1,6 @@
 mod CountedFronts
-mod CoveredEnds
+mod CutEnds
+mod HeldReaches
 mod HighEpochs
 mod KeptAfter
 mod KeptWays
@@ -9,7 +10,10 @@ mod OtherUsers
 mod PrivateHits
 mod Recency
 mod RisingStays
+mod RunStarts
 mod TallySteps
+mod UseCuts
+mod UseLists
 mod WayLines
 mod Ways
 pub mod laws

@@ -1,14 +1,12 @@
--- Up to where the accesses of exclusive groups are covered, entry by entry.
+-- Up to where the accesses of exclusive groups are covered.
 -- (For functions and proofs: no promise of the program stands on it.)
 use Rattle.std.specs.Prelude.{◌≡◌, ℕ, ◌<◌, ◌≤◌, ◌⊎◌, Bool, true, false, ◌==◌, AllPairs, List, Option, Some, None, if◌then◌else◌, length, map, nat_lt, slice_index_or}
 use Rattle.std.specs.List.{position_or_len}
 use Rattle.cache_core.specs.declared.entry.SliceEntry.{SliceEntry}
 use Rattle.cache_core.specs.declared.entry.What.{What}
 use Rattle.private_lru.specs.Covered.{is_loaded_use, is_use}
-use Rattle.private_lru.specs.Uses.{StandsAt, first_foreign, is_foreign}
+use Rattle.private_lru.specs.Uses.{StandsAt, is_foreign}
 use Rattle.private_lru.specs.declared.stay.Stay.{Stay}
-use Rattle.private_lru.specs.declared.uses.Access.{Access}
-use Rattle.private_lru.specs.declared.uses.LineUse.{LineUse}
 
 -- the groups rise
 abbrev pub RiseByGroup : List Stay → Type 0
@@ -28,28 +26,22 @@ abbrev pub is_at : Option ℕ → ℕ → Bool
 is_at None j = false
 is_at (Some i) j = i == j
 
--- up to where the accesses of a group are covered at most, for one of them: to none where the opening loaded its line, and else to
--- the first access of another to it
-abbrev pub bound_of : ℕ → What → What → Access → ℕ → Option LineUse → ℕ
-bound_of sets opening what access none first = if is_loaded_use sets access.owner.0 opening what then 0 else first_foreign access.owner.0 none first
-
--- The entry stands among the first `count` ones, and in a window that ends past this epoch.
-pub record IsHeld (entries : List SliceEntry) (count last q : ℕ) (e : SliceEntry) : Type 0 where
+-- The entry stands there, in a window that ends past this epoch.
+pub record IsHeld (entries : List SliceEntry) (last q : ℕ) (e : SliceEntry) : Type 0 where
   pub at : StandsAt entries q e
-  pub early : q < count
   pub held : q < held_len last entries
 
--- No access after the end of a group's covered ones is covered, for the accesses of the group among the first `count` entries: the
--- opening loaded the line of one, or another's access to such a line stands there. All before it are, for these.
-pub record IsEnd (sets : ℕ) (opening : What) (entries : List SliceEntry) (count : ℕ) (s : Stay) (end : ℕ) : Type 0 where
-  pub loaded : (q : ℕ) (e : SliceEntry) → IsHeld entries count s.last q e → is_loaded_use sets s.gid.0 opening e.what ≡ true → end ≡ 0
-  pub before : (q p x : ℕ) (e other : SliceEntry) → IsHeld entries count s.last q e → is_use s.gid.0 x e.what ≡ true → StandsAt entries p other → p < end → is_foreign s.gid.0 x other.what ≡ false
+-- No access of a group's window after the end of its covered ones is covered: the opening loaded the line of one, or another's
+-- access to such a line stands there. All before it are.
+pub record IsEnd (sets : ℕ) (opening : What) (entries : List SliceEntry) (s : Stay) (end : ℕ) : Type 0 where
+  pub loaded : (q : ℕ) (e : SliceEntry) → IsHeld entries s.last q e → is_loaded_use sets s.gid.0 opening e.what ≡ true → end ≡ 0
+  pub before : (q p x : ℕ) (e other : SliceEntry) → IsHeld entries s.last q e → is_use s.gid.0 x e.what ≡ true → StandsAt entries p other → p < end → is_foreign s.gid.0 x other.what ≡ false
   pub reached :
       (other : SliceEntry) → StandsAt entries end other
-      → (q : ℕ) × (e : SliceEntry) × IsHeld entries count s.last q e
+      → (q : ℕ) × (e : SliceEntry) × IsHeld entries s.last q e
       × ((is_loaded_use sets s.gid.0 opening e.what ≡ true) ⊎ ((x : ℕ) × (is_use s.gid.0 x e.what ≡ true) × (is_foreign s.gid.0 x other.what ≡ true)))
 
 -- The ends of the covered accesses of these groups.
-pub record AreEnds (sets : ℕ) (opening : What) (entries : List SliceEntry) (count : ℕ) (stays : List Stay) (ends : List ℕ) : Type 0 where
+pub record AreEnds (sets : ℕ) (opening : What) (entries : List SliceEntry) (stays : List Stay) (ends : List ℕ) : Type 0 where
   pub same : length ends ≡ length stays
-  pub each : (j : ℕ) (d : Stay) → j < length stays → IsEnd sets opening entries count (slice_index_or stays j d) (slice_index_or ends j 0)
+  pub each : (j : ℕ) (d : Stay) → j < length stays → IsEnd sets opening entries (slice_index_or stays j d) (slice_index_or ends j 0)

@@ -1,4 +1,5 @@
 pub mod Covered
+pub mod Cuts
 pub mod Ends
 pub mod GroupCounts
 pub mod Isolation

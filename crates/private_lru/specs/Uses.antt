@@ -1,8 +1,7 @@
--- The first accesses to each line among some entries of a slice.
+-- The accesses among some entries of a slice, line by line.
 -- (For functions and proofs: no promise of the program stands on it.)
-use Rattle.std.specs.Prelude.{◌≡◌, ℕ, ◌<◌, ◌⊎◌, Bool, true, false, not, ◌==◌, ◌&&◌, IfSome, IsSomeAnd, List, Option, Some, None, if◌then◌else◌, length, slice_get}
-use Rattle.std.specs.BTreeMap.{BTreeMap, get}
-use Rattle.std.specs.Ordering.{nat_cmp}
+use Rattle.std.specs.Prelude.{◌≡◌, ℕ, ◌+◌, ◌<◌, ◌≤◌, Bool, false, not, ◌==◌, ◌&&◌, All, Contains, List, Option, Some, None, length, slice_get, slice_index_or}
+use Rattle.std.specs.List.Sorted.{IsNonDecreasingBy}
 use Rattle.cache_core.specs.declared.entry.SliceEntry.{SliceEntry}
 use Rattle.cache_core.specs.declared.entry.What.{What}
 use Rattle.cache_core.specs.declared.entry.What.TheVariants as whats
@@ -23,17 +22,39 @@ abbrev pub is_foreign : ℕ → ℕ → What → Bool
 is_foreign group x (whats.Access hit way owner rmid mask line) = not (owner.0 == group) && (line == x)
 is_foreign group x what = false
 
--- The first of the first `count` entries that passes a test, or the number of all entries where none of these does.
-pub record IsFirst (p : SliceEntry → Bool) (entries : List SliceEntry) (count first : ℕ) : Type 0 where
-  pub before : (q : ℕ) (e : SliceEntry) → StandsAt entries q e → q < count → q < first → p e ≡ false
-  pub found : ((first < count) × IsSomeAnd (slice_get entries first) (λ e. p e ≡ true)) ⊎ (first ≡ length entries)
+-- an access at this position
+abbrev pub use_at : ℕ → Access → LineUse
+use_at at a = record { line = a.line; at = at; owner = a.owner }
 
--- the position of the first access by another than the group, of the first accesses to a line; that of `none` where there is none
-abbrev pub first_foreign : ℕ → ℕ → Option LineUse → ℕ
-first_foreign group none None = none
-first_foreign group none (Some u) = if u.owner.0 == group then u.other else u.at
+-- its line
+abbrev pub line_of : LineUse → ℕ
+line_of u = u.line
 
--- The first accesses to each line among the first `count` entries: they tell the first one by another than any group.
-pub record AreUses (entries : List SliceEntry) (count : ℕ) (uses : BTreeMap ℕ LineUse) : Type 0 where
-  pub firsts : (group x : ℕ) → IsFirst (λ e. is_foreign group x e.what) entries count (first_foreign group (length entries) (get nat_cmp uses x))
-  pub within : (x : ℕ) → IfSome (get nat_cmp uses x) (λ u. u.at < length entries)
+-- its position
+abbrev pub place_of : LineUse → ℕ
+place_of u = u.at
+
+-- This access stands there.
+pub record IsUseIn (entries : List SliceEntry) (u : LineUse) : Type 0 where
+  pub entry : SliceEntry
+  pub at : StandsAt entries u.at entry
+  pub access : access_of entry.what ≡ Some (record { line = u.line; owner = u.owner })
+
+-- The accesses among the first `count` entries, one after the other.
+pub record AreAccesses (entries : List SliceEntry) (count : ℕ) (uses : List LineUse) : Type 0 where
+  pub each : All (λ (u : LineUse). IsUseIn entries u × (u.at < count)) uses
+  pub all : (q : ℕ) (e : SliceEntry) (a : Access) → StandsAt entries q e → access_of e.what ≡ Some a → q < count → Contains uses (use_at q a)
+  pub rising : IsNonDecreasingBy place_of uses
+
+-- These accesses stand line by line, and those to one line one after the other.
+pub record AreByLine (uses : List LineUse) : Type 0 where
+  pub lines : IsNonDecreasingBy line_of uses
+  pub places :
+      (k : ℕ) (d : LineUse) → k + 1 < length uses → (slice_index_or uses k d).line ≡ (slice_index_or uses (k + 1) d).line
+      → (slice_index_or uses k d).at ≤ (slice_index_or uses (k + 1) d).at
+
+-- The accesses among these entries, line by line.
+pub record AreUses (entries : List SliceEntry) (uses : List LineUse) : Type 0 where
+  pub each : All (IsUseIn entries) uses
+  pub all : (q : ℕ) (e : SliceEntry) (a : Access) → StandsAt entries q e → access_of e.what ≡ Some a → Contains uses (use_at q a)
+  pub by_line : AreByLine uses

@@ -1,20 +1,18 @@
 //! Up to where the accesses of each exclusive group are covered, among the entries after a flush or a lock.
-ghost use Rattle.std.specs.Prelude.{◌≡◌, ℕ, ◌+◌, ◌<◌, ◌≤◌, ◌==◌, ◌&&◌, IfOk, IfSome, OnSome, Some, length, min, nat_le, slice_get, slice_index_or};
+ghost use Rattle.std.specs.Prelude.{◌≡◌, ℕ, ◌+◌, ◌<◌, ◌≤◌, ◌==◌, ◌&&◌, IfOk, IfSome, OnSome, Some, if◌then◌else◌, length, min, nat_le, nat_lt, slice_get, slice_index_or};
 ghost use Rattle.std.specs.List.{AllWithin};
 ghost use Rattle.cache_core.specs.declared.entry.SliceEntry.{SliceEntry};
-ghost use Rattle.private_lru.specs.Ends.{AreEnds, IsHigh, RiseByGroup, bound_of, is_at};
-ghost use Rattle.private_lru.specs.Uses.{AreUses, access_of};
-ghost use Rattle.std.specs.BTreeMap.{get};
-ghost use Rattle.std.specs.Ordering.{nat_cmp};
+ghost use Rattle.private_lru.specs.Cuts.{AreCuts, AreEach, IsStart, cut_by, loaded_by, shared_by};
+ghost use Rattle.private_lru.specs.Ends.{IsHigh, RiseByGroup, is_at};
+ghost use Rattle.private_lru.specs.Uses.{AreByLine};
 ghost use Rattle.private_lru.specs.declared.stay.Stay.{Stay};
 
 use crate::stay::Stay;
-use crate::users::is_loaded_use;
-use crate::uses::{Access, LineUse, access_of, first_foreign};
+use crate::users::loads;
+use crate::uses::LineUse;
 use cache_core::{SliceEntry, What};
 use rc_base::{Gid, NoMemory};
 use std::alloc::Global;
-use std::collections::BTreeMap;
 
 // The lesser of two positions.
 fn lesser(a: usize, b: usize) -> usize
@@ -71,95 +69,124 @@ pub(crate) fn place_of(stays: &[Stay], gid: Gid, high: u64) -> Option<usize>
     }
 }
 
-// Up to where a group's accesses are covered at most, for one of these.
-fn bound_of(
-    sets: u32,
-    opening: What,
-    what: What,
-    access: Access,
-    count: usize,
-    uses: &BTreeMap<u64, LineUse>,
-) -> usize
-    ensures { result ≡ bound_of sets opening what access count (get nat_cmp uses.now access.line) }
+// The end, where the use is in its group's window: at most there.
+fn end_by(end: usize, reach: usize, user: LineUse, at: usize) -> usize
+    ensures { result ≡ (if nat_lt user.at reach then min end at else end) }
 {
-    if is_loaded_use(sets, opening, what, access.owner) {
-        0
+    if (user.at as usize) < reach {
+        lesser(end, at)
     } else {
-        first_foreign(uses, access.line, access.owner, count)
+        end
     }
 }
 
-// The ends with an access more.
-fn end_access(
-    ends: &mut [usize],
-    stays: &[Stay],
-    sets: u32,
-    opening: What,
-    entries: &[SliceEntry],
-    at: usize,
-    high: u64,
-    access: Access,
-    uses: &BTreeMap<u64, LineUse>,
-)
+// The covered accesses of the group of a use in its window end there at the latest.
+fn cut(ends: &mut [usize], stays: &[Stay], reaches: &[usize], user: LineUse, at: usize)
     requires rising { RiseByGroup stays.now }
-    requires high { IsHigh entries.now (at + 1) high }
-    requires uses { AreUses entries.now (length entries.now) uses.now }
-    requires access { (e : SliceEntry) → slice_get entries.now at ≡ Some e → access_of e.what ≡ Some access }
-    requires within { at < length entries.now }
-    requires ends { AreEnds sets opening entries.now at stays.now ends.old }
-    ensures { AreEnds sets opening entries.now (at + 1) stays.now ends.new }
+    requires reaches { length reaches.now ≡ length stays.now }
+    requires ends { length ends.old ≡ length stays.now }
+    ensures { AreEach (cut_by user at) stays.now reaches.now ends.old ends.new }
 {
-    match place_of(stays, access.owner, high) {
-        Some(place) => {
-            let bound = bound_of(sets, opening, entries[at].what, access, entries.len(), uses);
-            ends[place] = lesser(ends[place], bound);
-        }
+    match place_of(stays, user.owner, 0) {
+        Some(place) => ends[place] = end_by(ends[place], reaches[place], user, at),
         None => {}
     }
 }
 
-// The ends with an entry more.
-fn end_entry(
+// No access of a group is covered, where the opening loaded the line of one.
+fn cut_loaded(
     ends: &mut [usize],
     stays: &[Stay],
+    reaches: &[usize],
     sets: u32,
     opening: What,
-    entries: &[SliceEntry],
-    at: usize,
-    high: u64,
-    uses: &BTreeMap<u64, LineUse>,
+    user: LineUse,
 )
     requires rising { RiseByGroup stays.now }
-    requires high { IsHigh entries.now (at + 1) high }
-    requires uses { AreUses entries.now (length entries.now) uses.now }
-    requires within { at < length entries.now }
-    requires ends { AreEnds sets opening entries.now at stays.now ends.old }
-    ensures { AreEnds sets opening entries.now (at + 1) stays.now ends.new }
+    requires reaches { length reaches.now ≡ length stays.now }
+    requires ends { length ends.old ≡ length stays.now }
+    ensures { AreEach (loaded_by sets opening user) stays.now reaches.now ends.old ends.new }
 {
-    match access_of(entries[at].what) {
-        Some(access) => end_access(ends, stays, sets, opening, entries, at, high, access, uses),
-        None => {}
+    if loads(sets, opening, user.line) {
+        cut(ends, stays, reaches, user, 0);
     }
 }
 
-/// For each of these groups, how many entries stand before the first after which none of its accesses is covered.
+// Of two uses of a line by two groups, each ends what is covered of the other.
+fn cut_shared(ends: &mut [usize], stays: &[Stay], reaches: &[usize], first: LineUse, next: LineUse)
+    requires rising { RiseByGroup stays.now }
+    requires reaches { length reaches.now ≡ length stays.now }
+    requires ends { length ends.old ≡ length stays.now }
+    ensures { AreEach (shared_by first next) stays.now reaches.now ends.old ends.new }
+{
+    if first.owner.0 != next.owner.0 {
+        cut(ends, stays, reaches, first, next.at as usize);
+        cut(ends, stays, reaches, next, first.at as usize);
+    }
+}
+
+// The first use of the line of the next one.
+fn start_of(uses: &[LineUse], start: usize, next: usize) -> usize
+    requires by_line { AreByLine uses.now }
+    requires within { next < length uses.now }
+    requires start { IsStart uses.now next start }
+    ensures start { IsStart uses.now (next + 1) result }
+    ensures early { result ≤ next }
+{
+    if uses[start].line == uses[next].line {
+        start
+    } else {
+        next
+    }
+}
+
+// The ends with a use more.
+fn cut_use(
+    ends: &mut [usize],
+    stays: &[Stay],
+    reaches: &[usize],
+    sets: u32,
+    opening: What,
+    none: usize,
+    uses: &[LineUse],
+    start: usize,
+    next: usize,
+)
+    requires rising { RiseByGroup stays.now }
+    requires reaches { length reaches.now ≡ length stays.now }
+    requires within { next < length uses.now }
+    requires early { start ≤ next }
+    requires start { IsStart uses.now (next + 1) start }
+    requires ends { AreCuts sets opening uses.now next none stays.now reaches.now ends.old }
+    ensures { AreCuts sets opening uses.now (next + 1) none stays.now reaches.now ends.new }
+{
+    cut_loaded(ends, stays, reaches, sets, opening, uses[next]);
+    cut_shared(ends, stays, reaches, uses[start], uses[next]);
+}
+
+/// For each of these groups, how many entries stand before the first after which none of its accesses is covered; `none` where all
+/// are.
 pub(crate) fn ends_of(
     alloc: Global,
     stays: &[Stay],
+    reaches: &[usize],
     sets: u32,
     opening: What,
-    entries: &[SliceEntry],
-    uses: &BTreeMap<u64, LineUse>,
+    none: usize,
+    uses: &[LineUse],
 ) -> Result<Vec<usize>, NoMemory>
     requires rising { RiseByGroup stays.now }
-    requires uses { AreUses entries.now (length entries.now) uses.now }
-    ensures { IfOk result (λ ends. AreEnds sets opening entries.now (length entries.now) stays.now ends.items) }
+    requires reaches { length reaches.now ≡ length stays.now }
+    requires by_line { AreByLine uses.now }
+    ensures { IfOk result (λ ends. AreCuts sets opening uses.now (length uses.now) none stays.now reaches.now ends.items) }
 {
-    let mut ends: Vec<usize> = vec![in alloc; entries.len(); stays.len()]?;
-    let mut high = 0;
-    for at in 0..entries.len() {
-        high = high_after(entries, at, high);
-        end_entry(&mut ends, stays, sets, opening, entries, at, high, uses);
+    let mut ends: Vec<usize> = vec![in alloc; none; stays.len()]?;
+    let mut start = 0;
+    for next in 0..uses.len() {
+        start = start_of(uses, start, next);
+        cut_use(
+            &mut ends, stays, reaches, sets, opening, none, uses, start, next,
+        );
     }
     Ok(ends)
 }

@@ -6,6 +6,7 @@ pub mod counts;
 mod ends;
 pub mod item;
 pub mod private;
+mod reaches;
 pub mod stay;
 pub mod tallies;
 pub mod theorems;

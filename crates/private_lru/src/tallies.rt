@@ -8,6 +8,7 @@ ghost use Rattle.private_lru.specs.declared.stay.Stay.{Stay};
 
 use crate::WindowCounts;
 use crate::ends::{ends_of, high_after, place_of};
+use crate::reaches::reaches_of;
 use crate::stay::Stay;
 use crate::users::is_own_hit;
 use crate::uses::{access_of, uses_of};
@@ -15,8 +16,8 @@ use cache_core::{SliceEntry, What};
 use rc_base::NoMemory;
 use std::alloc::Global;
 
-// The place of the group whose access it is in its window.
-fn place_at(stays: &[Stay], what: What, high: u64) -> Option<usize>
+/// The place of the group whose access it is in its window.
+pub(crate) fn place_at(stays: &[Stay], what: What, high: u64) -> Option<usize>
     requires rising { RiseByGroup stays.now }
     ensures at { (j : ℕ) (d : Stay) → j < length stays.now → is_at result j ≡ (is_own (slice_index_or stays.now j d).gid.0 what && nat_le high (slice_index_or stays.now j d).last) }
     ensures within { IfSome result (λ i. i < length stays.now) }
@@ -107,7 +108,7 @@ fn tallies_of(
     Ok(tallies)
 }
 
-/// What is counted of the windows of these groups after an opening, in three walks over the entries up to the next one.
+/// What is counted of the windows of these groups after an opening, from the entries up to the next one and their uses line by line.
 pub fn counts_of(
     alloc: Global,
     stays: &[Stay],
@@ -120,7 +121,8 @@ pub fn counts_of(
     ensures { IfOk result (λ counts. AreCounted sets opening entries.now stays.now counts.items) }
 {
     let uses = uses_of(alloc, entries)?;
-    let ends = ends_of(alloc, stays, sets, opening, entries, &uses)?;
+    let reaches = reaches_of(alloc, stays, entries)?;
+    let ends = ends_of(alloc, stays, &reaches, sets, opening, entries.len(), &uses)?;
     let counts = tallies_of(alloc, &ends, stays, entries)?;
     Ok(counts)
 }

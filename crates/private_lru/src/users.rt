@@ -2,7 +2,7 @@
 
 ghost use Rattle.std.specs.Prelude.{◌≡◌};
 ghost use Rattle.private_lru.specs.GroupCounts.{is_own_hit};
-ghost use Rattle.private_lru.specs.Covered.{is_loaded_use, loads};
+ghost use Rattle.private_lru.specs.Covered.{loads};
 
 use cache_core::What;
 use rc_base::Gid;
@@ -17,24 +17,14 @@ pub fn is_own_hit(what: What, group: Gid) -> bool
     }
 }
 
-// Whether a lock loads the line into a cache of so many sets.
-fn loads(sets: u32, opening: What, line: u64) -> bool
+/// Whether a lock loads the line into a cache of so many sets.
+pub(crate) fn loads(sets: u32, opening: What, line: u64) -> bool
     ensures { result ≡ loads sets opening line }
 {
     match opening {
         What::Lock { mask, first_line } => {
             first_line <= line && line - first_line < u64::from(sets) * u64::from(cbm::count(mask))
         }
-        _ => false,
-    }
-}
-
-/// Whether it is an access of the group to a line that the opening of the window loaded.
-pub fn is_loaded_use(sets: u32, opening: What, what: What, group: Gid) -> bool
-    ensures { result ≡ is_loaded_use sets group.0 opening what }
-{
-    match what {
-        What::Access { owner, line, .. } => owner.0 == group.0 && loads(sets, opening, line),
         _ => false,
     }
 }

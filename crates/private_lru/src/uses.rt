@@ -1,14 +1,11 @@
-//! The first accesses to each line among some entries of a slice.
-ghost use Rattle.std.specs.Prelude.{◌≡◌, ℕ, ◌+◌, ◌<◌, ◌^◌, IfOk, None, OnOk, Some, length, slice_get};
-ghost use Rattle.std.specs.BTreeMap.{get};
-ghost use Rattle.std.specs.Ordering.{nat_cmp};
+//! The accesses among some entries of a slice, line by line.
+ghost use Rattle.std.specs.Prelude.{◌≡◌, ◌+◌, ◌<◌, ◌^◌, ◌∷◌, [], ◌++◌, IfOk, OnOk, length};
 ghost use Rattle.cache_core.specs.declared.entry.SliceEntry.{SliceEntry};
-ghost use Rattle.private_lru.specs.Uses.{AreUses, access_of, first_foreign};
+ghost use Rattle.private_lru.specs.Uses.{AreAccesses, AreUses, access_of, use_at};
 
 use cache_core::{SliceEntry, What};
 use rc_base::{Gid, NoMemory};
 use std::alloc::Global;
-use std::collections::BTreeMap;
 
 /// Whose access it is, and to which line.
 #[derive(Clone, Copy, Debug, PartialEq, Eq, Drop)]
@@ -19,14 +16,14 @@ pub(crate) struct Access {
     pub owner: Gid,
 }
 
-/// The first accesses to a line.
+/// An access to a line among some entries, and where it stands.
 #[derive(Clone, Copy, Debug, PartialEq, Eq, Drop)]
 pub(crate) struct LineUse {
-    /// The position of the first one, from 0.
+    /// The line.
+    pub line: u64,
+    /// The position, from 0.
     pub at: u32,
-    /// The position of the first one by another group, or the number of all entries.
-    pub other: u32,
-    /// The group of the first one.
+    /// The group.
     pub owner: Gid,
 }
 
@@ -40,139 +37,53 @@ pub(crate) fn access_of(what: What) -> Option<Access>
     }
 }
 
-// The first accesses to a line, where there was one.
-fn use_of(uses: &BTreeMap<u64, LineUse>, line: u64) -> Option<LineUse>
-    ensures { result ≡ get nat_cmp uses.now line }
+// Adds an access.
+fn push_access(uses: &mut Vec<LineUse>, at: usize, access: Access) -> Result<(), NoMemory>
+    requires few { at < 2 ^ 32 }
+    ensures { OnOk result (uses.new.items ≡ uses.old.items ++ use_at at access ∷ []) }
 {
-    uses.get(&line).copied()
-}
-
-// Of these, the first by another than the group.
-fn other_use(first: LineUse, gid: Gid) -> usize
-    ensures { (none : ℕ) → result ≡ first_foreign gid.0 none (Some first) }
-{
-    if first.owner.0 == gid.0 {
-        first.other as usize
-    } else {
-        first.at as usize
-    }
-}
-
-/// The position of the first access to a line by another than the group, or the number of all entries.
-pub(crate) fn first_foreign(
-    uses: &BTreeMap<u64, LineUse>,
-    line: u64,
-    gid: Gid,
-    count: usize,
-) -> usize
-    ensures { result ≡ first_foreign gid.0 count (get nat_cmp uses.now line) }
-{
-    match use_of(uses, line) {
-        Some(first) => other_use(first, gid),
-        None => count,
-    }
-}
-
-// Notes the first access to a line.
-fn note_first(
-    uses: &mut BTreeMap<u64, LineUse>,
-    entries: &[SliceEntry],
-    at: usize,
-    access: Access,
-) -> Result<(), NoMemory>
-    requires uses { AreUses entries.now at uses.old }
-    requires fresh { get nat_cmp uses.old access.line ≡ None }
-    requires access { (e : SliceEntry) → slice_get entries.now at ≡ Some e → access_of e.what ≡ Some access }
-    requires within { at < length entries.now }
-    requires few { length entries.now < 2 ^ 32 }
-    ensures { OnOk result (AreUses entries.now (at + 1) uses.new) }
-{
-    let first = LineUse {
+    uses.push(LineUse {
+        line: access.line,
         at: at as u32,
-        other: entries.len() as u32,
         owner: access.owner,
-    };
-    uses.insert(access.line, first)?;
+    })?;
     Ok(())
 }
 
-// Notes a later access to a line, where it is the first by another group.
-fn note_later(
-    uses: &mut BTreeMap<u64, LineUse>,
-    entries: &[SliceEntry],
-    at: usize,
-    access: Access,
-    first: LineUse,
-) -> Result<(), NoMemory>
-    requires uses { AreUses entries.now at uses.old }
-    requires first { get nat_cmp uses.old access.line ≡ Some first }
-    requires access { (e : SliceEntry) → slice_get entries.now at ≡ Some e → access_of e.what ≡ Some access }
+// Adds the next entry, where it is an access.
+fn push_entry(uses: &mut Vec<LineUse>, entries: &[SliceEntry], at: usize) -> Result<(), NoMemory>
+    requires uses { AreAccesses entries.now at uses.old.items }
     requires within { at < length entries.now }
     requires few { length entries.now < 2 ^ 32 }
-    ensures { OnOk result (AreUses entries.now (at + 1) uses.new) }
-{
-    if first.owner.0 == access.owner.0 {
-        return Ok(());
-    }
-    if (first.other as usize) < entries.len() {
-        return Ok(());
-    }
-    let both = LineUse {
-        at: first.at,
-        other: at as u32,
-        owner: first.owner,
-    };
-    uses.insert(access.line, both)?;
-    Ok(())
-}
-
-// Notes an access.
-fn note_access(
-    uses: &mut BTreeMap<u64, LineUse>,
-    entries: &[SliceEntry],
-    at: usize,
-    access: Access,
-) -> Result<(), NoMemory>
-    requires uses { AreUses entries.now at uses.old }
-    requires access { (e : SliceEntry) → slice_get entries.now at ≡ Some e → access_of e.what ≡ Some access }
-    requires within { at < length entries.now }
-    requires few { length entries.now < 2 ^ 32 }
-    ensures { OnOk result (AreUses entries.now (at + 1) uses.new) }
-{
-    match use_of(uses, access.line) {
-        Some(first) => note_later(uses, entries, at, access, first),
-        None => note_first(uses, entries, at, access),
-    }
-}
-
-// Notes the next entry.
-fn note(
-    uses: &mut BTreeMap<u64, LineUse>,
-    entries: &[SliceEntry],
-    at: usize,
-) -> Result<(), NoMemory>
-    requires uses { AreUses entries.now at uses.old }
-    requires within { at < length entries.now }
-    requires few { length entries.now < 2 ^ 32 }
-    ensures { OnOk result (AreUses entries.now (at + 1) uses.new) }
+    ensures { OnOk result (AreAccesses entries.now (at + 1) uses.new.items) }
 {
     match access_of(entries[at].what) {
-        Some(access) => note_access(uses, entries, at, access),
+        Some(access) => {
+            push_access(uses, at, access)?;
+            Ok(())
+        }
         None => Ok(()),
     }
 }
 
-/// The first accesses to each line among these entries.
-pub(crate) fn uses_of(
-    alloc: Global,
-    entries: &[SliceEntry],
-) -> Result<BTreeMap<u64, LineUse>, NoMemory>
+// The accesses among these entries, one after the other.
+fn accesses_of(alloc: Global, entries: &[SliceEntry]) -> Result<Vec<LineUse>, NoMemory>
     requires few { length entries.now < 2 ^ 32 }
-    ensures { IfOk result (λ uses. AreUses entries.now (length entries.now) uses) }
+    ensures { IfOk result (λ uses. AreAccesses entries.now (length entries.now) uses.items) }
 {
-    let mut uses: BTreeMap<u64, LineUse> = BTreeMap::new(alloc);
+    let mut uses: Vec<LineUse> = Vec::with_capacity(alloc, entries.len())?;
     for at in 0..entries.len() {
-        note(&mut uses, entries, at)?;
+        push_entry(&mut uses, entries, at)?;
     }
+    Ok(uses)
+}
+
+/// The accesses among these entries, line by line, and those to one line one after the other.
+pub(crate) fn uses_of(alloc: Global, entries: &[SliceEntry]) -> Result<Vec<LineUse>, NoMemory>
+    requires few { length entries.now < 2 ^ 32 }
+    ensures { IfOk result (λ uses. AreUses entries.now uses.items) }
+{
+    let mut uses = accesses_of(alloc, entries)?;
+    uses.sort_by_key(|access| access.line)?;
     Ok(uses)
 }

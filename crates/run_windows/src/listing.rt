@@ -105,10 +105,9 @@ fn push_domain(
 /// project's profile).
 ///
 /// The tree is played once more, and after each command that changes the exclusive groups or a mask of theirs they are kept, 12
-/// bytes for each group and domain, and then 16 for each group of one domain at a time. Then the entries from a flush or a lock up
-/// to the next one are walked three times for all groups that are exclusive at it: for the first users of each line, which are kept
-/// meanwhile in 32 bytes for each line, for where the covered accesses of each group end, and to count. The first two walks look up
-/// the line of each access.
+/// bytes for each group and domain, and then 16 for each group of one domain at a time. Then the accesses from a flush or a lock up to
+/// the next one are sorted by line, for all groups that are exclusive at it, in 16 bytes for each and as many again for the sort, and
+/// walked for where the covered accesses of each group end. The entries are walked three times besides.
 pub fn windows(alloc: Global, script: &Script, journals: &Journals) -> Result<Vec<Window>, NoMemory>
     requires lawful { IsLawful script.now }
     requires run { IsRun script.now journals.now }

@@ -1,22 +1,22 @@
 use Rattle.std.proofs.Common.{length, get_or, subst, ap, ◌∙◌, arith}
 use Rattle.std.proofs.lemmas.List.{get_or-replicate, length-replicate}
-use Rattle.private_lru.proofs.CoveredEnds.{AreEnds-none}
-use Rattle.private_lru.proofs.HighEpochs.{IsHigh-none}
-use Rattle.private_lru.specs.Ends.{AreEnds}
+use Rattle.private_lru.proofs.RunStarts.{IsStart-none}
+use Rattle.private_lru.proofs.UseCuts.{AreCuts-none}
+use Rattle.private_lru.specs.Cuts.{AreCuts}
 use Rattle.private_lru.proofs.ends.ends_of.Goals as goal
 
-pub loop-at-init : goal.loop-at-init
-loop-at-init c =
+pub loop-next-init : goal.loop-next-init
+loop-next-init c =
     let count = length c.args.stays.now in
-    let none = length c.args.entries.now in
+    let none = c.args.none in
     let made = c.in_ok-ends.ensures.items_if_clones_equal (λ y same. same) in
     record {
-      is_high = IsHigh-none c.args.entries.now;
-      are_ends = AreEnds-none c.args.sets c.args.opening c.args.entries.now c.args.stays.now c.in_ok-ends.ends.items (ap length made ∙ length-replicate count none) (λ j within. ap (λ l. get_or l j 0) made ∙ get_or-replicate count j none 0 within);
+      is_start = IsStart-none c.args.uses.now;
+      are_cuts = AreCuts-none c.args.sets c.args.opening c.args.uses.now none c.args.stays.now c.args.reaches.now c.in_ok-ends.ends.items (ap length made ∙ length-replicate count none) (λ j within. ap (λ l. get_or l j 0) made ∙ get_or-replicate count j none 0 within);
     }
 
 pub returns : goal.returns
 returns c =
-    let stop = c.loop-at-test.false in
-    let most = c.loop-at.auto.at-end in
-    subst (λ n. AreEnds c.args.sets c.args.opening c.args.entries.now n c.args.stays.now c.loop-at.ends.items) (omega (arith, stop, most)) c.loop-at.invariant.are_ends
+    let stop = c.loop-next-test.false in
+    let most = c.loop-next.auto.next-end in
+    subst (λ n. AreCuts c.args.sets c.args.opening c.args.uses.now n c.args.none c.args.stays.now c.args.reaches.now c.loop-next.ends.items) (omega (arith, stop, most)) c.loop-next.invariant.are_cuts

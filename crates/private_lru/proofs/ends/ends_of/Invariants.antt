@@ -1,8 +1,8 @@
-use Rattle.private_lru.specs.Ends.{AreEnds, IsHigh}
+use Rattle.private_lru.specs.Cuts.{AreCuts, IsStart}
 use Rattle.private_lru.proofs.ends.ends_of.Given as goal
 
-abbrev pub invariant-loop-at : goal.invariant-loop-at
-invariant-loop-at l = record {
-  is_high : IsHigh l.entries l.at l.high;
-  are_ends : AreEnds l.sets l.opening l.entries l.at l.stays l.ends.items;
+abbrev pub invariant-loop-next : goal.invariant-loop-next
+invariant-loop-next l = record {
+  is_start : IsStart l.uses l.next l.start;
+  are_cuts : AreCuts l.sets l.opening l.uses l.next l.none l.stays l.reaches l.ends.items;
 }

@@ -1,9 +1,12 @@
-use Rattle.std.proofs.Common.{ap}
-use Rattle.std.specs.BTreeMap.{is_at}
-use Rattle.std.specs.Map.{lookup}
-use Rattle.std.specs.Ordering.{nat_cmp}
-use Rattle.private_lru.proofs.LineUses.{AreUses-none}
+use Rattle.std.proofs.Common.{rules}
+use Rattle.std.proofs.lemmas.List.Sorted.{IsNonDecreasingBy-from_sort_by_key, answers_always}
+use Rattle.std.proofs.lemmas.Option.{slice_get_within}
+use Rattle.private_lru.proofs.UseLists.{AreUses-sorted}
+use Rattle.private_lru.specs.Uses.{line_of}
 use Rattle.private_lru.proofs.uses.uses_of.Goals as goal
 
-pub loop-at-init : goal.loop-at-init
-loop-at-init c = AreUses-none c.args.entries.now c.new-uses.result (λ x. ap (lookup (is_at (nat_cmp x))) c.new-uses.ensures.empty)
+pub returns : goal.returns
+returns c =
+    let entries = c.args.entries.now in
+    AreUses-sorted entries _ _ c.in_ok-uses.ensures c.sort_by_key.ensures.permutation (IsNonDecreasingBy-from_sort_by_key line_of _ c.in_ok-sort_by_key.ensures.sorted (λ a r q k. search rules))
+    (c.sort_by_key.ensures.stable line_of (answers_always _ _ _ (λ f a r g h. search rules))) (λ q e at. slice_get_within entries q e at)
