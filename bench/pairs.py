@@ -38,12 +38,18 @@ def accesses(script):
         script.write(f"sweep 1 0 {64 * (at % 4_000)} 10 64\nsweep 2 1 {2**24 + 64 * (at % 40_000)} 10 64\n")
 
 
+def quiet(script):
+    """Accesses to lines far from one another after a flush, where no group is ever exclusive."""
+    script.write(f"machine sets=1024 ways=16\ntasks 1\nflush\nsweep 1 0 0 {USES - 20_000} {64 * 2_000}\n")
+
+
 def main(words):
     if len(words) != 3:
         sys.exit(__doc__)
     print(HEAD)
     with tempfile.TemporaryDirectory() as folder:
-        for program, write in zip(words[1:], (trace, accesses)):
+        cdp, l2 = words[1:]
+        for program, write in (cdp, trace), (l2, accesses), (cdp, quiet), (l2, quiet):
             path = os.path.join(folder, write.__name__)
             with open(path, "w") as script:
                 write(script)

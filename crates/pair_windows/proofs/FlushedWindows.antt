@@ -7,17 +7,20 @@ use Rattle.cache_core.specs.declared.entry.What.TheVariants as whats
 use Rattle.pair_windows.proofs.SegmentWindows.{counted_windows-segment}
 use Rattle.pair_windows.specs.JointCounted.{counted_window, counted_windows, is_used}
 use Rattle.pair_windows.specs.Hits.{AreHits}
-use Rattle.pair_windows.specs.Holdings.{held_from, stay_of}
+use Rattle.pair_law.specs.Epochs.{state_at}
+use Rattle.pair_windows.specs.Holdings.{exclusive_in, held_from, stay_of}
 use Rattle.pair_windows.specs.Joined.{joined}
 use Rattle.pair_windows.specs.LevelJournals.{IsPlayedOnLevels}
-use Rattle.pair_windows.specs.JointWindows.{windows_at, windows_from}
+use Rattle.pair_windows.specs.JointWindows.{window_from, windows_at, windows_from}
 use Rattle.pair_windows.specs.Segments.{IsSegment, hit_l2, hit_l3}
 use Rattle.pair_windows.specs.declared.holdings.Holding.{Holding}
 use Rattle.pair_windows.specs.declared.joint_window.JointWindow.{JointWindow}
 use Rattle.pair_ops.specs.Values.{PairScriptValue, epoch_at, op_at}
+use Rattle.pair_ops.specs.declared.group.PairGroup.{PairGroup}
 use Rattle.pair_ops.specs.declared.op.PairOp.{PairOp}
 use Rattle.pair_ops.specs.declared.op.PairOp.TheVariants as ops
 use Rattle.pair_ops.specs.declared.side.Side.TheVariants.{First, Second}
+use Rattle.pair_runs.proofs.laws.Playing.{epoch_at-command}
 use Rattle.pair_runs.proofs.laws.Cuts.{flat_map-range_at, range_with_len-append}
 use Rattle.pair_runs.specs.JointWindows.{is_flush}
 use Rattle.pair_runs.specs.LevelRuns.{LevelJournalsValue}
@@ -113,6 +116,13 @@ module _ (script : PairScriptValue) (j : LevelJournalsValue) (domain from last s
       ap (filter is_used)
       (ap (λ (hs : List Holding). counted_windows domain (epoch_at script from) hs c2 c3) is
       ∙ counted_windows-segment script j domain from last sets a b c2 c3 played exists (op-flush (op_at script from) flush) segment l2 l3 one two)
+
+-- no window begins where no group is exclusive
+pub windows_from-none : (script : PairScriptValue) (domain : ℕ) (j : LevelJournalsValue) (from : ℕ) → is_flush (op_at script from) ≡ true → exclusive_in (state_at script (epoch_at script (from + 1))) ≡ []
+    → windows_from script domain j from ≡ []
+windows_from-none script domain j from flush none =
+    let next = epoch_at-command script from ops.Flush (op-flush (op_at script from) flush) refl in
+    ap (λ (gs : List PairGroup). filter is_used (map (window_from script domain j from) gs)) (ap (λ (n : ℕ). exclusive_in (state_at script n)) (sym next) ∙ none)
 
 -- ---- domain by domain
 

@@ -3,6 +3,7 @@ pub mod CoveredUses
 pub mod FittingOps
 pub mod FlushWindows
 pub mod FlushedWindows
+mod FoundGroups
 pub mod HeldLevels
 pub mod HeldSteps
 pub mod JointListedWindows

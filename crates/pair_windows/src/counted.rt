@@ -97,6 +97,9 @@ pub(crate) fn counts_at(
     requires few { length front.now < 2 ^ 32 }
     ensures { IfOk result (λ counts. AreCounted sets TheFlush front.now (map stay_of kept.now) counts.items) }
 {
+    if kept.is_empty() {
+        return Ok(Vec::new(alloc));
+    }
     let stays = stays_of(alloc, kept)?;
     counts_of(alloc, &stays, sets, What::Flush, front)
 }

@@ -36,6 +36,23 @@ fn is_exclusive(group: &PairGroup) -> bool
     matches!(group.mode, Mode::Exclusive)
 }
 
+// The first exclusive group.
+fn first_exclusive(groups: &[PairGroup]) -> Option<&PairGroup>
+    ensures { option_copied result ≡ find is_exclusive groups.now }
+{
+    groups.iter().find(|group| is_exclusive(group))
+}
+
+/// Whether a group of a tree is exclusive.
+pub(crate) fn has_exclusive(tree: &PairTree) -> bool
+    ensures { result ≡ false → exclusive_in tree.now.state ≡ [] }
+{
+    match first_exclusive(tree.groups()) {
+        Some(_) => true,
+        None => false,
+    }
+}
+
 // Adds a group, where it is exclusive.
 fn push_group(
     held: &mut Vec<Holding>,

@@ -6,7 +6,7 @@ ghost use Rattle.pair_windows.specs.Holdings.{stay_of};
 ghost use Rattle.pair_windows.specs.JointWindows.{joint_windows, windows_from, windows_in};
 ghost use Rattle.pair_windows.specs.LevelJournals.{IsPlayedOnLevels, level_journals};
 ghost use Rattle.pair_windows.specs.Segments.{CanWalk, IsSegment};
-ghost use Rattle.pair_ops.specs.Values.{op_at};
+ghost use Rattle.pair_ops.specs.Values.{epoch_at, op_at};
 ghost use Rattle.pair_ops.specs.declared.side.Side.TheVariants.{First, Second};
 ghost use Rattle.pair_windows.specs.Replays.{HasTaken, IsPlayable};
 ghost use Rattle.pair_runs.specs.JointWindows.{is_flush};
@@ -16,7 +16,7 @@ ghost use Rattle.private_lru.specs.Tallies.{AreCounted};
 
 use crate::Replay;
 use crate::hits::hits_on;
-use crate::holdings::{Holding, stays_of};
+use crate::holdings::{Holding, has_exclusive, stays_of};
 use crate::joint_counted::push_counted;
 use crate::joint_window::JointWindow;
 use crate::segments::{Hits, is_end, take_segment};
@@ -42,7 +42,51 @@ fn counts_at(
     counts_of(alloc, &stays, sets, What::Flush, entries)
 }
 
-// Takes a flush and the ops up to the next one, and adds the windows that begin at it.
+// Takes the ops up to the next flush.
+fn take_quiet(script: &PairScript, replay: &mut Replay)
+    requires playable { IsPlayable script.now }
+    requires taken { HasTaken script.now replay.old }
+    requires within { replay.old.place ≤ length script.now.ops }
+    ensures taken { HasTaken script.now replay.new }
+    ensures segment { IsSegment script.now replay.old.place replay.new.place }
+{
+    while !is_end(script, replay.place()) {
+        replay.take_op(script);
+    }
+}
+
+// Takes the ops after a flush, which stands at `from` in the script, up to the next one, and adds the windows that begin at it.
+fn push_held(
+    alloc: Global,
+    script: &PairScript,
+    hits: &Hits,
+    domain: u8,
+    from: usize,
+    epoch: u32,
+    replay: &mut Replay,
+    windows: &mut Vec<JointWindow>,
+) -> Result<(), NoMemory>
+    requires walk { CanWalk script.now hits.now }
+    requires domain { domain < script.now.machines.machine.domains }
+    requires taken { HasTaken script.now replay.old }
+    requires after { replay.old.place ≡ from + 1 }
+    requires within { from < length script.now.ops }
+    requires flush { is_flush (op_at script.now from) ≡ true }
+    requires epoch { epoch ≡ epoch_at script.now from }
+    ensures taken { OnOk result (HasTaken script.now replay.new) }
+    ensures segment { OnOk result (IsSegment script.now (from + 1) replay.new.place) }
+    ensures windows { OnOk result ((j : LevelJournalsValue) → IsPlayedOnLevels script.now j → AreHits script.now First j.l2 hits.now.l2.items → AreHits script.now Second j.l3 hits.now.l3.items
+        → windows.new.items ≡ windows.old.items ++ windows_from script.now domain j from) }
+{
+    let sets = script.machine().sets;
+    let part = take_segment(alloc, script, domain, hits, replay)?;
+    let l2 = counts_at(alloc, sets, &part.held, &part.l2)?;
+    let l3 = counts_at(alloc, sets, &part.held, &part.l3)?;
+    push_counted(windows, domain, epoch, &part.held, &l2, &l3)?;
+    Ok(())
+}
+
+// Takes a flush and the ops up to the next one, and adds the windows that begin at it: none where no group is exclusive then.
 fn push_flush(
     alloc: Global,
     script: &PairScript,
@@ -61,28 +105,14 @@ fn push_flush(
     ensures windows { OnOk result ((j : LevelJournalsValue) → IsPlayedOnLevels script.now j → AreHits script.now First j.l2 hits.now.l2.items → AreHits script.now Second j.l3 hits.now.l3.items
         → windows.new.items ≡ windows.old.items ++ windows_from script.now domain j replay.old.place) }
 {
-    let epoch = replay.epoch();
-    let from = epoch as u32;
-    let sets = script.machine().sets;
+    let from = replay.place();
+    let epoch = replay.epoch() as u32;
     replay.take_op(script);
-    let part = take_segment(alloc, script, domain, hits, replay)?;
-    let l2 = counts_at(alloc, sets, &part.held, &part.l2)?;
-    let l3 = counts_at(alloc, sets, &part.held, &part.l3)?;
-    push_counted(windows, domain, from, &part.held, &l2, &l3)?;
-    Ok(())
-}
-
-// Takes the ops up to the next flush.
-fn take_quiet(script: &PairScript, replay: &mut Replay)
-    requires playable { IsPlayable script.now }
-    requires taken { HasTaken script.now replay.old }
-    requires within { replay.old.place ≤ length script.now.ops }
-    ensures taken { HasTaken script.now replay.new }
-    ensures segment { IsSegment script.now replay.old.place replay.new.place }
-{
-    while !is_end(script, replay.place()) {
-        replay.take_op(script);
+    if !has_exclusive(replay.tree()) {
+        take_quiet(script, replay);
+        return Ok(());
     }
+    push_held(alloc, script, hits, domain, from, epoch, replay, windows)
 }
 
 // Adds the windows that begin at the flushes from the next op on, which is one.
@@ -130,8 +160,8 @@ fn push_domain(
 /// lie in it, after a flush, and uses lines: by L3 domain, by the position of the flush, and by group in order of creation (this
 /// project's profile).
 ///
-/// For each L3 domain the tree is played once more, and its uses are walked some times, whatever the number of groups, as
-/// `window_counts` says.
+/// For each L3 domain the tree is played once more, and its uses after a flush at which groups are exclusive are walked some times,
+/// whatever the number of groups, as `private_lru` says.
 pub fn joint_windows(
     alloc: Global,
     script: &PairScript,

@@ -123,8 +123,8 @@ fn push_domain(
 /// flush, and uses lines: by domain, by the position of the flush, by group in order of creation, and of data before code (this
 /// project's profile).
 ///
-/// For each domain the tree is played once more, and its entries are walked three times, whatever the number of groups, as
-/// `window_counts` says.
+/// For each domain the tree is played once more, and its entries after a flush at which a side of a group has ways for itself are
+/// walked some times, whatever the number of groups, as `private_lru` says.
 pub fn cdp_windows(
     alloc: Global,
     script: &PairScript,

@@ -1,25 +1,17 @@
-use Rattle.std.proofs.Common.{◌≡◌, ℕ, ◌+◌, ◌-◌, ◌++◌, List, length, map, filter, Bool, refl, sym, subst, ap, ap₂, ◌∙◌, arith}
-use Rattle.cache_core.specs.declared.entry.SliceEntry.{SliceEntry}
-use Rattle.cache_core.specs.declared.entry.What.TheVariants as whats
-use Rattle.pair_windows.proofs.FlushedWindows.{windows_from-counted}
-use Rattle.pair_windows.proofs.RisingHoldings.{RiseByGroup-held}
-use Rattle.pair_windows.proofs.SegmentSteps.{length-joined}
-use Rattle.pair_windows.specs.JointCounted.{counted_windows, is_used}
-use Rattle.pair_windows.specs.Holdings.{held_from, stay_of}
-use Rattle.pair_windows.specs.Joined.{joined}
-use Rattle.pair_windows.specs.Segments.{IsSegment, hit_l2, hit_l3}
-use Rattle.pair_windows.specs.declared.holdings.Holding.{Holding}
-use Rattle.pair_windows.specs.declared.joint_window.JointWindow.{JointWindow}
+use Rattle.std.proofs.Common.{◌≡◌, ℕ, ◌+◌, [], ◌++◌, List, refl, sym, subst, ap, ◌∙◌, arith}
+use Rattle.std.proofs.lemmas.List.{append-nil}
+use Rattle.pair_law.specs.Epochs.{state_at}
 use Rattle.pair_ops.specs.Values.{epoch_at}
 use Rattle.pair_runs.proofs.laws.Commands.{epoch_at-le}
 use Rattle.pair_text.specs.declared.limits.TheConstants.{MOST_COMMANDS}
-use Rattle.private_lru.specs.declared.counts.WindowCounts.{WindowCounts}
-use Rattle.private_lru.specs.Ends.{RiseByGroup}
-use Rattle.private_lru.specs.Tallies.{AreCounted}
+use Rattle.pair_windows.proofs.FlushedWindows.{windows_from-none}
+use Rattle.pair_windows.specs.Holdings.{exclusive_in}
+use Rattle.pair_windows.specs.Segments.{IsSegment}
+use Rattle.pair_windows.specs.declared.joint_window.JointWindow.{JointWindow}
 use Rattle.pair_windows.proofs.joint_listing.push_flush.Goals as goal
 
-pub overflow_cast-from : goal.overflow_cast-from
-overflow_cast-from c =
+pub overflow_cast-epoch : goal.overflow_cast-epoch
+overflow_cast-epoch c =
     let most = epoch_at-le c.args.script.now c.args.replay.now.place in
     let at = c.requires.taken.epoch in
     let few = c.requires.walk.playable.few in
@@ -27,81 +19,15 @@ overflow_cast-from c =
     let is = c.epoch-epoch.ensures in
     omega (arith, most, at, few, known, is)
 
-pub take_segment-requires-clause-domain : goal.take_segment-requires-clause-domain
-take_segment-requires-clause-domain c =
-    let few = c.requires.walk.playable.lawful.machines.in_range.domain_limit in
-    let exists = c.requires.domain in
-    omega (arith, few, exists)
+pub returns-then-not-has_exclusive-clause-segment : goal.returns-then-not-has_exclusive-clause-segment
+returns-then-not-has_exclusive-clause-segment c = subst (λ (n : ℕ). IsSegment c.args.script.now n c.take_quiet.new.replay.place) c.take_op.ensures.place c.take_quiet.ensures.segment
 
-pub counts_at-requires-clause-rising : goal.counts_at-requires-clause-rising
-counts_at-requires-clause-rising c =
-    let from = c.take_op.new.self in
-    let to = c.take_segment.new.replay in
-    let is = c.deref.ensures.value ∙ c.in_ok-part.ensures.held in
-    subst (λ (hs : List Holding). RiseByGroup (map stay_of hs)) (sym is) (RiseByGroup-held c.args.script.now c.args.domain from.tree.epoch (to.tree.epoch - from.tree.epoch))
-
-pub counts_at-requires-2-clause-rising : goal.counts_at-requires-2-clause-rising
-counts_at-requires-2-clause-rising c =
-    let from = c.take_op.new.self in
-    let to = c.take_segment.new.replay in
-    let is = c.deref-3.ensures.value ∙ c.in_ok-part.ensures.held in
-    subst (λ (hs : List Holding). RiseByGroup (map stay_of hs)) (sym is) (RiseByGroup-held c.args.script.now c.args.domain from.tree.epoch (to.tree.epoch - from.tree.epoch))
-
-pub counts_at-requires-clause-few : goal.counts_at-requires-clause-few
-counts_at-requires-clause-few c =
+pub returns-then-not-has_exclusive-clause-windows : goal.returns-then-not-has_exclusive-clause-windows
+returns-then-not-has_exclusive-clause-windows c = λ j played a b.
     let script = c.args.script.now in
-    let first : ℕ = c.take_op.new.self.place in
-    let n : ℕ = c.take_segment.new.replay.place - first in
-    let is = ap (λ (l : List SliceEntry). length l) (c.deref-2.ensures.value ∙ c.in_ok-part.ensures.l2) in
-    let most = length-joined script c.args.domain (hit_l2 c.args.hits.now.l2.items) first n in
-    let within = c.in_ok-part.ensures.segment.within in
-    let few = c.requires.walk.few in
-    omega (arith, is, most, within, few)
-
-pub counts_at-requires-2-clause-few : goal.counts_at-requires-2-clause-few
-counts_at-requires-2-clause-few c =
-    let script = c.args.script.now in
-    let first : ℕ = c.take_op.new.self.place in
-    let n : ℕ = c.take_segment.new.replay.place - first in
-    let is = ap (λ (l : List SliceEntry). length l) (c.deref-4.ensures.value ∙ c.in_ok-part.ensures.l3) in
-    let most = length-joined script c.args.domain (hit_l3 c.args.hits.now.l2.items c.args.hits.now.l3.items) first n in
-    let within = c.in_ok-part.ensures.segment.within in
-    let few = c.requires.walk.few in
-    omega (arith, is, most, within, few)
-
-pub returns-clause-segment : goal.returns-clause-segment
-returns-clause-segment c = subst (λ (n : ℕ). IsSegment c.args.script.now n c.take_segment.new.replay.place) c.take_op.ensures.place c.in_ok-part.ensures.segment
-
-pub returns-clause-windows : goal.returns-clause-windows
-returns-clause-windows c = λ j played a b.
-    let script = c.args.script.now in
-    let domain : ℕ = c.args.domain in
-    let h2 : List Bool = c.args.hits.now.l2.items in
-    let h3 : List Bool = c.args.hits.now.l3.items in
     let from : ℕ = c.args.replay.now.place in
-    let last : ℕ = c.take_segment.new.replay.place in
-    let part = c.in_ok-part.part in
-    let c2 : List WindowCounts = c.in_ok-l2.l2.items in
-    let c3 : List WindowCounts = c.in_ok-l3.l3.items in
-    let next = c.take_op.ensures.place in
-    let segment : IsSegment script (from + 1) last = subst (λ (n : ℕ). IsSegment script n last) next c.in_ok-part.ensures.segment in
-    let first : c.take_op.new.self.tree.epoch ≡ epoch_at script (from + 1) = c.take_op.ensures.taken.epoch ∙ ap (epoch_at script) next in
-    let held : part.held.items ≡ held_from script domain (epoch_at script (from + 1)) (epoch_at script last - epoch_at script (from + 1)) =
-    c.in_ok-part.ensures.held ∙ ap₂ (λ (x y : ℕ). held_from script domain x (y - x)) first c.in_ok-part.ensures.taken.epoch in
-    let es : part.l2.items ≡ joined script domain (hit_l2 h2) (from + 1) (last - (from + 1)) = c.in_ok-part.ensures.l2 ∙ ap (λ (n : ℕ). joined script domain (hit_l2 h2) n (last - n)) next in
-    let ds : part.l3.items ≡ joined script domain (hit_l3 h2 h3) (from + 1) (last - (from + 1)) = c.in_ok-part.ensures.l3 ∙ ap (λ (n : ℕ). joined script domain (hit_l3 h2 h3) n (last - n)) next in
-    let sets : ℕ = c.machine.result.now.sets in
-    let one : AreCounted sets whats.Flush part.l2.items (map stay_of part.held.items) c2 =
-    subst (λ (l : List SliceEntry). AreCounted sets whats.Flush l (map stay_of part.held.items) c2) c.deref-2.ensures.value
-    (subst (λ (hs : List Holding). AreCounted sets whats.Flush c.deref-2.result.now (map stay_of hs) c2) c.deref.ensures.value c.in_ok-l2.ensures) in
-    let two : AreCounted sets whats.Flush part.l3.items (map stay_of part.held.items) c3 =
-    subst (λ (l : List SliceEntry). AreCounted sets whats.Flush l (map stay_of part.held.items) c3) c.deref-4.ensures.value
-    (subst (λ (hs : List Holding). AreCounted sets whats.Flush c.deref-4.result.now (map stay_of hs) c3) c.deref-3.ensures.value c.in_ok-l3.ensures) in
-    let d6 : List WindowCounts = c.deref-6.result.now in
-    let d7 : List WindowCounts = c.deref-7.result.now in
-    c.in_ok-push_counted.ensures
-    ∙ ap (λ (l : List JointWindow). c.args.windows.now.items ++ l)
-    (ap (λ (n : ℕ). filter is_used (counted_windows domain n c.deref-5.result.now d6 d7)) (c.epoch-epoch.ensures ∙ c.requires.taken.epoch)
-    ∙ (ap (λ (hs : List Holding). filter is_used (counted_windows domain (epoch_at script from) hs d6 d7)) c.deref-5.ensures.value
-    ∙ (ap₂ (λ (xs ys : List WindowCounts). filter is_used (counted_windows domain (epoch_at script from) part.held.items xs ys)) c.deref-6.ensures.value c.deref-7.ensures.value
-    ∙ windows_from-counted script j domain from last sets played c.requires.domain c.requires.flush segment h2 h3 a b part.held.items part.l2.items part.l3.items c2 c3 held es ds one two)))
+    let taken = c.take_op.ensures.taken in
+    let none : exclusive_in c.take_op.new.self.tree.state ≡ [] = subst (λ t. exclusive_in t.state ≡ []) c.tree.ensures (c.has_exclusive.ensures c.if-not-has_exclusive.true) in
+    let state : exclusive_in (state_at script (epoch_at script (from + 1))) ≡ [] =
+    sym (ap exclusive_in (taken.state ∙ ap (state_at script) (taken.epoch ∙ ap (epoch_at script) c.take_op.ensures.place))) ∙ none in
+    sym (ap (λ (l : List JointWindow). c.args.windows.now.items ++ l) (windows_from-none script c.args.domain j from c.requires.flush state) ∙ append-nil c.args.windows.now.items)
