@@ -1,13 +1,13 @@
 -- Where the uses of all lines end what is covered, the covered accesses of the entries end.
-use Rattle.std.proofs.Common.{◌≡◌, ℕ, ◌<◌, ◌≤◌, ◌⊎◌, true, false, eqb, not, List, length, get_or, Some, inl, inr, refl, sym, subst, ap, ◌∙◌, arith}
-use Rattle.std.specs.Prelude.{◌&&◌, All, Contains, nat_lt, slice_get}
+use Rattle.std.proofs.Common.{◌≡◌, ℕ, ◌<◌, ◌⊎◌, true, false, eqb, not, List, length, get_or, Some, inl, inr, refl, sym, subst, ap, ◌∙◌, arith}
+use Rattle.std.specs.Prelude.{slice_get}
 use Rattle.std.proofs.lemmas.Bool.{and_from, cases_Bool, eq-eqb, lt-ltb, ltb-true, ne_eqb}
 use Rattle.std.proofs.lemmas.Option.{get_or_from_slice_get, same_Some, slice_get-get_or, slice_get_within}
 use Rattle.cache_core.specs.declared.entry.SliceEntry.{SliceEntry}
 use Rattle.cache_core.specs.declared.entry.What.{What}
 use Rattle.private_lru.proofs.LineUses.{access-is_foreign, access-is_loaded_use, access-is_use, is_foreign-access, is_loaded_use-access, is_own-access, is_use-access}
 use Rattle.private_lru.specs.Covered.{is_loaded_use, is_own, is_use, loads}
-use Rattle.private_lru.specs.Cuts.{AreCuts, AreReaches, IsCut, IsOtherUse, IsOwnUse, IsReach}
+use Rattle.private_lru.specs.Cuts.{AreCuts, AreReaches, IsCut, IsOwnUse, IsReach}
 use Rattle.private_lru.specs.Ends.{AreEnds, IsEnd, IsHeld, held_len}
 use Rattle.private_lru.specs.Uses.{AreUses, IsUseIn, StandsAt, access_of, is_foreign, use_at}
 use Rattle.private_lru.specs.declared.stay.Stay.{Stay}

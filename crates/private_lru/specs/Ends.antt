@@ -1,6 +1,6 @@
 -- Up to where the accesses of exclusive groups are covered.
 -- (For functions and proofs: no promise of the program stands on it.)
-use Rattle.std.specs.Prelude.{◌≡◌, ℕ, ◌<◌, ◌≤◌, ◌⊎◌, Bool, true, false, ◌==◌, AllPairs, List, Option, Some, None, if◌then◌else◌, length, map, nat_lt, slice_index_or}
+use Rattle.std.specs.Prelude.{◌≡◌, ℕ, ◌<◌, ◌≤◌, ◌⊎◌, Bool, true, false, ◌==◌, AllPairs, List, Option, Some, None, length, map, nat_lt, slice_index_or}
 use Rattle.std.specs.List.{position_or_len}
 use Rattle.cache_core.specs.declared.entry.SliceEntry.{SliceEntry}
 use Rattle.cache_core.specs.declared.entry.What.{What}

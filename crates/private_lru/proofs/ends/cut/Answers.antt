@@ -1,4 +1,4 @@
-use Rattle.std.proofs.Common.{get_or, set, sym, subst}
+use Rattle.std.proofs.Common.{set, sym, subst}
 use Rattle.private_lru.proofs.UseCuts.{AreEach-at, AreEach-none}
 use Rattle.private_lru.specs.Cuts.{AreEach, cut_by}
 use Rattle.private_lru.proofs.ends.cut.Goals as goal

@@ -1,4 +1,4 @@
-use Rattle.std.proofs.Common.{get_or, subst, sym, ap, arith}
+use Rattle.std.proofs.Common.{get_or, arith}
 use Rattle.std.proofs.lemmas.Option.{slice_get-get_or}
 use Rattle.private_lru.proofs.UseCuts.{AreCuts-next}
 use Rattle.private_lru.proofs.UseLists.{no_use}

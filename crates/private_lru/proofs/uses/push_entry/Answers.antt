@@ -1,9 +1,7 @@
-use Rattle.std.proofs.Common.{◌+◌, List, get_or, sym, subst}
+use Rattle.std.proofs.Common.{get_or, sym}
 use Rattle.std.proofs.lemmas.Option.{slice_get-get_or}
 use Rattle.private_lru.proofs.LineUses.{no_entry}
-use Rattle.private_lru.proofs.UseLists.{AreAccesses-more, AreAccesses-other}
-use Rattle.private_lru.specs.Uses.{AreAccesses}
-use Rattle.private_lru.specs.declared.uses.LineUse.{LineUse}
+use Rattle.private_lru.proofs.UseLists.{AreAccesses-other}
 use Rattle.private_lru.proofs.uses.push_entry.Goals as goal
 
 pub returns-in-None : goal.returns-in-None
