@@ -1,4 +1,4 @@
-use Rattle.std.proofs.Common.{List, filter, sym, subst, ap, ◌∙◌, ◌≡◌, None}
+use Rattle.std.proofs.Common.{List, sym, subst, ◌≡◌, None}
 use Rattle.std.specs.Prelude.{find}
 use Rattle.pair_ops.specs.declared.group.PairGroup.{PairGroup}
 use Rattle.pair_windows.proofs.FoundGroups.{filter-found_none}

@@ -1,4 +1,4 @@
-use Rattle.std.proofs.Common.{◌≡◌, ℕ, ◌+◌, ◌-◌, ◌++◌, List, length, map, filter, Bool, refl, sym, subst, ap, ap₂, ◌∙◌, arith}
+use Rattle.std.proofs.Common.{◌≡◌, ℕ, ◌+◌, ◌-◌, ◌++◌, List, length, map, filter, Bool, sym, subst, ap, ap₂, ◌∙◌, arith}
 use Rattle.cache_core.specs.declared.entry.SliceEntry.{SliceEntry}
 use Rattle.cache_core.specs.declared.entry.What.TheVariants as whats
 use Rattle.pair_windows.proofs.FlushedWindows.{windows_from-counted}
@@ -11,8 +11,6 @@ use Rattle.pair_windows.specs.Segments.{IsSegment, hit_l2, hit_l3}
 use Rattle.pair_windows.specs.declared.holdings.Holding.{Holding}
 use Rattle.pair_windows.specs.declared.joint_window.JointWindow.{JointWindow}
 use Rattle.pair_ops.specs.Values.{epoch_at}
-use Rattle.pair_runs.proofs.laws.Commands.{epoch_at-le}
-use Rattle.pair_text.specs.declared.limits.TheConstants.{MOST_COMMANDS}
 use Rattle.private_lru.specs.declared.counts.WindowCounts.{WindowCounts}
 use Rattle.private_lru.specs.Ends.{RiseByGroup}
 use Rattle.private_lru.specs.Tallies.{AreCounted}
