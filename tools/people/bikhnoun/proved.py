@@ -5,6 +5,7 @@ from typing import NamedTuple
 from resctrl_sim import programs
 
 from .calling import call
+from .telling import Stopped, say
 
 REPORT_FLAGS = ("--journal", "--json", "--windows", "--quiet")
 FLAG_HELPS = {
@@ -115,6 +116,32 @@ def export(arguments, name):
     return run(EXPORTS[given.how], given)
 
 
+def add_cache(part, is_named):
+    """Adds the words that say which cache a curve is for. Where its machine is named, they are not its sets and ways."""
+    part.usage = "bikhnoun plan curve [-h] (SETS WAYS | --machine NAME) [TRACE]"
+    if not is_named:
+        part.add_argument("sets", metavar="SETS", help="the sets of the cache, from 1 to 1048576")
+        part.add_argument("ways", metavar="WAYS", help="its ways, up to 32")
+    part.add_argument(
+        "--machine", metavar="NAME",
+        help="the L3 cache of a machine, in place of SETS and WAYS: `here` is this one, as Linux shows it; others are skylake_sp and so on, see docs/MACHINES.md",
+    )
+
+
+def shape_of(given, name):
+    """The sets and ways of a curve. Those of a machine are told."""
+    if given.machine is None:
+        return given.sets, given.ways
+    from machines.named import UnknownMachine, cache_of
+
+    try:
+        cache = cache_of(given.machine)
+    except UnknownMachine as why:
+        raise Stopped(why, programs.USAGE) from None
+    say(name, f"{given.machine}: {cache.sets} sets of {cache.ways} ways")
+    return str(cache.sets), str(cache.ways)
+
+
 def plan(arguments, name):
     """`plan curve`, `plan divide`, and `plan draw`, which is no proved program."""
     words = parser_of(name, "counts how often programs hit with each number of ways, and divides ways among groups")
@@ -122,8 +149,7 @@ def plan(arguments, name):
     for form, proved in PLANS.items():
         part = forms.add_parser(form, help=proved.purpose, description=proved.purpose[0].upper() + proved.purpose[1:] + ".", allow_abbrev=False)
         if form == "curve":
-            part.add_argument("sets", metavar="SETS", help="the sets of the cache, from 1 to 1048576")
-            part.add_argument("ways", metavar="WAYS", help="its ways, up to 32")
+            add_cache(part, any(word.startswith("--machine") for word in arguments))
         add_input(part, proved)
     draw = forms.add_parser("draw", help="draws the curves that divide prints, with its plan", allow_abbrev=False)
     draw.add_argument("svg", metavar="FILE.svg", help="the picture, drawn by gnuplot (Debian: gnuplot-nox)")
@@ -134,4 +160,4 @@ def plan(arguments, name):
         from curves.plans import draw_plan
 
         return draw_plan(given.file, given.svg, given.domain)
-    return run(PLANS[given.form], given, (given.sets, given.ways) if given.form == "curve" else ())
+    return run(PLANS[given.form], given, shape_of(given, name) if given.form == "curve" else ())

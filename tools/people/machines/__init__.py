@@ -1,0 +1,1 @@
+"""Machines by their names."""
