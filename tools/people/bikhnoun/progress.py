@@ -48,13 +48,14 @@ class Progress:
 
 
 @contextmanager
-def shown(what):
-    """The line while this Python itself works, which does not stop to write it."""
+def shown(what, told=lambda spent: (None, "")):
+    """The line while this Python itself works, which does not stop to write it. Of the seconds spent is told which share is done, or None,
+    and a detail."""
     progress, is_done = Progress(what), Event()
 
     def show():
         while not is_done.wait(NEXT):
-            progress.show()
+            progress.show(*told(progress.spent()))
 
     writer = Thread(target=show, daemon=True)
     writer.start()

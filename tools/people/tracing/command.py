@@ -1,22 +1,28 @@
-"""Makes a script of memory traces: of what valgrind's tool lackey writes, or of samples of `perf mem`."""
+"""Makes a script of memory traces, or one trace: of what valgrind's tool lackey writes, or of samples of `perf mem`."""
 import argparse
 from itertools import chain
 import os
 import sys
 
-from bikhnoun.progress import Progress
+from bikhnoun.progress import shown
+from explained.kinds import CDP, LEVELS, SIM, TRACE
+from machines.named import UnknownMachine, keys_of
 from resctrl_sim.names import tool_name
 
 from . import LINE_BYTES, BadTrace, lackey, perf
 from .levels import FirstLevels, Shape
 from .merging import Lane, accesses
-from .reading import named, shares_of, stream_of
-from .writing import COMMANDS_WEIGHT, MOST_ACCESSES, Script
+from .reading import named, share_read, stream_of
+from .writing import COMMANDS_WEIGHT, WRITERS
 
 EXAMPLES = """examples:
   valgrind --tool=lackey --trace-mem=yes ls 2>&1 >/dev/null | bikhnoun traces > ls.script
   bikhnoun traces --l1 32K:8 --l2 1M:16 --ratio 3:1 web.trace batch.trace > both.script
-  perf script -F addr,data_src | bikhnoun traces > samples.script"""
+  perf script -F addr,data_src | bikhnoun traces > samples.script
+  valgrind --tool=lackey --trace-mem=yes --log-fd=9 ls 9>&1 >/dev/null 2>/dev/null | bikhnoun traces --for trace --l1 32K:8 --code > ls.trace
+
+Some 300,000 uses a second are read and go through first levels; on a terminal a line says how many have, how fast, and how long the rest
+of the files will take."""
 
 
 def shape(text):
@@ -33,15 +39,26 @@ def words(arguments):
         prog=tool_name("traces"), description=__doc__, epilog=EXAMPLES, formatter_class=argparse.RawDescriptionHelpFormatter
     )
     parser.add_argument("traces", metavar="TRACE", nargs="*", default=["-"], help="a file, or - for standard input (default)")
-    parser.add_argument("--machine", default="sets=1024 ways=16", metavar="KEYS", help="the keys of the machine line (%(default)s)")
+    parser.add_argument(
+        "--for", dest="kind", choices=WRITERS, default=SIM,
+        help=f"what is made: a script of resctrl_sim (%(default)s), of resctrl_cdp with code and data apart ({CDP}), of resctrl_l2 ({LEVELS}), "
+        f"or one {TRACE} of the uses that go on, as lackey writes them, for `bikhnoun plan curve` and this tool",
+    )
+    parser.add_argument(
+        "--machine", metavar="KEYS",
+        help=f"the keys of the machine line ({WRITERS[SIM][2]}; with --for {LEVELS} also l2_sets=512 l2_ways=8), or a name of docs/MACHINES.md",
+    )
     parser.add_argument("--tasks", metavar="A,B", help="the task of each trace (1,2 and so on)")
     parser.add_argument("--head", metavar="FILE", help="all lines before the accesses, machine and groups among them")
     parser.add_argument("--l1", type=shape, metavar="SIZE:WAYS", help="leave out what hits in an L1, as 32K:8")
     parser.add_argument("--l2", type=shape, metavar="SIZE:WAYS", help="leave out what hits in an L2, as 1M:16")
     parser.add_argument("--ratio", metavar="A:B", help="how many uses of each trace come in turn (1:1)")
     parser.add_argument("--rest", action="store_true", help="go on with the other traces where one has ended")
-    parser.add_argument("--code", action="store_true", help="instructions that lackey tells are uses too")
-    parser.add_argument("--most", type=int, metavar="N", help="stop after so many accesses (4000000, or 3900000 with --head)")
+    parser.add_argument("--code", action="store_true", help=f"instructions that lackey tells are uses too; with --for {CDP} they always are")
+    parser.add_argument(
+        "--most", type=int, metavar="N",
+        help=f"stop after so many accesses (4000000, or 3900000 with --head; 2000000 of {CDP} and {LEVELS}; all of a {TRACE})",
+    )
     return parser.parse_args(arguments)
 
 
@@ -64,7 +81,13 @@ def head_of(given, tasks):
         with open(given.head, encoding="ascii") as file:
             text = file.read()
         return text if text.endswith("\n") else text + "\n"
-    return f"machine {given.machine}\ntasks {' '.join(str(task) for task in tasks)}\nphase\nthread\n"
+    if given.kind == TRACE:
+        return ""
+    try:
+        keys = keys_of(given.machine) if given.machine else WRITERS[given.kind][2]
+    except UnknownMachine as why:
+        stop(why)
+    return f"machine {keys}\ntasks {' '.join(str(task) for task in tasks)}\n" + ("phase\nthread\n" if given.kind == SIM else "")
 
 
 def trace_of(file, with_code):
@@ -80,26 +103,28 @@ def trace_of(file, with_code):
     raise BadTrace("begins neither as a trace of lackey nor as perf script -F addr,data_src prints samples")
 
 
-def write(script, merged):
+def write(script, lanes, takes_rest):
     """Writes accesses until there are no more, or no room."""
-    progress = Progress("reading traces")
-    for count, (task, line) in enumerate(merged):
-        if not script.access(task, line):
-            break
-        if count & 0xFFFF == 0:
-            progress.show(shares_of())
-    progress.end()
+
+    def told(spent):
+        uses = sum(lane.taken for lane in lanes)
+        return share_read(), f"{uses / 1e6:.1f} million uses, {uses / spent:,.0f} a second"
+
+    with shown("reading traces", told):
+        for task, line, is_code in accesses(lanes, takes_rest):
+            if not script.access(task, line, is_code):
+                break
     script.end_run()
     script.out.flush()
 
 
-def tell(script, lanes, traces, names):
+def tell(script, lanes, traces, names, what):
     """Says on standard error what was made of what."""
     for name, lane, trace in zip(names, lanes, traces):
-        print(f"{tool_name('traces')}: task {lane.task}: {lane.taken} uses of {name}, of which {lane.passed} go on to the script", file=sys.stderr)
+        print(f"{tool_name('traces')}: task {lane.task}: {lane.taken} uses of {name}, of which {lane.passed} go on to the {what}", file=sys.stderr)
         for warning in trace.warnings():
             print(f"{tool_name('traces')}: {name} {warning}", file=sys.stderr)
-    print(f"{tool_name('traces')}: the script has {script.accesses} accesses in {script.bytes} bytes", file=sys.stderr)
+    print(f"{tool_name('traces')}: the {what} has {script.accesses} accesses in {script.bytes} bytes", file=sys.stderr)
     if script.why_full:
         print(f"{tool_name('traces')}: it stops there, at {script.why_full}; what follows in the traces is left out", file=sys.stderr)
     elif any(lane.has_more() for lane in lanes):
@@ -117,7 +142,7 @@ def reading(given, names):
     traces = []
     for file, name in zip(given.traces, names):
         try:
-            traces.append(trace_of(file, given.code))
+            traces.append(trace_of(file, given.code or given.kind == CDP))
         except BadTrace as bad:
             stop(f"{name} {bad}")
     lanes = [Lane(task, share, trace, FirstLevels(given.l1, given.l2)) for task, share, trace in zip(tasks, shares, traces)]
@@ -128,10 +153,12 @@ def make(arguments):
     given = words(arguments)
     names = [named(file) for file in given.traces]
     traces, lanes = reading(given, names)
-    most = given.most or MOST_ACCESSES - (COMMANDS_WEIGHT if given.head else 0)
-    script = Script(sys.stdout, head_of(given, [lane.task for lane in lanes]), most)
-    write(script, accesses(lanes, given.rest))
-    tell(script, lanes, traces, names)
+    writer, most, _ = WRITERS[given.kind]
+    if given.kind == SIM and given.head:
+        most -= COMMANDS_WEIGHT
+    script = writer(sys.stdout, head_of(given, [lane.task for lane in lanes]), given.most or most)
+    write(script, lanes, given.rest)
+    tell(script, lanes, traces, names, TRACE if given.kind == TRACE else "script")
 
 
 def main(arguments):

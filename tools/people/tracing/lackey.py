@@ -9,17 +9,27 @@ import os
 from . import ADDRESS_END, LINE_BYTES
 
 KINDS = (b"I", b"L", b"S", b"M")
+# What lackey's own lines begin with, which need no look at each word.
+USUAL = {b"I  ": b"I", b" L ": b"L", b" S ": b"S", b" M ": b"M"}
 MOST_BYTES = 4096
 SHELLS = ("ash", "bash", "busybox", "csh", "dash", "env", "fish", "ksh", "sh", "tcsh", "zsh")
 FOLLOW = "--trace-children=yes --log-file=NAME.%p"
 
 
+def parts_of(line):
+    """The kind, the address and the size of a reference, as they stand there, and whether a comma is between the last two."""
+    if kind := USUAL.get(line[:3]):
+        address, comma, size = line[3:].partition(b",")
+        return kind, address, comma, size
+    kind, _, rest = line.strip().partition(b" ")
+    return kind, *rest.strip().partition(b",")
+
+
 def touched(line):
     """The kind of a reference, and the first and the last line of memory that it touches; None where it is none."""
-    kind, _, rest = line.strip().partition(b" ")
+    kind, address, comma, size = parts_of(line)
     if kind not in KINDS:
         return None
-    address, comma, size = rest.strip().partition(b",")
     try:
         first, count = int(address, 16), int(size)
     except ValueError:
@@ -63,6 +73,9 @@ class Lackey:
                 self.hear(line)
                 continue
             kind, first, last = found
+            if first == last and kind != b"M":
+                yield first, kind == b"I"
+                continue
             for _ in range(2 if kind == b"M" else 1):
                 for number in range(first, last + 1):
                     yield number, kind == b"I"

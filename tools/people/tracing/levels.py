@@ -16,10 +16,11 @@ class Level:
     def hits(self, line):
         """Uses a line, and says whether it was there."""
         held = self.sets[line % len(self.sets)]
+        if held and held[-1] == line:
+            return True
         if line in held:
-            if held[-1] != line:
-                held.remove(line)
-                held.append(line)
+            held.remove(line)
+            held.append(line)
             return True
         if len(held) == self.ways:
             del held[0]

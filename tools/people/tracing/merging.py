@@ -29,13 +29,13 @@ class Lane:
         self.has_ended = False
 
     def turn(self):
-        """The lines of a turn's uses that go on to the L3."""
+        """The lines of a turn's uses that go on to the L3, each with whether it is used as code."""
         before = self.taken
         for line, is_code in islice(self.uses, self.share):
             self.taken += 1
             if not self.levels.answer(line, is_code):
                 self.passed += 1
-                yield line
+                yield line, is_code
         self.has_ended = self.taken - before < self.share
 
     def has_more(self):
@@ -60,13 +60,15 @@ class Regions:
 
 
 def accesses(lanes, takes_rest):
-    """The tasks and lines of the lanes, turn by turn, until the first one has ended, or else all. Only several are shifted."""
+    """The tasks and lines of the lanes, and whether each is used as code, turn by turn, until the first one has ended, or else all. Only
+    several are shifted.
+    """
     regions = Regions() if len(lanes) > 1 else None
     going = list(lanes)
     while going:
         for lane in list(going):
-            for line in lane.turn():
-                yield lane.task, regions.place(lane.task, line) if regions else line
+            for line, is_code in lane.turn():
+                yield lane.task, regions.place(lane.task, line) if regions else line, is_code
             if lane.has_ended:
                 if not takes_rest:
                     return

@@ -17,10 +17,10 @@ def stream_of(file):
     return stream
 
 
-def shares_of():
-    """Which share of all traces is read, or None where one is no file with a size."""
+def share_read():
+    """Which share of all traces is read, or None where one is no file with a size. They are read elsewhere meanwhile."""
     try:
         sizes = [os.fstat(stream.fileno()).st_size for stream in OPENED]
-        return sum(stream.tell() for stream in OPENED) / sum(sizes) if all(sizes) else None
+        return sum(os.lseek(stream.fileno(), 0, os.SEEK_CUR) for stream in OPENED) / sum(sizes) if sizes and all(sizes) else None
     except (OSError, ValueError):
         return None
