@@ -38,6 +38,7 @@ WORDS = {
     "plan": (proved.plan, "counts how often programs hit with each number of ways, divides ways, and draws the curves"),
     "cdp": (proved.one("cdp"), proved.WORDS["cdp"].purpose),
     "levels": (proved.one("levels"), proved.WORDS["levels"].purpose),
+    "translate": (tool("translated.command"), "makes plain scripts of one for `cdp` or `levels`, for journals, the checker, JSON and occupancy"),
     "mount": (mounting.main, "shows the simulated tree as a directory, or runs a command that sees it"),
     "traces": (tool("tracing.command"), "makes a script of memory traces of programs"),
     "ways": (tool("sweeps.command"), "plays a script with each number of ways of a group"),

@@ -137,7 +137,11 @@ class PairScript:
 
 def read_pair_script(data, kind):
     """The script of these bytes, or its first fault."""
-    script = PairScript(kind)
+    return read_into(PairScript(kind), data)
+
+
+def read_into(script, data):
+    """Reads these bytes into a script that is empty, and gives it, or its first fault."""
     if fault := first_fault(script, data):
         return fault
     if script.trace_line:

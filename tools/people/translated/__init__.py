@@ -1,0 +1,1 @@
+"""Translates scripts of `resctrl_cdp` and `resctrl_l2` into scripts of `resctrl_sim`."""
