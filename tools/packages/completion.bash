@@ -1,7 +1,7 @@
 # Completion of bikhnoun, of the programs behind it, and of the names of an earlier version, for bash.
 
 # The words, and then the flags of each. A test compares them with what --help says.
-_bikhnoun_words="play run explain check statement order export plan cdp levels mount traces ways timeline page kernel version"
+_bikhnoun_words="play run explain check statement order export plan cdp levels translate mount traces ways timeline page kernel version"
 
 _bikhnoun_flags() {
     case $1 in
@@ -10,7 +10,7 @@ _bikhnoun_flags() {
         explain) echo "--help --version --machine --for --program" ;;
         check | statement) echo "--help --version --program" ;;
         mount) echo "--help --version --machine --tasks --pids --strict --program --record --force --resume --run" ;;
-        traces) echo "--help --version --machine --tasks --head --l1 --l2 --ratio --rest --code --most" ;;
+        traces) echo "--help --version --for --machine --tasks --head --l1 --l2 --ratio --rest --code --most" ;;
         ways) echo "--help --version --program --lowest --curve --scheduler" ;;
         timeline) echo "--help --version --program --domain --rows --svg" ;;
         page) echo "--help --version --run --export --open --port --program" ;;
@@ -35,12 +35,16 @@ _bikhnoun() {
         _bikhnoun_offer "$_bikhnoun_words --help --version"
     elif [[ ${COMP_WORDS[COMP_CWORD]} = -* ]]; then
         _bikhnoun_offer "$(_bikhnoun_flags "$word")"
+    elif [ "${COMP_WORDS[COMP_CWORD - 1]}" = --for ] && [ "$word" = traces ]; then
+        _bikhnoun_offer "sim cdp l2 trace"
     elif [ "${COMP_WORDS[COMP_CWORD - 1]}" = --for ]; then
         _bikhnoun_offer "sim cdp l2 journals trace"
     elif [ "$COMP_CWORD" -eq 2 ] && [ "$word" = export ]; then
         _bikhnoun_offer "step run"
     elif [ "$COMP_CWORD" -eq 2 ] && [ "$word" = plan ]; then
         _bikhnoun_offer "curve divide draw"
+    elif [ "$COMP_CWORD" -eq 2 ] && [ "$word" = translate ]; then
+        _bikhnoun_offer "cdp l2 l3"
     fi
 }
 complete -o default -F _bikhnoun bikhnoun

@@ -5,6 +5,8 @@ import unittest
 
 from bikhnoun.command import WORDS
 from explained.kinds import KINDS
+from tracing.writing import WRITERS
+from translated.command import FORMS
 from installed import EVERYWHERE, PROGRAMS, options_of, tree
 
 OLD = ("explain", "kernel", "mount", "page", "timeline", "traces", "ways")
@@ -36,6 +38,8 @@ class Completion(unittest.TestCase):
         self.assertEqual(completed("bikhnoun", "export", ""), {"step", "run"})
         self.assertEqual(completed("bikhnoun", "plan", "d"), {"divide", "draw"})
         self.assertEqual(completed("bikhnoun", "explain", "--for", ""), set(KINDS))
+        self.assertEqual(completed("bikhnoun", "traces", "--for", ""), set(WRITERS))
+        self.assertEqual(completed("bikhnoun", "translate", ""), set(FORMS))
         self.assertEqual(completed("resctrl_check", "export", ""), {"step", "run"})
 
     def test_flags_are_those_of_the_help(self):

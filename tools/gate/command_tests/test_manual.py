@@ -28,7 +28,7 @@ class Manual(unittest.TestCase):
         page = parts()
         page["play"] = page["run"]
         for word in WORDS:
-            wanted = options_of(word) if word != "plan" else options_of("plan", "draw")
+            wanted = options_of(word) if word != "plan" else options_of("plan", "draw") | options_of("plan", "curve")
             if word == "mount":
                 wanted = set()
             has = set(FLAG.findall(page[word])) | ({"--program"} if "--program" in wanted else set())
