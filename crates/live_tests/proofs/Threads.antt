@@ -1,0 +1,122 @@
+-- Three threads, of which the first is alone in the first of two phases.
+use Rattle.std.proofs.Common.{◌≡◌, ℕ, zero, suc, ◌+◌, ◌*◌, ◌<◌, List, [], ◌∷◌, ◌++◌, length, refl, sym, ap, ◌∙◌, subst, arith}
+use Rattle.std.proofs.lemmas.List.{length-append}
+use Rattle.live_law.proofs.laws.LaterViews.{AreEnded-grown}
+use Rattle.live_law.specs.DoneOps.{AreEnded, HasEnded}
+use Rattle.live_law.specs.SeenJournals.{HasGrown}
+use Rattle.live_run.proofs.laws.Phases.{AreBefore-end, AreEnded-in_phase, first_thread-next}
+use Rattle.live_run.specs.Names.{PassesValue, seen_by}
+use Rattle.live_run.specs.Openings.{IsFirst}
+use Rattle.live_run.specs.Phases.{AreBefore, IsAtEnd, passes_at}
+use Rattle.live_run.specs.Steps.{HasTaken}
+use Rattle.live_tests.specs.Turns.{AreAtFirst, HasMade, HaveMade, IsInTurns}
+use Rattle.run_law.specs.Journals.{JournalsValue}
+use Rattle.script_ops.specs.Values.{ScriptValue, first_thread, ops_of, phase_at}
+
+-- what holds of each of three
+each_of_three : (P : ℕ → PassesValue → Type 0) (a b c : PassesValue) → P 0 a → P 1 b → P 2 c → (t : ℕ) → t < length (a ∷ b ∷ c ∷ []) → P t (passes_at (a ∷ b ∷ c ∷ []) t)
+each_of_three P a b c first second third zero within = first
+each_of_three P a b c first second third (suc zero) within = second
+each_of_three P a b c first second third (suc (suc zero)) within = third
+each_of_three P a b c first second third (suc (suc (suc t))) within = absurd (omega (arith, within))
+
+-- three that are taken from the end, one after the other
+pub taken_three : (ps two one none : List PassesValue) (a b c : PassesValue) → ps ≡ two ++ c ∷ [] → two ≡ one ++ b ∷ [] → one ≡ none ++ a ∷ [] → length ps ≡ 3 → ps ≡ a ∷ b ∷ c ∷ []
+taken_three ps two one [] a b c last middle front count = last ∙ ap (λ xs. xs ++ c ∷ []) (middle ∙ ap (λ xs. xs ++ b ∷ []) front)
+taken_three ps two one (x ∷ xs) a b c last middle front count =
+    absurd (omega (arith, count, ap length last, length-append two (c ∷ []), ap length middle, length-append one (b ∷ []), ap length front, length-append xs (a ∷ [])))
+
+-- ---- numbers of threads
+
+-- with two phases, of one thread and of two
+module _ (script : ScriptValue) (phases : length script.phases ≡ 2) (one : length (phase_at script 0).threads ≡ 1) (two : length (phase_at script 1).threads ≡ 2) where
+  second_phase : first_thread script 1 ≡ 1
+  second_phase = omega (arith, first_thread-next script 0 (omega (arith, phases)), one)
+
+  third_phase : first_thread script 2 ≡ 3
+  third_phase = omega (arith, first_thread-next script 1 (omega (arith, phases)), second_phase, two)
+
+  -- no thread stands before the first
+  pub none_before : (v : JournalsValue) → AreEnded script v 0
+  none_before v = AreEnded-in_phase script v 0 0 (omega (arith, phases)) (omega (arith, second_phase)) (λ u early. absurd (omega (arith, early)))
+
+  -- the first stands before the others
+  pub first_before : (v : JournalsValue) (t : ℕ) → t < 3 → HasEnded script v 0 → AreEnded script v t
+  first_before v t within ended = AreEnded-in_phase script v 1 t (omega (arith, phases)) (omega (arith, within, third_phase)) (λ u early.
+      let none : 0 ≡ u = omega (arith, early, second_phase) in
+      subst (HasEnded script v) none ended)
+
+-- ---- before the first op
+
+-- three threads
+pub AreAtFirst-three : (script : ScriptValue) (ps : List PassesValue) (a b c : PassesValue) → ps ≡ a ∷ b ∷ c ∷ [] → AreBefore script 0 ps → ((t : ℕ) → t < length ps → (passes_at ps t).shown ≡ [])
+    → AreAtFirst a b c
+AreAtFirst-three script ps a b c is before shown =
+    let all : List PassesValue = a ∷ b ∷ c ∷ [] in
+    let opened : AreBefore script 0 all = subst (AreBefore script 0) is before in
+    let blank : (t : ℕ) → t < length all → (passes_at all t).shown ≡ [] = subst (λ (xs : List PassesValue). (t : ℕ) → t < length xs → (passes_at xs t).shown ≡ []) is shown in
+    record {
+      first_is = record { thread = opened.threads 0 (omega arith); fresh = opened.fresh 0 (omega arith) (omega arith); shown = blank 0 (omega arith) };
+      second_is = record { thread = opened.threads 1 (omega arith); fresh = opened.fresh 1 (omega arith) (omega arith); shown = blank 1 (omega arith) };
+      third_is = record { thread = opened.threads 2 (omega arith); fresh = opened.fresh 2 (omega arith) (omega arith); shown = blank 2 (omega arith) };
+    }
+
+-- ---- a script whose threads take turns
+
+module _ (script : ScriptValue) (sweeps sweep : ℕ) (turns : IsInTurns script sweeps sweep) where
+  -- the first thread may begin
+  pub first_begins : (p : PassesValue) → IsFirst 0 p → HasMade script 0 0 p
+  first_begins p is = record {
+    thread_is = is.thread;
+    next = is.fresh;
+    ended = subst (AreEnded script (seen_by p.seen)) (sym is.thread) (none_before script turns.phases turns.first turns.others (seen_by p.seen));
+  }
+
+  -- it has made its ops when it has handed on
+  pub first_hands_on : (n : ℕ) (old new : PassesValue) → HasMade script 0 n old → HasTaken old.seen new.seen → new.next ≡ old.next → HasMade script 0 n new
+  first_hands_on n old new made taken same = record {
+    thread_is = taken.thread ∙ made.thread_is;
+    next = same ∙ made.next;
+    ended = subst (AreEnded script (seen_by new.seen)) (sym (taken.thread ∙ made.thread_is)) (none_before script turns.phases turns.first turns.others (seen_by new.seen));
+  }
+
+  -- and the other may begin
+  pub other_begins : (t n : ℕ) (first old new : PassesValue) → t < 3 → HasMade script 0 n first → n ≡ length (ops_of script 0) → IsFirst t old → HasTaken old.seen new.seen → new.next ≡ old.next
+      → (IsAtEnd script first → HasEnded script (seen_by new.seen) first.seen.thread) → HasMade script t 0 new
+  other_begins t n first old new within made all is taken same ended = record {
+    thread_is = taken.thread ∙ is.thread;
+    next = same ∙ is.fresh;
+    ended =
+        let at_end : IsAtEnd script first = made.next ∙ (all ∙ ap (λ u. length (ops_of script u)) (sym made.thread_is)) in
+        let early : AreEnded script (seen_by new.seen) t =
+        first_before script turns.phases turns.first turns.others (seen_by new.seen) t within (subst (HasEnded script (seen_by new.seen)) made.thread_is (ended at_end)) in
+        subst (AreEnded script (seen_by new.seen)) (sym (taken.thread ∙ is.thread)) early;
+  }
+
+  -- all have made their ops
+  pub AreBefore-made : (ps : List PassesValue) (a b c : PassesValue) → ps ≡ a ∷ b ∷ c ∷ [] → HaveMade script (sweeps + 2) (sweeps * sweep) a b c → AreBefore script (length script.phases) ps
+  AreBefore-made ps a b c is made =
+      let all : List PassesValue = a ∷ b ∷ c ∷ [] in
+      let at_end : (t n : ℕ) (p : PassesValue) → HasMade script t n p → length (ops_of script t) ≡ n → IsAtEnd script p = λ t n p made count. made.next ∙ (sym count ∙ ap (λ u. length (ops_of script u)) (sym made.thread_is)) in
+      subst (AreBefore script (length script.phases)) (sym is)
+      (AreBefore-end script all (sym turns.threads)
+      (each_of_three (λ t p. p.seen.thread ≡ t) a b c made.first_made.thread_is made.second_made.thread_is made.third_made.thread_is)
+      (each_of_three (λ t p. IsAtEnd script p) a b c (at_end 0 (length (ops_of script 0)) a made.first_made refl) (at_end 1 (sweeps + 2) b made.second_made turns.second_ops) (at_end 2 (sweeps * sweep) c made.third_made turns.third_ops)))
+
+-- the same passes
+pub HaveMade-same : (script : ScriptValue) (m n : ℕ) (a b c a' b' c' : PassesValue) → a' ≡ a → b' ≡ b → c' ≡ c → HaveMade script m n a b c → HaveMade script m n a' b' c'
+HaveMade-same script m n a b c a' b' c' first second third made = record {
+  first_made = subst (HasMade script 0 (length (ops_of script 0))) (sym first) made.first_made;
+  second_made = subst (HasMade script 1 m) (sym second) made.second_made;
+  third_made = subst (HasMade script 2 n) (sym third) made.third_made;
+}
+
+-- ---- the ops of a turn
+
+-- one more
+pub HasMade-next : (script : ScriptValue) (thread n : ℕ) (old new : PassesValue) → HasMade script thread n old → new.seen.thread ≡ old.seen.thread → new.next ≡ old.next + 1 → HasGrown (seen_by old.seen) (seen_by new.seen) → HasMade script thread (n + 1) new
+HasMade-next script thread n old new made same next grown = record {
+  thread_is = same ∙ made.thread_is;
+  next = next ∙ ap (λ m. m + 1) made.next;
+  ended = subst (AreEnded script (seen_by new.seen)) (sym same) (AreEnded-grown script (seen_by old.seen) (seen_by new.seen) old.seen.thread grown made.ended);
+}

@@ -1,0 +1,76 @@
+//! Turns: some ops of one thread.
+ghost use Rattle.std.specs.Prelude.{◌≡◌, ◌+◌, ◌≤◌, OnOk, Some};
+ghost use Rattle.live_law.specs.DoneOps.{AreEnded};
+ghost use Rattle.live_law.specs.SeenJournals.{HasGrown};
+ghost use Rattle.live_run.specs.Names.{seen_by};
+ghost use Rattle.live_tests.specs.Turns.{HasMade};
+ghost use Rattle.script_ops.specs.Values.{op_at};
+
+use live_run::{Live, Named, Passes, Reached};
+use rc_base::Reply;
+use rc_stream::OpenGate;
+use script_ops::{Op, Script};
+use std::sync::Wait;
+use std::test::Fail;
+
+/// What a thread is answered.
+#[derive(Clone, Copy, Debug, PartialEq, Eq)]
+pub enum Answer {
+    /// To a command.
+    Command(Reply),
+    /// To an access.
+    Access(Reached),
+}
+
+/// The next ops of a thread, by their numbers: from one on, and up to another that is still to come.
+#[derive(Clone, Copy)]
+pub struct Turn {
+    pub thread: u32,
+    pub from: u32,
+    pub to: u32,
+}
+
+// Makes the next op of a thread.
+fn make<N: Named, R: Wait>(
+    rt: &R,
+    live: &Live<N>,
+    script: &Script,
+    op: &Op,
+    p: &mut Passes<N>,
+) -> Answer
+    requires script { script.now ≡ N.script }
+    requires op { op_at N.script p.old.seen.thread p.old.next ≡ Some op.now }
+    requires ended { p.old.next ≡ 0 → AreEnded N.script (seen_by p.old.seen) p.old.seen.thread }
+    ensures thread { p.new.seen.thread ≡ p.old.seen.thread }
+    ensures next { p.new.next ≡ p.old.next + 1 }
+    ensures seen { HasGrown (seen_by p.old.seen) (seen_by p.new.seen) }
+{
+    if let Op::Access { .. } = op {
+        Answer::Access(live.access(rt, p, op, &OpenGate))
+    } else {
+        Answer::Command(live.command(rt, script, p, op))
+    }
+}
+
+/// Makes the ops of a turn, and adds what the thread is answered.
+pub fn take_turn<N: Named, R: Wait>(
+    rt: &R,
+    live: &Live<N>,
+    script: &Script,
+    turn: Turn,
+    p: &mut Passes<N>,
+    answers: &mut Vec<Answer>,
+) -> Result<(), Fail>
+    requires script { script.now ≡ N.script }
+    requires on { turn.from ≤ turn.to }
+    requires made { HasMade N.script turn.thread turn.from p.old }
+    ensures made { OnOk result (HasMade N.script turn.thread turn.to p.new) }
+{
+    for number in turn.from..turn.to {
+        let Some(op) = script.op(turn.thread, number) else {
+            return Err(Fail::new("no such op"));
+        };
+        answers.push(make(rt, live, script, op.get(), p))?;
+    }
+    Ok(())
+}
