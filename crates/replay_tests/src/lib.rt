@@ -1,4 +1,4 @@
-//! Tests alone: journals with their order, journals that have none, and how each call ends.
+//! Tests alone: journals with their order, journals that have none, reports of journals, and how each call ends.
 #![tactic(auto)]
 
 #[cfg(test)]

@@ -1,5 +1,7 @@
 //! Calls with what they write, worked out by hand.
 
+mod reports;
+
 use call_rim::Status;
 use rc_stream::{MemSink, MemSource};
 use replay_top::top_replay;
@@ -7,7 +9,7 @@ use std::alloc::Global;
 use std::test::Fail;
 
 // Two threads use one line, the second thread first: the first access takes its tag, and then waits for the second one to fill.
-const RACE: &str = "machine sets=1 ways=4
+pub(crate) const RACE: &str = "machine sets=1 ways=4
 tasks 1
 phase
 thread
@@ -49,7 +51,7 @@ end
 ";
 
 // In each slice the second access of one thread stands before the first one of the other.
-const CIRCLE: &str = "machine sets=2 ways=4 slices=2
+pub(crate) const CIRCLE: &str = "machine sets=2 ways=4 slices=2
 tasks 1 2
 phase
 thread
@@ -75,7 +77,7 @@ const NO_ORDER: &str = "no order
 ";
 
 // The first access of the race is said to hit on an empty cache.
-const NO_RUN: &str = "machine sets=1 ways=4
+pub(crate) const NO_RUN: &str = "machine sets=1 ways=4
 tasks 1
 phase
 thread
@@ -86,9 +88,13 @@ access 0 0 0 0 0 15 0 1 0
 end
 ";
 
-// The status, the exit status and what is written of a call with these words and this input, with failing calls of the source and the
-// sink.
-fn told_by(
+// The line for other words.
+pub(crate) const USAGE: &str =
+    "usage: resctrl_replay order | report [--journal] [--json] [--windows] [--quiet]\n";
+
+/// The status, the exit status and what is written of a call with these words and this input, with failing calls of the source and the
+/// sink.
+pub(crate) fn told_by(
     alloc: Global,
     texts: &[&str],
     input: &str,
@@ -117,8 +123,8 @@ fn a_race_has_its_order(rt: HostRuntime) -> Result<(), Fail> {
     Ok(())
 }
 
-// Words, an input, failing calls of the source and of the sink, and the status, the exit status and what is written.
-type Ending = (
+/// Words, an input, failing calls of the source and of the sink, and the status, the exit status and what is written.
+pub(crate) type Ending = (
     &'static [&'static str],
     &'static str,
     &'static [u32],
@@ -128,27 +134,20 @@ type Ending = (
     &'static str,
 );
 
-const ENDINGS: [Ending; 9] = [
+const ENDINGS: [Ending; 10] = [
     (&["order"], CIRCLE, &[], &[], Status::Done, 6, NO_ORDER),
     (&["order"], NO_RUN, &[], &[], Status::Done, 6, "no D11\n"),
+    (&["order", "order"], RACE, &[], &[], Status::Usage, 2, USAGE),
     (
-        &["order", "order"],
+        &["order", "--json"],
         RACE,
         &[],
         &[],
         Status::Usage,
         2,
-        "usage: resctrl_replay order\n",
+        USAGE,
     ),
-    (
-        &["check"],
-        RACE,
-        &[],
-        &[],
-        Status::Usage,
-        2,
-        "usage: resctrl_replay order\n",
-    ),
+    (&["check"], RACE, &[], &[], Status::Usage, 2, USAGE),
     (
         &["order"],
         "machine ways=0\njournal 1\n",

@@ -1,5 +1,5 @@
 -- Which status is due, from how a call ended.
-use Rattle.std.proofs.Common.{◌≡◌, ℕ, ◌<◌, ◌⊎◌, Bool, true, false, List, Option, Some, refl, sym, subst, ap, ◌∙◌, inl, inr, arith}
+use Rattle.std.proofs.Common.{◌≡◌, ℕ, ◌<◌, ◌⊎◌, Bool, true, false, List, Option, Some, None, refl, sym, subst, ap, ◌∙◌, inl, inr, arith}
 use Rattle.call_rim.specs.Endings.{Call, Ends, IsRefused, IsReported}
 use Rattle.call_rim.specs.Outside.{IsToTheEnd, Writing}
 use Rattle.call_rim.specs.declared.status.Status.{Status}
@@ -17,12 +17,15 @@ use Rattle.journal_check.specs.declared.verdict.Clause.TheVariants as clauses
 use Rattle.journal_text.specs.Laws.{TextsAreOfOneValue}
 use Rattle.journal_text.specs.Readings.{IsTextOf}
 use Rattle.replay_top.specs.Endings.{HasInput, IsComplete, IsGood, says_no_run}
-use Rattle.replay_top.specs.Reports.{Finds, refuses, reports}
+use Rattle.replay_top.specs.Reports.{Finds, FindsReport, IsNoRun, refuses, reports}
+use Rattle.replay_top.specs.declared.form.ReplayForm.{ReplayForm}
+use Rattle.replay_top.specs.declared.form.ReplayForm.TheVariants as forms
 use Rattle.replay_top.specs.declared.outcome.Replayed.{Replayed}
 use Rattle.replay_top.specs.declared.outcome.Replayed.TheVariants as outcomes
 use Rattle.run_law.specs.Clauses.{MeetsClauses, RunsByClauses}
 use Rattle.run_law.specs.Journals.{JournalsValue}
 use Rattle.run_law.specs.Runs.{IsRun}
+use Rattle.run_law.specs.declared.flags.Flags.{Flags}
 use Rattle.script_ops.specs.Values.{IsLawful, ScriptValue}
 
 -- ---- an input
@@ -82,10 +85,14 @@ record IsFoundOf (bytes : List ℕ) (found : Replayed) : Type 0 where
   no_run : says_no_run (Some found) ≡ true → IsRun script run → ⊥
   is_run : says_no_run (Some found) ≡ false → IsRun script run
 
-IsFoundOf-reported : RunsByClauses → (bytes : List ℕ) (found : Replayed) (text : List ℕ) → Finds bytes found text → IsFoundOf bytes found
-IsFoundOf-reported runs bytes (outcomes.Ordered run) text is =
-    record { script = is.script; run = run; holds = is.holds; lawful = is.lawful; no_run = λ said run. absurd (let never : false ≡ true = said in cc); is_run = λ yes_run. is.is_run }
-IsFoundOf-reported runs bytes (outcomes.NoRun clause) text is = record {
+-- journals that are a run, where that was not said to be otherwise
+IsFoundOf-run : (bytes : List ℕ) (found : Replayed) (script : ScriptValue) (run : JournalsValue) → says_no_run (Some found) ≡ false → HoldsJournals bytes script run → IsLawful script → IsRun script run → IsFoundOf bytes found
+IsFoundOf-run bytes found script run yes_run holds lawful is_run =
+    record { script = script; run = run; holds = holds; lawful = lawful; no_run = λ said run. absurd (let never : true ≡ false = sym said ∙ yes_run in cc); is_run = λ yes_run. is_run }
+
+-- journals that are none
+IsFoundOf-no_run : RunsByClauses → (bytes : List ℕ) (clause : Clause) (text : List ℕ) → IsNoRun bytes clause text → IsFoundOf bytes (outcomes.NoRun clause)
+IsFoundOf-no_run runs bytes clause text is = record {
   script = is.script;
   run = is.run;
   holds = is.holds;
@@ -93,10 +100,28 @@ IsFoundOf-reported runs bytes (outcomes.NoRun clause) text is = record {
   no_run = λ no_run run. IsRun-first_false runs is.script is.run clause is.says run;
   is_run = λ is_run. absurd (let never : true ≡ false = is_run in cc);
 }
-IsFoundOf-reported runs bytes outcomes.NoOrder text is =
-    record { script = is.script; run = is.run; holds = is.holds; lawful = is.lawful; no_run = λ said run. absurd (let never : false ≡ true = said in cc); is_run = λ yes_run. is.is_run }
-IsFoundOf-reported runs bytes outcomes.TooLong text is =
-    record { script = is.script; run = is.run; holds = is.holds; lawful = is.lawful; no_run = λ said run. absurd (let never : false ≡ true = said in cc); is_run = λ yes_run. is.is_run }
+
+-- of `order`
+IsFoundOf-order : RunsByClauses → (bytes : List ℕ) (found : Replayed) (text : List ℕ) → Finds bytes found text → IsFoundOf bytes found
+IsFoundOf-order runs bytes (outcomes.Ordered run) text is = IsFoundOf-run bytes (outcomes.Ordered run) is.script run refl is.holds is.lawful is.is_run
+IsFoundOf-order runs bytes (outcomes.NoRun clause) text is = IsFoundOf-no_run runs bytes clause text is
+IsFoundOf-order runs bytes outcomes.NoOrder text is = IsFoundOf-run bytes outcomes.NoOrder is.script is.run refl is.holds is.lawful is.is_run
+IsFoundOf-order runs bytes outcomes.TooLong text is = IsFoundOf-run bytes outcomes.TooLong is.script is.run refl is.holds is.lawful is.is_run
+IsFoundOf-order runs bytes (outcomes.Reported run) text is = absurd is
+
+-- of `report`
+IsFoundOf-report : RunsByClauses → (flags : Flags) (bytes : List ℕ) (found : Replayed) (text : List ℕ) → FindsReport flags bytes found text → IsFoundOf bytes found
+IsFoundOf-report runs flags bytes (outcomes.Reported run) text is = IsFoundOf-run bytes (outcomes.Reported run) is.script run refl is.holds is.lawful is.is_run
+IsFoundOf-report runs flags bytes (outcomes.NoRun clause) text is = IsFoundOf-no_run runs bytes clause text is
+IsFoundOf-report runs flags bytes (outcomes.Ordered run) text is = absurd is
+IsFoundOf-report runs flags bytes outcomes.NoOrder text is = absurd is
+IsFoundOf-report runs flags bytes outcomes.TooLong text is = absurd is
+
+-- of either
+IsFoundOf-reported : RunsByClauses → (form : Option ReplayForm) (bytes : List ℕ) (found : Replayed) (text : List ℕ) → reports form bytes found text → IsFoundOf bytes found
+IsFoundOf-reported runs (Some forms.Order) bytes found text (few, is) = IsFoundOf-order runs bytes found text is
+IsFoundOf-reported runs (Some (forms.Report flags)) bytes found text (few, is) = IsFoundOf-report runs flags bytes found text is
+IsFoundOf-reported runs None bytes found text is = absurd is
 
 -- what is refused is bad
 refused_same : (read text bytes : List ℕ) → read ≡ bytes → refuses read text → IsGood bytes → ⊥
@@ -112,15 +137,15 @@ true-or-false false = inr refl
 never-both : (b : Bool) → b ≡ true → b ≡ false → ⊥
 never-both b yes_b no_b = let never : true ≡ false = sym yes_b ∙ no_b in absurd cc
 
-module _ (texts : TextsAreOfOneValue) (runs : RunsByClauses) (c : Call) (outcome : Option Replayed) where
+module _ (texts : TextsAreOfOneValue) (runs : RunsByClauses) (form : Option ReplayForm) (c : Call) (outcome : Option Replayed) where
   -- ---- a call that reported
 
-  module _ (Takes : Writing → List ℕ → Type 0) (is : IsReported refuses reports c outcome Takes) where
+  module _ (Takes : Writing → List ℕ → Type 0) (is : IsReported refuses (reports form) c outcome Takes) where
     -- of the bytes that the source had
     found_of : (bytes : List ℕ) → HasInput c bytes → IsFoundOf bytes is.found
     found_of bytes has =
         let same_bytes = IsToTheEnd-known c.source.left bytes is.bytes has.had is.to_the_end in
-        subst (λ (b : List ℕ). IsFoundOf b is.found) same_bytes (IsFoundOf-reported runs is.bytes is.found is.text is.reported.1)
+        subst (λ (b : List ℕ). IsFoundOf b is.found) same_bytes (IsFoundOf-reported runs form is.bytes is.found is.text is.reported)
 
     reported_bad : (bytes : List ℕ) (why : BadInput) → HasInput c bytes → IsBad Check bytes why → ⊥
     reported_bad bytes why has bad = let found = found_of bytes has in HoldsJournals-good bytes found.script found.run why found.holds bad
@@ -148,10 +173,10 @@ module _ (texts : TextsAreOfOneValue) (runs : RunsByClauses) (c : Call) (outcome
 
   -- ---- a call that refused its input
 
-  refused_good : (Takes : Writing → List ℕ → Type 0) (bytes : List ℕ) → IsRefused refuses reports c outcome Takes → HasInput c bytes → IsGood bytes → ⊥
+  refused_good : (Takes : Writing → List ℕ → Type 0) (bytes : List ℕ) → IsRefused refuses (reports form) c outcome Takes → HasInput c bytes → IsGood bytes → ⊥
   refused_good Takes bytes is has good = refused_same is.bytes is.text bytes (IsToTheEnd-known c.source.left bytes is.bytes has.had is.to_the_end) is.refused good
 
-  refused_held : (Takes : Writing → List ℕ → Type 0) (bytes : List ℕ) (script : ScriptValue) (run : JournalsValue) → IsRefused refuses reports c outcome Takes → HasInput c bytes → HoldsJournals bytes script run → ⊥
+  refused_held : (Takes : Writing → List ℕ → Type 0) (bytes : List ℕ) (script : ScriptValue) (run : JournalsValue) → IsRefused refuses (reports form) c outcome Takes → HasInput c bytes → HoldsJournals bytes script run → ⊥
   refused_held Takes bytes script run is has holds = refused_good Takes bytes is has (λ why bad. HoldsJournals-good bytes script run why holds bad)
 
   -- a call whose sink failed
@@ -165,7 +190,7 @@ module _ (texts : TextsAreOfOneValue) (runs : RunsByClauses) (c : Call) (outcome
   }
 
   -- the status that is due
-  pub complete : (status : Status) → Ends refuses reports c status outcome → IsComplete c status outcome
+  pub complete : (status : Status) → Ends refuses (reports form) c status outcome → IsComplete c status outcome
   complete Done (read, is) = record {
     bad = λ bytes why has bad. absurd (reported_bad _ is bytes why has bad);
     good = λ bytes has good. inl refl;

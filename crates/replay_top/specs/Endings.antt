@@ -10,6 +10,7 @@ use Rattle.check_parts.specs.declared.bad_input.BadInput.{BadInput}
 use Rattle.check_parts.specs.declared.form.Form.TheVariants.{Check}
 use Rattle.check_parts.specs.declared.limits.TheConstants.{MOST_CHECK_BYTES}
 use Rattle.replay_top.specs.Reports.{refuses, reports}
+use Rattle.replay_top.specs.declared.form.ReplayForm.{ReplayForm}
 use Rattle.replay_top.specs.declared.outcome.Replayed.{Replayed}
 use Rattle.replay_top.specs.declared.outcome.Replayed.TheVariants as outcomes
 use Rattle.run_law.specs.Journals.{JournalsValue}
@@ -35,6 +36,7 @@ says_no_run (Some (outcomes.NoRun clause)) = true
 says_no_run (Some (outcomes.Ordered run)) = false
 says_no_run (Some outcomes.NoOrder) = false
 says_no_run (Some outcomes.TooLong) = false
+says_no_run (Some (outcomes.Reported run)) = false
 says_no_run None = false
 
 -- The status when nothing fails, unless memory runs out: Refused where the input is bad, and Done where it is not. Journals that are a
@@ -49,9 +51,10 @@ pub record IsComplete (c : Call) (status : Status) (outcome : Option Replayed) :
 
 -- ---- the exit status
 
--- the number for what was found: 0 for an order, and 6 for anything else
+-- the number for what was found: 0 for an order or a report, and 6 for anything else
 abbrev pub found_code : Option Replayed → ℕ
 found_code (Some (outcomes.Ordered run)) = 0
+found_code (Some (outcomes.Reported run)) = 0
 found_code (Some (outcomes.NoRun clause)) = 6
 found_code (Some outcomes.NoOrder) = 6
 found_code (Some outcomes.TooLong) = 6
@@ -66,11 +69,11 @@ exit_code ReadFault outcome = code_of ReadFault
 exit_code WriteFault outcome = code_of WriteFault
 exit_code NoMemory outcome = code_of NoMemory
 
--- a call ended as this exit status says
-pub record EndsWith (c : Call) (code : ℕ) : Type 0 where
+-- a call with words of this form ended as this exit status says
+pub record EndsWith (form : Option ReplayForm) (c : Call) (code : ℕ) : Type 0 where
   pub status : Status
   pub outcome : Option Replayed
-  pub ends : Ends refuses reports c status outcome
+  pub ends : Ends refuses (reports form) c status outcome
   pub complete : IsComplete c status outcome
   pub leaves : c.has_form ≡ true → LeavesBy MOST_CHECK_BYTES c.source status
   pub is_code : code ≡ exit_code status outcome

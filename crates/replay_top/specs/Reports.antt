@@ -1,5 +1,5 @@
 -- What is reported on a script with journals.
-use Rattle.std.specs.Prelude.{◌≡◌, ℕ, List, ◌++◌, codes, ◌∷◌, []}
+use Rattle.std.specs.Prelude.{◌≡◌, ℕ, List, ◌++◌, codes, ◌∷◌, [], Option, Some, None}
 use Rattle.call_rim.specs.Within.{ReportsWithin, RefusesWithin}
 use Rattle.call_rim.specs.declared.performed.Performed.{Performed}
 use Rattle.call_rim.specs.declared.performed.Performed.TheVariants as performed
@@ -14,10 +14,15 @@ use Rattle.journal_check.specs.Verdicts.{IsVerdict}
 use Rattle.journal_check.specs.declared.verdict.Clause.{Clause}
 use Rattle.journal_check.specs.declared.verdict.Verdict.TheVariants.{No}
 use Rattle.replay_top.specs.Lines.{other_lines}
+use Rattle.replay_top.specs.declared.form.ReplayForm.{ReplayForm}
+use Rattle.replay_top.specs.declared.form.ReplayForm.TheVariants as forms
 use Rattle.replay_top.specs.declared.outcome.Replayed.{Replayed}
 use Rattle.replay_top.specs.declared.outcome.Replayed.TheVariants as outcomes
+use Rattle.resctrl_top.specs.Isolation.{BeginsGroupWindows, BeginsLockWindows, HoldsRegions, IsolatesGroups}
+use Rattle.resctrl_top.specs.Outputs.{IsOutput}
 use Rattle.run_law.specs.Journals.{JournalsValue}
 use Rattle.run_law.specs.Runs.{IsRun}
+use Rattle.run_law.specs.declared.flags.Flags.{Flags}
 use Rattle.script_ops.specs.Values.{IsLawful, ScriptValue}
 use Rattle.step_world.specs.Play.{IsPlay}
 
@@ -64,12 +69,35 @@ no_order_line = codes "no order" ++ 10 ∷ []
 abbrev pub too_long_line : List ℕ
 too_long_line = codes "order too long" ++ 10 ∷ []
 
--- what the text is, by what was found
+-- what the text of `order` is, by what was found
 abbrev pub Finds : List ℕ → Replayed → List ℕ → Type 0
 Finds bytes (outcomes.Ordered run) text = IsOrdered bytes run text
 Finds bytes (outcomes.NoRun clause) text = IsNoRun bytes clause text
 Finds bytes outcomes.NoOrder text = IsUnordered bytes no_order_line text
 Finds bytes outcomes.TooLong text = IsUnordered bytes too_long_line text
+Finds bytes (outcomes.Reported run) text = ⊥
+
+-- The input holds a script and these journals, which are a run of it. As every run, it isolates groups and holds regions, and each flush
+-- and each lock begins a window of each group that is exclusive then, each lock also one of its region. The text is the simulator's
+-- report of them that these flags ask for.
+pub record IsReport (flags : Flags) (bytes : List ℕ) (run : JournalsValue) (text : List ℕ) : Type 0 where
+  pub script : ScriptValue
+  pub holds : HoldsJournals bytes script run
+  pub lawful : IsLawful script
+  pub is_run : IsRun script run
+  pub isolates : IsolatesGroups script run
+  pub holds_regions : HoldsRegions script run
+  pub begins_windows : BeginsLockWindows script run
+  pub begins_group_windows : BeginsGroupWindows script run
+  pub output : IsOutput script run flags text
+
+-- what the text of `report` with these flags is, by what was found
+abbrev pub FindsReport : Flags → List ℕ → Replayed → List ℕ → Type 0
+FindsReport flags bytes (outcomes.Reported run) text = IsReport flags bytes run text
+FindsReport flags bytes (outcomes.NoRun clause) text = IsNoRun bytes clause text
+FindsReport flags bytes (outcomes.Ordered run) text = ⊥
+FindsReport flags bytes outcomes.NoOrder text = ⊥
+FindsReport flags bytes outcomes.TooLong text = ⊥
 
 -- the input is bad, and this is the line that says why
 pub record Refuses (bytes line : List ℕ) : Type 0 where
@@ -77,9 +105,11 @@ pub record Refuses (bytes line : List ℕ) : Type 0 where
   pub is_bad : IsBad Check bytes bad
   pub told : line ≡ bad_line bad
 
--- what is reported of no more bytes than the most
-abbrev pub reports : List ℕ → Replayed → List ℕ → Type 0
-reports = ReportsWithin MOST_CHECK_BYTES Finds
+-- what is reported of no more bytes than the most, by what the command line asks for; nothing, where it is not valid
+abbrev pub reports : Option ReplayForm → List ℕ → Replayed → List ℕ → Type 0
+reports (Some forms.Order) = ReportsWithin MOST_CHECK_BYTES Finds
+reports (Some (forms.Report flags)) = ReportsWithin MOST_CHECK_BYTES (FindsReport flags)
+reports None = λ bytes found text. ⊥
 
 -- what is refused
 abbrev pub refuses : List ℕ → List ℕ → Type 0
@@ -102,4 +132,5 @@ TellsUnordered (performed.Reported outcomes.NoOrder report) = BeginsWith no_orde
 TellsUnordered (performed.Reported outcomes.TooLong report) = BeginsWith too_long_line report.items
 TellsUnordered (performed.Reported (outcomes.Ordered run) report) = ⊥
 TellsUnordered (performed.Reported (outcomes.NoRun clause) report) = ⊥
+TellsUnordered (performed.Reported (outcomes.Reported run) report) = ⊥
 TellsUnordered performed.NoMemory = Unit {0}

@@ -29,13 +29,13 @@ fn found_code(outcome: &Option<Replayed>) -> u8
     ensures { result ≡ found_code outcome.now }
 {
     match outcome {
-        Some(Replayed::Ordered(_)) => 0,
+        Some(Replayed::Ordered(_) | Replayed::Reported(_)) => 0,
         _ => 6,
     }
 }
 
 impl ReplayEnded {
-    /// The exit status of the program: that of the status, but for 6 where no order was found or the journals are no run.
+    /// The exit status of the program: that of the status, but for 6 where the journals are no run or no order was found.
     /// (This project's profile.)
     pub fn code(&self) -> u8
         ensures { result ≡ exit_code self.now.status self.now.outcome }

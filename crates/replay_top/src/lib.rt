@@ -1,10 +1,12 @@
-//! The top call of `resctrl_replay`: it reads a script with journals, finds an order of all steps that makes just these journals, and
-//! writes the script with that order. A call that runs out of memory answers NoMemory, and writes nothing.
+//! The top call of `resctrl_replay`: it reads a script with journals, and writes the script with an order of all steps that makes just
+//! these journals, or the simulator's report of them. A call that runs out of memory answers NoMemory, and writes nothing.
 #![tactic(auto)]
 
 mod blocked_text;
 pub mod calls;
 pub mod ended;
+mod flags;
+pub mod form;
 mod inserting;
 mod lines;
 mod numbers;
@@ -12,6 +14,7 @@ mod ordering;
 pub mod outcome;
 pub mod program;
 mod replaying;
+mod reporting;
 mod same;
 mod same_reply;
 mod words;

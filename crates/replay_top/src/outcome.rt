@@ -14,4 +14,6 @@ pub enum Replayed {
     NoOrder,
     /// They are a run of the script, and the script with the order that was found is too large for a script.
     TooLong,
+    /// They are a run of the script, of which a report was asked for.
+    Reported(Journals),
 }

@@ -6,7 +6,7 @@ ghost use Rattle.call_rim.specs.Endings.{call_of};
 ghost use Rattle.call_rim.specs.Outside.{reading_of, writing_of};
 ghost use Rattle.call_rim.specs.declared.status.Status.TheVariants.{NoMemory as OutOfMemory};
 ghost use Rattle.replay_top.specs.Endings.{EndsWith};
-ghost use Rattle.replay_top.specs.Words.{is_valid as is_form, usage_line};
+ghost use Rattle.replay_top.specs.Words.{form_of as form_in, is_valid as is_form, usage_line};
 
 use crate::calls::top_replay;
 use call_rim::Status;
@@ -25,7 +25,7 @@ pub fn run_replayer<S: Source, K: Sink>(
 ) -> ExitCode
     requires source { S.faults source.old < 2 ^ 64 - 1 }
     requires sink { K.faults sink.old < 2 ^ 64 - 1 }
-    ensures ends { IfOk words (λ words. EndsWith (call_of (is_form words.items) usage_line
+    ensures ends { IfOk words (λ words. EndsWith (form_in words.items) (call_of (is_form words.items) usage_line
         (reading_of S.left S.faults source.old source.new)
         (writing_of K.taken K.held K.faults sink.old sink.new)) (exit_status result)) }
     ensures end { S.ends source.new ≤ S.ends source.old + 1 }

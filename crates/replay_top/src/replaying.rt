@@ -1,4 +1,4 @@
-//! What is made of an input.
+//! An order for the journals of an input, or why there is none.
 ghost use Rattle.std.specs.Prelude.{◌≡◌, ◌≤◌, IfOk, List, ℕ, length};
 ghost use Rattle.call_rim.specs.Performing.{Performs};
 ghost use Rattle.check_parts.specs.BadInputs.{script_bytes};
@@ -7,7 +7,7 @@ ghost use Rattle.check_parts.specs.declared.form.Form.TheVariants.{Check};
 ghost use Rattle.check_parts.specs.declared.limits.TheConstants.{MOST_CHECK_BYTES};
 ghost use Rattle.journal_check.specs.Verdicts.{IsFirstFalse, IsVerdict};
 ghost use Rattle.machine.specs.Slices.{slice_count};
-ghost use Rattle.replay_top.specs.Reports.{Finds, Refuses, TellsBad};
+ghost use Rattle.replay_top.specs.Reports.{Finds, FindsReport, Refuses, TellsBad};
 ghost use Rattle.script_ops.specs.Values.{IsLawful};
 
 use crate::ordering::order;
@@ -22,8 +22,8 @@ use run_law::Journals;
 use script_ops::Script;
 use std::alloc::Global;
 
-// The line that says what is wrong with an input.
-fn refuse(alloc: Global, bad: BadInput) -> Performed<Replayed>
+/// The line that says what is wrong with an input.
+pub(crate) fn refuse(alloc: Global, bad: BadInput) -> Performed<Replayed>
     ensures { TellsBad bad result }
 {
     match bad_line_of(alloc, bad) {
@@ -32,8 +32,8 @@ fn refuse(alloc: Global, bad: BadInput) -> Performed<Replayed>
     }
 }
 
-// The line for journals that are no run.
-fn tell_clause(
+/// The line for journals that are no run, whatever was asked for.
+pub(crate) fn tell_clause(
     alloc: Global,
     script: &Script,
     journals: &Journals,
@@ -41,7 +41,8 @@ fn tell_clause(
 ) -> Performed<Replayed>
     requires lawful { IsLawful script.now }
     requires first { IsFirstFalse script.now journals.now clause }
-    ensures { (bytes : List ℕ) → HoldsJournals bytes script.now journals.now → Performs Refuses Finds bytes result }
+    ensures order { (bytes : List ℕ) → HoldsJournals bytes script.now journals.now → Performs Refuses Finds bytes result }
+    ensures report { (flags : _) (bytes : List ℕ) → HoldsJournals bytes script.now journals.now → Performs Refuses (FindsReport flags) bytes result }
 {
     match verdict_line(alloc, Verdict::No { clause }) {
         Ok(report) => Performed::Reported {

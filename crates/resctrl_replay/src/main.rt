@@ -1,4 +1,5 @@
-//! The program: reads a script with journals from standard input, and writes the script with an order that makes them to standard output.
+//! The program: reads a script with journals from standard input, and writes the script with an order that makes them, or the
+//! simulator's report of them, to standard output.
 #![tactic(auto)]
 
 use rc_stream::{StdSink, StdSource};

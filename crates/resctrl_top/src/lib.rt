@@ -7,7 +7,7 @@ pub mod ended;
 mod playing;
 pub mod program;
 mod programs;
-mod report;
+pub mod report;
 
 pub use call_rim::Status;
 pub use calls::{top, top_step};

@@ -46,8 +46,8 @@ fn text_of(
     }
 }
 
-/// The report of a run, with the windows that are due.
-pub(crate) fn report(
+/// The report of a run, whoever made its journals: in JSON or in lines, with the windows of these journals, as the flags ask for them.
+pub fn report(
     alloc: Global,
     script: &Script,
     journals: &Journals,

@@ -91,7 +91,7 @@ PROGRAMS = (
         ("check_top: check_top run_check",),
     ),
     Layer(
-        "orders", "Orders", "What `resctrl_replay` writes: `top_replay`, and `run_replayer`, by which `main` calls it.",
+        "orders", "Orders and reports of journals", "What `resctrl_replay` writes: `top_replay`, and `run_replayer`, by which `main` calls it.",
         ("replay_top: top_replay run_replayer",),
     ),
     Layer(
