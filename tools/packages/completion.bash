@@ -1,11 +1,11 @@
 # Completion of bikhnoun, of the programs behind it, and of the names of an earlier version, for bash.
 
 # The words, and then the flags of each. A test compares them with what --help says.
-_bikhnoun_words="play run explain check statement order export plan cdp levels translate mount traces ways timeline page kernel version"
+_bikhnoun_words="play run explain check statement order report export plan cdp levels mount traces ways timeline page kernel version"
 
 _bikhnoun_flags() {
     case $1 in
-        play | run) echo "--help --version --journal --json --windows --quiet" ;;
+        play | run | report) echo "--help --version --journal --json --windows --quiet" ;;
         cdp | levels) echo "--help --version --quiet" ;;
         explain) echo "--help --version --machine --for --program" ;;
         check | statement) echo "--help --version --program" ;;
@@ -59,7 +59,8 @@ _resctrl() {
         resctrl_check:1) _bikhnoun_offer "export check" ;;
         resctrl_check:2) [ "${COMP_WORDS[1]}" != export ] || _bikhnoun_offer "step run" ;;
         resctrl_cdp:1 | resctrl_l2:1) _bikhnoun_offer "--quiet" ;;
-        resctrl_replay:1) _bikhnoun_offer "order" ;;
+        resctrl_replay:1) _bikhnoun_offer "order report" ;;
+        resctrl_replay:*) [ "${COMP_WORDS[1]}" != report ] || _bikhnoun_offer "--journal --json --windows --quiet" ;;
         resctrl_sim-*) _bikhnoun_offer "$(_bikhnoun_flags "${name#resctrl_sim-}")" ;;
     esac
 }

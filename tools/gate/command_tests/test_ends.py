@@ -92,9 +92,10 @@ class Ends(unittest.TestCase):
             self.assertEqual(self.closed("2>&-", word, "not_there"), (3, b"", ""))
 
     def test_missing_programs(self):
-        done = bikhnoun("order", "-")
-        if done.returncode == 3:
-            self.ends(done, 3, "resctrl_replay is missing")
+        for word in ("order", "report"):
+            done = bikhnoun(word, "-")
+            if done.returncode == 3:
+                self.ends(done, 3, "resctrl_replay is missing")
         for word, file in (("timeline", SCRIPT), ("explain", SCRIPT), ("check", JOURNAL), ("statement", JOURNAL)):
             self.ends(bikhnoun(word, file, "--program", "/not/there"), 3, "/not/there is not a program")
 

@@ -68,6 +68,12 @@ class Plays(unittest.TestCase):
         self.assertEqual((done.returncode, done.stdout), (3, b""))
         self.assertIn(b"bikhnoun order: resctrl_replay is missing", done.stderr)
 
+    def test_report(self):
+        if "resctrl_replay" in map(os.path.basename, PROGRAMS):
+            journal = EXAMPLES / "journals" / "administrators.journal"
+            self.is_same("resctrl_replay", ["report"], ["report"], journal)
+            self.is_same("resctrl_replay", ["report", "--windows", "--json"], ["report", "--windows", "--json"], journal)
+
     def test_tools(self):
         journal = EXAMPLES / "journals" / "administrators.journal"
         for words in (["explain", SCRIPT], ["statement", journal], ["timeline", SCRIPT], ["ways", EXAMPLES / "ways_for_a_loop.script", "/"]):

@@ -34,6 +34,7 @@ WORDS = {
     "check": (tool("judged.command"), "says whether journals are a run of their script: yes, or no and the clause that is false; and where"),
     "statement": (tool("stated.command"), "writes a page about journals for an auditor, ready to be signed"),
     "order": (proved.one("order"), proved.WORDS["order"].purpose),
+    "report": (proved.one("report"), proved.WORDS["report"].purpose),
     "export": (proved.export, "plays a script, and writes it with the journals of this play"),
     "plan": (proved.plan, "counts how often programs hit with each number of ways, divides ways, and draws the curves"),
     "cdp": (proved.one("cdp"), proved.WORDS["cdp"].purpose),

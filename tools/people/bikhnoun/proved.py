@@ -17,7 +17,7 @@ FLAG_HELPS = {
 STATUSES = """exit status: 0 all is written; 1 the input is invalid; 2 the command line is wrong; 3 the input could not be read, or the
 program is missing; 4 the output could not be written; 5 out of memory{}.
 What the program writes is passed on byte for byte, but for the message of an invalid input, which goes to standard error."""
-NO_ORDER = "; 6 the journals are no run, or no order was found"
+NO_RUN = "; 6 the journals are no run"
 EXPLAINED = "; `bikhnoun explain {}` says more"
 CHECKED = "; `bikhnoun check {}` says more"
 
@@ -31,7 +31,8 @@ def explained_as(kind):
 
 class Proved(NamedTuple):
     """A word: its program, the words that it hands on before the flags, its input and its flags, what is said while it runs, how many
-    bytes it does in a second (bench/README.md; None where it works while it reads), and what it is for."""
+    bytes it does in a second (bench/README.md; None where it works while it reads), what it is for, what is said after the message of an
+    invalid input, and its exit statuses beyond those of all."""
 
     program: str
     words: tuple[str, ...]
@@ -41,6 +42,7 @@ class Proved(NamedTuple):
     pace: int | None
     purpose: str
     after: str = ""
+    more: str = ""
 
 
 WORDS = {
@@ -51,7 +53,11 @@ WORDS = {
     ),
     "order": Proved(
         programs.REPLAY, ("order",), "JOURNAL", (), "ordering", 50 * MB, "writes the script of journals with an order in which `play` gives the same journals",
-        CHECKED,
+        CHECKED, f"{NO_RUN}, or no order was found",
+    ),
+    "report": Proved(
+        programs.REPLAY, ("report",), "JOURNAL", REPORT_FLAGS, "reporting", 50 * MB, "writes the report of journals, as `play` writes it of a script", CHECKED,
+        NO_RUN,
     ),
     "cdp": Proved(
         programs.CDP, (), "SCRIPT", ("--quiet",), "playing", 25 * MB, "plays a script with traces on an L3 with masks for code and masks for data",
@@ -100,7 +106,7 @@ def one(word):
 
     def main(arguments, name):
         proved = WORDS[word]
-        words = parser_of(name, proved.purpose, NO_ORDER if word == "order" else "")
+        words = parser_of(name, proved.purpose, proved.more)
         add_input(words, proved)
         return run(proved, words.parse_args(arguments))
 

@@ -1,0 +1,1 @@
+"""Modules of the comparisons of orders and of reports."""
