@@ -1,7 +1,7 @@
 # Completion of bikhnoun, of the programs behind it, and of the names of an earlier version, for bash.
 
 # The words, and then the flags of each. A test compares them with what --help says.
-_bikhnoun_words="play run explain check statement order report export plan cdp levels mount traces ways timeline page kernel version"
+_bikhnoun_words="play run explain check statement order report export plan cdp levels translate mount traces ways timeline page kernel version"
 
 _bikhnoun_flags() {
     case $1 in
@@ -56,6 +56,7 @@ _resctrl() {
         resctrl_sim:1) _bikhnoun_offer "step run gen" ;;
         resctrl_sim:*) _bikhnoun_offer "--journal --json --windows --quiet" ;;
         resctrl_plan:1) _bikhnoun_offer "curve divide" ;;
+        resctrl_plan:4) [ "${COMP_WORDS[1]}" != curve ] || _bikhnoun_offer "--one-of" ;;
         resctrl_check:1) _bikhnoun_offer "export check" ;;
         resctrl_check:2) [ "${COMP_WORDS[1]}" != export ] || _bikhnoun_offer "step run" ;;
         resctrl_cdp:1 | resctrl_l2:1) _bikhnoun_offer "--quiet" ;;

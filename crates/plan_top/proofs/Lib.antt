@@ -1,4 +1,5 @@
 pub mod Complete
 pub mod EndedLines
 pub mod Promises
+pub mod SampleSets
 pub mod WholeInputs

@@ -1,5 +1,5 @@
--- What the words after the program's name ask for: `curve SETS WAYS` or `divide`.
-use Rattle.std.specs.Prelude.{ℕ, ◌+◌, ◌==◌, if◌then◌else◌, List, [], ◌∷◌, ◌++◌, codes, string_bytes, String, Option, Some, None, option_map}
+-- What the words after the program's name ask for: `curve SETS WAYS [--one-of N]` or `divide`.
+use Rattle.std.specs.Prelude.{ℕ, ◌+◌, ◌==◌, ◌&&◌, if◌then◌else◌, List, [], ◌∷◌, ◌++◌, codes, string_bytes, String, Option, Some, None, option_map}
 use Rattle.std.specs.Option.{option_and_then}
 use Rattle.std.specs.declared.alloc.Global.{Global}
 use Rattle.num_text.specs.Numbers.{below, dec_of}
@@ -17,16 +17,32 @@ sets_in text = option_and_then (λ n. if n == 0 then None else Some n) (below (M
 abbrev pub ways_in : List ℕ → Option ℕ
 ways_in text = option_and_then (λ n. if n == 0 then None else Some n) (below (MOST_WAYS + 1) (dec_of text))
 
+-- of how many lines a sample has one, for caches of so many sets: from 1 to as many as there are sets, in decimal digits
+abbrev pub one_of_in : ℕ → List ℕ → Option ℕ
+one_of_in sets text = option_and_then (λ n. if n == 0 then None else Some n) (below (sets + 1) (dec_of text))
+
 -- what two numbers after `curve` ask for
 abbrev pub curve_in : List ℕ → List ℕ → Option CurveWords
-curve_in sets ways = option_and_then (λ s. option_map (λ w. record { sets = s; ways = w }) (ways_in ways)) (sets_in sets)
+curve_in sets ways = option_and_then (λ s. option_map (λ w. record { sets = s; ways = w; one_of = None }) (ways_in ways)) (sets_in sets)
+
+-- the same of a sample
+abbrev pub sampled_form : CurveWords → List ℕ → Option CurveWords
+sampled_form form text = option_map (λ n. record { sets = form.sets; ways = form.ways; one_of = Some n }) (one_of_in form.sets text)
+
+-- what two numbers after `curve` and one after `--one-of` ask for
+abbrev pub sample_in : List ℕ → List ℕ → List ℕ → Option CurveWords
+sample_in sets ways one_of = option_and_then (λ (form : CurveWords). sampled_form form one_of) (curve_in sets ways)
 
 -- what a command line asks for, and None where it is not valid
 abbrev pub form_of : List (String Global) → Option Form
 form_of (command ∷ []) = if is_text (string_bytes command) (codes "divide") then Some Divide else None
 form_of (command ∷ sets ∷ ways ∷ []) = if is_text (string_bytes command) (codes "curve") then option_map Curve (curve_in (string_bytes sets) (string_bytes ways)) else None
+form_of (command ∷ sets ∷ ways ∷ word ∷ one_of ∷ []) =
+    if is_text (string_bytes command) (codes "curve") && is_text (string_bytes word) (codes "--one-of")
+    then option_map Curve (sample_in (string_bytes sets) (string_bytes ways) (string_bytes one_of))
+    else None
 form_of words = None
 
 -- the line for a command line that is not valid
 abbrev pub usage_line : List ℕ
-usage_line = codes "usage: resctrl_plan curve SETS WAYS | divide" ++ 10 ∷ []
+usage_line = codes "usage: resctrl_plan curve SETS WAYS [--one-of N] | divide" ++ 10 ∷ []

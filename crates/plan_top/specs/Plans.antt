@@ -6,7 +6,7 @@ use Rattle.run_law.specs.Runs.{IsRun}
 use Rattle.script_ops.specs.Values.{ScriptValue}
 use Rattle.step_world.specs.Play.{IsPlay}
 use Rattle.way_curve.specs.TraceTexts.{trace_of}
-use Rattle.way_curve.specs.CurveTexts.{bad_line_text, report_of}
+use Rattle.way_curve.specs.CurveTexts.{bad_line_text, curves_text}
 use Rattle.way_plans.specs.Planned.{TellsPlan}
 use Rattle.top_parts.specs.Meaning.{meaning, refusal_line}
 use Rattle.top_parts.specs.declared.refusal.Refusal.{Refusal}
@@ -22,11 +22,11 @@ pub record RefusesTrace (bytes text : List ℕ) : Type 0 where
   pub bad : trace_of bytes ≡ Err line
   pub told : text ≡ bad_line_text line
 
--- these bytes are a trace, and the text is the report of its uses
+-- these bytes are a trace, and the text is the report of its uses, or of those of the sample
 pub record ReportsCurves (form : CurveWords) (bytes text : List ℕ) : Type 0 where
   pub uses : List LineUse
   pub trace : trace_of bytes ≡ Ok uses
-  pub report : text ≡ report_of form.sets form.ways uses
+  pub report : text ≡ curves_text form.one_of form.sets form.ways uses
 
 -- (For proofs.) what a form reports of bytes, beside which it hands nothing back
 abbrev pub reports_of : CurveWords → List ℕ → Unit {0} → List ℕ → Type 0

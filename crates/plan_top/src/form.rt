@@ -1,22 +1,25 @@
 //! What the words after the program's name ask for.
-ghost use Rattle.std.specs.Prelude.{◌≡◌, ◌<◌, ◌≤◌};
+ghost use Rattle.std.specs.Prelude.{◌≡◌, ◌<◌, ◌≤◌, Some, None};
+ghost use Rattle.way_curve.specs.Samples.{sample_sets};
 
 use std::marker::Model;
 
 /// What a command line asks for.
 #[derive(Drop)]
 pub enum Form {
-    /// `curve SETS WAYS`: the curves of a trace.
+    /// `curve SETS WAYS [--one-of N]`: the curves of a trace.
     Curve(CurveForm),
     /// `divide`: the plan of a script.
     Divide,
 }
 
-/// What `curve SETS WAYS` asks for: the hits of caches of so many sets, 1 at least, with each number of ways up to this one.
+/// What `curve SETS WAYS` asks for: the hits of caches of so many sets, 1 at least, with each number of ways up to this one; of all
+/// lines, or of a sample of one line of so many.
 #[derive(Drop)]
 pub struct CurveForm {
     sets: u32,
     ways: u8,
+    one_of: Option<u32>,
 }
 
 impl Model for CurveForm {
@@ -24,27 +27,63 @@ impl Model for CurveForm {
 
     ghost Value = { CurveWords };
 
-    ghost view = { λ f. record { sets = f.sets; ways = f.ways } };
+    ghost view = { λ f. record { sets = f.sets; ways = f.ways; one_of = f.one_of } };
 
-    ghost invariant = { λ f. IsInRange f.sets f.ways };
+    ghost invariant = { λ f. IsInRange f.sets f.ways f.one_of };
 }
 
 impl CurveForm {
-    /// What these numbers ask for.
+    /// What these numbers ask for, of all lines.
     pub fn new(sets: u32, ways: u8) -> CurveForm
         requires some { 0 < sets }
         requires few { ways ≤ 32 }
-        ensures { result ≡ record { sets = sets; ways = ways } }
+        ensures { result ≡ record { sets = sets; ways = ways; one_of = None } }
     {
-        CurveForm { sets, ways }
+        CurveForm {
+            sets,
+            ways,
+            one_of: None,
+        }
     }
 
-    /// How many sets the caches have, 1 at least.
+    /// The same of a sample of one line of so many.
+    pub fn sampled(self, one_of: u32) -> CurveForm
+        requires some { 0 < one_of }
+        requires few { one_of ≤ self.sets }
+        ensures { result ≡ record { sets = self.sets; ways = self.ways; one_of = Some one_of } }
+    {
+        CurveForm {
+            sets: self.sets,
+            ways: self.ways,
+            one_of: Some(one_of),
+        }
+    }
+
+    /// How many sets the cache has that is asked about, 1 at least.
     pub fn sets(&self) -> u32
         ensures sets { result ≡ self.now.sets }
         ensures some { 0 < result }
     {
         self.sets
+    }
+
+    /// How many sets the caches have that are counted, 1 at least: of a sample as many times fewer as it leaves out lines, rounded down.
+    #[tactic(auto, using(crate::proofs::SampleSets::part_some))]
+    pub fn sample_sets(&self) -> u32
+        ensures sets { result ≡ sample_sets self.now.one_of self.now.sets }
+        ensures some { 0 < result }
+    {
+        match self.one_of {
+            None => self.sets,
+            Some(one_of) => self.sets / one_of,
+        }
+    }
+
+    /// Of how many lines the sample has one, if one is taken.
+    pub fn one_of(&self) -> Option<u32>
+        ensures { result ≡ self.now.one_of }
+    {
+        self.one_of
     }
 
     /// The most ways that they have, 32 at most.

@@ -1,13 +1,14 @@
 //! What `curve` makes of a trace that comes piece by piece.
-ghost use Rattle.std.specs.Prelude.{◌≡◌, ◌≤◌, ℕ, List, IfOk, Err};
+ghost use Rattle.std.specs.Prelude.{◌≡◌, ◌+◌, ◌≤◌, ◌++◌, ℕ, List, IfOk, Err};
 ghost use Rattle.call_rim.specs.Performing.{Performs};
 ghost use Rattle.lackey_text.specs.declared.uses.LineUse.{LineUse as Use};
-ghost use Rattle.way_curve.specs.Counting.{HaveCounted};
+ghost use Rattle.way_curve.specs.Sampling.{HaveSampled};
 ghost use Rattle.way_curve.specs.Reading.{AreOf, HasRead};
 ghost use Rattle.way_curve.specs.TraceTexts.{trace_of};
-ghost use Rattle.way_curve.specs.CurveTexts.{bad_line_text, report_of};
+ghost use Rattle.way_curve.specs.CurveTexts.{bad_line_text, curves_text};
+ghost use Rattle.way_curve.specs.declared.report_limits.TheConstants.{MOST_REPORT_BYTES, MOST_SAMPLE_BYTES};
 ghost use Rattle.plan_top.specs.Beginnings.{HasNoBadLine};
-ghost use Rattle.plan_top.specs.CurveForms.{CurveWords};
+ghost use Rattle.plan_top.specs.CurveForms.{CurveWords, sampling_of};
 ghost use Rattle.plan_top.specs.Plans.{RefusesTrace, reports_of};
 
 use crate::form::CurveForm;
@@ -15,16 +16,27 @@ use call_rim::{Performed, StreamProgram, Taken};
 use rc_base::{NoMemory, TextBuf};
 use std::alloc::Global;
 use way_curve::{
-    BadTrace, MOST_REFUSAL_BYTES, MOST_REPORT_BYTES, Trace, UseCurves, push_bad_line, push_report,
+    BadTrace, MOST_REFUSAL_BYTES, MOST_REPORT_BYTES, MOST_SAMPLE_BYTES, SampledCurves, Trace,
+    push_bad_line, push_report, push_sample,
 };
 
-// The report of curves, for each number of ways up to this one.
-fn report(alloc: Global, curves: &UseCurves, ways: u8) -> Result<Vec<u8>, NoMemory>
-    requires { ways ≤ 32 }
-    ensures { IfOk result (λ text. (sets : ℕ) (uses : List Use) → HaveCounted sets curves.now uses → text.items ≡ report_of sets ways uses) }
+// Adds the report of curves, for each number of ways that is asked for.
+fn push_curves(form: &CurveForm, curves: &SampledCurves, out: &mut TextBuf)
+    requires { MOST_SAMPLE_BYTES + MOST_REPORT_BYTES ≤ out.old.spare }
+    ensures { (uses : List Use) → HaveSampled (sampling_of form.now) curves.now uses
+        → out.new.bytes ≡ out.old.bytes ++ curves_text form.now.one_of form.now.sets form.now.ways uses }
 {
-    let mut text = TextBuf::with_room(alloc, MOST_REPORT_BYTES)?;
-    push_report(curves, ways, &mut text);
+    push_sample(form.one_of(), form.sample_sets(), out);
+    push_report(curves.counted(), form.ways(), out);
+}
+
+// The report of curves.
+fn report(alloc: Global, form: &CurveForm, curves: &SampledCurves) -> Result<Vec<u8>, NoMemory>
+    ensures { IfOk result (λ text. (uses : List Use) → HaveSampled (sampling_of form.now) curves.now uses
+        → text.items ≡ curves_text form.now.one_of form.now.sets form.now.ways uses) }
+{
+    let mut text = TextBuf::with_room(alloc, MOST_SAMPLE_BYTES + MOST_REPORT_BYTES)?;
+    push_curves(form, curves, &mut text);
     let bytes = Vec::from_slice(alloc, text.bytes())?;
     Ok(bytes)
 }
@@ -40,11 +52,10 @@ fn refusal(alloc: Global, bad: BadTrace) -> Result<Vec<u8>, NoMemory>
 }
 
 // The report of curves, or out of memory.
-fn report_on(alloc: Global, curves: &UseCurves, ways: u8) -> Performed<()>
-    requires { ways ≤ 32 }
-    ensures { (form : CurveWords) (bytes : List ℕ) → ways ≡ form.ways → AreOf form.sets curves.now bytes → Performs RefusesTrace (reports_of form) bytes result }
+fn report_on(alloc: Global, form: &CurveForm, curves: &SampledCurves) -> Performed<()>
+    ensures { (bytes : List ℕ) → AreOf (sampling_of form.now) curves.now bytes → Performs RefusesTrace (reports_of form.now) bytes result }
 {
-    match report(alloc, curves, ways) {
+    match report(alloc, form, curves) {
         Ok(report) => Performed::Reported {
             outcome: (),
             report,
@@ -68,7 +79,7 @@ impl StreamProgram for CurveForm {
 
     type Outcome = ();
 
-    ghost has_taken = { λ form trace bytes. HasRead form.sets trace bytes };
+    ghost has_taken = { λ form trace bytes. HasRead (sampling_of form) trace bytes };
 
     ghost good_so_far = { λ form. HasNoBadLine };
 
@@ -79,7 +90,7 @@ impl StreamProgram for CurveForm {
     ghost reports = { reports_of };
 
     fn begin(&self, alloc: Global) -> Result<Trace, NoMemory> {
-        Trace::create(alloc, self.sets())
+        Trace::create(alloc, self.sample_sets(), self.one_of())
     }
 
     fn take(&self, alloc: Global, trace: &mut Trace, piece: &[u8]) -> Taken {
@@ -95,7 +106,7 @@ impl StreamProgram for CurveForm {
 
     fn finish(&self, alloc: Global, trace: Trace) -> Performed<()> {
         match trace.finish() {
-            Ok(curves) => report_on(alloc, &curves, self.ways()),
+            Ok(curves) => report_on(alloc, self, &curves),
             Err(bad) => refuse(alloc, bad),
         }
     }

@@ -3,6 +3,7 @@
 mod curve_calls;
 mod curves;
 mod plans;
+mod samples;
 mod traces;
 
 use call_rim::Status;

@@ -7,6 +7,7 @@ pub mod FewUses
 pub mod FirstLines
 mod Fronts
 mod Powers
+pub mod SampleLists
 mod SetHits
 mod Shifted
 pub mod Steps

@@ -1,9 +1,10 @@
 -- The report of the uses of a trace, and the line that refuses one.
-use Rattle.std.specs.Prelude.{ℕ, ◌-◌, List, [], ◌∷◌, ◌++◌, length, codes, decimal}
+use Rattle.std.specs.Prelude.{ℕ, ◌-◌, List, [], ◌∷◌, ◌++◌, length, codes, decimal, Option, Some, None}
 use Rattle.std.specs.List.{flat_map, range_with_len}
 use Rattle.lackey_text.specs.declared.uses.LineUse.{LineUse}
 use Rattle.way_curve.specs.Curves.{set_hits_of}
 use Rattle.way_curve.specs.Counting.{all_lines, code_lines, data_lines}
+use Rattle.way_curve.specs.Samples.{sample_sets, sampled}
 
 -- the line of one number of ways, by how many uses there are and how many of them hit: `ways W: accesses A hits H misses M`
 unfoldable pub ways_line : ℕ → ℕ → ℕ → List ℕ
@@ -28,6 +29,16 @@ report_of sets ways uses =
     part_text sets ways (codes "data and code:" ++ 10 ∷ []) (all_lines uses) ++
     part_text sets ways (codes "data:" ++ 10 ∷ []) (data_lines uses) ++
     part_text sets ways (codes "code:" ++ 10 ∷ []) (code_lines uses)
+
+-- What stands above the report where its counts are of a sample, by the sample and the sets of its caches: `sample: one of N lines, S sets`.
+abbrev pub sample_text : Option ℕ → ℕ → List ℕ
+sample_text None sets = []
+sample_text (Some one_of) sets = (codes "sample: one of " ++ decimal one_of) ++ (codes " lines, " ++ decimal sets) ++ (codes " sets" ++ 10 ∷ [])
+
+-- The report of these uses for a cache of so many sets, with up to so many ways: of all of them, or of a sample of one line of so many,
+-- which says so.
+abbrev pub curves_text : Option ℕ → ℕ → ℕ → List LineUse → List ℕ
+curves_text one_of sets ways uses = sample_text one_of (sample_sets one_of sets) ++ report_of (sample_sets one_of sets) ways (sampled one_of uses)
 
 -- The line that refuses a trace by the number of its first bad line: `line N: bad trace line`.
 abbrev pub bad_line_text : ℕ → List ℕ

@@ -5,5 +5,7 @@ pub mod Distances
 pub mod IsCurve
 pub mod Laws
 pub mod Reading
+pub mod Samples
+pub mod Sampling
 pub mod Shifts
 pub mod TraceTexts

@@ -3,8 +3,10 @@ ghost use Rattle.std.specs.Prelude.{◌≡◌, ◌+◌, ◌-◌, ◌^◌, ◌<�
 ghost use Rattle.lackey_text.specs.Lines.{IsInMemory};
 ghost use Rattle.lackey_text.specs.Uses.{uses_of};
 ghost use Rattle.way_curve.specs.Counting.{AddUses, HaveCounted};
+ghost use Rattle.way_curve.specs.Samples.{sample_of};
 
 use crate::Curve;
+use crate::sample::is_sampled;
 use lackey_text::{LackeyLine, LineUse};
 use rc_base::NoMemory;
 use std::alloc::Global;
@@ -69,6 +71,20 @@ impl UseCurves {
     {
         for used in said.uses() {
             self.note(used);
+        }
+    }
+
+    /// Notes those uses of a line of a trace that the sample of one line of memory of so many has.
+    pub fn note_sample(&mut self, one_of: u32, said: &LackeyLine)
+        requires memory { IsInMemory said.now }
+        requires room { self.old.uses + length (uses_of said.now) < 2 ^ 64 }
+        ensures uses { self.new.uses ≡ self.old.uses + length (sample_of one_of (uses_of said.now)) }
+        ensures counted { AddUses self.old self.new (sample_of one_of (uses_of said.now)) }
+    {
+        for used in said.uses() {
+            if is_sampled(one_of, used.line) {
+                self.note(used);
+            }
         }
     }
 

@@ -1,6 +1,7 @@
 //! How many hits a private cache of each number of ways would have, counted in one pass over the lines that are used (`Curve`); the
-//! same of a trace that Valgrind's lackey wrote, whose text comes in pieces (`Trace`); and the report of that. What is printed is
-//! added to a text that has room for it. A call that runs out of memory answers NoMemory.
+//! same of a trace that Valgrind's lackey wrote, whose text comes in pieces (`Trace`), of all its uses or of those of a sample of
+//! the lines; and the report of that. What is printed is added to a text that has room for it. A call that runs out of memory answers
+//! NoMemory.
 //!
 //! A cache of w ways that replaces the line used longest ago keeps the w lines used last of each set. So one list of the last
 //! 32 lines of a set serves every number of ways: a line at place d of the list hits with more than d ways, and with no fewer.
@@ -21,6 +22,8 @@ pub mod report;
 pub mod report_limits;
 pub mod report_theorems;
 mod said;
+pub mod sample;
+pub mod sampled_curves;
 mod shifting;
 pub mod theorems;
 pub mod trace;
@@ -30,6 +33,8 @@ pub use curve::Curve;
 pub use curves::UseCurves;
 pub use limits::{MOST_LINE_BYTES, MOST_TRACE_BYTES};
 pub use refusal::push_bad_line;
-pub use report::push_report;
-pub use report_limits::{MOST_REFUSAL_BYTES, MOST_REPORT_BYTES};
+pub use report::{push_report, push_sample};
+pub use report_limits::{MOST_REFUSAL_BYTES, MOST_REPORT_BYTES, MOST_SAMPLE_BYTES};
+pub use sample::is_sampled;
+pub use sampled_curves::SampledCurves;
 pub use trace::{BadTrace, Trace};

@@ -1,9 +1,9 @@
 //! The report of the curves of a trace.
-ghost use Rattle.std.specs.Prelude.{◌≡◌, ◌+◌, ◌-◌, ◌≤◌, ◌++◌, ℕ, List, length};
+ghost use Rattle.std.specs.Prelude.{◌≡◌, ◌+◌, ◌-◌, ◌≤◌, ◌++◌, ℕ, List, Some, length};
 ghost use Rattle.lackey_text.specs.declared.uses.LineUse.{LineUse as Use};
 ghost use Rattle.way_curve.specs.Counting.{HaveCounted, IsCurveOf};
-ghost use Rattle.way_curve.specs.CurveTexts.{line_of_ways, part_text, report_of, ways_line};
-ghost use Rattle.way_curve.specs.declared.report_limits.TheConstants.{MOST_REPORT_BYTES};
+ghost use Rattle.way_curve.specs.CurveTexts.{line_of_ways, part_text, report_of, sample_text, ways_line};
+ghost use Rattle.way_curve.specs.declared.report_limits.TheConstants.{MOST_REPORT_BYTES, MOST_SAMPLE_BYTES};
 
 use crate::numbers::push_number;
 use crate::{Curve, UseCurves};
@@ -45,6 +45,29 @@ fn push_part(name: &[u8], curve: &Curve, ways: u8, out: &mut TextBuf)
     out.push_all(name);
     for fewer in 0..ways {
         push_line(curve, fewer + 1, out);
+    }
+}
+
+// Adds the line that says that counts are of a sample.
+fn push_sample_line(one_of: u32, sets: u32, out: &mut TextBuf)
+    requires { MOST_SAMPLE_BYTES ≤ out.old.spare }
+    ensures bytes { out.new.bytes ≡ out.old.bytes ++ sample_text (Some one_of) sets }
+    ensures spare { out.old.spare ≤ out.new.spare + MOST_SAMPLE_BYTES }
+{
+    push_number(b"sample: one of ".as_slice(), u64::from(one_of), out);
+    push_number(b" lines, ".as_slice(), u64::from(sets), out);
+    out.push_all(b" sets\n".as_slice());
+}
+
+/// Adds the line that says that counts are of a sample of one line of memory of so many, in caches of so many sets; nothing where no
+/// sample is taken.
+pub fn push_sample(one_of: Option<u32>, sets: u32, out: &mut TextBuf)
+    requires { MOST_SAMPLE_BYTES ≤ out.old.spare }
+    ensures bytes { out.new.bytes ≡ out.old.bytes ++ sample_text one_of sets }
+    ensures spare { out.old.spare ≤ out.new.spare + MOST_SAMPLE_BYTES }
+{
+    if let Some(one_of) = one_of {
+        push_sample_line(one_of, sets, out);
     }
 }
 

@@ -3,5 +3,8 @@
 /// The most bytes of a report of 32 ways (this project's profile).
 pub const MOST_REPORT_BYTES: usize = 10_800;
 
+/// The most bytes of the line that says that counts are of a sample (this project's profile).
+pub const MOST_SAMPLE_BYTES: usize = 72;
+
 /// The most bytes of the line that refuses a trace (this project's profile).
 pub const MOST_REFUSAL_BYTES: usize = 48;

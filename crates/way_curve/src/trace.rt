@@ -1,12 +1,13 @@
 //! A trace whose text comes in pieces.
 ghost use Rattle.std.specs.Prelude.{◌≡◌, ◌+◌, ◌≤◌, ◌<◌, ℕ, List, [], ◌∷◌, ◌++◌, length, IfOk, IfSome, MatchResult, Err, None, false};
 ghost use Rattle.way_curve.specs.Reading.{AreOf, HasRead, IsGood, ReadsOn};
+ghost use Rattle.way_curve.specs.Sampling.{Sampling};
 ghost use Rattle.way_curve.specs.TraceTexts.{trace_of};
 ghost use Rattle.way_curve.specs.declared.limits.TheConstants.{MOST_TRACE_BYTES};
 
-use crate::curves::UseCurves;
 use crate::limits::MOST_LINE_BYTES;
 use crate::said::{said_of, said_of_ended};
+use crate::sampled_curves::SampledCurves;
 use rc_base::NoMemory;
 use std::alloc::Global;
 use std::marker::Model;
@@ -25,7 +26,7 @@ pub struct Trace {
     ended: u64,
     rest: Vec<u8>,
     is_bad: bool,
-    curves: UseCurves,
+    curves: SampledCurves,
 }
 
 impl Model for Trace {
@@ -40,15 +41,16 @@ impl Model for Trace {
 }
 
 impl Trace {
-    /// A trace of no text, for caches of so many sets, 1 at least. NoMemory where the allocator gives no room for the
-    /// longest line and for the last lines of each set. No other call takes memory.
-    pub fn create(alloc: Global, sets: u32) -> Result<Trace, NoMemory>
+    /// A trace of no text, for caches of so many sets, 1 at least, and for a sample of one line of memory of so many, if one is
+    /// taken. NoMemory where the allocator gives no room for the longest line and for the last lines of each set. No other
+    /// call takes memory.
+    pub fn create(alloc: Global, sets: u32, one_of: Option<u32>) -> Result<Trace, NoMemory>
         requires { 0 < sets }
         ensures bytes { IfOk result (λ t. t.bytes ≡ 0) }
-        ensures empty { IfOk result (λ t. HasRead sets t []) }
+        ensures empty { IfOk result (λ t. HasRead (record { sets = sets; one_of = one_of }) t []) }
     {
         let rest = Vec::with_capacity(alloc, MOST_LINE_BYTES + 1)?;
-        let curves = UseCurves::create(alloc, sets)?;
+        let curves = SampledCurves::create(alloc, sets, one_of)?;
         Ok(Trace {
             bytes: 0,
             ended: 0,
@@ -109,8 +111,8 @@ impl Trace {
     /// The first line that is none of a trace, whatever follows. None where each line that has ended is one of a trace, and the
     /// next one is not too long so far.
     pub fn bad_line(&self) -> Option<BadTrace>
-        ensures told { IfSome result (λ bad. (sets : ℕ) (text more : List ℕ) → HasRead sets self.now text → trace_of (text ++ more) ≡ Err bad.line) }
-        ensures none { result ≡ None → (sets : ℕ) (text : List ℕ) → HasRead sets self.now text → IsGood sets self.now text }
+        ensures told { IfSome result (λ bad. (sampling : Sampling) (text more : List ℕ) → HasRead sampling self.now text → trace_of (text ++ more) ≡ Err bad.line) }
+        ensures none { result ≡ None → (sampling : Sampling) (text : List ℕ) → HasRead sampling self.now text → IsGood sampling self.now text }
     {
         if !self.is_bad {
             return None;
@@ -121,8 +123,8 @@ impl Trace {
     }
 
     /// The curves of the whole text, whose last line may lack its newline; or the first line that is none of a trace.
-    pub fn finish(self) -> Result<UseCurves, BadTrace>
-        ensures { (sets : ℕ) (text : List ℕ) → HasRead sets self text → MatchResult result (λ curves. AreOf sets curves text) (λ bad. trace_of text ≡ Err bad.line) }
+    pub fn finish(self) -> Result<SampledCurves, BadTrace>
+        ensures { (sampling : Sampling) (text : List ℕ) → HasRead sampling self text → MatchResult result (λ curves. AreOf sampling curves text) (λ bad. trace_of text ≡ Err bad.line) }
     {
         let Trace {
             bytes: _,

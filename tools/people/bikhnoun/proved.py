@@ -124,7 +124,7 @@ def export(arguments, name):
 
 def add_cache(part, is_named):
     """Adds the words that say which cache a curve is for. Where its machine is named, they are not its sets and ways."""
-    part.usage = "bikhnoun plan curve [-h] (SETS WAYS | --machine NAME) [TRACE]"
+    part.usage = "bikhnoun plan curve [-h] (SETS WAYS | --machine NAME) [--one-of N] [TRACE]"
     if not is_named:
         part.add_argument("sets", metavar="SETS", help="the sets of the cache, from 1 to 1048576")
         part.add_argument("ways", metavar="WAYS", help="its ways, up to 32")
@@ -132,6 +132,7 @@ def add_cache(part, is_named):
         "--machine", metavar="NAME",
         help="the L3 cache of a machine, in place of SETS and WAYS: `here` is this one, as Linux shows it; others are skylake_sp and so on, see docs/MACHINES.md",
     )
+    part.add_argument("--one-of", metavar="N", help="count a sample: the uses of one line of memory of N, in N times fewer sets")
 
 
 def shape_of(given, name):
@@ -146,6 +147,11 @@ def shape_of(given, name):
         raise Stopped(why, programs.USAGE) from None
     say(name, f"{given.machine}: {cache.sets} sets of {cache.ways} ways")
     return str(cache.sets), str(cache.ways)
+
+
+def curve_words(given, name):
+    """The words after `curve`."""
+    return *shape_of(given, name), *(("--one-of", given.one_of) if given.one_of is not None else ())
 
 
 def plan(arguments, name):
@@ -166,4 +172,4 @@ def plan(arguments, name):
         from curves.plans import draw_plan
 
         return draw_plan(given.file, given.svg, given.domain)
-    return run(PLANS[given.form], given, shape_of(given, name) if given.form == "curve" else ())
+    return run(PLANS[given.form], given, curve_words(given, name) if given.form == "curve" else ())

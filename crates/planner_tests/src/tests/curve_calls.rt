@@ -75,7 +75,7 @@ fn what_is_no_trace_is_told(rt: HostRuntime) -> Result<(), Fail> {
     Ok(())
 }
 
-const NO_FORMS: [&[&str]; 10] = [
+const NO_FORMS: [&[&str]; 19] = [
     &["curve", "1048577", "1"],
     &["curve", "4294967297", "1"],
     &["curve", "0", "1"],
@@ -86,9 +86,18 @@ const NO_FORMS: [&[&str]; 10] = [
     &["divide", "1", "1"],
     &["curve", "1"],
     &["divide", "1"],
+    &["curve", "4", "1", "--one-of", "5"],
+    &["curve", "4", "1", "--one-of", "0"],
+    &["curve", "4", "1", "--one-of", "-1"],
+    &["curve", "4", "1", "--one-of", ""],
+    &["curve", "4", "1", "--one_of", "2"],
+    &["curve", "4", "1", "--one-of"],
+    &["curve", "4", "33", "--one-of", "2"],
+    &["curve", "4", "1", "--one-of", "2", "--one-of", "2"],
+    &["divide", "4", "1", "--one-of", "2"],
 ];
 
-const USAGE_LINE: &[u8] = b"usage: resctrl_plan curve SETS WAYS | divide\n";
+const USAGE_LINE: &[u8] = b"usage: resctrl_plan curve SETS WAYS [--one-of N] | divide\n";
 
 #[test]
 fn other_words_are_no_form(rt: HostRuntime) -> Result<(), Fail> {

@@ -14,7 +14,7 @@ fn trace_of(alloc: Global, sets: u32) -> Result<Trace, NoMemory>
     if sets == 0 {
         return Err(NoMemory);
     }
-    Trace::create(alloc, sets)
+    Trace::create(alloc, sets, None)
 }
 
 #[test]
@@ -24,7 +24,8 @@ fn pieces_end_anywhere(rt: HostRuntime) -> Result<(), Fail> {
     trace.take(b"==1== Lackey\nI  0,4\r\n L 0,");
     trace.take(b"4\n M 7e,4\n S 0,4");
     assert_eq!(rt; trace.bad_line(), None);
-    let curves = trace.finish()?;
+    let sampled = trace.finish()?;
+    let curves = sampled.counted();
     assert_eq!(rt; curves.of_all().uses(), 7);
     assert_eq!(rt; curves.of_all().hits(1), 1);
     assert_eq!(rt; curves.of_all().hits(2), 3);

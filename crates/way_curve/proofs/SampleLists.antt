@@ -1,0 +1,43 @@
+-- Samples of uses, and of one use more.
+use Rattle.std.proofs.Common.{◌≡◌, ℕ, ◌≤◌, ◌++◌, Bool, true, false, if◌then◌else◌, List, [], ◌∷◌, length, Option, Some, None, refl, sym, ap, ◌∙◌, subst, inl, inr, arith}
+use Rattle.std.proofs.lemmas.Bool.{cases_Bool}
+use Rattle.std.proofs.lemmas.List.Elements.{filter-append}
+use Rattle.lackey_text.specs.declared.uses.LineUse.{LineUse}
+use Rattle.way_curve.specs.Counting.{AddUses, HaveCounted}
+use Rattle.way_curve.specs.Samples.{is_sampled, sample_of, sampled}
+use Rattle.way_curve.specs.Sampling.{AddSampled, SampledValue}
+
+module _ (one_of : ℕ) (u : LineUse) (uses : List LineUse) where
+  -- a use in front that the sample has
+  pub sample_of-cons_in : is_sampled one_of u.line ≡ true → sample_of one_of (u ∷ uses) ≡ u ∷ sample_of one_of uses
+  sample_of-cons_in h = ap (λ (b : Bool). if b then u ∷ sample_of one_of uses else sample_of one_of uses) h
+
+  -- and one that it has not
+  pub sample_of-cons_out : is_sampled one_of u.line ≡ false → sample_of one_of (u ∷ uses) ≡ sample_of one_of uses
+  sample_of-cons_out h = ap (λ (b : Bool). if b then u ∷ sample_of one_of uses else sample_of one_of uses) h
+
+-- a sample has no more uses than there are
+pub length-sample_of : (one_of : ℕ) (uses : List LineUse) → length (sample_of one_of uses) ≤ length uses
+length-sample_of one_of [] = omega arith
+length-sample_of one_of (u ∷ uses) =
+    let fewer = length-sample_of one_of uses in
+    elim (cases_Bool (is_sampled one_of u.line)) [
+      | inl h ↦ let same = ap length (sample_of-cons_in one_of u uses h) in omega (arith, fewer, same)
+      | inr h ↦ let same = ap length (sample_of-cons_out one_of u uses h) in omega (arith, fewer, same)
+    ]
+
+-- the sample of uses after uses
+pub sampled-append : (one_of : Option ℕ) (xs ys : List LineUse) → sampled one_of (xs ++ ys) ≡ sampled one_of xs ++ sampled one_of ys
+sampled-append None xs ys = refl
+sampled-append (Some n) xs ys = filter-append (λ (u : LineUse). is_sampled n u.line) xs ys
+
+-- curves that have counted what a sample has of these uses
+pub AddSampled-counted : (old new : SampledValue) (more : List LineUse) → new.one_of ≡ old.one_of → AddUses old.curves new.curves (sampled old.one_of more) → AddSampled old new more
+AddSampled-counted old new more kept adds = λ sampling uses have.
+    let asked : sampled old.one_of more ≡ sampled sampling.one_of more = ap (λ (o : Option ℕ). sampled o more) have.same in
+    let both : sampled sampling.one_of uses ++ sampled old.one_of more ≡ sampled sampling.one_of (uses ++ more) =
+    ap (λ (us : List LineUse). sampled sampling.one_of uses ++ us) asked ∙ sym (sampled-append sampling.one_of uses more) in
+    record {
+      same = kept ∙ have.same;
+      counted = subst (λ (us : List LineUse). HaveCounted sampling.sets new.curves us) both (adds sampling.sets (sampled sampling.one_of uses) have.counted);
+    }

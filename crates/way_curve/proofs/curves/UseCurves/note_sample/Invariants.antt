@@ -1,0 +1,13 @@
+use Rattle.std.proofs.Common.{◌≡◌, ◌+◌, length}
+use Rattle.lackey_text.specs.Uses.{uses_left, uses_of}
+use Rattle.way_curve.specs.Counting.{AddUses, CurvesValue}
+use Rattle.way_curve.specs.Samples.{sample_of}
+use Rattle.way_curve.proofs.curves.UseCurves.note_sample.Given as goal
+
+abbrev pub invariant-loop-used : goal.invariant-loop-used
+invariant-loop-used l = record {
+  next : (goal.iterator-loop-used).can_next l.used-iterator;
+  finite : (goal.iterator-loop-used).is_finite l.used-iterator;
+  count : l.self.uses + length (sample_of l.one_of (uses_left l.used-iterator)) ≡ l.initial.self.uses + length (sample_of l.one_of (uses_of l.said));
+  counted : (now : CurvesValue) → AddUses l.self now (sample_of l.one_of (uses_left l.used-iterator)) → AddUses l.initial.self now (sample_of l.one_of (uses_of l.said));
+}
