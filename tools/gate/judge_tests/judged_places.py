@@ -16,7 +16,7 @@ from changes import changed  # noqa: E402
 from statements import wrong_statements  # noqa: E402
 from judged.clauses import CLAUSES  # noqa: E402
 from judged.command import own_reading  # noqa: E402
-from tenants import EDITS, PLACES, SCRIPT  # noqa: E402
+from tenants import EDITS, PLACES, SCRIPT, WINDOWS  # noqa: E402
 
 INPUT = "bikhnoun check: standard input: "
 ROW = re.compile(r"^\| `no ([^`]*)` \| ([^|]*) \| `(sed [^`]*)` \|", re.MULTILINE)
@@ -79,6 +79,15 @@ def wrong_edits(program, journal):
             yield edit.what, (edit.place, edit.reason), text
 
 
+def wrong_windows(program, journal):
+    """What is said of a run, if it does not have the windows after the answer, and then what is not proved."""
+    status, text = shown(program, journal)
+    first, *rest = text.splitlines()
+    windows, others = rest[: len(WINDOWS)], rest[len(WINDOWS) :]
+    if (status, first, *windows) != (0, "yes", *WINDOWS) or not others or not all(one.startswith("not proved: ") for one in others):
+        yield "windows of a run", WINDOWS, text
+
+
 def own_answer(data):
     """What this reading answers, with a place for each clause."""
     answer, place, lines = own_reading(data)
@@ -105,7 +114,7 @@ def differences(program, count):
 def main(words):
     program, count = os.path.abspath(words[1]), int(words[2]) if len(words) > 2 else 500
     journal = asked(program, ["export", "step"], SCRIPT)[1]
-    wrong = [*wrong_clauses(program), *wrong_edits(program, journal), *wrong_statements(program, journal, BIKHNOUN)]
+    wrong = [*wrong_clauses(program), *wrong_edits(program, journal), *wrong_windows(program, journal), *wrong_statements(program, journal, BIKHNOUN)]
     differ, tried, refused = differences(program, count)
     for what, wanted, got in [*wrong, *((data[-300:], own, answer) for data, own, answer in differ)][:5]:
         print(f"{what!r}\n  {wanted!r}\n  {got!r}")

@@ -2,11 +2,13 @@
 from hashlib import sha256
 import subprocess
 
+from tenants import WINDOWS
+
 WIDTH = 80
 PIECES = (
     "each of 4 sets, 12 ways and 1 slice", "15 commands, 1 of them refused; 32 accesses; 42 entries", "group 1 /a: exclusive; domain 0: 00f (4 ways)",
     "group 2 /b: 9 to 15; domain 0: 7f0 (7 ways)", "The answer of the proved checker: yes", "What it does not say", "anything of time",
-    "least recently used", "without a flush", "a processor is this cache", "signature   ____", "date        ____",
+    "least recently used", "without a flush", "a processor is this cache", "signature   ____", "date        ____", *WINDOWS,
 )
 
 

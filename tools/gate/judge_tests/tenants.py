@@ -37,6 +37,13 @@ flush 0
 """
 
 
+# Each group uses 8 lines twice, which fit into its ways of 4 sets: the first uses miss, and the second hit.
+WINDOWS = (
+    "window 0.0 group 1 ways 4 from 5: accesses 16 hits 8 covered 16 hits 8 private 8",
+    "window 0.0 group 2 ways 7 from 5: accesses 16 hits 8 covered 16 hits 8 private 8",
+)
+
+
 class Edit(NamedTuple):
     """What is done to the lines that match a pattern, the answer, and what is said of the place, which may be another line."""
 

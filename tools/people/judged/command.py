@@ -12,13 +12,14 @@ from resctrl_sim.programs import CHECKER, INVALID, NO, ended, required
 from . import telling
 from .journal_lines import BadLine
 from .verdict import case_of, divided, first_false
+from .windows import windows_of
 
 YES = 0
 # So much takes this reading a minute, and 1.2 GB of memory.
 MOST_BYTES = 1 << 26
-NOTES = """The first line is the answer of the proved checker. Each line after it begins with `not proved:`. At `no CLAUSE` they say what the
-clause asks, and name the first entry or line at which it is false; at `yes` they have SHA-256 of script and journals, and what
-these consist of. Of an invalid file, the checker's message goes to standard error, and then what is wrong with its line.
+NOTES = """The first line is the answer of the proved checker. At `yes` the windows of these journals follow, as the proved `resctrl_replay report
+--windows` tells them. Each other line begins with `not proved:`. At `no CLAUSE` they say what the clause asks, and name the first
+entry or line at which it is false; at `yes` they have SHA-256 of script and journals, and what these consist of. Of an invalid file, the checker's message goes to standard error, and then what is wrong with its line.
 
 exit status: 0 the answer is yes; 1 the script or the file is invalid; 2 the command line is wrong; 3 the input could not be read, or the
 program is missing; 4 the output could not be written; 5 out of memory; 6 the answer is no."""
@@ -61,6 +62,8 @@ def beside(answer, data):
     """The lines beside the proved answer."""
     if answer.startswith("no "):
         yield telling.of_clause(answer.removeprefix("no "))
+    if answer == "yes":
+        yield from telling.of_windows(windows_of(data))
     if len(data) > MOST_BYTES:
         yield telling.of_length(MOST_BYTES)
         return

@@ -1,4 +1,4 @@
-"""What is printed beside the checker's answer. Each line says that it is not proved."""
+"""What is printed beside the checker's answer. Each line says that it is not proved, but for those of windows, which are."""
 from hashlib import sha256
 import re
 
@@ -15,6 +15,11 @@ def of_clause(clause):
 def of_place(found):
     """Where a clause is false."""
     return f"{MARK}{found.place}: {found.because}"
+
+
+def of_windows(lines):
+    """The windows of the journals, which are proved; or that nothing is there to count them."""
+    yield from [f"{MARK}resctrl_replay is missing, so the windows are not told"] if lines is None else lines
 
 
 def of_length(most):

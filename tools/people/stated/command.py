@@ -8,13 +8,14 @@ from explained.reader import Fault
 from judged.command import asked, parser_of
 from judged.journal_lines import BadLine
 from judged.verdict import case_of, divided, first_false
-from resctrl_sim.programs import CHECKER, INVALID, SIMULATOR, find, required
+from judged.windows import windows_of
+from resctrl_sim.programs import CHECKER, INVALID, REPLAY, SIMULATOR, find, required
 
 from .groups_held import groups_of
 from .page import page
 
-NOTES = """The page has the machine, the groups with their modes and masks, when each was exclusive, SHA-256 of the script, the journals and the
-programs, the answer of the proved checker with what it says and what it does not, and blanks for a name and a date. If the answer is
+NOTES = """The page has the machine, the groups with their modes and masks, when each was exclusive, the windows with their counts, SHA-256 of the
+script, the journals and the programs, the answer of the proved checker with what it says and what it does not, and blanks for a name and a date. If the answer is
 no, the page says so, and where. There is no page of an invalid file: `bikhnoun check` says what is wrong in it.
 
 exit status: 0 the answer is yes; 1 the file is invalid; 2 the command line is wrong; 3 the input could not be read, or the program is
@@ -30,8 +31,8 @@ def hashes_of(division, checker):
     """SHA-256 of all that the answer depends on, each with its name."""
     found = [("script", sha256(division.script).hexdigest()), ("journals", sha256(division.journals).hexdigest())]
     found.append((CHECKER, digest(checker)))
-    simulator = find(SIMULATOR)
-    return found + [(SIMULATOR, digest(simulator))] if simulator else found
+    others = ((name, find(name)) for name in (REPLAY, SIMULATOR))
+    return found + [(name, digest(path)) for name, path in others if path]
 
 
 def read(data, division):
@@ -54,7 +55,8 @@ def lines_of(name, data, answer, checker):
         raise Stopped(f"the checker answers `{answer}`, and this tool's own reading does not: please report it with the file")
     place = found[1] if found and answer == f"no {found[0]}" else None
     groups = None if found else groups_of(case)
-    return list(page(name_of(name), case, division, hashes_of(division, checker), groups, answer, place))
+    windows = None if found else windows_of(data)
+    return list(page(name_of(name), case, hashes_of(division, checker), groups, windows, answer, place))
 
 
 def main(arguments):

@@ -62,7 +62,7 @@ def machine_text(machine):
     return "; ".join(parts)
 
 
-def what_was_judged(name, case, division, hashes, refused):
+def what_was_judged(name, case, hashes, refused):
     """The first section."""
     yield head("1. What was judged")
     yield row("file", name)
@@ -74,7 +74,16 @@ def what_was_judged(name, case, division, hashes, refused):
     yield row("operations", f"{counted(len(case.journals.tree), 'command')}{refused}; {case.ops.accesses()} accesses; {entries} entries of slices")
 
 
-def who_had_which_ways(case, groups):
+def windows_text(lines):
+    """The windows in which the promise of isolation is about accesses, with their counts."""
+    yield "  Windows with accesses, as the proved resctrl_replay report tells them:"
+    for line in lines or ():
+        yield wrapped(line, "    ", "      ")
+    if not lines:
+        yield "    none" if lines is not None else "    not told: resctrl_replay is missing"
+
+
+def who_had_which_ways(case, groups, windows):
     """The second section."""
     yield head("2. Groups and masks")
     yield "  After the last command:"
@@ -86,6 +95,7 @@ def who_had_which_ways(case, groups):
         yield wrapped(f"group {one.gid} {one.path}: {one.first} to {one.last}; {masks_text(case.machine, one.masks)}; {flushes}", "    ", "      ")
     if not groups.held:
         yield "    none: no group was ever exclusive, so nothing of isolation is promised"
+    yield from windows_text(windows)
 
 
 def what_the_answer_says(answer, place):
@@ -108,14 +118,14 @@ def signed():
         yield f"  {what:<12}{'_' * 60}\n"
 
 
-def page(name, case, division, hashes, groups, answer, place):
+def page(name, case, hashes, groups, windows, answer, place):
     """The whole page, line by line."""
     title = "Statement on the journals of a simulated cache"
     yield f"{title}\n{'=' * len(title)}"
-    note = "The answer in section 3 is that of a program which is proved; all else on this page was put together by a tool which is not."
+    note = "The answer in section 3 and the windows are those of programs which are proved; all else on this page was put together by a tool which is not."
     yield "\n" + wrapped(note, "", "")
-    yield from what_was_judged(name, case, division, hashes, f", {groups.refused} of them refused" if groups else "")
+    yield from what_was_judged(name, case, hashes, f", {groups.refused} of them refused" if groups else "")
     if groups:
-        yield from who_had_which_ways(case, groups)
+        yield from who_had_which_ways(case, groups, windows)
     yield from what_the_answer_says(answer, place)
     yield from signed()
