@@ -38,9 +38,19 @@ def accesses(script):
         script.write(f"sweep 1 0 {64 * (at % 4_000)} 10 64\nsweep 2 1 {2**24 + 64 * (at % 40_000)} 10 64\n")
 
 
+FAR = 64 * 2_000
+
+
+def quiet_trace(script):
+    """Uses of lines far from one another after a flush, where no side of a group has ways for itself."""
+    script.write("machine sets=1024 ways=16 classes=4\ntasks 1\nflush\ntrace 1 0\n")
+    script.writelines(f" L {FAR * at:012x},8\n" for at in range(USES // 2))
+    script.write("end\n")
+
+
 def quiet(script):
     """Accesses to lines far from one another after a flush, where no group is ever exclusive."""
-    script.write(f"machine sets=1024 ways=16\ntasks 1\nflush\nsweep 1 0 0 {USES - 20_000} {64 * 2_000}\n")
+    script.write(f"machine sets=1024 ways=16\ntasks 1\nflush\nsweep 1 0 0 {USES - 20_000} {FAR}\n")
 
 
 def main(words):
@@ -49,7 +59,7 @@ def main(words):
     print(HEAD)
     with tempfile.TemporaryDirectory() as folder:
         cdp, l2 = words[1:]
-        for program, write in (cdp, trace), (l2, accesses), (cdp, quiet), (l2, quiet):
+        for program, write in (cdp, trace), (l2, accesses), (cdp, quiet_trace), (l2, quiet):
             path = os.path.join(folder, write.__name__)
             with open(path, "w") as script:
                 write(script)
