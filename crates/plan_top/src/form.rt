@@ -1,5 +1,6 @@
 //! What the words after the program's name ask for.
-ghost use Rattle.std.specs.Prelude.{◌≡◌, ◌<◌, ◌≤◌, Some, None};
+ghost use Rattle.std.specs.Prelude.{◌≡◌, ◌<◌, ◌≤◌, Some, None, false};
+ghost use Rattle.plan_top.specs.CurveForms.{with_first};
 ghost use Rattle.way_curve.specs.Samples.{sample_sets};
 
 use std::marker::Model;
@@ -7,19 +8,20 @@ use std::marker::Model;
 /// What a command line asks for.
 #[derive(Drop)]
 pub enum Form {
-    /// `curve SETS WAYS [--one-of N]`: the curves of a trace.
+    /// `curve SETS WAYS [--one-of N] [--first]`: the curves of a trace.
     Curve(CurveForm),
     /// `divide`: the plan of a script.
     Divide,
 }
 
 /// What `curve SETS WAYS` asks for: the hits of caches of so many sets, 1 at least, with each number of ways up to this one; of all
-/// lines, or of a sample of one line of so many.
+/// lines, or of a sample of one line of so many; with first uses or without.
 #[derive(Drop)]
 pub struct CurveForm {
     sets: u32,
     ways: u8,
     one_of: Option<u32>,
+    has_first: bool,
 }
 
 impl Model for CurveForm {
@@ -27,7 +29,7 @@ impl Model for CurveForm {
 
     ghost Value = { CurveWords };
 
-    ghost view = { λ f. record { sets = f.sets; ways = f.ways; one_of = f.one_of } };
+    ghost view = { λ f. record { sets = f.sets; ways = f.ways; one_of = f.one_of; has_first = f.has_first } };
 
     ghost invariant = { λ f. IsInRange f.sets f.ways f.one_of };
 }
@@ -37,12 +39,13 @@ impl CurveForm {
     pub fn new(sets: u32, ways: u8) -> CurveForm
         requires some { 0 < sets }
         requires few { ways ≤ 32 }
-        ensures { result ≡ record { sets = sets; ways = ways; one_of = None } }
+        ensures { result ≡ record { sets = sets; ways = ways; one_of = None; has_first = false } }
     {
         CurveForm {
             sets,
             ways,
             one_of: None,
+            has_first: false,
         }
     }
 
@@ -50,12 +53,25 @@ impl CurveForm {
     pub fn sampled(self, one_of: u32) -> CurveForm
         requires some { 0 < one_of }
         requires few { one_of ≤ self.sets }
-        ensures { result ≡ record { sets = self.sets; ways = self.ways; one_of = Some one_of } }
+        ensures { result ≡ record { sets = self.sets; ways = self.ways; one_of = Some one_of; has_first = self.has_first } }
     {
         CurveForm {
             sets: self.sets,
             ways: self.ways,
             one_of: Some(one_of),
+            has_first: self.has_first,
+        }
+    }
+
+    /// The same with first uses.
+    pub fn with_first(self) -> CurveForm
+        ensures { result ≡ with_first self }
+    {
+        CurveForm {
+            sets: self.sets,
+            ways: self.ways,
+            one_of: self.one_of,
+            has_first: true,
         }
     }
 
@@ -77,6 +93,13 @@ impl CurveForm {
             None => self.sets,
             Some(one_of) => self.sets / one_of,
         }
+    }
+
+    /// Whether first uses are counted.
+    pub fn has_first(&self) -> bool
+        ensures { result ≡ self.now.has_first }
+    {
+        self.has_first
     }
 
     /// Of how many lines the sample has one, if one is taken.

@@ -6,6 +6,8 @@ ghost use Rattle.way_curve.specs.Sampling.{HaveSampled};
 ghost use Rattle.way_curve.specs.Reading.{AreOf, HasRead};
 ghost use Rattle.way_curve.specs.TraceTexts.{trace_of};
 ghost use Rattle.way_curve.specs.CurveTexts.{bad_line_text, curves_text};
+ghost use Rattle.way_curve.specs.FirstUses.{asked_first_uses};
+ghost use Rattle.way_curve.specs.Samples.{sampled};
 ghost use Rattle.way_curve.specs.declared.report_limits.TheConstants.{MOST_REPORT_BYTES, MOST_SAMPLE_BYTES};
 ghost use Rattle.plan_top.specs.Beginnings.{HasNoBadLine};
 ghost use Rattle.plan_top.specs.CurveForms.{CurveWords, sampling_of};
@@ -16,27 +18,34 @@ use call_rim::{Performed, StreamProgram, Taken};
 use rc_base::{NoMemory, TextBuf};
 use std::alloc::Global;
 use way_curve::{
-    BadTrace, MOST_REFUSAL_BYTES, MOST_REPORT_BYTES, MOST_SAMPLE_BYTES, SampledCurves, Trace,
-    push_bad_line, push_report, push_sample,
+    BadTrace, FirstUses, MOST_REFUSAL_BYTES, MOST_REPORT_BYTES, MOST_SAMPLE_BYTES, SampledCurves,
+    Trace, push_bad_line, push_report, push_sample,
 };
 
-// Adds the report of curves, for each number of ways that is asked for.
-fn push_curves(form: &CurveForm, curves: &SampledCurves, out: &mut TextBuf)
+// Adds the report of curves, for each number of ways that is asked for, with the first uses, if they are counted.
+fn push_curves(
+    form: &CurveForm,
+    first: Option<FirstUses>,
+    curves: &SampledCurves,
+    out: &mut TextBuf,
+)
     requires { MOST_SAMPLE_BYTES + MOST_REPORT_BYTES ≤ out.old.spare }
     ensures { (uses : List Use) → HaveSampled (sampling_of form.now) curves.now uses
-        → out.new.bytes ≡ out.old.bytes ++ curves_text form.now.one_of form.now.sets form.now.ways uses }
+        → first ≡ asked_first_uses form.now.has_first (sampled form.now.one_of uses)
+        → out.new.bytes ≡ out.old.bytes ++ curves_text form.now.one_of form.now.has_first form.now.sets form.now.ways uses }
 {
     push_sample(form.one_of(), form.sample_sets(), out);
-    push_report(curves.counted(), form.ways(), out);
+    push_report(curves.counted(), first, form.ways(), out);
 }
 
 // The report of curves.
 fn report(alloc: Global, form: &CurveForm, curves: &SampledCurves) -> Result<Vec<u8>, NoMemory>
     ensures { IfOk result (λ text. (uses : List Use) → HaveSampled (sampling_of form.now) curves.now uses
-        → text.items ≡ curves_text form.now.one_of form.now.sets form.now.ways uses) }
+        → text.items ≡ curves_text form.now.one_of form.now.has_first form.now.sets form.now.ways uses) }
 {
+    let first = curves.first_uses()?;
     let mut text = TextBuf::with_room(alloc, MOST_SAMPLE_BYTES + MOST_REPORT_BYTES)?;
-    push_curves(form, curves, &mut text);
+    push_curves(form, first, curves, &mut text);
     let bytes = Vec::from_slice(alloc, text.bytes())?;
     Ok(bytes)
 }
@@ -90,7 +99,7 @@ impl StreamProgram for CurveForm {
     ghost reports = { reports_of };
 
     fn begin(&self, alloc: Global) -> Result<Trace, NoMemory> {
-        Trace::create(alloc, self.sample_sets(), self.one_of())
+        Trace::create(alloc, self.sample_sets(), self.one_of(), self.has_first())
     }
 
     fn take(&self, alloc: Global, trace: &mut Trace, piece: &[u8]) -> Taken {

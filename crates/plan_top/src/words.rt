@@ -8,7 +8,7 @@ use num_text::read_dec;
 use rc_base::is_text;
 
 /// The line for a command line that is not valid.
-pub const USAGE: &str = "usage: resctrl_plan curve SETS WAYS [--one-of N] | divide\n";
+pub const USAGE: &str = "usage: resctrl_plan curve SETS WAYS [--one-of N] [--first] | divide\n";
 
 // The number of sets that a word is.
 fn sets_of(text: &[u8]) -> Option<u32>
@@ -77,8 +77,8 @@ fn sample_of(sets: &[u8], ways: &[u8], one_of: &[u8]) -> Option<CurveForm>
     }
 }
 
-/// What a command line asks for, and None where it is not valid: `curve`, a number of sets, a number of ways and, after `--one-of`, of
-/// how many lines a sample has one; or `divide`; and nothing else. (This project's profile.)
+/// What a command line asks for, and None where it is not valid: `curve`, a number of sets, a number of ways, after `--one-of` of how
+/// many lines a sample has one, and `--first`; or `divide`; and nothing else. (This project's profile.)
 pub fn form_of(words: &[String]) -> Option<Form>
     ensures { result ≡ form_in words.now }
 {
@@ -87,9 +87,23 @@ pub fn form_of(words: &[String]) -> Option<Form>
         [command, sets, ways] if is_text(command.as_bytes(), b"curve") => {
             curve_of(sets.as_bytes(), ways.as_bytes()).map(Form::Curve)
         }
+        [command, sets, ways, first]
+            if is_text(command.as_bytes(), b"curve") && is_text(first.as_bytes(), b"--first") => {
+            curve_of(sets.as_bytes(), ways.as_bytes())
+                .map(CurveForm::with_first)
+                .map(Form::Curve)
+        }
         [command, sets, ways, word, one_of]
             if is_text(command.as_bytes(), b"curve") && is_text(word.as_bytes(), b"--one-of") => {
             sample_of(sets.as_bytes(), ways.as_bytes(), one_of.as_bytes()).map(Form::Curve)
+        }
+        [command, sets, ways, word, one_of, first]
+            if is_text(command.as_bytes(), b"curve")
+                && is_text(word.as_bytes(), b"--one-of")
+                && is_text(first.as_bytes(), b"--first") => {
+            sample_of(sets.as_bytes(), ways.as_bytes(), one_of.as_bytes())
+                .map(CurveForm::with_first)
+                .map(Form::Curve)
         }
         _ => None,
     }

@@ -2,6 +2,7 @@
 
 mod curve_calls;
 mod curves;
+mod first_uses;
 mod plans;
 mod samples;
 mod traces;

@@ -4,6 +4,7 @@ pub mod Counts
 pub mod CurveLines
 mod CurveSteps
 pub mod FewUses
+pub mod FirstCounts
 pub mod FirstLines
 mod Fronts
 mod Powers

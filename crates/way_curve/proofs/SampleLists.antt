@@ -1,11 +1,13 @@
 -- Samples of uses, and of one use more.
 use Rattle.std.proofs.Common.{◌≡◌, ℕ, ◌≤◌, ◌++◌, Bool, true, false, if◌then◌else◌, List, [], ◌∷◌, length, Option, Some, None, refl, sym, ap, ◌∙◌, subst, inl, inr, arith}
+use Rattle.std.specs.Prelude.{IfSome}
 use Rattle.std.proofs.lemmas.Bool.{cases_Bool}
 use Rattle.std.proofs.lemmas.List.Elements.{filter-append}
 use Rattle.lackey_text.specs.declared.uses.LineUse.{LineUse}
 use Rattle.way_curve.specs.Counting.{AddUses, HaveCounted}
-use Rattle.way_curve.specs.Samples.{is_sampled, sample_of, sampled}
-use Rattle.way_curve.specs.Sampling.{AddSampled, SampledValue}
+use Rattle.way_curve.specs.Noted.{HaveNotedUses, NotedUses}
+use Rattle.way_curve.specs.Samples.{is_kept, is_sampled, sample_of, sampled}
+use Rattle.way_curve.specs.Sampling.{AddSampled, NoteFirst, SampledValue}
 
 module _ (one_of : ℕ) (u : LineUse) (uses : List LineUse) where
   -- a use in front that the sample has
@@ -31,13 +33,31 @@ pub sampled-append : (one_of : Option ℕ) (xs ys : List LineUse) → sampled on
 sampled-append None xs ys = refl
 sampled-append (Some n) xs ys = filter-append (λ (u : LineUse). is_sampled n u.line) xs ys
 
--- curves that have counted what a sample has of these uses
-pub AddSampled-counted : (old new : SampledValue) (more : List LineUse) → new.one_of ≡ old.one_of → AddUses old.curves new.curves (sampled old.one_of more) → AddSampled old new more
-AddSampled-counted old new more kept adds = λ sampling uses have.
+-- of no uses there is none
+pub sampled-nil : (one_of : Option ℕ) → sampled one_of [] ≡ []
+sampled-nil None = refl
+sampled-nil (Some n) = refl
+
+-- a use in front that the sample has, if one is taken
+pub sampled-cons_in : (one_of : Option ℕ) (u : LineUse) (uses : List LineUse) → is_kept one_of u.line ≡ true → sampled one_of (u ∷ uses) ≡ u ∷ sampled one_of uses
+sampled-cons_in None u uses h = refl
+sampled-cons_in (Some n) u uses h = sample_of-cons_in n u uses h
+
+-- and one that the sample has not
+pub sampled-cons_out : (one_of : Option ℕ) (u : LineUse) (uses : List LineUse) → is_kept one_of u.line ≡ false → sampled one_of (u ∷ uses) ≡ sampled one_of uses
+sampled-cons_out None u uses h = let never : true ≡ false = h in absurd cc
+sampled-cons_out (Some n) u uses h = sample_of-cons_out n u uses h
+
+-- curves that have counted what a sample has of these uses, with its different lines
+pub AddSampled-counted : (old new : SampledValue) (more : List LineUse) → new.one_of ≡ old.one_of → AddUses old.curves new.curves (sampled old.one_of more)
+    → NoteFirst old.first new.first (sampled old.one_of more) → AddSampled old new more
+AddSampled-counted old new more kept adds notes = λ sampling uses have.
     let asked : sampled old.one_of more ≡ sampled sampling.one_of more = ap (λ (o : Option ℕ). sampled o more) have.same in
     let both : sampled sampling.one_of uses ++ sampled old.one_of more ≡ sampled sampling.one_of (uses ++ more) =
     ap (λ (us : List LineUse). sampled sampling.one_of uses ++ us) asked ∙ sym (sampled-append sampling.one_of uses more) in
     record {
       same = kept ∙ have.same;
       counted = subst (λ (us : List LineUse). HaveCounted sampling.sets new.curves us) both (adds sampling.sets (sampled sampling.one_of uses) have.counted);
+      has_first = notes.kept ∙ have.has_first;
+      noted = subst (λ (us : List LineUse). IfSome new.first (λ (noted : NotedUses). HaveNotedUses noted us)) both (notes.notes (sampled sampling.one_of uses) have.noted);
     }

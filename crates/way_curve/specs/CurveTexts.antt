@@ -1,9 +1,10 @@
 -- The report of the uses of a trace, and the line that refuses one.
-use Rattle.std.specs.Prelude.{ℕ, ◌-◌, List, [], ◌∷◌, ◌++◌, length, codes, decimal, Option, Some, None}
+use Rattle.std.specs.Prelude.{ℕ, ◌-◌, ◌/◌, Bool, true, false, nat_lt, List, [], ◌∷◌, ◌++◌, length, codes, decimal, Option, Some, None}
 use Rattle.std.specs.List.{flat_map, range_with_len}
 use Rattle.lackey_text.specs.declared.uses.LineUse.{LineUse}
 use Rattle.way_curve.specs.Curves.{set_hits_of}
 use Rattle.way_curve.specs.Counting.{all_lines, code_lines, data_lines}
+use Rattle.way_curve.specs.FirstUses.{first_uses_if}
 use Rattle.way_curve.specs.Samples.{sample_sets, sampled}
 
 -- the line of one number of ways, by how many uses there are and how many of them hit: `ways W: accesses A hits H misses M`
@@ -19,16 +20,31 @@ line_of_ways sets lines ways = ways_line ways (length lines) (set_hits_of sets w
 abbrev pub curve_lines : ℕ → ℕ → List ℕ → List ℕ
 curve_lines sets ways lines = flat_map (line_of_ways sets lines) (range_with_len 1 ways)
 
--- a part of the report: its name on a line, and then the lines of each number of ways
-abbrev pub part_text : ℕ → ℕ → List ℕ → List ℕ → List ℕ
-part_text sets ways name lines = name ++ curve_lines sets ways lines
+-- the line that stands where most misses are first uses, so that more ways could change little
+abbrev pub hint_text : Bool → List ℕ
+hint_text false = []
+hint_text true = codes "hint: most misses with one way are first uses" ++ 10 ∷ []
 
--- The report of these uses for caches of so many sets, with up to so many ways: all of them, those of data, and those of code.
-abbrev pub report_of : ℕ → ℕ → List LineUse → List ℕ
-report_of sets ways uses =
-    part_text sets ways (codes "data and code:" ++ 10 ∷ []) (all_lines uses) ++
-    part_text sets ways (codes "data:" ++ 10 ∷ []) (data_lines uses) ++
-    part_text sets ways (codes "code:" ++ 10 ∷ []) (code_lines uses)
+-- the line of so many first uses, and the hint, if they are more than half of so many misses: `first uses N`
+abbrev pub first_text : ℕ → ℕ → List ℕ
+first_text first misses = (codes "first uses " ++ decimal first ++ 10 ∷ []) ++ hint_text (nat_lt (misses / 2) first)
+
+-- the lines of the first uses of these lines, by the misses in caches of one way; nothing where they are not asked for
+abbrev pub first_lines : Option ℕ → ℕ → List ℕ → List ℕ
+first_lines None sets lines = []
+first_lines (Some first) sets lines = first_text first (length lines - set_hits_of sets 1 lines)
+
+-- a part of the report: its name on a line, the first uses, if they are asked for, and then the lines of each number of ways
+abbrev pub part_text : Option ℕ → ℕ → ℕ → List ℕ → List ℕ → List ℕ
+part_text first sets ways name lines = name ++ first_lines first sets lines ++ curve_lines sets ways lines
+
+-- The report of these uses for caches of so many sets, with up to so many ways: all of them, those of data, and those of code; with
+-- the first uses among them, if they are asked for.
+abbrev pub report_of : Bool → ℕ → ℕ → List LineUse → List ℕ
+report_of has_first sets ways uses =
+    part_text (first_uses_if has_first (all_lines uses)) sets ways (codes "data and code:" ++ 10 ∷ []) (all_lines uses) ++
+    part_text (first_uses_if has_first (data_lines uses)) sets ways (codes "data:" ++ 10 ∷ []) (data_lines uses) ++
+    part_text (first_uses_if has_first (code_lines uses)) sets ways (codes "code:" ++ 10 ∷ []) (code_lines uses)
 
 -- What stands above the report where its counts are of a sample, by the sample and the sets of its caches: `sample: one of N lines, S sets`.
 abbrev pub sample_text : Option ℕ → ℕ → List ℕ
@@ -36,9 +52,9 @@ sample_text None sets = []
 sample_text (Some one_of) sets = (codes "sample: one of " ++ decimal one_of) ++ (codes " lines, " ++ decimal sets) ++ (codes " sets" ++ 10 ∷ [])
 
 -- The report of these uses for a cache of so many sets, with up to so many ways: of all of them, or of a sample of one line of so many,
--- which says so.
-abbrev pub curves_text : Option ℕ → ℕ → ℕ → List LineUse → List ℕ
-curves_text one_of sets ways uses = sample_text one_of (sample_sets one_of sets) ++ report_of (sample_sets one_of sets) ways (sampled one_of uses)
+-- which says so; with first uses, if they are asked for.
+abbrev pub curves_text : Option ℕ → Bool → ℕ → ℕ → List LineUse → List ℕ
+curves_text one_of has_first sets ways uses = sample_text one_of (sample_sets one_of sets) ++ report_of has_first (sample_sets one_of sets) ways (sampled one_of uses)
 
 -- The line that refuses a trace by the number of its first bad line: `line N: bad trace line`.
 abbrev pub bad_line_text : ℕ → List ℕ

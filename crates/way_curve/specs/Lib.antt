@@ -2,8 +2,10 @@ pub mod Counting
 pub mod CurveTexts
 pub mod Curves
 pub mod Distances
+pub mod FirstUses
 pub mod IsCurve
 pub mod Laws
+pub mod Noted
 pub mod Reading
 pub mod Samples
 pub mod Sampling

@@ -1,5 +1,5 @@
 -- Samples of uses: those of the lines whose hash falls into one of so many equal parts.
-use Rattle.std.specs.Prelude.{ℕ, ◌*◌, ◌/◌, ◌%◌, ◌^◌, Bool, nat_lt, bit_xor, List, Option, Some, None}
+use Rattle.std.specs.Prelude.{ℕ, ◌*◌, ◌/◌, ◌%◌, ◌^◌, Bool, true, nat_lt, bit_xor, List, Option, Some, None}
 use Rattle.std.specs.List.{filter}
 use Rattle.lackey_text.specs.declared.uses.LineUse.{LineUse}
 
@@ -28,6 +28,11 @@ sample_of one_of uses = filter (λ (u : LineUse). is_sampled one_of u.line) uses
 abbrev pub sampled : Option ℕ → List LineUse → List LineUse
 sampled None uses = uses
 sampled (Some one_of) uses = sample_of one_of uses
+
+-- (For proofs.) whether a line is in the sample, and true where none is taken
+abbrev pub is_kept : Option ℕ → ℕ → Bool
+is_kept None line = true
+is_kept (Some one_of) line = is_sampled one_of line
 
 -- How many sets the caches of a sample have, out of those of the cache that is asked about: of one line of so many as many times fewer,
 -- rounded down; all of them where no sample is taken.

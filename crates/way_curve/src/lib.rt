@@ -6,15 +6,18 @@
 //! A cache of w ways that replaces the line used longest ago keeps the w lines used last of each set. So one list of the last
 //! 32 lines of a set serves every number of ways: a line at place d of the list hits with more than d ways, and with no fewer.
 //!
-//! Cold misses, the first use of each line, are not told from others: that would take every line that was ever used, which is
-//! memory without bound. A line that comes back after 32 others of its set counts as a miss for every number of ways, as one
-//! that is new does.
+//! Cold misses, the first use of each line, are counted only where that is asked for (`NotedUses`): that takes every line that was ever
+//! used, which is memory without bound. A line that comes back after 32 others of its set counts as a miss for every number of ways,
+//! as one that is new does.
 #![tactic(auto)]
 
 pub mod curve;
 pub mod curves;
+pub mod different_lines;
 mod distances;
+pub mod first_uses;
 pub mod limits;
+pub mod noted_uses;
 mod numbers;
 mod recent_lines;
 pub mod refusal;
@@ -31,7 +34,10 @@ pub mod trace_theorems;
 
 pub use curve::Curve;
 pub use curves::UseCurves;
+pub use different_lines::DifferentLines;
+pub use first_uses::FirstUses;
 pub use limits::{MOST_LINE_BYTES, MOST_TRACE_BYTES};
+pub use noted_uses::NotedUses;
 pub use refusal::push_bad_line;
 pub use report::{push_report, push_sample};
 pub use report_limits::{MOST_REFUSAL_BYTES, MOST_REPORT_BYTES, MOST_SAMPLE_BYTES};

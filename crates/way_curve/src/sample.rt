@@ -1,6 +1,6 @@
 //! The sample of the lines whose hash falls into one of so many equal parts.
 ghost use Rattle.std.specs.Prelude.{◌≡◌};
-ghost use Rattle.way_curve.specs.Samples.{is_sampled as is_in_sample, line_hash as hash_of};
+ghost use Rattle.way_curve.specs.Samples.{is_kept as is_kept_in, is_sampled as is_in_sample, line_hash as hash_of};
 
 // The hash of a line: the finalizer of the generator SplitMix64.
 #[tactic(auto, unfolding(crate::specs::Samples::line_hash))]
@@ -19,4 +19,14 @@ pub fn is_sampled(one_of: u32, line: u64) -> bool
     ensures { result ≡ is_in_sample one_of line }
 {
     (line_hash(line) >> 32) * u64::from(one_of) < 1 << 32
+}
+
+/// Whether a line is in the sample, if one is taken.
+pub fn is_kept(one_of: Option<u32>, line: u64) -> bool
+    ensures { result ≡ is_kept_in one_of line }
+{
+    match one_of {
+        None => true,
+        Some(one_of) => is_sampled(one_of, line),
+    }
 }

@@ -41,16 +41,21 @@ impl Model for Trace {
 }
 
 impl Trace {
-    /// A trace of no text, for caches of so many sets, 1 at least, and for a sample of one line of memory of so many, if one is
-    /// taken. NoMemory where the allocator gives no room for the longest line and for the last lines of each set. No other
-    /// call takes memory.
-    pub fn create(alloc: Global, sets: u32, one_of: Option<u32>) -> Result<Trace, NoMemory>
+    /// A trace of no text, for caches of so many sets, 1 at least, for a sample of one line of memory of so many, if one is taken, and
+    /// with first uses, if they are counted. NoMemory where the allocator gives no room for the longest line and for the last lines
+    /// of each set. No other call takes memory but for first uses.
+    pub fn create(
+        alloc: Global,
+        sets: u32,
+        one_of: Option<u32>,
+        has_first: bool,
+    ) -> Result<Trace, NoMemory>
         requires { 0 < sets }
         ensures bytes { IfOk result (λ t. t.bytes ≡ 0) }
-        ensures empty { IfOk result (λ t. HasRead (record { sets = sets; one_of = one_of }) t []) }
+        ensures empty { IfOk result (λ t. HasRead (record { sets = sets; one_of = one_of; has_first = has_first }) t []) }
     {
         let rest = Vec::with_capacity(alloc, MOST_LINE_BYTES + 1)?;
-        let curves = SampledCurves::create(alloc, sets, one_of)?;
+        let curves = SampledCurves::create(alloc, sets, one_of, has_first)?;
         Ok(Trace {
             bytes: 0,
             ended: 0,

@@ -41,7 +41,7 @@ class Completion(unittest.TestCase):
         self.assertEqual(completed("bikhnoun", "traces", "--for", ""), set(WRITERS))
         self.assertEqual(completed("bikhnoun", "translate", ""), set(FORMS))
         self.assertEqual(completed("resctrl_check", "export", ""), {"step", "run"})
-        self.assertEqual(completed("resctrl_plan", "curve", "4", "2", ""), {"--one-of"})
+        self.assertEqual(completed("resctrl_plan", "curve", "4", "2", ""), {"--one-of", "--first"})
 
     def test_flags_are_those_of_the_help(self):
         for word in WORDS:

@@ -124,7 +124,7 @@ def export(arguments, name):
 
 def add_cache(part, is_named):
     """Adds the words that say which cache a curve is for. Where its machine is named, they are not its sets and ways."""
-    part.usage = "bikhnoun plan curve [-h] (SETS WAYS | --machine NAME) [--one-of N] [TRACE]"
+    part.usage = "bikhnoun plan curve [-h] (SETS WAYS | --machine NAME) [--one-of N] [--first] [TRACE]"
     if not is_named:
         part.add_argument("sets", metavar="SETS", help="the sets of the cache, from 1 to 1048576")
         part.add_argument("ways", metavar="WAYS", help="its ways, up to 32")
@@ -133,6 +133,7 @@ def add_cache(part, is_named):
         help="the L3 cache of a machine, in place of SETS and WAYS: `here` is this one, as Linux shows it; others are skylake_sp and so on, see docs/MACHINES.md",
     )
     part.add_argument("--one-of", metavar="N", help="count a sample: the uses of one line of memory of N, in N times fewer sets")
+    part.add_argument("--first", action="store_true", help="count the first uses of lines, too, which takes memory for each line")
 
 
 def shape_of(given, name):
@@ -151,7 +152,8 @@ def shape_of(given, name):
 
 def curve_words(given, name):
     """The words after `curve`."""
-    return *shape_of(given, name), *(("--one-of", given.one_of) if given.one_of is not None else ())
+    sample = ("--one-of", given.one_of) if given.one_of is not None else ()
+    return *shape_of(given, name), *sample, *(("--first",) if given.first else ())
 
 
 def plan(arguments, name):

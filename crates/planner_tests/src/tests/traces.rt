@@ -14,7 +14,7 @@ fn trace_of(alloc: Global, sets: u32) -> Result<Trace, NoMemory>
     if sets == 0 {
         return Err(NoMemory);
     }
-    Trace::create(alloc, sets, None)
+    Trace::create(alloc, sets, None, false)
 }
 
 #[test]

@@ -5,7 +5,7 @@ use Rattle.way_curve.specs.Samples.{sample_sets, sampled}
 use Rattle.plan_top.proofs.program.push_curves.Goals as goal
 
 pub returns : goal.returns
-returns c = λ uses have.
+returns c = λ uses have is_first.
     let form = c.args.form.now in
     let sets = sample_sets form.one_of form.sets in
     let counted = sampled form.one_of uses in
@@ -15,6 +15,6 @@ returns c = λ uses have.
     let first : mid ≡ old ++ line = c.push_sample.ensures.bytes
     ∙ (ap (λ (o : Option ℕ). old ++ sample_text o c.sample_sets.result) c.one_of.ensures ∙ ap (λ (n : ℕ). old ++ sample_text form.one_of n) c.sample_sets.ensures.sets) in
     let have_counted : HaveCounted sets c.counted.result.now counted = subst (λ (v : CurvesValue). HaveCounted sets v counted) (sym c.counted.ensures) have.counted in
-    let next : c.push_report.new.out.bytes ≡ mid ++ report_of sets form.ways counted = c.push_report.ensures sets counted have_counted
-    ∙ ap (λ (w : ℕ). mid ++ report_of sets w counted) c.ways.ensures.ways in
-    next ∙ (ap (λ (text : List ℕ). text ++ report_of sets form.ways counted) first ∙ append_assoc old line (report_of sets form.ways counted))
+    let next : c.push_report.new.out.bytes ≡ mid ++ report_of form.has_first sets form.ways counted = c.push_report.ensures form.has_first sets counted have_counted is_first
+    ∙ ap (λ (w : ℕ). mid ++ report_of form.has_first sets w counted) c.ways.ensures.ways in
+    next ∙ (ap (λ (text : List ℕ). text ++ report_of form.has_first sets form.ways counted) first ∙ append_assoc old line (report_of form.has_first sets form.ways counted))

@@ -1,7 +1,7 @@
 use Rattle.std.proofs.Common.{◌≡◌, ℕ, ◌+◌, ◌*◌, ◌≤◌, List, ◌++◌}
 use Rattle.way_curve.specs.Counting.{IsCurveOf}
 use Rattle.way_curve.specs.CurveTexts.{curve_lines}
-use Rattle.way_curve.proofs.report.push_part.Given as goal
+use Rattle.way_curve.proofs.report.push_lines.Given as goal
 
 abbrev pub invariant-loop-fewer : goal.invariant-loop-fewer
 invariant-loop-fewer l = record {
