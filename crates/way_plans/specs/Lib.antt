@@ -1,3 +1,5 @@
+pub mod ComparedTexts
+pub mod Comparisons
 pub mod Divisions
 pub mod GroupLines
 pub mod Masks

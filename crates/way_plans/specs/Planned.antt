@@ -1,5 +1,7 @@
 -- The plan of a script that was played, and the text that tells it.
 use Rattle.std.specs.Prelude.{◌≡◌, ℕ, ◌+◌, List, [], ◌∷◌, length, Option, Some, None}
+use Rattle.way_plans.specs.ComparedTexts.{compared_text}
+use Rattle.way_plans.specs.Comparisons.{comparisons_in}
 use Rattle.way_plans.specs.PlanTexts.{DomainPart, plan_text}
 use Rattle.run_law.specs.Journals.{JournalsValue}
 use Rattle.run_law.specs.TreeHistory.{tree_after}
@@ -33,3 +35,9 @@ pub record TellsPlan (script : ScriptValue) (j : JournalsValue) (text : List ℕ
   pub parts : List DomainPart
   pub are_parts : AreParts script j parts
   pub is_text : text ≡ plan_text script.names script.machine.ways (planned (tree_after script j.tree)) parts
+
+-- The text tells a plan of the script and, after the plan of each domain, what that is compared with.
+pub record TellsComparedPlan (script : ScriptValue) (j : JournalsValue) (text : List ℕ) : Type 0 where
+  pub parts : List DomainPart
+  pub are_parts : AreParts script j parts
+  pub is_text : text ≡ compared_text script.names script.machine.ways (planned (tree_after script j.tree)) parts (comparisons_in script j (planned (tree_after script j.tree)))

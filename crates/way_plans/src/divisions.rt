@@ -35,8 +35,8 @@ fn misses_of(rows: &[[u64; MOST_WAYS + 1]], spans: &[Span]) -> u64
     }
 }
 
-// Adds what stands after the number of the domain.
-fn push_misses(text: &mut GrowingText, misses: u64) -> Result<(), NoMemory>
+/// Adds what stands at the end of a line of misses.
+pub(crate) fn push_misses(text: &mut GrowingText, misses: u64) -> Result<(), NoMemory>
     ensures { OnOk result (text.new ≡ text.old ++ (codes ": misses " ++ decimal misses ++ codes "\n")) }
 {
     text.push(b": misses ")?;

@@ -11,8 +11,8 @@ use group_tree::Group;
 use rc_base::NoMemory;
 use script_ops::{GrowingText, Script};
 
-// Adds what is told of a domain.
-fn push_domain(
+/// Adds what is told of a domain.
+pub(crate) fn push_domain(
     text: &mut GrowingText,
     script: &Script,
     groups: &[Group],

@@ -12,6 +12,9 @@
 #![tactic(auto)]
 
 mod choice;
+mod compared;
+pub mod comparison;
+mod comparisons;
 mod curves;
 mod division;
 pub mod division_limits;
@@ -26,17 +29,22 @@ mod groups;
 pub mod limits;
 mod masks;
 pub mod plan;
+mod played;
 mod report;
 pub mod report_theorems;
 mod row;
 mod rows;
 mod schemata;
+mod shared_lines;
+mod shared_uses;
 mod slice_lines;
 mod span;
 mod table;
 pub mod theorems;
 mod writes;
 
+pub use comparison::Comparison;
+pub use comparisons::comparisons_of;
 pub use division::divide;
 pub use division_limits::{MOST_GROUPS, MOST_MISSES, MOST_WAYS};
 pub use domain_plan::{DomainPlan, plan_domain};
@@ -45,5 +53,5 @@ pub use final_tree::replay_all;
 pub use groups::planned_groups;
 pub use limits::MOST_USES;
 pub use plan::{Plan, plan_of};
-pub use report::plan_report;
+pub use report::{compared_report, plan_report};
 pub use span::Span;

@@ -1,13 +1,15 @@
 //! The text of a plan.
 ghost use Rattle.std.specs.Prelude.{◌≡◌, ◌++◌, IfOk, OnOk};
+ghost use Rattle.way_plans.specs.ComparedTexts.{compared_text};
 ghost use Rattle.way_plans.specs.PlanTexts.{plan_text, script_lines};
 ghost use Rattle.way_plans.specs.Values.{IsPrintable, parts_of};
 
-use crate::DomainPlan;
+use crate::compared::push_compared;
 use crate::domains::{is_whole, push_domains};
 use crate::plan::Plan;
 use crate::schemata::push_schemata;
 use crate::writes::{push_all_exclusive, push_all_shareable};
+use crate::{Comparison, DomainPlan};
 use group_tree::Group;
 use rc_base::NoMemory;
 use script_ops::{GrowingText, Script};
@@ -41,6 +43,30 @@ pub fn plan_report(alloc: Global, script: &Script, plan: &Plan) -> Result<Vec<u8
 {
     let mut text = GrowingText::create(alloc)?;
     push_domains(&mut text, script, &plan.groups, 0, &plan.domains)?;
+    push_script_lines(alloc, &mut text, script, &plan.groups, &plan.domains)?;
+    Ok(text.into_bytes())
+}
+
+/// The same text, and in it after the plan of each domain what that is compared with: how many of the same uses missed as the script was
+/// played, and how many would miss if all groups shared all ways (this project's profile).
+pub fn compared_report(
+    alloc: Global,
+    script: &Script,
+    plan: &Plan,
+    comparisons: &[Comparison],
+) -> Result<Vec<u8>, NoMemory>
+    requires { IsPrintable script.now.names plan.now.groups.items plan.now.domains.items }
+    ensures { IfOk result (λ bytes. bytes.items ≡ compared_text script.now.names script.now.machine.ways plan.now.groups.items (parts_of plan.now.domains.items) comparisons.now) }
+{
+    let mut text = GrowingText::create(alloc)?;
+    push_compared(
+        &mut text,
+        script,
+        &plan.groups,
+        0,
+        &plan.domains,
+        comparisons,
+    )?;
     push_script_lines(alloc, &mut text, script, &plan.groups, &plan.domains)?;
     Ok(text.into_bytes())
 }

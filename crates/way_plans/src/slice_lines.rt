@@ -15,8 +15,8 @@ fn empties(what: What) -> bool
     matches!(what, What::Flush | What::Lock { .. })
 }
 
-// Behind the last entry that empties the slice.
-fn behind_emptied(entries: &[SliceEntry]) -> usize
+/// Behind the last entry that empties the slice.
+pub(crate) fn behind_emptied(entries: &[SliceEntry]) -> usize
     ensures within { result ≤ length entries.now }
     ensures rest { drop result entries.now ≡ since_emptied entries.now }
 {

@@ -1,7 +1,8 @@
 use Rattle.std.proofs.Common.{ℕ, ◌+◌, ◌∙◌, List, ap, sym, subst, arith, take}
-use Rattle.way_plans.specs.GroupLines.{lines_among}
+use Rattle.cache_core.specs.declared.entry.SliceEntry.{SliceEntry}
+use Rattle.way_plans.specs.GroupLines.{line_of, lines_among}
 use Rattle.way_plans.specs.Noted.{AddsUses}
-use Rattle.way_plans.proofs.Lines.{lines_among-other, lines_among-use}
+use Rattle.way_plans.proofs.Lines.{filter_map-other, filter_map-use}
 use Rattle.way_plans.proofs.Uses.{AddsUses-append}
 use Rattle.way_curve.specs.IsCurve.{CurveValue}
 use Rattle.way_plans.proofs.slice_lines.note_among.Goals as goal
@@ -14,7 +15,7 @@ loop-entry-preserved c = elim c.match-line_of.branch [
       let es = c.args.entries.now in
       let gid = c.args.gid.0 in
       let old = c.args.curve.now in
-      let more = lines_among-use gid es i _ w.in-Some.line c.loop-entry-test.true (sym c.line_of.ensures ∙ w.in-Some.is) in
+      let more = filter_map-use (λ (e : SliceEntry). line_of gid e.what) es i _ w.in-Some.line c.loop-entry-test.true (sym c.line_of.ensures ∙ w.in-Some.is) in
       let adds = AddsUses-append old c.loop-entry.curve w.note.new.self _ _ c.loop-entry.invariant.lines w.note.ensures.line in
       record {
         sets = ap (λ (v : CurveValue). v.sets) w.curve-is ∙ (w.note.ensures.sets ∙ c.loop-entry.invariant.sets);
@@ -26,7 +27,7 @@ loop-entry-preserved c = elim c.match-line_of.branch [
       let es = c.args.entries.now in
       let gid = c.args.gid.0 in
       let old = c.args.curve.now in
-      let same = lines_among-other gid es i _ c.loop-entry-test.true (sym c.line_of.ensures ∙ w.in_default.is) in
+      let same = filter_map-other (λ (e : SliceEntry). line_of gid e.what) es i _ c.loop-entry-test.true (sym c.line_of.ensures ∙ w.in_default.is) in
       record {
         sets = ap (λ (v : CurveValue). v.sets) w.curve-is ∙ c.loop-entry.invariant.sets;
         few = omega (arith, ap (λ (v : CurveValue). v.uses) w.curve-is, c.loop-entry.invariant.few);
