@@ -18,13 +18,13 @@ IsToTheEnd-known left had bytes known all = let at : IsToTheEnd (Some had) bytes
 is_input-reported : (form : Option Form) (bytes : List ℕ) (nothing : Unit {0}) (text : List ℕ) → reports_by form bytes nothing text → is_input form bytes ≡ true
 is_input-reported None bytes nothing text is = absurd is
 is_input-reported (Some (Curve form)) bytes nothing text is = ap is_ok is.trace
-is_input-reported (Some Divide) bytes nothing text is = ap is_ok is.is_script
+is_input-reported (Some (Divide form)) bytes nothing text is = ap is_ok is.is_script
 
 -- and what is refused is not
 is_input-refused : (form : Option Form) (bytes text : List ℕ) → refuses_by form bytes text → is_input form bytes ≡ false
 is_input-refused None bytes text is = refl
 is_input-refused (Some (Curve form)) bytes text is = ap is_ok is.bad
-is_input-refused (Some Divide) bytes text is = ap is_ok is.no_script
+is_input-refused (Some (Divide form)) bytes text is = ap is_ok is.no_script
 
 -- a condition holds or not
 never-both : (b : Bool) → b ≡ true → b ≡ false → ⊥

@@ -11,6 +11,7 @@ use Rattle.plan_top.specs.CurveForms.{CurveWords}
 use Rattle.plan_top.specs.Endings.{FailsBy, IsComplete, Leaves}
 use Rattle.plan_top.specs.Forms.{usage_line}
 use Rattle.plan_top.specs.Plans.{RefusesScript, RefusesTrace, is_valid, refuses_by, reports_by, reports_of, reports_plan}
+use Rattle.plan_top.specs.declared.divide_form.DivideForm.{DivideForm}
 use Rattle.plan_top.specs.declared.form.Form.{Form}
 use Rattle.plan_top.specs.declared.form.Form.TheVariants.{Curve, Divide}
 use Rattle.script_ops.specs.declared.limits.TheConstants.{MOST_SCRIPT_BYTES}
@@ -36,8 +37,9 @@ module _ (source : Reading) (sink : Writing) (status : Status) (outcome : Option
   promised-curve form ends fails = promised-by (Some (Curve form)) ends tt fails
 
   -- a call that read a script
-  pub promised-divide : Ends RefusesScript reports_plan (call_of true usage_line source sink) status outcome → LeavesBy MOST_SCRIPT_BYTES source status → IsPromised (Some Divide)
-  promised-divide ends leaves = promised-by (Some Divide) ends leaves tt
+  pub promised-divide : (form : DivideForm) → Ends RefusesScript (reports_plan form) (call_of true usage_line source sink) status outcome → LeavesBy MOST_SCRIPT_BYTES source status
+      → IsPromised (Some (Divide form))
+  promised-divide form ends leaves = promised-by (Some (Divide form)) ends leaves tt
 
   -- a call that wrote the usage line
   pub promised-usage : source.left_now ≡ source.left → source.faults_now ≡ source.faults → Says Usage None usage_line sink status outcome → IsPromised None

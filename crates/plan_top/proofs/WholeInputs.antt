@@ -8,6 +8,7 @@ use Rattle.call_rim.specs.Within.{RefusesWithin, ReportsWithin, too_large_line}
 use Rattle.call_rim.specs.declared.status.Status.{Status}
 use Rattle.call_rim.specs.declared.status.Status.TheVariants.{Done, Refused, Usage, ReadFault, WriteFault, NoMemory}
 use Rattle.plan_top.specs.Plans.{RefusesScript, reports_plan}
+use Rattle.plan_top.specs.declared.divide_form.DivideForm.{DivideForm}
 use Rattle.script_ops.specs.declared.limits.TheConstants.{MOST_SCRIPT_BYTES}
 use Rattle.top_parts.specs.Meaning.{meaning, refusal_line}
 use Rattle.top_parts.specs.declared.refusal.Refusal.TheVariants.{TooLarge}
@@ -24,15 +25,15 @@ refusal_line-too_large = ap (λ (number : List ℕ). codes "line " ++ number ++ 
 abbrev refuses : List ℕ → List ℕ → Type 0
 refuses = RefusesWithin MOST_SCRIPT_BYTES RefusesScript
 
-abbrev reports : List ℕ → Unit {0} → List ℕ → Type 0
-reports = ReportsWithin MOST_SCRIPT_BYTES reports_plan
+abbrev reports : DivideForm → List ℕ → Unit {0} → List ℕ → Type 0
+reports asked = ReportsWithin MOST_SCRIPT_BYTES (reports_plan asked)
 
 RefusesScript-within : (bytes text : List ℕ) → refuses bytes text → RefusesScript bytes text
 RefusesScript-within bytes text (inl large) = record { refusal = TooLarge; no_script = meaning-too_large bytes large.0; told = large.1 ∙ refusal_line-too_large }
 RefusesScript-within bytes text (inr few) = few.1
 
-module _ (c : Call) (outcome : Option (Unit {0})) (Takes : Writing → List ℕ → Type 0) where
-  IsReported-within : IsReported refuses reports c outcome Takes → IsReported RefusesScript reports_plan c outcome Takes
+module _ (asked : DivideForm) (c : Call) (outcome : Option (Unit {0})) (Takes : Writing → List ℕ → Type 0) where
+  IsReported-within : IsReported refuses (reports asked) c outcome Takes → IsReported RefusesScript (reports_plan asked) c outcome Takes
   IsReported-within is = record {
     bytes = is.bytes;
     found = is.found;
@@ -45,7 +46,7 @@ module _ (c : Call) (outcome : Option (Unit {0})) (Takes : Writing → List ℕ 
     report = is.report;
   }
 
-  IsRefused-within : IsRefused refuses reports c outcome Takes → IsRefused RefusesScript reports_plan c outcome Takes
+  IsRefused-within : IsRefused refuses (reports asked) c outcome Takes → IsRefused RefusesScript (reports_plan asked) c outcome Takes
   IsRefused-within is = record {
     bytes = is.bytes;
     text = is.text;
@@ -57,12 +58,13 @@ module _ (c : Call) (outcome : Option (Unit {0})) (Takes : Writing → List ℕ 
   }
 
 -- how the call ends
-pub Ends-within : (c : Call) (status : Status) (outcome : Option (Unit {0})) → Ends refuses reports c status outcome → Ends RefusesScript reports_plan c status outcome
-Ends-within c Done outcome (read, is) = (read, IsReported-within c outcome TakesAll is)
-Ends-within c Refused outcome (read, is) = (read, IsRefused-within c outcome TakesAll is)
-Ends-within c Usage outcome (read, is) = (read, record { no_form = is.no_form; leaves = is.leaves; no_outcome = is.no_outcome; line = is.line })
-Ends-within c ReadFault outcome is = record { form = is.form; fault = is.fault; no_outcome = is.no_outcome; nothing = is.nothing }
-Ends-within c WriteFault outcome (read, inl is) = (read, inl (IsReported-within c outcome TakesSome is))
-Ends-within c WriteFault outcome (read, inr (inl is)) = (read, inr (inl (IsRefused-within c outcome TakesSome is)))
-Ends-within c WriteFault outcome (read, inr (inr is)) = (read, inr (inr (record { no_form = is.no_form; leaves = is.leaves; no_outcome = is.no_outcome; line = is.line })))
-Ends-within c NoMemory outcome (read, is) = (read, record { form = is.form; no_outcome = is.no_outcome; nothing = is.nothing })
+pub Ends-within : (asked : DivideForm) (c : Call) (status : Status) (outcome : Option (Unit {0})) → Ends refuses (reports asked) c status outcome
+    → Ends RefusesScript (reports_plan asked) c status outcome
+Ends-within asked c Done outcome (read, is) = (read, IsReported-within asked c outcome TakesAll is)
+Ends-within asked c Refused outcome (read, is) = (read, IsRefused-within asked c outcome TakesAll is)
+Ends-within asked c Usage outcome (read, is) = (read, record { no_form = is.no_form; leaves = is.leaves; no_outcome = is.no_outcome; line = is.line })
+Ends-within asked c ReadFault outcome is = record { form = is.form; fault = is.fault; no_outcome = is.no_outcome; nothing = is.nothing }
+Ends-within asked c WriteFault outcome (read, inl is) = (read, inl (IsReported-within asked c outcome TakesSome is))
+Ends-within asked c WriteFault outcome (read, inr (inl is)) = (read, inr (inl (IsRefused-within asked c outcome TakesSome is)))
+Ends-within asked c WriteFault outcome (read, inr (inr is)) = (read, inr (inr (record { no_form = is.no_form; leaves = is.leaves; no_outcome = is.no_outcome; line = is.line })))
+Ends-within asked c NoMemory outcome (read, is) = (read, record { form = is.form; no_outcome = is.no_outcome; nothing = is.nothing })

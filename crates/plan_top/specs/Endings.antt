@@ -28,7 +28,7 @@ pub record HasInput (c : Call) (bytes : List ℕ) : Type 0 where
 abbrev pub is_input : Option Form → List ℕ → Bool
 is_input None bytes = false
 is_input (Some (Curve form)) bytes = is_ok (trace_of bytes)
-is_input (Some Divide) bytes = is_ok (meaning bytes)
+is_input (Some (Divide form)) bytes = is_ok (meaning bytes)
 
 -- The status when nothing fails, unless memory runs out: Done where the bytes are what the words ask for, and Refused where they are
 -- not. A command line that is not valid gets Usage, whatever becomes of the source.
@@ -44,14 +44,14 @@ pub record IsComplete (form : Option Form) (c : Call) (status : Status) : Type 0
 abbrev pub Leaves : Option Form → Reading → Status → Type 0
 Leaves None source status = Unit {0}
 Leaves (Some (Curve form)) source status = Unit {0}
-Leaves (Some Divide) source status = LeavesBy MOST_SCRIPT_BYTES source status
+Leaves (Some (Divide form)) source status = LeavesBy MOST_SCRIPT_BYTES source status
 
 -- What was read of a trace before the source failed has no bad line. So a bad line that was read is told, though the source would fail
 -- after it.
 abbrev pub FailsBy : Option Form → Reading → Status → Type 0
 FailsBy None source status = Unit {0}
 FailsBy (Some (Curve form)) source status = status ≡ ReadFault → IsGoodSoFar HasNoBadLine source.left source.left_now
-FailsBy (Some Divide) source status = Unit {0}
+FailsBy (Some (Divide form)) source status = Unit {0}
 
 -- a call with these words ended as this exit status says
 pub record EndsWith (words : List (String Global)) (source : Reading) (sink : Writing) (code : ℕ) : Type 0 where

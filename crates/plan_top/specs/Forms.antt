@@ -1,5 +1,5 @@
--- What the words after the program's name ask for: `curve SETS WAYS [--one-of N] [--first]` or `divide`.
-use Rattle.std.specs.Prelude.{ℕ, ◌+◌, ◌==◌, ◌&&◌, false, if◌then◌else◌, List, [], ◌∷◌, ◌++◌, codes, string_bytes, String, Option, Some, None, option_map}
+-- What the words after the program's name ask for: `curve SETS WAYS [--one-of N] [--first]` or `divide [--compare]`.
+use Rattle.std.specs.Prelude.{ℕ, ◌+◌, ◌==◌, ◌&&◌, true, false, if◌then◌else◌, List, [], ◌∷◌, ◌++◌, codes, string_bytes, String, Option, Some, None, option_map}
 use Rattle.std.specs.Option.{option_and_then}
 use Rattle.std.specs.declared.alloc.Global.{Global}
 use Rattle.num_text.specs.Numbers.{below, dec_of}
@@ -35,7 +35,9 @@ sample_in sets ways one_of = option_and_then (λ (form : CurveWords). sampled_fo
 
 -- what a command line asks for, and None where it is not valid
 abbrev pub form_of : List (String Global) → Option Form
-form_of (command ∷ []) = if is_text (string_bytes command) (codes "divide") then Some Divide else None
+form_of (command ∷ []) = if is_text (string_bytes command) (codes "divide") then Some (Divide (record { compare = false })) else None
+form_of (command ∷ word ∷ []) =
+    if is_text (string_bytes command) (codes "divide") && is_text (string_bytes word) (codes "--compare") then Some (Divide (record { compare = true })) else None
 form_of (command ∷ sets ∷ ways ∷ []) = if is_text (string_bytes command) (codes "curve") then option_map Curve (curve_in (string_bytes sets) (string_bytes ways)) else None
 form_of (command ∷ sets ∷ ways ∷ first ∷ []) =
     if is_text (string_bytes command) (codes "curve") && is_text (string_bytes first) (codes "--first")
@@ -53,4 +55,4 @@ form_of words = None
 
 -- the line for a command line that is not valid
 abbrev pub usage_line : List ℕ
-usage_line = codes "usage: resctrl_plan curve SETS WAYS [--one-of N] [--first] | divide" ++ 10 ∷ []
+usage_line = codes "usage: resctrl_plan curve SETS WAYS [--one-of N] [--first] | divide [--compare]" ++ 10 ∷ []

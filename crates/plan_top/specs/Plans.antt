@@ -7,10 +7,11 @@ use Rattle.script_ops.specs.Values.{ScriptValue}
 use Rattle.step_world.specs.Play.{IsPlay}
 use Rattle.way_curve.specs.TraceTexts.{trace_of}
 use Rattle.way_curve.specs.CurveTexts.{bad_line_text, curves_text}
-use Rattle.way_plans.specs.Planned.{TellsPlan}
+use Rattle.way_plans.specs.Planned.{TellsComparedPlan, TellsPlan}
 use Rattle.top_parts.specs.Meaning.{meaning, refusal_line}
 use Rattle.top_parts.specs.declared.refusal.Refusal.{Refusal}
 use Rattle.plan_top.specs.CurveForms.{CurveWords}
+use Rattle.plan_top.specs.declared.divide_form.DivideForm.{DivideForm}
 use Rattle.plan_top.specs.declared.form.Form.{Form}
 use Rattle.plan_top.specs.declared.form.Form.TheVariants.{Curve, Divide}
 
@@ -40,18 +41,23 @@ pub record RefusesScript (bytes text : List ℕ) : Type 0 where
   pub no_script : meaning bytes ≡ Err refusal
   pub told : text ≡ refusal_line refusal
 
--- these bytes are a script, and the text tells a plan of it by the journals of its play
-pub record ReportsPlan (bytes text : List ℕ) : Type 0 where
+-- the text tells a plan of a script and, where that is asked, what it is compared with
+abbrev pub TellsAsked : (compare : Bool) → ScriptValue → JournalsValue → List ℕ → Type 0
+TellsAsked false script journals text = TellsPlan script journals text
+TellsAsked true script journals text = TellsComparedPlan script journals text
+
+-- these bytes are a script, and the text tells what is asked of it by the journals of its play
+pub record ReportsPlan (form : DivideForm) (bytes text : List ℕ) : Type 0 where
   pub script : ScriptValue
   pub journals : JournalsValue
   pub is_script : meaning bytes ≡ Ok script
   pub is_run : IsRun script journals
   pub plays : IsPlay script journals
-  pub plan : TellsPlan script journals text
+  pub plan : TellsAsked form.compare script journals text
 
 -- (For proofs.) what is reported of bytes that are a script, beside which nothing is handed back
-abbrev pub reports_plan : List ℕ → Unit {0} → List ℕ → Type 0
-reports_plan bytes nothing text = ReportsPlan bytes text
+abbrev pub reports_plan : DivideForm → List ℕ → Unit {0} → List ℕ → Type 0
+reports_plan form bytes nothing text = ReportsPlan form bytes text
 
 -- ---- a command line
 
@@ -59,13 +65,13 @@ reports_plan bytes nothing text = ReportsPlan bytes text
 abbrev pub refuses_by : Option Form → List ℕ → List ℕ → Type 0
 refuses_by None bytes text = ⊥
 refuses_by (Some (Curve form)) bytes text = RefusesTrace bytes text
-refuses_by (Some Divide) bytes text = RefusesScript bytes text
+refuses_by (Some (Divide form)) bytes text = RefusesScript bytes text
 
 -- what it reports: nothing, where it is not valid
 abbrev pub reports_by : Option Form → List ℕ → Unit {0} → List ℕ → Type 0
 reports_by None bytes nothing text = ⊥
 reports_by (Some (Curve form)) bytes nothing text = ReportsCurves form bytes text
-reports_by (Some Divide) bytes nothing text = ReportsPlan bytes text
+reports_by (Some (Divide form)) bytes nothing text = ReportsPlan form bytes text
 
 -- whether a command line is valid
 abbrev pub is_valid : Option Form → Bool

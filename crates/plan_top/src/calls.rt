@@ -43,7 +43,7 @@ pub fn top_plan<S: Source, K: Sink>(
 {
     match form_of(words) {
         Some(Form::Curve(form)) => stream(alloc, &form, source, sink),
-        Some(Form::Divide) => divide(alloc, source, sink),
+        Some(Form::Divide(form)) => divide(alloc, form, source, sink),
         None => usage(sink, usage_bytes()),
     }
 }

@@ -3,39 +3,79 @@ ghost use Rattle.std.specs.Prelude.{◌≡◌, ◌+◌, ◌-◌, ◌<◌, ◌≤
 ghost use Rattle.call_rim.specs.Endings.{Ends, LeavesBy, call_of};
 ghost use Rattle.call_rim.specs.Outside.{reading_of, writing_of};
 ghost use Rattle.call_rim.specs.Performing.{Performs};
-ghost use Rattle.plan_top.specs.Plans.{RefusesScript, ReportsPlan, reports_plan};
+ghost use Rattle.run_law.specs.Runs.{IsRun};
+ghost use Rattle.script_ops.specs.Values.{IsLawful};
 ghost use Rattle.script_ops.specs.declared.limits.TheConstants.{MOST_SCRIPT_BYTES};
 ghost use Rattle.top_parts.specs.Meaning.{meaning};
+ghost use Rattle.way_plans.specs.Planned.{TellsComparedPlan, TellsPlan};
+ghost use Rattle.plan_top.specs.Plans.{RefusesScript, ReportsPlan, TellsAsked, reports_plan};
+ghost use Rattle.plan_top.specs.declared.divide_form.DivideForm.{DivideForm as Asked};
 
+use crate::divide_form::DivideForm;
 use call_rim::{Ended, Performed, Program, call};
 use rc_base::NoMemory;
 use rc_stream::{Sink, Source};
+use run_law::Journals;
 use script_ops::{MOST_SCRIPT_BYTES, Script};
 use std::alloc::Global;
 use step_world::play;
 use top_parts::{InputError, Refusal, line_of, script_in};
-use way_plans::{plan_of, plan_report};
+use way_plans::{compared_report, comparisons_of, plan_of, plan_report};
 
-// Has a script played, and tells the plan of it.
-#[derive(Drop)]
-struct DivideProgram;
+// The text of a plan of a script by the journals of its play.
+fn plan_text(alloc: Global, script: &Script, journals: &Journals) -> Result<Vec<u8>, NoMemory>
+    requires lawful { IsLawful script.now }
+    requires run { IsRun script.now journals.now }
+    ensures { IfOk result (λ text. TellsPlan script.now journals.now text.items) }
+{
+    let plan = plan_of(alloc, script, journals)?;
+    plan_report(alloc, script, &plan)
+}
 
-// The text of the plan of a script that is played.
-fn plan_text(alloc: Global, script: &Script) -> Result<Vec<u8>, NoMemory>
-    ensures { IfOk result (λ text. (bytes : List ℕ) → meaning bytes ≡ Ok script.now → ReportsPlan bytes text.items) }
+// The same text with what each domain's plan is compared with.
+fn compared_text(alloc: Global, script: &Script, journals: &Journals) -> Result<Vec<u8>, NoMemory>
+    requires lawful { IsLawful script.now }
+    requires run { IsRun script.now journals.now }
+    ensures { IfOk result (λ text. TellsComparedPlan script.now journals.now text.items) }
+{
+    let plan = plan_of(alloc, script, journals)?;
+    let comparisons = comparisons_of(alloc, script, journals, &plan.groups)?;
+    compared_report(alloc, script, &plan, &comparisons)
+}
+
+// What is asked of a script that was played.
+fn asked_text(
+    alloc: Global,
+    form: DivideForm,
+    script: &Script,
+    journals: &Journals,
+) -> Result<Vec<u8>, NoMemory>
+    requires lawful { IsLawful script.now }
+    requires run { IsRun script.now journals.now }
+    ensures { IfOk result (λ text. TellsAsked form.compare script.now journals.now text.items) }
+{
+    if form.compare {
+        compared_text(alloc, script, journals)
+    } else {
+        plan_text(alloc, script, journals)
+    }
+}
+
+// What is asked of a script, which is played.
+fn played_text(alloc: Global, form: DivideForm, script: &Script) -> Result<Vec<u8>, NoMemory>
+    ensures { IfOk result (λ text. (bytes : List ℕ) → meaning bytes ≡ Ok script.now → ReportsPlan form bytes text.items) }
 {
     // A script that was read is lawful.
     let _threads = script.threads();
     let journals = play(alloc, script)?;
-    let plan = plan_of(alloc, script, &journals)?;
-    plan_report(alloc, script, &plan)
+    asked_text(alloc, form, script, &journals)
 }
 
-// The plan of a script, or out of memory.
-fn tell_plan(alloc: Global, script: &Script) -> Performed<()>
-    ensures { (bytes : List ℕ) → meaning bytes ≡ Ok script.now → Performs RefusesScript reports_plan bytes result }
+// What is asked of a script, or out of memory.
+fn tell_plan(alloc: Global, form: DivideForm, script: &Script) -> Performed<()>
+    ensures { (bytes : List ℕ) → meaning bytes ≡ Ok script.now → Performs RefusesScript (reports_plan form) bytes result }
 {
-    match plan_text(alloc, script) {
+    match played_text(alloc, form, script) {
         Ok(report) => Performed::Reported {
             outcome: (),
             report,
@@ -46,7 +86,7 @@ fn tell_plan(alloc: Global, script: &Script) -> Performed<()>
 
 // The line of a refusal, or out of memory.
 fn refuse(alloc: Global, refusal: Refusal) -> Performed<()>
-    ensures { (bytes : List ℕ) → meaning bytes ≡ Err refusal → Performs RefusesScript reports_plan bytes result }
+    ensures { (form : Asked) (bytes : List ℕ) → meaning bytes ≡ Err refusal → Performs RefusesScript (reports_plan form) bytes result }
 {
     match line_of(alloc, refusal) {
         Ok(line) => Performed::Refused { line },
@@ -54,14 +94,14 @@ fn refuse(alloc: Global, refusal: Refusal) -> Performed<()>
     }
 }
 
-impl Program for DivideProgram {
+impl Program for DivideForm {
     type Outcome = ();
 
     ghost most = { λ p. MOST_SCRIPT_BYTES };
 
     ghost refuses = { λ p. RefusesScript };
 
-    ghost reports = { λ p. reports_plan };
+    ghost reports = { reports_plan };
 
     fn most_bytes(&self) -> usize {
         MOST_SCRIPT_BYTES
@@ -69,22 +109,27 @@ impl Program for DivideProgram {
 
     fn perform(&self, alloc: Global, bytes: Vec<u8>) -> Performed<()> {
         match script_in(alloc, bytes) {
-            Ok(script) => tell_plan(alloc, &script),
+            Ok(script) => tell_plan(alloc, *self, &script),
             Err(InputError::Bad(refusal)) => refuse(alloc, refusal),
             Err(InputError::NoMemory) => Performed::NoMemory,
         }
     }
 }
 
-/// Reads the script that the source holds, plays it by its order lines, and writes its plan.
-pub(crate) fn divide<S: Source, K: Sink>(alloc: Global, source: &mut S, sink: &mut K) -> Ended<()>
+/// Reads the script that the source holds, plays it by its order lines, and writes what is asked of its plan.
+pub(crate) fn divide<S: Source, K: Sink>(
+    alloc: Global,
+    form: DivideForm,
+    source: &mut S,
+    sink: &mut K,
+) -> Ended<()>
     requires source { S.faults source.old < 2 ^ 64 - 1 }
     requires sink { K.faults sink.old < 2 ^ 64 - 1 }
-    ensures ends { (usage : List ℕ) → Ends RefusesScript reports_plan (call_of true usage
+    ensures ends { (usage : List ℕ) → Ends RefusesScript (reports_plan form) (call_of true usage
         (reading_of S.left S.faults source.old source.new)
         (writing_of K.taken K.held K.faults sink.old sink.new)) result.status result.outcome }
     ensures leaves { LeavesBy MOST_SCRIPT_BYTES (reading_of S.left S.faults source.old source.new) result.status }
     ensures end { S.ends source.new ≤ S.ends source.old + 1 }
 {
-    call(alloc, &DivideProgram, source, sink)
+    call(alloc, &form, source, sink)
 }

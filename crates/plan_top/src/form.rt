@@ -3,6 +3,7 @@ ghost use Rattle.std.specs.Prelude.{◌≡◌, ◌<◌, ◌≤◌, Some, None, f
 ghost use Rattle.plan_top.specs.CurveForms.{with_first};
 ghost use Rattle.way_curve.specs.Samples.{sample_sets};
 
+use crate::divide_form::DivideForm;
 use std::marker::Model;
 
 /// What a command line asks for.
@@ -10,8 +11,8 @@ use std::marker::Model;
 pub enum Form {
     /// `curve SETS WAYS [--one-of N] [--first]`: the curves of a trace.
     Curve(CurveForm),
-    /// `divide`: the plan of a script.
-    Divide,
+    /// `divide [--compare]`: the plan of a script.
+    Divide(DivideForm),
 }
 
 /// What `curve SETS WAYS` asks for: the hits of caches of so many sets, 1 at least, with each number of ways up to this one; of all

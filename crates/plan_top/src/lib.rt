@@ -4,6 +4,7 @@
 
 pub mod calls;
 mod divide;
+pub mod divide_form;
 pub mod form;
 pub mod limits;
 mod program;
@@ -11,6 +12,7 @@ pub mod theorems;
 mod words;
 
 pub use calls::{run_plan, top_plan};
+pub use divide_form::DivideForm;
 pub use form::{CurveForm, Form};
 pub use limits::{MOST_SETS, MOST_WAYS};
 pub use words::{USAGE, form_of};

@@ -2,13 +2,15 @@
 ghost use Rattle.std.specs.Prelude.{◌≡◌, ◌<◌, ◌≤◌, IfSome};
 ghost use Rattle.plan_top.specs.Forms.{curve_in, form_of as form_in, one_of_in, sample_in, sampled_form, sets_in, usage_line, ways_in};
 
+use crate::divide_form::DivideForm;
 use crate::form::{CurveForm, Form};
 use crate::limits::{MOST_SETS, MOST_WAYS};
 use num_text::read_dec;
 use rc_base::is_text;
 
 /// The line for a command line that is not valid.
-pub const USAGE: &str = "usage: resctrl_plan curve SETS WAYS [--one-of N] [--first] | divide\n";
+pub const USAGE: &str =
+    "usage: resctrl_plan curve SETS WAYS [--one-of N] [--first] | divide [--compare]\n";
 
 // The number of sets that a word is.
 fn sets_of(text: &[u8]) -> Option<u32>
@@ -78,12 +80,19 @@ fn sample_of(sets: &[u8], ways: &[u8], one_of: &[u8]) -> Option<CurveForm>
 }
 
 /// What a command line asks for, and None where it is not valid: `curve`, a number of sets, a number of ways, after `--one-of` of how
-/// many lines a sample has one, and `--first`; or `divide`; and nothing else. (This project's profile.)
+/// many lines a sample has one, and `--first`; or `divide` and, where its plan is to be compared, `--compare`; and nothing else. (This
+/// project's profile.)
 pub fn form_of(words: &[String]) -> Option<Form>
     ensures { result ≡ form_in words.now }
 {
     match words {
-        [command] if is_text(command.as_bytes(), b"divide") => Some(Form::Divide),
+        [command] if is_text(command.as_bytes(), b"divide") => {
+            Some(Form::Divide(DivideForm { compare: false }))
+        }
+        [command, word]
+            if is_text(command.as_bytes(), b"divide") && is_text(word.as_bytes(), b"--compare") => {
+            Some(Form::Divide(DivideForm { compare: true }))
+        }
         [command, sets, ways] if is_text(command.as_bytes(), b"curve") => {
             curve_of(sets.as_bytes(), ways.as_bytes()).map(Form::Curve)
         }

@@ -75,7 +75,7 @@ fn what_is_no_trace_is_told(rt: HostRuntime) -> Result<(), Fail> {
     Ok(())
 }
 
-const NO_FORMS: [&[&str]; 23] = [
+const NO_FORMS: [&[&str]; 26] = [
     &["curve", "1048577", "1"],
     &["curve", "4294967297", "1"],
     &["curve", "0", "1"],
@@ -99,9 +99,13 @@ const NO_FORMS: [&[&str]; 23] = [
     &["curve", "4", "1", "--first", "--first"],
     &["curve", "4", "1", "--first", "--one-of", "2"],
     &["curve", "4", "1", "--one-of", "2", "--one-of"],
+    &["divide", "--compared"],
+    &["divide", "--compare", "--compare"],
+    &["curve", "--compare"],
 ];
 
-const USAGE_LINE: &[u8] = b"usage: resctrl_plan curve SETS WAYS [--one-of N] [--first] | divide\n";
+const USAGE_LINE: &[u8] =
+    b"usage: resctrl_plan curve SETS WAYS [--one-of N] [--first] | divide [--compare]\n";
 
 #[test]
 fn other_words_are_no_form(rt: HostRuntime) -> Result<(), Fail> {

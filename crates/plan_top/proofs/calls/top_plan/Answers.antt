@@ -54,7 +54,7 @@ returns-in-Some-Divide-clause-ends g c =
     let status = c.divide.result.status in
     let outcome = c.divide.result.outcome in
     let promised = subst (λ (form : Option Form). IsPromised source sink status outcome form) (rw c.in-Some-Divide.field-0-is at c.in-Some-Divide.ensures)
-    (promised-divide source sink status outcome (c.divide.ensures.ends usage_line) c.divide.ensures.leaves) in
+    (promised-divide source sink status outcome _ (c.divide.ensures.ends usage_line) c.divide.ensures.leaves) in
     promised.ends
 
 pub returns-in-Some-Divide-clause-complete : goal.returns-in-Some-Divide-clause-complete
@@ -64,7 +64,7 @@ returns-in-Some-Divide-clause-complete g c =
     let status = c.divide.result.status in
     let outcome = c.divide.result.outcome in
     let promised = subst (λ (form : Option Form). IsPromised source sink status outcome form) (rw c.in-Some-Divide.field-0-is at c.in-Some-Divide.ensures)
-    (promised-divide source sink status outcome (c.divide.ensures.ends usage_line) c.divide.ensures.leaves) in
+    (promised-divide source sink status outcome _ (c.divide.ensures.ends usage_line) c.divide.ensures.leaves) in
     promised.complete
 
 pub returns-in-Some-Divide-clause-leaves : goal.returns-in-Some-Divide-clause-leaves
@@ -74,7 +74,7 @@ returns-in-Some-Divide-clause-leaves g c =
     let status = c.divide.result.status in
     let outcome = c.divide.result.outcome in
     let promised = subst (λ (form : Option Form). IsPromised source sink status outcome form) (rw c.in-Some-Divide.field-0-is at c.in-Some-Divide.ensures)
-    (promised-divide source sink status outcome (c.divide.ensures.ends usage_line) c.divide.ensures.leaves) in
+    (promised-divide source sink status outcome _ (c.divide.ensures.ends usage_line) c.divide.ensures.leaves) in
     promised.leaves
 
 pub returns-in-Some-Divide-clause-fails : goal.returns-in-Some-Divide-clause-fails
@@ -84,7 +84,7 @@ returns-in-Some-Divide-clause-fails g c =
     let status = c.divide.result.status in
     let outcome = c.divide.result.outcome in
     let promised = subst (λ (form : Option Form). IsPromised source sink status outcome form) (rw c.in-Some-Divide.field-0-is at c.in-Some-Divide.ensures)
-    (promised-divide source sink status outcome (c.divide.ensures.ends usage_line) c.divide.ensures.leaves) in
+    (promised-divide source sink status outcome _ (c.divide.ensures.ends usage_line) c.divide.ensures.leaves) in
     promised.fails
 
 pub returns-in-None-clause-ends : goal.returns-in-None-clause-ends

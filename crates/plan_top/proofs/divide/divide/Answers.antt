@@ -8,4 +8,4 @@ pub returns-clause-ends : goal.returns-clause-ends
 returns-clause-ends g c =
     let source = reading_of g.S.Source.left g.S.Source.faults c.args.source.now c.call.new.source in
     let sink = writing_of g.K.Sink.taken g.K.Sink.held g.K.Sink.faults c.args.sink.now c.call.new.sink in
-    λ usage. Ends-within (call_of true usage source sink) c.call.result.status c.call.result.outcome (c.call.ensures.ends usage)
+    λ usage. Ends-within c.args.form (call_of true usage source sink) c.call.result.status c.call.result.outcome (c.call.ensures.ends usage)
