@@ -13,19 +13,22 @@ use Rattle.run_law.specs.Entries.{entry_value}
 use Rattle.run_law.specs.Journals.{At, JournalsValue}
 use Rattle.run_law.specs.TreeHistory.{TreeEntryValue}
 use Rattle.run_law.specs.declared.journals.TreeEntry.{TreeEntry}
-use Rattle.run_windows.specs.Changes.{AreChanges, AreTenants, IsReplayed}
+use Rattle.run_windows.specs.Changes.{AreChanges, IsReplayed, logged}
+use Rattle.run_windows.specs.Edits.{Change, changes_of, edited}
 use Rattle.run_windows.specs.Epochs.{state_at}
-use Rattle.run_windows.specs.declared.changes.Change.{Change}
-use Rattle.run_windows.specs.declared.stay.Tenant.{Tenant}
+use Rattle.run_windows.specs.Stays.{tenant_of, tenants_in}
+use Rattle.run_windows.specs.declared.changes.Log.{Log}
+use Rattle.run_windows.specs.declared.changes.Past.{Past}
 use Rattle.script_ops.specs.Values.{ScriptValue}
 use Rattle.tree_core.specs.Values.{TreeValue}
 use Rattle.tree_law.specs.State.{State}
-use Rattle.run_windows.proofs.Tenants.{At-push, AreTenants-kept, slice_get-push, slice_get-pushed}
+use Rattle.run_windows.proofs.Logs.{logged-changed}
+use Rattle.run_windows.proofs.LongerLists.{At-push, slice_get-push, slice_get-pushed}
 
 module _ (script : ScriptValue) (j : JournalsValue) where
   -- the groups of an epoch
   abbrev AreAt : ℕ → Change → Type 0
-  AreAt epoch c = AreTenants script.machine.domains (state_at script j epoch) c.tenants.items
+  AreAt epoch c = c.tenants ≡ tenants_in (state_at script j epoch).groups
 
   -- none at first
   pub AreChanges-none : AreChanges script j 0 []
@@ -121,22 +124,30 @@ module _ (script : ScriptValue) (j : JournalsValue) where
   -- ---- by a tree that has taken the commands so far
 
   -- the groups of the tree are those of its epoch
-  AreAt-tree : (t : TreeValue) (c : Change) → IsReplayed script j t → AreTenants script.machine.domains t.state c.tenants.items → AreAt t.epoch c
-  AreAt-tree t c replayed are = subst (λ (s : State). AreTenants script.machine.domains s c.tenants.items) replayed.state are
+  AreAt-tree : (t : TreeValue) (c : Change) → IsReplayed script j t → c.tenants ≡ tenants_in t.state.groups → AreAt t.epoch c
+  AreAt-tree t c replayed are = subst (λ (s : State). c.tenants ≡ tenants_in s.groups) replayed.state are
+
+  -- the first ones
+  pub AreChanges-first : (t : TreeValue) (log : Log) → IsReplayed script j t → t.epoch ≡ 0 → log.pasts.items ≡ [] → log.from ≡ 0 → log.latest.items ≡ tenants_in t.state.groups → AreChanges script j 1 (logged log)
+  AreChanges-first t log replayed first none from are =
+      let c : Change = record { from = log.from; tenants = log.latest.items } in
+      AreChanges-push 0 [] (logged log) c AreChanges-none from (subst (λ n. AreAt n c) first (AreAt-tree t c replayed are))
+      (ap (λ (ps : List Past). changes_of log.latest.items ps ++ c ∷ []) none)
 
   -- where the latest ones are still those of the tree
-  pub AreChanges-latest : (t : TreeValue) (all : List Change) (now : List Tenant) → IsReplayed script j t → AreTenants script.machine.domains t.state now
-      → IsSomeAnd (slice_get all (length all - 1)) (λ (c : Change). c.tenants.items ≡ now) → AreChanges script j t.epoch all → AreChanges script j (t.epoch + 1) all
-  AreChanges-latest t all now replayed are latest were = AreChanges-same t.epoch all were (of (slice_get all (length all - 1)) latest)
-    where
-      of : (o : Option Change) → IsSomeAnd o (λ (c : Change). c.tenants.items ≡ now) → IsSomeAnd o (AreAt t.epoch)
-      of None none = absurd none
-      of (Some c) same = AreAt-tree t c replayed (subst (λ (l : List Tenant). AreTenants script.machine.domains t.state l) (sym same) are)
+  pub AreChanges-latest : (t : TreeValue) (log : Log) → IsReplayed script j t → log.latest.items ≡ tenants_in t.state.groups → AreChanges script j t.epoch (logged log) → AreChanges script j (t.epoch + 1) (logged log)
+  AreChanges-latest t log replayed are were =
+      let c : Change = record { from = log.from; tenants = log.latest.items } in
+      let olds : List Change = changes_of log.latest.items log.pasts.items in
+      let last : slice_get (logged log) (length (logged log) - 1) ≡ Some c = slice_get-pushed olds c (length (olds ++ c ∷ []) - 1) (omega (arith, length-append olds (c ∷ []))) in
+      AreChanges-same t.epoch (logged log) were (subst (λ (o : Option Change). IsSomeAnd o (AreAt t.epoch)) (sym last) (AreAt-tree t c replayed are))
 
   -- where they are others
-  pub AreChanges-changed : (t : TreeValue) (old new : List Change) (c : Change) → IsReplayed script j t → AreTenants script.machine.domains t.state c.tenants.items → AreChanges script j t.epoch old → c.from ≡ t.epoch → new ≡ old ++ c ∷ []
-      → AreChanges script j (t.epoch + 1) new
-  AreChanges-changed t old new c replayed are were from made = AreChanges-push t.epoch old new c were from (AreAt-tree t c replayed are) made
+  pub AreChanges-changed : (t : TreeValue) (old new : Log) (p : Past) → IsReplayed script j t → new.latest.items ≡ tenants_in t.state.groups → AreChanges script j t.epoch (logged old) → new.from ≡ t.epoch
+      → p.from ≡ old.from → edited p.edit new.latest.items ≡ old.latest.items → new.pasts.items ≡ old.pasts.items ++ p ∷ [] → AreChanges script j (t.epoch + 1) (logged new)
+  AreChanges-changed t old new p replayed are were from past before made =
+      let c : Change = record { from = new.from; tenants = new.latest.items } in
+      AreChanges-push t.epoch (logged old) (logged new) c were from (AreAt-tree t c replayed are) (logged-changed old new p past before made)
 
   -- after a command that leaves the exclusive groups as they are
   pub AreChanges-kept : (t u : TreeValue) (all : List Change) → IsReplayed script j t → IsReplayed script j u → u.epoch ≡ t.epoch + 1 → filter (has_mode Exclusive) u.state.groups ≡ filter (has_mode Exclusive) t.state.groups
@@ -147,8 +158,8 @@ module _ (script : ScriptValue) (j : JournalsValue) where
       of : (o : Option Change) → IsSomeAnd o (AreAt t.epoch) → IsSomeAnd o (AreAt (t.epoch + 1))
       of None none = absurd none
       of (Some c) are =
-          let old : AreTenants script.machine.domains t.state c.tenants.items = subst (λ (s : State). AreTenants script.machine.domains s c.tenants.items) (sym before.state) are in
-          let new : AreTenants script.machine.domains u.state c.tenants.items = AreTenants-kept script.machine.domains t.state u.state c.tenants.items kept old in
+          let old : c.tenants ≡ tenants_in t.state.groups = subst (λ (s : State). c.tenants ≡ tenants_in s.groups) (sym before.state) are in
+          let new : c.tenants ≡ tenants_in u.state.groups = old ∙ ap (map tenant_of) (sym kept) in
           subst (λ n. AreAt n c) epoch (AreAt-tree u c after new)
 
 -- an entry of the tree's history by its position

@@ -25,10 +25,10 @@ use Rattle.run_windows.proofs.OneWindow.{mask-same}
 use Rattle.run_windows.proofs.Owners.{IsSomeAnd-parts}
 use Rattle.tree_law.proofs.laws.RisingGroups.{AreRisen, AreRisen-next, AreRisen-opening}
 use Rattle.run_windows.specs.Epochs.{state_at}
-use Rattle.run_windows.specs.Stays.{AreStays, is_same, stay_of, tenant_of, tenants_in}
+use Rattle.run_windows.specs.Stays.{AreStays, is_same, mask_of, stay_of, tenant_of, tenants_in}
 use Rattle.run_windows.specs.Windows.{IsExclusive, StaysExclusive}
 use Rattle.private_lru.specs.declared.stay.Stay.{Stay}
-use Rattle.run_windows.specs.declared.stay.Tenant.{Tenant}
+use Rattle.run_windows.specs.declared.tenant.Tenant.{Tenant}
 use Rattle.script_ops.specs.Values.{IsLawful, ScriptValue}
 use Rattle.tree_law.specs.Existing.{group_of}
 use Rattle.tree_law.specs.State.{State}
@@ -43,9 +43,9 @@ abbrev tenant_gids : List Tenant → List ℕ
 tenant_gids tenants = map (λ (t : Tenant). t.gid.0) tenants
 
 -- they are the same with their last epochs
-gids-stay_of : (last : ℕ) (next : List Stay) (tenants : List Tenant) → gids (map (stay_of last next) tenants) ≡ tenant_gids tenants
-gids-stay_of last next [] = refl
-gids-stay_of last next (t ∷ ts) = ap (λ (xs : List ℕ). t.gid.0 ∷ xs) (gids-stay_of last next ts)
+gids-stay_of : (domain last : ℕ) (next : List Stay) (tenants : List Tenant) → gids (map (stay_of domain last next) tenants) ≡ tenant_gids tenants
+gids-stay_of domain last next [] = refl
+gids-stay_of domain last next (t ∷ ts) = ap (λ (xs : List ℕ). t.gid.0 ∷ xs) (gids-stay_of domain last next ts)
 
 -- ---- the groups of an epoch
 
@@ -76,12 +76,12 @@ find-risen (g ∷ gs) (suc k) d risen within =
     rw other (find-risen gs k d (λ i j x below inside. risen (suc i) (suc j) x (omega arith) (omega arith)) (omega arith))
 
 -- each exclusive one is listed
-tenants_in-all : (domain : ℕ) (groups : List Group) (group : Gid) (g : Group) → find (has_gid group) groups ≡ Some g → has_mode Exclusive g ≡ true → Contains (tenant_gids (tenants_in domain groups)) group.0
-tenants_in-all domain [] group g found mode = absurd (let none : None ≡ Some g = found in cc)
-tenants_in-all domain (x ∷ xs) group g found mode = at (has_gid group x) (has_mode Exclusive x) refl refl found (λ e. tenants_in-all domain xs group g e mode)
+tenants_in-all : (groups : List Group) (group : Gid) (g : Group) → find (has_gid group) groups ≡ Some g → has_mode Exclusive g ≡ true → Contains (tenant_gids (tenants_in groups)) group.0
+tenants_in-all [] group g found mode = absurd (let none : None ≡ Some g = found in cc)
+tenants_in-all (x ∷ xs) group g found mode = at (has_gid group x) (has_mode Exclusive x) refl refl found (λ e. tenants_in-all xs group g e mode)
   where
-    at : (b c : Bool) → has_gid group x ≡ b → has_mode Exclusive x ≡ c → cond b (Some x) (find (has_gid group) xs) ≡ Some g → (find (has_gid group) xs ≡ Some g → Contains (tenant_gids (tenants_in domain xs)) group.0)
-        → Contains (tenant_gids (map (tenant_of domain) (cond c (x ∷ filter (has_mode Exclusive) xs) (filter (has_mode Exclusive) xs)))) group.0
+    at : (b c : Bool) → has_gid group x ≡ b → has_mode Exclusive x ≡ c → cond b (Some x) (find (has_gid group) xs) ≡ Some g → (find (has_gid group) xs ≡ Some g → Contains (tenant_gids (tenants_in xs)) group.0)
+        → Contains (tenant_gids (map tenant_of (cond c (x ∷ filter (has_mode Exclusive) xs) (filter (has_mode Exclusive) xs)))) group.0
     at true true own is e rest = (0, omega arith, sym (eqb-true group.0 x.gid.0 own))
     at true false own is e rest = absurd (true≢false (sym mode ∙ (ap (has_mode Exclusive) (same_Some g x (sym e)) ∙ is)))
     at false true other is e rest = let it = rest e in (suc it.0, omega (arith, it.1), it.2)
@@ -89,33 +89,33 @@ tenants_in-all domain (x ∷ xs) group g found mode = at (has_gid group x) (has_
 
 -- each that is listed is exclusive, with its mask
 tenants_in-each : (domain : ℕ) (groups all : List Group) → ((k : ℕ) (d : Group) → k < length groups → find (has_gid (get_or groups k d).gid) all ≡ Some (get_or groups k d))
-    → All (λ (t : Tenant). IsSomeAnd (find (has_gid t.gid) all) (λ g. (has_mode Exclusive g ≡ true) × (mask_in domain g ≡ t.mask))) (tenants_in domain groups)
+    → All (λ (t : Tenant). IsSomeAnd (find (has_gid t.gid) all) (λ g. (has_mode Exclusive g ≡ true) × (mask_in domain g ≡ mask_of domain t))) (tenants_in groups)
 tenants_in-each domain [] all found = λ k d within. absurd (omega arith)
 tenants_in-each domain (x ∷ xs) all found = at (has_mode Exclusive x) refl (tenants_in-each domain xs all (λ k d within. found (suc k) d (omega arith)))
   where
     Is : Tenant → Type 0
-    Is t = IsSomeAnd (find (has_gid t.gid) all) (λ g. (has_mode Exclusive g ≡ true) × (mask_in domain g ≡ t.mask))
+    Is t = IsSomeAnd (find (has_gid t.gid) all) (λ g. (has_mode Exclusive g ≡ true) × (mask_in domain g ≡ mask_of domain t))
 
-    at : (b : Bool) → has_mode Exclusive x ≡ b → All Is (tenants_in domain xs) → All Is (map (tenant_of domain) (cond b (x ∷ filter (has_mode Exclusive) xs) (filter (has_mode Exclusive) xs)))
-    at true is rest = All-cons Is (tenant_of domain x) (tenants_in domain xs) (subst (λ (o : Option Group). IsSomeAnd o (λ g. (has_mode Exclusive g ≡ true) × (mask_in domain g ≡ mask_in domain x))) (sym (found 0 x (omega arith))) (is, refl)) rest
+    at : (b : Bool) → has_mode Exclusive x ≡ b → All Is (tenants_in xs) → All Is (map tenant_of (cond b (x ∷ filter (has_mode Exclusive) xs) (filter (has_mode Exclusive) xs)))
+    at true is rest = All-cons Is (tenant_of x) (tenants_in xs) (subst (λ (o : Option Group). IsSomeAnd o (λ g. (has_mode Exclusive g ≡ true) × (mask_in domain g ≡ mask_in domain x))) (sym (found 0 x (omega arith))) (is, refl)) rest
     at false is rest = rest
 
 -- their gids rise
-tenants_in-rising : (domain : ℕ) (groups : List Group) → AreRisen groups → AllPairs (λ (a b : ℕ). a < b) (tenant_gids (tenants_in domain groups))
-tenants_in-rising domain groups risen =
-    AllPairs-map (λ (a b : ℕ). a < b) (λ (t : Tenant). t.gid.0) (tenants_in domain groups)
-    (AllPairs-map (λ (a b : Tenant). a.gid.0 < b.gid.0) (tenant_of domain) (filter (has_mode Exclusive) groups) (AllPairs-filter (λ (a b : Group). a.gid.0 < b.gid.0) (has_mode Exclusive) groups risen))
+tenants_in-rising : (groups : List Group) → AreRisen groups → AllPairs (λ (a b : ℕ). a < b) (tenant_gids (tenants_in groups))
+tenants_in-rising groups risen =
+    AllPairs-map (λ (a b : ℕ). a < b) (λ (t : Tenant). t.gid.0) (tenants_in groups)
+    (AllPairs-map (λ (a b : Tenant). a.gid.0 < b.gid.0) tenant_of (filter (has_mode Exclusive) groups) (AllPairs-filter (λ (a b : Group). a.gid.0 < b.gid.0) (has_mode Exclusive) groups risen))
 
 -- ---- how long they stay so
 
 module _ (script : ScriptValue) (j : JournalsValue) (lawful : IsLawful script) (run : IsRun script j) (domain : ℕ) where
   -- those of an epoch
   abbrev pub tenants_at : ℕ → List Tenant
-  tenants_at k = tenants_in domain (state_at script j k).groups
+  tenants_at k = tenants_in (state_at script j k).groups
 
   -- a group is exclusive on a mask at an epoch
   abbrev IsAt : ℕ → Tenant → Type 0
-  IsAt k t = IsExclusive domain t.gid t.mask (state_at script j k)
+  IsAt k t = IsExclusive domain t.gid (mask_of domain t) (state_at script j k)
 
   tenants_at-each : (k : ℕ) → k ≤ length j.tree → All (IsAt k) (tenants_at k)
   tenants_at-each k known =
@@ -125,41 +125,41 @@ module _ (script : ScriptValue) (j : JournalsValue) (lawful : IsLawful script) (
   tenants_at-all : (k : ℕ) (group : Gid) (mask : ℕ) → IsExclusive domain group mask (state_at script j k) → Contains (tenant_gids (tenants_at k)) group.0
   tenants_at-all k group mask is =
       let x = IsSomeAnd-parts (λ (g : Group). (has_mode Exclusive g ≡ true) × (mask_in domain g ≡ mask)) (group_of (state_at script j k) group) is in
-      tenants_in-all domain (state_at script j k).groups group x.0 x.1 x.2.0
+      tenants_in-all (state_at script j k).groups group x.0 x.1 x.2.0
 
   -- the group of a stay of the next change, where it has the same mask
-  StaysExclusive-same : (end : ℕ) (next : List Stay) (t : Tenant) (later : Stay) → AreStays script j domain end next → find (is_same t) next ≡ Some later → StaysExclusive script j domain t.gid t.mask end later.last
+  StaysExclusive-same : (end : ℕ) (next : List Stay) (t : Tenant) (later : Stay) → AreStays script j domain end next → find (is_same domain t) next ≡ Some later → StaysExclusive script j domain t.gid (mask_of domain t) end later.last
   StaysExclusive-same end next t later after found =
-      let f = find-found (is_same t) next later found in
-      let same = both_eqb-true later.gid.0 t.gid.0 later.mask t.mask f.passes in
+      let f = find-found (is_same domain t) next later found in
+      let same = both_eqb-true later.gid.0 t.gid.0 later.mask (mask_of domain t) f.passes in
       let its : StaysExclusive script j domain later.gid later.mask end later.last = subst (λ (x : Stay). StaysExclusive script j domain x.gid x.mask end x.last) (f.at later) (after.each f.place later f.within) in
-      subst (λ n. StaysExclusive script j domain (record { 0 = n }) t.mask end later.last) same.0 (subst (λ n. StaysExclusive script j domain later.gid n end later.last) same.1 its)
+      subst (λ n. StaysExclusive script j domain (record { 0 = n }) (mask_of domain t) end later.last) same.0 (subst (λ n. StaysExclusive script j domain later.gid n end later.last) same.1 its)
 
   -- a group that none of the next change's stays has with the same mask is not exclusive on it then
-  IsExclusive-other : (end : ℕ) (next : List Stay) (t : Tenant) → AreStays script j domain end next → find (is_same t) next ≡ None → IsAt end t → ⊥
+  IsExclusive-other : (end : ℕ) (next : List Stay) (t : Tenant) → AreStays script j domain end next → find (is_same domain t) next ≡ None → IsAt end t → ⊥
   IsExclusive-other end next t after none here =
-      let there = after.all t.gid t.mask here in
-      let d : Stay = record { last = 0; gid = t.gid; mask = t.mask } in
+      let there = after.all t.gid (mask_of domain t) here in
+      let d : Stay = record { last = 0; gid = t.gid; mask = mask_of domain t } in
       let within : there.0 < length next = omega (arith, there.1, length-map next (λ (x : Stay). x.gid.0)) in
       let x : Stay = get_or next there.0 d in
       let gid : x.gid.0 ≡ t.gid.0 = sym (get_or-map (λ (y : Stay). y.gid.0) next there.0 d) ∙ there.2 in
       let its_own = after.each there.0 d within in
       let begins = its_own.from_first in
       let exclusive : IsExclusive domain x.gid x.mask (state_at script j end) = its_own.always end (omega arith) begins in
-      let mask : x.mask ≡ t.mask = mask-same (state_at script j end) domain t.gid x.mask t.mask (subst (λ n. IsExclusive domain (record { 0 = n }) x.mask (state_at script j end)) gid exclusive) here in
-      let passes : is_same t x ≡ true = rw (eq-eqb x.gid.0 t.gid.0 gid, eq-eqb x.mask t.mask mask) refl in
-      true≢false (sym passes ∙ All-from_find (is_same t) next none there.0 d within)
+      let mask : x.mask ≡ mask_of domain t = mask-same (state_at script j end) domain t.gid x.mask (mask_of domain t) (subst (λ n. IsExclusive domain (record { 0 = n }) x.mask (state_at script j end)) gid exclusive) here in
+      let passes : is_same domain t x ≡ true = rw (eq-eqb x.gid.0 t.gid.0 gid, eq-eqb x.mask (mask_of domain t) mask) refl in
+      true≢false (sym passes ∙ All-from_find (is_same domain t) next none there.0 d within)
 
   -- The exclusive groups from a change up to the next one, or to the end of the run: each with the last epoch that those of the
   -- next one tell, or else with the last epoch before it.
   module _ (from end last : ℕ) (tenants : List Tenant) (next : List Stay) (ends : last + 1 ≡ end) (known : end ≤ length j.tree + 1)
       (same : (k : ℕ) → from ≤ k → k < end → tenants ≡ tenants_at k) (after : end ≤ length j.tree → AreStays script j domain end next) (past : end ≡ length j.tree + 1 → next ≡ []) where
     -- one of them
-    StaysExclusive-last : (t : Tenant) → ((k : ℕ) → from ≤ k → k < end → IsAt k t) → (k : ℕ) → from ≤ k → k < end → (o : Option Stay) → find (is_same t) next ≡ o
-        → StaysExclusive script j domain t.gid t.mask k (option_map_or (λ (later : Stay). later.last) o last)
+    StaysExclusive-last : (t : Tenant) → ((k : ℕ) → from ≤ k → k < end → IsAt k t) → (k : ℕ) → from ≤ k → k < end → (o : Option Stay) → find (is_same domain t) next ≡ o
+        → StaysExclusive script j domain t.gid (mask_of domain t) k (option_map_or (λ (later : Stay). later.last) o last)
     StaysExclusive-last t always k low high (Some later) found =
         let more : end ≤ length j.tree = elim (cases_eq (length j.tree + 1) end) [
-          | inl all ↦ absurd (let none : None ≡ Some later = sym (ap (find (is_same t)) (past (sym all))) ∙ found in cc)
+          | inl all ↦ absurd (let none : None ≡ Some later = sym (ap (find (is_same domain t)) (past (sym all))) ∙ found in cc)
           | inr less ↦ omega (arith, less, known)
         ] in
         let ours = StaysExclusive-same end next t later (after more) found in
@@ -181,12 +181,12 @@ module _ (script : ScriptValue) (j : JournalsValue) (lawful : IsLawful script) (
     }
 
     -- all of them
-    pub AreStays-span : (k : ℕ) → from ≤ k → k < end → AreStays script j domain k (map (stay_of last next) tenants)
+    pub AreStays-span : (k : ℕ) → from ≤ k → k < end → AreStays script j domain k (map (stay_of domain last next) tenants)
     AreStays-span k low high = record {
-      each = All-map (λ (s : Stay). StaysExclusive script j domain s.gid s.mask k s.last) (stay_of last next) tenants (λ i d within.
+      each = All-map (λ (s : Stay). StaysExclusive script j domain s.gid s.mask k s.last) (stay_of domain last next) tenants (λ i d within.
           let t : Tenant = get_or tenants i d in
-          StaysExclusive-last t (λ e first lt. subst (λ (l : List Tenant). All (IsAt e) l) (sym (same e first lt)) (tenants_at-each e (omega (arith, lt, known))) i d within) k low high (find (is_same t) next) refl);
-      all = λ group mask is. subst (λ (l : List ℕ). Contains l group.0) (sym (gids-stay_of last next tenants ∙ ap tenant_gids (same k low high))) (tenants_at-all k group mask is);
-      rising = subst (λ (l : List ℕ). AllPairs (λ (a b : ℕ). a < b) l) (sym (gids-stay_of last next tenants ∙ ap tenant_gids (same k low high)))
-          (tenants_in-rising domain (state_at script j k).groups (AreRisen-state_at script j k lawful run (omega (arith, high, known))));
+          StaysExclusive-last t (λ e first lt. subst (λ (l : List Tenant). All (IsAt e) l) (sym (same e first lt)) (tenants_at-each e (omega (arith, lt, known))) i d within) k low high (find (is_same domain t) next) refl);
+      all = λ group mask is. subst (λ (l : List ℕ). Contains l group.0) (sym (gids-stay_of domain last next tenants ∙ ap tenant_gids (same k low high))) (tenants_at-all k group mask is);
+      rising = subst (λ (l : List ℕ). AllPairs (λ (a b : ℕ). a < b) l) (sym (gids-stay_of domain last next tenants ∙ ap tenant_gids (same k low high)))
+          (tenants_in-rising (state_at script j k).groups (AreRisen-state_at script j k lawful run (omega (arith, high, known))));
     }

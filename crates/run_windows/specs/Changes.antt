@@ -1,19 +1,18 @@
 -- The groups that are exclusive from each change of them on.
 -- (For functions and proofs: no promise of the program stands on it.)
-use Rattle.std.specs.Prelude.{◌≡◌, ℕ, ◌+◌, ◌<◌, ◌≤◌, Bool, true, false, All, AllPairs, IfSome, List, filter, length, slice_get}
+use Rattle.std.specs.Prelude.{◌≡◌, ℕ, ◌+◌, ◌<◌, ◌≤◌, Bool, true, false, All, AllPairs, IfSome, List, [], ◌∷◌, ◌++◌, length, slice_get}
 use Rattle.path_names.specs.declared.files.FileKind.TheVariants.{Mode, Schemata}
 use Rattle.path_names.specs.declared.path_ref.PathRef.{PathRef}
 use Rattle.path_names.specs.declared.path_ref.PathRef.TheVariants.{File}
 use Rattle.run_law.specs.Journals.{At, JournalsValue}
 use Rattle.run_windows.specs.Epochs.{state_at}
-use Rattle.run_windows.specs.Stays.{is_in, tenants_in}
-use Rattle.run_windows.specs.declared.changes.Change.{Change}
-use Rattle.run_windows.specs.declared.stay.Tenant.{Tenant}
+use Rattle.run_windows.specs.Edits.{Change, changes_of}
+use Rattle.run_windows.specs.Stays.{tenants_in}
+use Rattle.run_windows.specs.declared.changes.Log.{Log}
 use Rattle.script_ops.specs.Values.{ScriptValue}
 use Rattle.script_ops.specs.declared.op.Op.{Op}
 use Rattle.script_ops.specs.declared.op.Op.TheVariants as ops
 use Rattle.tree_core.specs.Values.{TreeValue}
-use Rattle.tree_law.specs.State.{State}
 
 -- a tree that has taken the commands of a run so far
 pub record IsReplayed (script : ScriptValue) (j : JournalsValue) (t : TreeValue) : Type 0 where
@@ -33,10 +32,6 @@ may_change (ops.Rmdir path) = true
 may_change (ops.Write path text) = is_of_masks path
 may_change op = false
 
--- the exclusive groups of a state, with their masks in each of so many domains
-abbrev pub AreTenants : ℕ → State → List Tenant → Type 0
-AreTenants domains s tenants = (domain : ℕ) → domain < domains → filter (is_in domain) tenants ≡ tenants_in domain s.groups
-
 -- The exclusive groups of the first epochs: those of a change hold from its epoch up to the next change.
 pub record AreChanges (script : ScriptValue) (j : JournalsValue) (count : ℕ) (changes : List Change) : Type 0 where
   pub some : 0 < count → 0 < length changes
@@ -45,4 +40,8 @@ pub record AreChanges (script : ScriptValue) (j : JournalsValue) (count : ℕ) (
   pub rising : AllPairs (λ (a b : Change). a.from < b.from) changes
   pub each :
       (i epoch : ℕ) (c : Change) → At changes i c → c.from ≤ epoch → epoch < count → IfSome (slice_get changes (i + 1)) (λ (d : Change). epoch < d.from)
-      → AreTenants script.machine.domains (state_at script j epoch) c.tenants.items
+      → c.tenants ≡ tenants_in (state_at script j epoch).groups
+
+-- the changes of a log, with the latest one
+abbrev pub logged : Log → List Change
+logged log = changes_of log.latest.items log.pasts.items ++ record { from = log.from; tenants = log.latest.items } ∷ []

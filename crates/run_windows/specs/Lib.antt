@@ -1,11 +1,12 @@
 pub mod AllWindows
 pub mod Changes
+pub mod Edits
 pub mod Epochs
 pub mod Fronts
 pub mod Regions
 pub mod Sites
 pub mod Stays
-pub mod Timelines
+pub mod Sweeps
 pub mod WindowCounts
 pub mod WindowLaws
 pub mod Windows

@@ -1,8 +1,8 @@
 -- The groups that are exclusive in a domain at an epoch, and how long each of them stays so.
 -- (For functions and proofs: no promise of the program stands on it.)
-use Rattle.std.specs.Prelude.{ℕ, ◌<◌, Bool, ◌==◌, ◌&&◌, All, AllPairs, Contains, List, find, filter, map}
+use Rattle.std.specs.Prelude.{ℕ, ◌<◌, Bool, ◌==◌, ◌&&◌, All, AllPairs, Contains, List, find, filter, map, slice_index}
 use Rattle.std.specs.Option.{option_map_or}
-use Rattle.group_tree.specs.Records.{has_mode, mask_in}
+use Rattle.group_tree.specs.Records.{has_mode}
 use Rattle.group_tree.specs.declared.group.Group.{Group}
 use Rattle.rc_base.specs.declared.names.Gid.{Gid}
 use Rattle.rc_base.specs.declared.names.Mode.TheVariants.{Exclusive}
@@ -10,32 +10,32 @@ use Rattle.run_law.specs.Journals.{JournalsValue}
 use Rattle.run_windows.specs.Epochs.{state_at}
 use Rattle.run_windows.specs.Windows.{IsExclusive, StaysExclusive}
 use Rattle.private_lru.specs.declared.stay.Stay.{Stay}
-use Rattle.run_windows.specs.declared.stay.Tenant.{Tenant}
+use Rattle.run_windows.specs.declared.tenant.Tenant.{Tenant}
 use Rattle.script_ops.specs.Values.{ScriptValue}
 
--- a group with its mask in a domain
-abbrev pub tenant_of : ℕ → Group → Tenant
-tenant_of domain g = record { gid = g.gid; mask = mask_in domain g; domain = domain }
+-- a group with its masks
+abbrev pub tenant_of : Group → Tenant
+tenant_of g = record { gid = g.gid; masks = g.masks }
 
 -- the exclusive ones of these groups
-abbrev pub tenants_in : ℕ → List Group → List Tenant
-tenants_in domain groups = map (tenant_of domain) (filter (has_mode Exclusive) groups)
+abbrev pub tenants_in : List Group → List Tenant
+tenants_in groups = map tenant_of (filter (has_mode Exclusive) groups)
 
--- whether it is listed for this domain
-abbrev pub is_in : ℕ → Tenant → Bool
-is_in domain t = t.domain == domain
+-- its mask in a domain
+abbrev pub mask_of : ℕ → Tenant → ℕ
+mask_of domain t = slice_index t.masks domain
 
 -- whether a stay is of the same group with the same mask
-abbrev pub is_same : Tenant → Stay → Bool
-is_same t later = (later.gid.0 == t.gid.0) && (later.mask == t.mask)
+abbrev pub is_same : ℕ → Tenant → Stay → Bool
+is_same domain t later = (later.gid.0 == t.gid.0) && (later.mask == mask_of domain t)
 
 -- a group that is exclusive on the same mask from the next change on stays so as long as it does from there
-abbrev pub last_of : ℕ → List Stay → Tenant → ℕ
-last_of last next t = option_map_or (λ (later : Stay). later.last) (find (is_same t) next) last
+abbrev pub last_of : ℕ → ℕ → List Stay → Tenant → ℕ
+last_of domain last next t = option_map_or (λ (later : Stay). later.last) (find (is_same domain t) next) last
 
 -- the group with its mask and that epoch
-abbrev pub stay_of : ℕ → List Stay → Tenant → Stay
-stay_of last next t = record { last = last_of last next t; gid = t.gid; mask = t.mask }
+abbrev pub stay_of : ℕ → ℕ → List Stay → Tenant → Stay
+stay_of domain last next t = record { last = last_of domain last next t; gid = t.gid; mask = mask_of domain t }
 
 -- The exclusive groups of an epoch, rising, each with its mask in the domain and the last epoch at which it is still exclusive on
 -- it.

@@ -1,15 +1,16 @@
-//! The groups that are exclusive from each change of them on, in all domains.
-ghost use Rattle.std.specs.Prelude.{◌≡◌, ◌+◌, ◌-◌, ◌≤◌, IfOk, IsSomeAnd, OnOk, filter, length, slice_get, true, false};
+//! The changes of the groups that are exclusive.
+ghost use Rattle.std.specs.Prelude.{◌≡◌, ◌+◌, [], IfOk, OnOk, filter, length, false};
 ghost use Rattle.group_tree.specs.Records.{has_mode};
 ghost use Rattle.rc_base.specs.declared.names.Mode.TheVariants.{Exclusive};
 ghost use Rattle.run_law.specs.Entries.{entry_value};
 ghost use Rattle.run_law.specs.Journals.{At};
 ghost use Rattle.run_law.specs.Runs.{IsRun};
-ghost use Rattle.run_windows.specs.Changes.{AreChanges, AreTenants, IsReplayed, is_of_masks, may_change};
-ghost use Rattle.run_windows.specs.declared.changes.Change.{Change};
+ghost use Rattle.run_windows.specs.Changes.{AreChanges, IsReplayed, is_of_masks, logged, may_change};
+ghost use Rattle.run_windows.specs.Edits.{changes_of};
 ghost use Rattle.script_ops.specs.Values.{IsLawful};
 
-use crate::stay::{Tenant, push_tenants};
+use crate::edit::{Edit, edit_of};
+use crate::tenant::{Tenant, are_same, tenants};
 use path_names::{FileKind, PathRef};
 use rc_base::NoMemory;
 use run_law::{Journals, TreeEntry};
@@ -17,13 +18,24 @@ use script_ops::{Op, Script};
 use std::alloc::Global;
 use tree_core::Tree;
 
-/// The groups that are exclusive from an epoch on, until the next of these.
+/// How the exclusive groups were before a change.
 #[derive(Drop)]
-pub(crate) struct Change {
-    /// The first epoch.
+pub(crate) struct Past {
+    /// The first epoch at which they were so.
     pub from: u64,
-    /// The groups, each with its mask in each domain.
-    pub tenants: Vec<Tenant>,
+    /// What makes them of those after the change.
+    pub edit: Edit,
+}
+
+/// The changes so far.
+#[derive(Drop)]
+pub(crate) struct Log {
+    /// What each change undoes, the first change first.
+    pub pasts: Vec<Past>,
+    /// The first epoch since the latest change.
+    pub from: u64,
+    /// The groups that are exclusive since then.
+    pub latest: Vec<Tenant>,
 }
 
 // Whether a command may make a group exclusive or end that, or change the mask of one.
@@ -67,33 +79,22 @@ fn take(tree: &mut Tree, script: &Script, journals: &Journals, entry: &TreeEntry
     }
 }
 
-// The groups that are exclusive in a tree, with their masks in so many domains.
-fn tenants(alloc: Global, tree: &Tree, domains: u8) -> Result<Vec<Tenant>, NoMemory>
-    requires { domains ≤ 8 }
-    ensures { IfOk result (λ tenants. AreTenants domains tree.now.state tenants.items) }
+// The log of a tree that has taken no command yet.
+fn first_log(
+    alloc: Global,
+    script: &Script,
+    journals: &Journals,
+    tree: &Tree,
+) -> Result<Log, NoMemory>
+    requires replayed { IsReplayed script.now journals.now tree.now }
+    requires first { tree.now.epoch ≡ 0 }
+    ensures { IfOk result (λ log. AreChanges script.now journals.now 1 (logged log)) }
 {
-    let mut tenants: Vec<Tenant> = Vec::new(alloc);
-    for domain in 0..domains {
-        push_tenants(&mut tenants, tree, domain)?;
-    }
-    Ok(tenants)
-}
-
-// Whether these are the same groups with the same masks, in the same order.
-fn are_same(old: &[Tenant], new: &[Tenant]) -> bool
-    ensures { result ≡ true → old.now ≡ new.now }
-{
-    old == new
-}
-
-// Whether these are the groups of the latest change.
-fn are_latest(changes: &[Change], tenants: &[Tenant]) -> bool
-    ensures { result ≡ true → IsSomeAnd (slice_get changes.now (length changes.now - 1)) (λ (c : Change). c.tenants.items ≡ tenants.now) }
-{
-    match changes.last() {
-        Some(change) => are_same(&change.tenants, tenants),
-        None => false,
-    }
+    Ok(Log {
+        pasts: Vec::new(alloc),
+        from: 0,
+        latest: tenants(alloc, tree)?,
+    })
 }
 
 // Adds the groups that are exclusive in a tree, where they are not those of the latest change.
@@ -102,21 +103,23 @@ fn push_changed(
     script: &Script,
     journals: &Journals,
     tree: &Tree,
-    changes: &mut Vec<Change>,
+    log: &mut Log,
 ) -> Result<(), NoMemory>
-    requires lawful { IsLawful script.now }
     requires replayed { IsReplayed script.now journals.now tree.now }
-    requires changes { AreChanges script.now journals.now tree.now.epoch changes.old.items }
-    ensures { OnOk result (AreChanges script.now journals.now (tree.now.epoch + 1) changes.new.items) }
+    requires changes { AreChanges script.now journals.now tree.now.epoch (logged log.old) }
+    ensures { OnOk result (AreChanges script.now journals.now (tree.now.epoch + 1) (logged log.new)) }
 {
-    let tenants = tenants(alloc, tree, script.machine().domains)?;
-    if are_latest(changes, &tenants) {
+    let tenants = tenants(alloc, tree)?;
+    if are_same(&log.latest, &tenants) {
         return Ok(());
     }
-    changes.push(Change {
-        from: tree.epoch(),
-        tenants,
+    let edit = edit_of(alloc, &tenants, &log.latest)?;
+    log.pasts.push(Past {
+        from: log.from,
+        edit,
     })?;
+    log.from = tree.epoch();
+    log.latest = tenants;
     Ok(())
 }
 
@@ -127,39 +130,55 @@ fn step(
     journals: &Journals,
     entry: &TreeEntry,
     tree: &mut Tree,
-    changes: &mut Vec<Change>,
+    log: &mut Log,
 ) -> Result<(), NoMemory>
     requires lawful { IsLawful script.now }
     requires run { IsRun script.now journals.now }
     requires replayed { IsReplayed script.now journals.now tree.old }
     requires next { At journals.now.tree tree.old.epoch (entry_value entry.now) }
-    requires changes { AreChanges script.now journals.now (tree.old.epoch + 1) changes.old.items }
+    requires changes { AreChanges script.now journals.now (tree.old.epoch + 1) (logged log.old) }
     ensures replayed { IsReplayed script.now journals.now tree.new }
     ensures epoch { tree.new.epoch ≡ tree.old.epoch + 1 }
-    ensures changes { OnOk result (AreChanges script.now journals.now (tree.new.epoch + 1) changes.new.items) }
+    ensures changes { OnOk result (AreChanges script.now journals.now (tree.new.epoch + 1) (logged log.new)) }
 {
     if !take(tree, script, journals, entry) {
         return Ok(());
     }
-    push_changed(alloc, script, journals, tree, changes)
+    push_changed(alloc, script, journals, tree, log)
 }
 
-/// The groups that are exclusive at first and after each command that changes them or a mask of theirs. The tree is played once
-/// more for it.
+// All changes of a log, the last of which makes the latest groups of none.
+fn closed(script: &Script, journals: &Journals, log: Log) -> Result<Vec<Past>, NoMemory>
+    requires { AreChanges script.now journals.now (length journals.now.tree + 1) (logged log) }
+    ensures { IfOk result (λ pasts. AreChanges script.now journals.now (length journals.now.tree + 1) (changes_of [] pasts.items)) }
+{
+    let Log {
+        mut pasts,
+        from,
+        latest,
+    } = log;
+    pasts.push(Past {
+        from,
+        edit: Edit::Whole(latest),
+    })?;
+    Ok(pasts)
+}
+
+/// What makes the groups that are exclusive at first, and after each command that changes them or a mask of theirs, of those of
+/// the next change, and the last of none. The tree is played once more for it.
 pub(crate) fn changes(
     alloc: Global,
     script: &Script,
     journals: &Journals,
-) -> Result<Vec<Change>, NoMemory>
+) -> Result<Vec<Past>, NoMemory>
     requires lawful { IsLawful script.now }
     requires run { IsRun script.now journals.now }
-    ensures { IfOk result (λ changes. AreChanges script.now journals.now (length journals.now.tree + 1) changes.items) }
+    ensures { IfOk result (λ pasts. AreChanges script.now journals.now (length journals.now.tree + 1) (changes_of [] pasts.items)) }
 {
     let mut tree = Tree::create(alloc, script.machine(), script.tasks())?;
-    let mut changes: Vec<Change> = Vec::new(alloc);
-    push_changed(alloc, script, journals, &tree, &mut changes)?;
+    let mut log = first_log(alloc, script, journals, &tree)?;
     for entry in journals.tree() {
-        step(alloc, script, journals, entry, &mut tree, &mut changes)?;
+        step(alloc, script, journals, entry, &mut tree, &mut log)?;
     }
-    Ok(changes)
+    closed(script, journals, log)
 }

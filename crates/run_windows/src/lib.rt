@@ -3,9 +3,12 @@
 
 mod changes;
 mod counting;
+mod edit;
 pub mod listing;
 mod opened;
-mod stay;
+mod places;
+mod sweep;
+mod tenant;
 pub mod theorems;
 mod timeline;
 

@@ -1,5 +1,5 @@
 //! All windows of a run.
-ghost use Rattle.std.specs.Prelude.{◌≡◌, ◌+◌, ◌<◌, ◌≤◌, ◌^◌, true, length, IfOk, OnOk};
+ghost use Rattle.std.specs.Prelude.{◌≡◌, ◌+◌, ◌<◌, ◌≤◌, ◌^◌, true, [], length, IfOk, OnOk};
 ghost use Rattle.cache_core.specs.Filled.{empties};
 ghost use Rattle.cache_core.specs.declared.entry.SliceEntry.{SliceEntry};
 ghost use Rattle.machine.specs.Slices.{slice_number};
@@ -7,13 +7,15 @@ ghost use Rattle.run_law.specs.Journals.{At, slice_at};
 ghost use Rattle.run_law.specs.Runs.{IsRun};
 ghost use Rattle.run_windows.specs.AllWindows.{AreWindowsBefore, AreWindowsOf};
 ghost use Rattle.run_windows.specs.Changes.{AreChanges};
-ghost use Rattle.run_windows.specs.Timelines.{IsTimeline};
+ghost use Rattle.run_windows.specs.Edits.{changes_of};
+ghost use Rattle.run_windows.specs.Sweeps.{AreMarks};
 ghost use Rattle.script_ops.specs.Values.{IsLawful};
 
-use crate::changes::{Change, changes};
+use crate::changes::{Past, changes};
 use crate::counting::empties;
 use crate::opened::{Opening, push_opened};
-use crate::timeline::{Span, stays_at, timeline};
+use crate::sweep::Sweep;
+use crate::timeline::{marks, stays_at};
 use cache_core::SliceEntry;
 use rc_base::NoMemory;
 use run_law::{Journals, Window};
@@ -27,7 +29,8 @@ fn push_entry(
     journals: &Journals,
     opening: Opening,
     entry: &SliceEntry,
-    timeline: &[Span],
+    changes: &[Past],
+    marks: &[Sweep],
     windows: &mut Vec<Window>,
 ) -> Result<(), NoMemory>
     requires lawful { IsLawful script.now }
@@ -35,15 +38,24 @@ fn push_entry(
     requires domain { opening.domain < script.now.machine.domains }
     requires slice { opening.slice < script.now.machine.slices }
     requires entry { At (slice_at journals.now (slice_number script.now.machine opening.domain opening.slice)) opening.from entry.now }
-    requires timeline { IsTimeline script.now journals.now opening.domain 0 timeline.now }
+    requires changes { AreChanges script.now journals.now (length journals.now.tree + 1) (changes_of [] changes.now) }
+    requires marks { AreMarks opening.domain (length journals.now.tree) 32 changes.now marks.now }
     requires before { AreWindowsBefore script.now journals.now (record { domain = opening.domain; slice = opening.slice; from = opening.from; gid = 0 }) windows.old.items }
     ensures { OnOk result (AreWindowsBefore script.now journals.now (record { domain = opening.domain; slice = opening.slice; from = opening.from + 1; gid = 0 }) windows.new.items) }
 {
     if !empties(entry.what) {
         return Ok(());
     }
-    let stays = stays_at(script, journals, opening.domain, timeline, entry.epoch);
-    push_opened(alloc, script, journals, opening, stays, windows)
+    let stays = stays_at(
+        alloc,
+        script,
+        journals,
+        opening.domain,
+        changes,
+        marks,
+        entry.epoch,
+    )?;
+    push_opened(alloc, script, journals, opening, &stays, windows)
 }
 
 // Adds the windows of a slice.
@@ -53,14 +65,16 @@ fn push_slice(
     journals: &Journals,
     domain: u8,
     slice: u8,
-    timeline: &[Span],
+    changes: &[Past],
+    marks: &[Sweep],
     windows: &mut Vec<Window>,
 ) -> Result<(), NoMemory>
     requires lawful { IsLawful script.now }
     requires run { IsRun script.now journals.now }
     requires domain { domain < script.now.machine.domains }
     requires slice { slice < script.now.machine.slices }
-    requires timeline { IsTimeline script.now journals.now domain 0 timeline.now }
+    requires changes { AreChanges script.now journals.now (length journals.now.tree + 1) (changes_of [] changes.now) }
+    requires marks { AreMarks domain (length journals.now.tree) 32 changes.now marks.now }
     requires before { AreWindowsBefore script.now journals.now (record { domain = domain; slice = slice; from = 0; gid = 0 }) windows.old.items }
     ensures { OnOk result (AreWindowsBefore script.now journals.now (record { domain = domain; slice = slice + 1; from = 0; gid = 0 }) windows.new.items) }
 {
@@ -72,7 +86,9 @@ fn push_slice(
             slice,
             from: from as u32,
         };
-        push_entry(alloc, script, journals, opening, entry, timeline, windows)?;
+        push_entry(
+            alloc, script, journals, opening, entry, changes, marks, windows,
+        )?;
     }
     Ok(())
 }
@@ -83,19 +99,21 @@ fn push_domain(
     script: &Script,
     journals: &Journals,
     domain: u8,
-    changes: &[Change],
+    changes: &[Past],
     windows: &mut Vec<Window>,
 ) -> Result<(), NoMemory>
     requires lawful { IsLawful script.now }
     requires run { IsRun script.now journals.now }
     requires domain { domain < script.now.machine.domains }
-    requires changes { AreChanges script.now journals.now (length journals.now.tree + 1) changes.now }
+    requires changes { AreChanges script.now journals.now (length journals.now.tree + 1) (changes_of [] changes.now) }
     requires before { AreWindowsBefore script.now journals.now (record { domain = domain; slice = 0; from = 0; gid = 0 }) windows.old.items }
     ensures { OnOk result (AreWindowsBefore script.now journals.now (record { domain = domain + 1; slice = 0; from = 0; gid = 0 }) windows.new.items) }
 {
-    let timeline = timeline(alloc, script, journals, domain, changes)?;
+    let marks = marks(alloc, journals, domain, changes)?;
     for slice in 0..script.machine().slices {
-        push_slice(alloc, script, journals, domain, slice, &timeline, windows)?;
+        push_slice(
+            alloc, script, journals, domain, slice, changes, &marks, windows,
+        )?;
     }
     Ok(())
 }
@@ -104,10 +122,10 @@ fn push_domain(
 /// access of the group: by domain, by slice, by the position of the flush or lock, and by group in order of creation (this
 /// project's profile).
 ///
-/// The tree is played once more, and after each command that changes the exclusive groups or a mask of theirs they are kept, 12
-/// bytes for each group and domain, and then 16 for each group of one domain at a time. Then the accesses from a flush or a lock up to
-/// the next one are sorted by line, for all groups that are exclusive at it, in 16 bytes for each and as many again for the sort, and
-/// walked for where the covered accesses of each group end. The entries are walked three times besides.
+/// The tree is played once more. Each command that changes the exclusive groups or a mask of theirs costs the record of the one
+/// group that it changes, some 60 bytes, and in one domain at a time 16 bytes of a stay at most. Then the accesses from a flush or
+/// a lock up to the next one are sorted by line, for all groups that are exclusive at it, in 16 bytes for each and as many again
+/// for the sort, and walked for where the covered accesses of each group end. The entries are walked three times besides.
 pub fn windows(alloc: Global, script: &Script, journals: &Journals) -> Result<Vec<Window>, NoMemory>
     requires lawful { IsLawful script.now }
     requires run { IsRun script.now journals.now }

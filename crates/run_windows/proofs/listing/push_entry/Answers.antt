@@ -1,15 +1,16 @@
-use Rattle.std.proofs.Common.{sym, subst}
+use Rattle.std.proofs.Common.{List, sym, subst}
 use Rattle.std.proofs.lemmas.Option.{get_or_from_slice_get}
 use Rattle.cache_core.specs.declared.entry.SliceEntry.{SliceEntry}
 use Rattle.machine.proofs.laws.Slices.{slice_number-lt}
 use Rattle.machine.specs.Slices.{slice_number}
+use Rattle.private_lru.specs.declared.stay.Stay.{Stay}
 use Rattle.run_law.specs.Journals.{slice_at}
 use Rattle.run_windows.proofs.Entries.{IsRun-given}
 use Rattle.run_windows.specs.Stays.{AreStays}
 use Rattle.run_windows.proofs.listing.push_entry.Goals as goal
 
-pub stays_at-stays-requires-clause-known : goal.stays_at-stays-requires-clause-known
-stays_at-stays-requires-clause-known c =
+pub stays_at-requires-clause-known : goal.stays_at-requires-clause-known
+stays_at-requires-clause-known c =
     let script = c.args.script.now in
     let o = c.args.opening in
     (IsRun-given script c.args.journals.now (slice_number script.machine o.domain o.slice) o.from c.args.entry.now c.requires.lawful c.requires.run (slice_number-lt script.machine o.domain o.slice c.requires.domain c.requires.slice) c.requires.entry).known
@@ -20,4 +21,5 @@ push_opened-requires-clause-stays c = λ d.
     let j = c.args.journals.now in
     let o = c.args.opening in
     let entries = slice_at j (slice_number script.machine o.domain o.slice) in
-    subst (λ (x : SliceEntry). AreStays script j o.domain x.epoch c.stays_at-stays.result.now) (sym (get_or_from_slice_get entries o.from c.args.entry.now d c.requires.entry)) c.stays_at-stays.ensures
+    subst (λ (x : SliceEntry). AreStays script j o.domain x.epoch c.deref.result.now) (sym (get_or_from_slice_get entries o.from c.args.entry.now d c.requires.entry))
+    (subst (λ (l : List Stay). AreStays script j o.domain c.args.entry.now.epoch l) (sym c.deref.ensures.value) c.in_ok-stays.ensures)

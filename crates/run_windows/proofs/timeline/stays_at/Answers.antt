@@ -1,17 +1,21 @@
-use Rattle.std.proofs.Common.{List, length, ltb-false, sym, subst, arith}
-use Rattle.run_windows.proofs.SpanPlaces.{AreStays-place, place-within}
-use Rattle.run_windows.specs.Stays.{AreStays}
+use Rattle.std.proofs.Common.{◌+◌, ◌-◌, List, length, refl, sym, subst, arith}
 use Rattle.private_lru.specs.declared.stay.Stay.{Stay}
+use Rattle.run_windows.proofs.Pasts.{begun-some}
+use Rattle.run_windows.proofs.Sweeps.{AreStays-begun}
+use Rattle.run_windows.specs.Stays.{AreStays}
 use Rattle.run_windows.proofs.timeline.stays_at.Goals as goal
 
-pub unreachable-requires : goal.unreachable-requires
-unreachable-requires c =
-    let within = place-within c.args.script.now c.args.journals.now c.args.domain c.args.epoch c.count_past.result c.args.spans.now c.requires.timeline c.count_past.ensures.past in
-    let past = ltb-false c.count_past.result (length c.args.spans.now) (sym c.in-None.ensures.lookup.0) in
-    omega (arith, within, past)
+pub sweep_at-requires-clause-within : goal.sweep_at-requires-clause-within
+sweep_at-requires-clause-within c =
+    let found = c.count_begun-begun.ensures in
+    let some = begun-some c.args.script.now c.args.journals.now c.args.pasts.now c.requires.changes c.args.epoch c.count_begun-begun.result found.rest in
+    let most = found.within in
+    omega (arith, some, most)
 
 pub returns : goal.returns
 returns c =
-    let past = c.count_past.ensures in
-    subst (λ (l : List Stay). AreStays c.args.script.now c.args.journals.now c.args.domain c.args.epoch l) (sym c.as_slice.ensures.value)
-    (AreStays-place c.args.script.now c.args.journals.now c.args.domain c.args.epoch c.count_past.result c.args.spans.now c.in-Some.span.now c.requires.timeline c.requires.known past.past past.rest c.in-Some.ensures.lookup.1)
+    let found = c.count_begun-begun.ensures in
+    let pasts = c.args.pasts.now in
+    subst (λ (l : List Stay). AreStays c.args.script.now c.args.journals.now c.args.domain c.args.epoch l) (sym c.in_ok-sweep.ensures.0)
+    (AreStays-begun c.args.script.now c.args.journals.now pasts c.requires.changes c.requires.lawful c.requires.run c.args.domain c.args.epoch c.count_begun-begun.result (length pasts + 1 - c.count_begun-begun.result)
+    c.requires.known found.within refl found.begun found.rest)
