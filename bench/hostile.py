@@ -137,6 +137,46 @@ def window_of_many(script, count):
     script.write("flush\n" + sweeps * (count // (TENANTS * 1000)))
 
 
+def toggled(script, machine, domains, lines):
+    """Thirty exclusive groups beside a free way of every cache, and then these lines over and over: of the first group, and its
+    masks with the free way and without.
+    """
+    script.write(f"{machine} ways=32 classes=32 rmids=32\nphase\nthread\n")
+
+    def masks(mask):
+        return "L3:" + ";".join(f"{domain}={mask:x}" for domain in range(domains))
+
+    script.write(f"write /schemata {masks(1 << TENANTS)}\n")
+    ways = [0, *range(2, TENANTS)]
+    for way in ways:
+        script.write(f"mkdir /t{way}\nwrite /t{way}/schemata {masks(1 << way)}\nwrite /t{way}/mode exclusive\n")
+    script.write(lines("/t0", masks(3), masks(1)))
+
+
+def toggled_mask(script, count):
+    """A mask that gains a way and loses it, beside 29 more exclusive groups."""
+    toggled(
+        script, "machine sets=64", 1,
+        lambda group, wide, narrow: f"write {group}/schemata {wide}\nwrite {group}/schemata {narrow}\n" * (count // 2),
+    )
+
+
+def toggled_masks(script, count):
+    """The same in eight caches at once."""
+    toggled(
+        script, "machine domains=8 sets=64 cpus=8", 8,
+        lambda group, wide, narrow: f"write {group}/schemata {wide}\nwrite {group}/schemata {narrow}\n" * (count // 2),
+    )
+
+
+def toggled_mode(script, count):
+    """A group that is exclusive or not in turn, with a flush after each change, beside 29 more exclusive groups."""
+    toggled(
+        script, "machine sets=64", 1,
+        lambda group, wide, narrow: f"write {group}/mode shareable\nflush\nwrite {group}/mode exclusive\nflush\n" * (count // 2),
+    )
+
+
 def cpu_lists(script, count):
     """Lists of CPUs, each of as many ranges of all CPUs as a text may hold."""
     script.write("machine cpus=64\nphase\nthread\n")
@@ -185,6 +225,9 @@ ROWS = (
     ("masks among many", MOST_WEIGHT // 10, masks_among_many),
     ("window of many", MOST_WEIGHT - 100_000, window_of_many, "--windows"),
     ("scattered window", MOST_WEIGHT - 20_000, window_of_scattered, "--windows"),
+    ("toggled mask", (MOST_WEIGHT - 20_000) // 2, toggled_mask, "--windows"),
+    ("toggled masks", (MOST_WEIGHT - 20_000) // 9, toggled_masks, "--windows"),
+    ("toggled mode", (MOST_WEIGHT - 20_000) // 5, toggled_mode, "--windows"),
     ("windows of many", (MOST_WEIGHT - 100_000) // 3, windows_of_many, "--windows"),
 )
 
