@@ -1,5 +1,5 @@
 """Storms of the planner, the checker, the program of orders, and the programs of two masks."""
-from storms import trees, windows
+from storms import caches, trees, windows
 from storms.limits import DOMAINS, LONG_TASKS, MOST_WEIGHT
 from storms.row import REPORT, Row
 
@@ -49,6 +49,11 @@ def tree_lines(script, count):
 def pair_tasks(script, count):
     """Reads of 4,096 ids of ten digits."""
     script.write(f"machine\ntasks {LONG_TASKS}\n" + "read /tasks\n" * count)
+
+
+def pair_tasks_same(script, count):
+    """Texts that move one task two thousand times."""
+    script.write("machine\ntasks 1-4096\nmkdir /a\n" + ("write /a/tasks " + "1," * 2_047 + "\n") * count)
 
 
 def pair_groups(machine, texts):
@@ -113,7 +118,7 @@ def checked(rows, program="resctrl_check", words=("check",)):
     return [row._replace(name=f"{words[0]}_{row.name}", program=program, words=list(words), export=["export", "step"]) for row in rows]
 
 
-SLOW_TREES = named(trees.ROWS, "setup_refused", "mkdir_rmids_8", "rmdir_tasks")
+SLOW_TREES = named(trees.ROWS, "setup_refused", "mkdir_rmids_8", "rmdir_tasks", "mkdir_monitor_crowd")
 SLOW_WINDOWS = named(windows.ROWS, "win_scatter", "win_toggle8")
 
 ROWS = (
@@ -128,10 +133,12 @@ ROWS = (
     *checked(SLOW_TREES + SLOW_WINDOWS),
     *checked(SLOW_TREES[:1] + SLOW_WINDOWS[:1], "resctrl_replay", ("order",)),
     *checked(SLOW_WINDOWS, "resctrl_replay", ("report", "--windows")),
+    *checked(named(caches.ROWS, "names"), "resctrl_replay", ("order",)),
     Row("cdp_read_tasks", "resctrl_cdp", [], 19_990, pair_tasks, REPORT),
     Row("cdp_spread", "resctrl_cdp", ["--quiet"], USES - COMMANDS, cdp_spread),
     Row("cdp_toggle", "resctrl_cdp", ["--quiet"], COMMANDS - 200, cdp_toggle),
     Row("l2_read_tasks", "resctrl_l2", [], 19_990, pair_tasks, REPORT),
+    Row("l2_tasks_same", "resctrl_l2", ["--quiet"], 16_000, pair_tasks_same),
     Row("l2_scatter", "resctrl_l2", ["--quiet"], USES - COMMANDS, l2_scatter),
     Row("l2_modes", "resctrl_l2", ["--quiet"], COMMANDS - 200, l2_modes),
     Row("l2_windows", "resctrl_l2", ["--quiet"], COMMANDS - 200, l2_windows),
