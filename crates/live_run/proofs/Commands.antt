@@ -1,8 +1,9 @@
 -- What the tree's cell and a thread keep with a command more.
-use Rattle.std.proofs.Common.{◌≡◌, ℕ, ◌+◌, ◌*◌, ◌≤◌, List, [], ◌∷◌, ◌++◌, length, map, take, get_or, Some, refl, sym, ap, ap₂, ◌∙◌, subst, arith}
-use Rattle.std.specs.Prelude.{IsTrue}
+use Rattle.std.proofs.Common.{◌≡◌, ℕ, ◌+◌, ◌*◌, ◌≤◌, true, Bool, List, [], ◌∷◌, ◌++◌, length, map, take, get_or, None, Some, refl, sym, ap, ap₂, ◌∙◌, subst, arith}
+use Rattle.std.specs.Prelude.{IsTrue, nat_lt, not}
 use Rattle.std.proofs.Math.Seq.{take-append_seam}
 use Rattle.std.proofs.lemmas.List.{length_push}
+use Rattle.atomic_table.specs.Seated.{TableId}
 use Rattle.cache_core.specs.declared.entry.SliceEntry.{SliceEntry}
 use Rattle.live_law.specs.Cells.{TreeKeeps}
 use Rattle.live_law.proofs.laws.CommandStages.{IsFollowing-decide}
@@ -16,11 +17,13 @@ use Rattle.live_law.specs.SeenJournals.{HasGrown, SeesMore}
 use Rattle.live_law.specs.Stages.{IsFollowing, IsLooking, IsReady}
 use Rattle.seen_journal.specs.Prefixes.{IsPrefix}
 use Rattle.live_run.proofs.Bridges.{history_length}
+use Rattle.live_run.proofs.Decisions.{IsToDecide, decided_share, entry_follows, state_is}
 use Rattle.seen_journal.proofs.laws.Entries.{IsPrefix-list_of}
 use Rattle.live_run.proofs.Trees.{lists_at, lists_of, lists_same, tree_meets}
 use Rattle.live_run.specs.Cells.{AreOfThreads, ArePasses, TreeCellValue, TreeIsKept, pass_in, taken_from}
 use Rattle.live_run.specs.Names.{SeenValue, history_of, seen_by}
-use Rattle.live_run.specs.Commands.{FollowsAt, HasReplied, LooksAt, shown_after}
+use Rattle.live_run.specs.Commands.{FollowsAt, HasReplied, shown_where}
+use Rattle.live_run.specs.Sharing.{HasStepped, IsShareOf}
 use Rattle.live_run.specs.Steps.{HasTaken, HaveGrown, HaveSeenSame}
 use Rattle.machine.specs.declared.parameters.Parameters.{Parameters}
 use Rattle.run_law.specs.Entries.{entry_value}
@@ -32,26 +35,30 @@ use Rattle.run_law.specs.FoundLooks.{HasFound, pairs_for}
 use Rattle.run_law.proofs.laws.FollowCounts.{length-looks}
 use Rattle.run_law.specs.Looks.{lines_looked}
 use Rattle.run_law.specs.Ops.{is_command}
-use Rattle.run_law.specs.TreeHistory.{CommandMayFollow, IsCommandThat, TreeEntryValue, tree_after}
+use Rattle.run_law.specs.TreeHistory.{CommandMayFollow, TreeEntryValue, tree_after}
 use Rattle.run_law.specs.declared.journals.TreeEntry.{TreeEntry}
+use Rattle.schedule_law.specs.LiveParts.{live_tree}
+use Rattle.schedule_law.specs.declared.part.Happening.TheVariants as happenings
+use Rattle.schedule_law.specs.declared.part.Part.{Part}
 use Rattle.script_ops.specs.Values.{ScriptValue, op_at}
 use Rattle.script_ops.specs.declared.op.Op.{Op}
 use Rattle.seen_journal.specs.Entries.{list_of}
 use Rattle.seen_journal.specs.Journals.{JournalName, JournalValue}
 use Rattle.seen_journal.specs.Passes.{PassValue}
+use Rattle.shared_parts.specs.Shares.{ShareValue}
 use Rattle.tree_core.specs.Values.{TreeValue}
 use Rattle.tree_law.specs.State.{State}
 use Rattle.tree_law.specs.Steps.{needs, next}
-use Rattle.live_run.proofs.TakenTrees.{history_push, looks_same, named-next, shown_after-next}
+use Rattle.live_run.proofs.TakenTrees.{history_push, looks_same, named-next, shown_where-next}
 
--- What is known when a thread's command is decided: when it had looked for all that it needs, the thread had seen this.
-pub record IsDecided (script : ScriptValue) (c : TreeCellValue) (s looked new : SeenValue) (n : ℕ) (op : Op) (tree : TreeValue) (journal : JournalValue TreeEntry) (entry : TreeEntry) : Type 0 where
-  pub same_thread : looked.thread ≡ s.thread
-  pub whole : looked.tree.seen ≡ c.journal.entries
-  pub at : LooksAt script n op (length (needs script.machine (tree_after script (history_of c.journal.entries)) op)) 0 0 entry.looks.numbers looked
-  pub thread : entry.thread ≡ s.thread
-  pub number : entry.op ≡ n
-  pub reply : entry.reply ≡ (next c.tree.machine c.tree.state op entry.looks.numbers).reply
+-- What is known when a thread's command is decided.
+pub record IsDecided (script : ScriptValue) (table : TableId) (c : TreeCellValue) (s looked new : SeenValue) (n : ℕ) (op : Op) (tree : TreeValue) (journal : JournalValue TreeEntry) (entry : TreeEntry) (worker worker_now : ShareValue Part) : Type 0 where
+  pub looks : IsToDecide script table c s looked n op entry worker
+  pub last : Bool
+  pub made : ℕ
+  pub made_is : made ≡ length (needs script.machine (tree_after script (history_of c.journal.entries)) op) * script.machine.slices
+  pub ends : last ≡ not (nat_lt made (length (jobs_of script (history_of c.journal.entries) (length (history_of c.journal.entries)) op)))
+  pub stepped : HasStepped (happenings.Decide entry last made) worker worker_now
   pub machine : tree.machine ≡ c.tree.machine
   pub state : tree.state ≡ (next c.tree.machine c.tree.state op entry.looks.numbers).state
   pub epoch : tree.epoch ≡ c.tree.epoch + 1
@@ -62,7 +69,7 @@ pub record IsDecided (script : ScriptValue) (c : TreeCellValue) (s looked new : 
   pub seen : new.tree.seen ≡ journal.entries
   pub slices : new.slices ≡ looked.slices
 
-module _ (script : ScriptValue) (tree : JournalName) (slices : List JournalName) (c : TreeCellValue) (kept : TreeIsKept script tree slices c) (now : List (PassValue SliceEntry)) (passes : ArePasses script slices now) (grown : HaveGrown c.slices now) (s looked new : SeenValue) (n : ℕ) (op : Op) (t : TreeValue) (journal : JournalValue TreeEntry) (entry : TreeEntry) (is : op_at script s.thread n ≡ Some op) (command : IsTrue (is_command op)) (decided : IsDecided script c s looked new n op t journal entry) where
+module _ (script : ScriptValue) (table : TableId) (tree : JournalName) (slices : List JournalName) (c : TreeCellValue) (kept : TreeIsKept script table tree slices c) (now : List (PassValue SliceEntry)) (passes : ArePasses script slices now) (grown : HaveGrown c.slices now) (s looked new : SeenValue) (n : ℕ) (op : Op) (t : TreeValue) (journal : JournalValue TreeEntry) (entry : TreeEntry) (worker worker_now : ShareValue Part) (is : op_at script s.thread n ≡ Some op) (command : IsTrue (is_command op)) (decided : IsDecided script table c s looked new n op t journal entry worker worker_now) where
   abbrev before : JournalsValue
   before = record { tree = history_of c.journal.entries; slices = lists_of now }
 
@@ -80,7 +87,7 @@ module _ (script : ScriptValue) (tree : JournalName) (slices : List JournalName)
   behind = record { tree = history_of c.journal.entries ++ h ∷ []; slices = lists_of looked.slices }
 
   was : seen_by looked ≡ front
-  was = ap (λ (hs : List TreeEntryValue). record { tree = hs; slices = lists_of looked.slices }) (ap history_of decided.whole)
+  was = ap (λ (hs : List TreeEntryValue). record { tree = hs; slices = lists_of looked.slices }) (ap history_of decided.looks.whole)
 
   -- the history now
   history_now : history_of new.tree.seen ≡ behind.tree
@@ -89,81 +96,78 @@ module _ (script : ScriptValue) (tree : JournalName) (slices : List JournalName)
   is_now : seen_by new ≡ behind
   is_now = ap₂ (λ (hs : List TreeEntryValue) (ls : List (List SliceEntry)). record { tree = hs; slices = ls }) history_now (ap lists_of decided.slices)
 
-  kept_now : TreeIsKept script tree slices (record { tree = c.tree; journal = c.journal; slices = now })
-  kept_now = tree_meets script tree slices c kept now passes grown
+  kept_now : TreeIsKept script table tree slices (record { tree = c.tree; journal = c.journal; slices = now; share = c.share })
+  kept_now = tree_meets script table tree slices c kept now passes grown
 
-  state_is : next c.tree.machine c.tree.state op h.looks ≡ next script.machine (tree_after script before.tree) op h.looks
-  state_is = ap (λ (m : Parameters). next m c.tree.state op h.looks) kept.machine ∙ ap (λ (x : State). next script.machine x op h.looks) kept.keeps.state_is
+  law_is : next c.tree.machine c.tree.state op h.looks ≡ next script.machine (tree_after script before.tree) op h.looks
+  law_is = state_is script table tree slices c kept s looked n op entry worker is command decided.looks
 
   abbrev counts : List (ℕ × ℕ)
   counts = needs script.machine (tree_after script before.tree) op
 
-  looked_now : IsLooking script decided.at.start s.thread n op decided.at.found front
-  looked_now = subst (λ u. IsLooking script decided.at.start u n op decided.at.found front) decided.same_thread (subst (λ (v : JournalsValue). IsLooking script decided.at.start looked.thread n op decided.at.found v) was decided.at.is)
+  looked_now : IsLooking script decided.looks.at.start s.thread n op decided.looks.at.found front
+  looked_now = subst (λ u. IsLooking script decided.looks.at.start u n op decided.looks.at.found front) decided.looks.same_thread (subst (λ (v : JournalsValue). IsLooking script decided.looks.at.start looked.thread n op decided.looks.at.found v) was decided.looks.at.is)
 
-  all_found : length decided.at.found ≡ length counts * script.machine.slices
-  all_found = omega (arith, decided.at.made)
+  all_found : length decided.looks.at.found ≡ length counts * script.machine.slices
+  all_found = omega (arith, decided.looks.at.made)
 
   -- it was given what its looks counted
   given_now : map (λ x. Some x) h.looks ≡ map (lines_looked script front h) counts
   given_now =
-      given script front h counts decided.at.found h.looks
-      (subst (λ u. HasFound front u h.op (pairs_for script before.tree op) decided.at.found) (sym decided.thread)
-      (subst (λ o. HasFound front s.thread o (pairs_for script before.tree op) decided.at.found) (sym decided.number) looked_now.found_are)) all_found decided.at.count decided.at.each
+      given script front h counts decided.looks.at.found h.looks
+      (subst (λ u. HasFound front u h.op (pairs_for script before.tree op) decided.looks.at.found) (sym decided.looks.thread)
+      (subst (λ o. HasFound front s.thread o (pairs_for script before.tree op) decided.looks.at.found) (sym decided.looks.number) looked_now.found_are)) all_found decided.looks.at.count decided.looks.at.each
 
-  following : IsFollowing script decided.at.start s.thread n at_k op h (length decided.at.found) behind
-  following = IsFollowing-decide script decided.at.start s.thread n op decided.at.found front h decided.thread decided.number given_now looked_now
+  follows_now : IsFollowing script decided.looks.at.start s.thread n at_k op h (length decided.looks.at.found) behind
+  follows_now = IsFollowing-decide script decided.looks.at.start s.thread n op decided.looks.at.found front h decided.looks.thread decided.looks.number given_now looked_now
 
   may : CommandMayFollow script before.tree h
-  may =
-      let is_op : op_at script h.thread h.op ≡ Some op = rw (decided.thread, decided.number) is in
-      subst
-      (IsCommandThat (λ d. (length h.looks ≡ length (needs script.machine (tree_after script before.tree) d)) × (h.reply ≡ (next script.machine (tree_after script before.tree) d h.looks).reply)))
-      (sym is_op)
-      (command, (decided.at.count, decided.reply ∙ ap (λ o. o.reply) state_is))
+  may = entry_follows script table tree slices c kept s looked n op entry worker is command decided.looks
 
   new_thread : new.thread ≡ s.thread
-  new_thread = decided.new_thread ∙ decided.same_thread
+  new_thread = decided.new_thread ∙ decided.looks.same_thread
 
   -- it follows from here
-  pub command_follows : FollowsAt script n at_k op (length (looks_of script (history_of new.tree.seen) at_k op)) new
+  pub command_follows : FollowsAt script table n at_k op (length (looks_of script (history_of new.tree.seen) at_k op)) new worker_now
   command_follows =
-      let looks : length decided.at.found ≡ length (looks_of script (history_of new.tree.seen) at_k op) =
+      let looks : length decided.looks.at.found ≡ length (looks_of script (history_of new.tree.seen) at_k op) =
       all_found ∙ (sym (length-looks script before.tree op) ∙ ap length (sym (looks_same script before.tree h op) ∙ ap (λ hs. looks_of script hs at_k op) (sym history_now))) in
-      subst (λ made. FollowsAt script n at_k op made new) looks
+      subst (λ made. FollowsAt script table n at_k op made new worker_now) looks
       (record {
-        start = decided.at.start;
-        ended = subst (λ u. AreEnded script decided.at.start u) (sym decided.new_thread) decided.at.ended;
+        start = decided.looks.at.start;
+        ended = subst (λ u. AreEnded script decided.looks.at.start u) (sym decided.new_thread) decided.looks.at.ended;
         h = h;
-        is = subst (λ u. IsFollowing script decided.at.start u n at_k op h (length decided.at.found) (seen_by new)) (sym new_thread)
-            (subst (λ (v : JournalsValue). IsFollowing script decided.at.start s.thread n at_k op h (length decided.at.found) v) (sym is_now) following);
+        is = subst (λ u. IsFollowing script decided.looks.at.start u n at_k op h (length decided.looks.at.found) (seen_by new)) (sym new_thread)
+            (subst (λ (v : JournalsValue). IsFollowing script decided.looks.at.start s.thread n at_k op h (length decided.looks.at.found) v) (sym is_now) follows_now);
+        found = decided.looks.at.found;
+        share_is = decided_share script table tree slices c kept s looked n op entry worker is command decided.looks decided.last decided.made decided.made_is decided.ends new worker_now decided.new_thread (decided.seen ∙ decided.list) decided.stepped;
         last = omega (arith, history_length c.journal.entries, ap length (decided.seen ∙ decided.list), length_push c.journal.entries (looked.thread, entry));
       })
 
   -- its reply is what the tree's law says, and its text what the files show
-  pub command_replied : (old last : SeenValue) (shown now_shown : List ℕ) → old.thread ≡ s.thread → length (history_of old.tree.seen) ≤ at_k → last.tree ≡ new.tree
-      → now_shown ≡ shown_after script t.state op h.looks entry.reply shown
-      → HasReplied script op entry.reply (record { seen = old; next = n; shown = shown }) (record { seen = last; next = n + 1; shown = now_shown })
-  command_replied old last shown now_shown same_thread late same_tree text =
+  pub command_replied : (asked : Bool) (old last : SeenValue) (shown now_shown : List ℕ) → old.thread ≡ s.thread → length (history_of old.tree.seen) ≤ at_k → last.tree ≡ new.tree
+      → now_shown ≡ shown_where asked script t.state op h.looks entry.reply shown
+      → HasReplied script asked op entry.reply (record { seen = old; next = n; shown = shown; begun = true }) (record { seen = last; next = n + 1; shown = now_shown; begun = true })
+  command_replied asked old last shown now_shown same_thread late same_tree text =
       let history : history_of last.tree.seen ≡ behind.tree = ap (λ (p : PassValue TreeEntry). history_of p.seen) same_tree ∙ history_now in
       let front_is : take at_k (history_of last.tree.seen) ≡ before.tree = ap (take at_k) history ∙ take-append_seam before.tree (h ∷ []) in
-      let reply : entry.reply ≡ (next script.machine (tree_after script before.tree) op h.looks).reply = decided.reply ∙ ap (λ o. o.reply) state_is in
+      let reply : entry.reply ≡ (next script.machine (tree_after script before.tree) op h.looks).reply = decided.looks.reply ∙ ap (λ o. o.reply) law_is in
       record {
         k = at_k;
         h = h;
         there = subst (λ hs. At hs at_k h) (sym history) (At-last before.tree h);
-        thread = decided.thread ∙ sym same_thread;
-        number = decided.number;
+        thread = decided.looks.thread ∙ sym same_thread;
+        number = decided.looks.number;
         noted = refl;
         late = late;
         reply_is = reply ∙ ap (λ hs. (next script.machine (tree_after script hs) op h.looks).reply) (sym front_is);
         shown_is =
             text
-            ∙ (shown_after-next script script.machine (tree_after script before.tree) t.state op h.looks entry.reply shown (decided.state ∙ ap (λ o. o.state) state_is)
-            ∙ ap (λ hs. shown_after script (tree_after script hs) op h.looks entry.reply shown) (sym front_is));
+            ∙ (shown_where-next asked script script.machine (tree_after script before.tree) t.state op h.looks entry.reply shown (decided.state ∙ ap (λ o. o.state) law_is)
+            ∙ ap (λ hs. shown_where asked script (tree_after script hs) op h.looks entry.reply shown) (sym front_is));
       }
 
-  module _ (later : List (PassValue SliceEntry)) (later_passes : ArePasses script slices later) (later_grown : HaveGrown now later) (followed last : SeenValue) (at : FollowsAt script n at_k op (length (jobs_of script (history_of new.tree.seen) at_k op)) followed) (tree_same : followed.tree ≡ new.tree) (thread_same : followed.thread ≡ new.thread) (released : HasTaken followed last) (last_tree : last.tree ≡ followed.tree) (same : HaveSeenSame later last.slices) where
+  module _ (later : List (PassValue SliceEntry)) (later_passes : ArePasses script slices later) (later_grown : HaveGrown now later) (followed last : SeenValue) (worker_then : ShareValue Part) (at : FollowsAt script table n at_k op (length (jobs_of script (history_of new.tree.seen) at_k op)) followed worker_then) (tree_same : followed.tree ≡ new.tree) (thread_same : followed.thread ≡ new.thread) (released : HasTaken followed last) (last_tree : last.tree ≡ followed.tree) (same : HaveSeenSame later last.slices) where
     abbrev whole : JournalsValue
     whole = record { tree = history_of c.journal.entries ++ h ∷ []; slices = lists_of later }
 
@@ -201,8 +205,8 @@ module _ (script : ScriptValue) (tree : JournalName) (slices : List JournalName)
         }
 
     -- and the cell keeps what it keeps
-    pub command_kept : TreeIsKept script tree slices (record { tree = t; journal = journal; slices = later })
-    command_kept =
+    pub command_kept : (share : ShareValue Part) → IsShareOf table (live_tree (list_of journal.entries) None ∷ []) share → TreeIsKept script table tree slices (record { tree = t; journal = journal; slices = later; share = share })
+    command_kept share share_is =
         let seen : HasGrown before (record { tree = before.tree; slices = lists_of later }) = record {
           tree = IsPrefix-self before.tree;
           slices = λ i. subst (λ xs. IsPrefix xs (get_or (lists_of later) i [])) (sym (lists_at now i)) (subst (λ xs. IsPrefix (list_of (pass_in now i).seen) xs) (sym (lists_at later i)) (IsPrefix-list_of (pass_in now i).seen (pass_in later i).seen (later_grown i)));
@@ -219,6 +223,7 @@ module _ (script : ScriptValue) (tree : JournalName) (slices : List JournalName)
           epoch = omega (arith, decided.epoch, kept.epoch, ap length decided.list, length_push c.journal.entries (looked.thread, entry));
           passes = later_passes;
           threads = decided.threads;
+          share_is = share_is;
           named = named-next script c.tree.machine c.tree.state t.state s.thread n op h.looks kept.lawful is decided.state kept.named;
           keeps = subst (λ (x : State). TreeKeeps script x (record { tree = history_of journal.entries; slices = lists_of later })) (sym state)
               (subst (λ hs. TreeKeeps script (next script.machine c.tree.state op h.looks).state (record { tree = hs; slices = lists_of later })) (sym history) keeps);

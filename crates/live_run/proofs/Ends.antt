@@ -2,6 +2,7 @@
 use Rattle.std.proofs.Common.{◌≡◌, ℕ, zero, suc, ◌<◌, ◌==◌, inl, inr, List, [], ◌∷◌, length, map, get_or, refl, sym, ap, ◌∙◌, subst, arith}
 use Rattle.std.proofs.lemmas.Bool.{cases_lt}
 use Rattle.std.proofs.lemmas.List.{get_or_past, length-map}
+use Rattle.atomic_table.specs.Seated.{TableId}
 use Rattle.cache_core.specs.declared.entry.SliceEntry.{SliceEntry}
 use Rattle.live_law.specs.Cells.{SliceKeeps, TreeKeeps}
 use Rattle.live_law.proofs.laws.Ends.{IsRun-at_end}
@@ -35,7 +36,7 @@ lists_left (p ∷ ps) (j ∷ js) count same =
     let first : p.seen ≡ j.entries = same 0 (omega arith) in
     rw first (ap (λ (ls : List (List SliceEntry)). list_of j.entries ∷ ls) (lists_left ps js (omega (arith, count)) (λ i less. same (suc i) (omega (arith, less)))))
 
-module _ (script : ScriptValue) (tree : JournalName) (slices : List JournalName) (c : TreeCellValue) (js : List (JournalValue SliceEntry)) (ends : AreAtEnd script tree slices c js) where
+module _ (script : ScriptValue) (table : TableId) (tree : JournalName) (slices : List JournalName) (c : TreeCellValue) (js : List (JournalValue SliceEntry)) (ends : AreAtEnd script table tree slices c js) where
   -- a thread has all of its own in what it has seen
   pub thread_sees : (t : ℕ) (s : SeenValue) → IsThreadAtEnd script tree slices c js t s → SeesMore t (seen_by s) (journals_left c js)
   thread_sees t s end = record {

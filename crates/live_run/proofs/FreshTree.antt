@@ -1,11 +1,14 @@
 -- The tree's cell before the first op.
-use Rattle.std.proofs.Common.{◌≡◌, ℕ, List, [], length, map, sym, ap, ◌∙◌, subst, arith}
+use Rattle.std.proofs.Common.{◌≡◌, ℕ, List, [], ◌∷◌, None, length, map, sym, ap, ◌∙◌, subst, arith}
+use Rattle.atomic_table.specs.Seated.{TableId}
 use Rattle.cache_core.specs.declared.entry.SliceEntry.{SliceEntry}
 use Rattle.live_law.specs.Cells.{TreeKeeps}
 use Rattle.live_run.specs.Cells.{AreOfThreads, ArePasses, TreeCellValue, TreeIsKept, made_by}
 use Rattle.live_run.specs.Openings.{AreNew}
+use Rattle.live_run.specs.Sharing.{IsShareOf}
 use Rattle.machine.specs.Slices.{slice_count}
 use Rattle.run_law.specs.TreeHistory.{tree_after}
+use Rattle.schedule_law.specs.LiveParts.{live_tree}
 use Rattle.script_ops.specs.Values.{IsLawful, ScriptValue}
 use Rattle.seen_journal.specs.Entries.{list_of}
 use Rattle.seen_journal.specs.Journals.{JournalName}
@@ -31,9 +34,9 @@ ArePasses-new script slices n passes new = record {
   threads = λ i within. subst (λ (p : PassValue SliceEntry). AreOfThreads made_by p.seen) (sym (new.each i (omega (arith, within, new.count)))) (λ k x at. absurd cc);
 }
 
-pub TreeIsKept-opening : (script : ScriptValue) (tree : JournalName) (slices : List JournalName) (n : ℕ) (c : TreeCellValue) → IsLawful script → c.journal.name ≡ tree → c.journal.entries ≡ [] → AreNew slices (slice_count script.machine) n c.slices
-    → c.tree.machine ≡ script.machine → c.tree.state ≡ opening script.machine script.tasks → c.tree.epoch ≡ 0 → TreeIsKept script tree slices c
-TreeIsKept-opening script tree slices n c lawful name empty new machine state epoch = record {
+pub TreeIsKept-opening : (script : ScriptValue) (table : TableId) (tree : JournalName) (slices : List JournalName) (n : ℕ) (c : TreeCellValue) → IsLawful script → c.journal.name ≡ tree → c.journal.entries ≡ [] → AreNew slices (slice_count script.machine) n c.slices
+    → c.tree.machine ≡ script.machine → c.tree.state ≡ opening script.machine script.tasks → c.tree.epoch ≡ 0 → IsShareOf table (live_tree [] None ∷ []) c.share → TreeIsKept script table tree slices c
+TreeIsKept-opening script table tree slices n c lawful name empty new machine state epoch share = record {
   lawful = lawful;
   journal_is = name;
   machine = machine;
@@ -42,4 +45,5 @@ TreeIsKept-opening script tree slices n c lawful name empty new machine state ep
   threads = rw empty (λ k x at. absurd cc);
   keeps = rw empty (TreeKeeps-opening script c.tree.state (map (λ (p : PassValue SliceEntry). list_of p.seen) c.slices) state);
   named = rw state (named_opening script.names script.machine script.tasks);
+  share_is = rw empty share;
 }

@@ -1,9 +1,10 @@
 -- The looks of a command, one by one.
-use Rattle.std.proofs.Common.{◌≡◌, ℕ, ◌+◌, ◌*◌, ◌^◌, ◌<◌, ◌≤◌, inl, inr, List, [], ◌∷◌, ◌++◌, length, map, Some, refl, sym, ap, ◌∙◌, subst, arith}
+use Rattle.std.proofs.Common.{◌≡◌, ℕ, ◌+◌, ◌*◌, ◌^◌, ◌<◌, ◌≤◌, inl, inr, List, [], ◌∷◌, ◌++◌, length, map, Some, refl, sym, ap, ap₂, ◌∙◌, subst, arith}
 use Rattle.std.proofs.lemmas.Bool.{cases_lt}
 use Rattle.std.proofs.lemmas.List.{length_push}
 use Rattle.std.proofs.lemmas.List.Elements.{All-append, All-cons, All-nil}
 use Rattle.std.proofs.lemmas.Nat.{mul-le}
+use Rattle.atomic_table.specs.Seated.{TableId}
 use Rattle.cache_core.specs.Stands.{entry}
 use Rattle.cache_core.specs.declared.entry.SliceEntry.{SliceEntry}
 use Rattle.cache_core.specs.declared.entry.What.TheVariants as whats
@@ -17,6 +18,7 @@ use Rattle.live_run.proofs.Bridges.{history_length}
 use Rattle.live_run.proofs.Trees.{lists_of}
 use Rattle.live_run.specs.Names.{SeenValue, history_of, seen_by}
 use Rattle.live_run.specs.Commands.{LooksAt}
+use Rattle.live_run.specs.Sharing.{HasStepped, IsNextCount, holding}
 use Rattle.live_run.specs.Steps.{HasAdded}
 use Rattle.live_run.specs.Visits.{MayLook}
 use Rattle.machine.specs.Slices.{slice_count, slice_number}
@@ -30,10 +32,17 @@ use Rattle.run_law.specs.Jobs.{Job, follows_of, jobs_of, looks_of}
 use Rattle.run_law.specs.Journals.{At, JournalsValue}
 use Rattle.run_law.specs.TreeHistory.{TreeEntryValue, tree_after}
 use Rattle.run_law.specs.declared.journals.TreeEntry.{TreeEntry}
+use Rattle.schedule_law.specs.LiveParts.{after}
+use Rattle.schedule_law.specs.declared.part.Happening.TheVariants as happenings
+use Rattle.schedule_law.specs.declared.part.Part.{Part}
 use Rattle.script_ops.specs.Values.{ScriptValue}
 use Rattle.script_ops.specs.declared.op.Op.{Op}
 use Rattle.seen_journal.specs.Journals.{JournalName, JournalValue}
+use Rattle.seen_journal.specs.Entries.{list_of}
 use Rattle.seen_journal.specs.Passes.{PassValue}
+use Rattle.shared_parts.specs.Parts.{parts_after}
+use Rattle.shared_parts.specs.Shares.{ShareValue}
+use Rattle.step_world.specs.declared.place.Place.TheVariants.{Looking}
 use Rattle.tree_law.specs.Steps.{needs}
 
 -- the job of a pair
@@ -43,7 +52,7 @@ job_of_pair script tree c k pair at =
     At-append_front (looks_of script tree (length tree) c) (follows_of script tree (length tree) c) k (look_of (length tree) pair)
     (subst (λ jobs. At jobs k (look_of (length tree) pair)) (looks_are script tree c) mapped)
 
-module _ (script : ScriptValue) (tree : JournalName) (n : ℕ) (c : Op) (q x lines : ℕ) (numbers : List ℕ) (s : SeenValue) (at : LooksAt script n c q x lines numbers s) (need : ℕ × ℕ) (is_need : At (needs script.machine (tree_after script (history_of s.tree.seen)) c) q need) (below : x < script.machine.slices) (within : slice_number script.machine need.0 x < slice_count script.machine) where
+module _ (script : ScriptValue) (table : TableId) (tree : JournalName) (n : ℕ) (c : Op) (q x lines : ℕ) (numbers : List ℕ) (s : SeenValue) (worker : ShareValue Part) (at : LooksAt script table n c q x lines numbers s worker) (need : ℕ × ℕ) (is_need : At (needs script.machine (tree_after script (history_of s.tree.seen)) c) q need) (below : x < script.machine.slices) (within : slice_number script.machine need.0 x < slice_count script.machine) where
   abbrev history : List TreeEntryValue
   history = history_of s.tree.seen
 
@@ -74,10 +83,23 @@ module _ (script : ScriptValue) (tree : JournalName) (n : ℕ) (c : Op) (q x lin
         room = job-room script at.start s.thread n n (length history) c (length at.found) (seen_by s) at.is.holds job within is_job;
       }
 
+  -- by the parts at hand too
+  pub next_count : (journal : JournalValue TreeEntry) → s.tree.seen ≡ journal.entries → AreDistinct (needs script.machine (tree_after script (history_of s.tree.seen)) c) → IsNextCount script table (slice_number script.machine need.0 x) n need.1 journal s worker
+  next_count journal whole distinct =
+      subst (λ es. IsNextCount script table i n need.1 (record { name = journal.name; entries = es }) s worker) whole
+      (record {
+        op = c;
+        found = at.found;
+        share = at.share_is;
+        is = at.is.holds.is_op;
+        distinct = distinct_pairs script.machine (needs script.machine (tree_after script history) c) distinct;
+        next = is_pair;
+      })
+
   -- and has looked
-  pub has_looked : (epoch more : ℕ) (new : SeenValue) → epoch ≡ length (history_of s.tree.seen) → more ≤ 2097152 → AreDistinct (needs script.machine (tree_after script (history_of s.tree.seen)) c)
-      → HasAdded (slice_number script.machine need.0 x) (entry s.thread n epoch (whats.Look need.1 more)) s new → new.tree ≡ s.tree → LooksAt script n c q (x + 1) (lines + more) numbers new
-  has_looked epoch more new is_epoch few distinct added same =
+  pub has_looked : (epoch more : ℕ) (new : SeenValue) (worker_now : ShareValue Part) → epoch ≡ length (history_of s.tree.seen) → more ≤ 2097152 → AreDistinct (needs script.machine (tree_after script (history_of s.tree.seen)) c)
+      → HasAdded (slice_number script.machine need.0 x) (entry s.thread n epoch (whats.Look need.1 more)) s new → new.tree ≡ s.tree → HasStepped (happenings.Look (entry s.thread n epoch (whats.Look need.1 more))) worker worker_now → LooksAt script table n c q (x + 1) (lines + more) numbers new worker_now
+  has_looked epoch more new worker_now is_epoch few distinct added same stepped =
       let e : SliceEntry = entry s.thread n epoch (whats.Look need.1 more) in
       let found : List ℕ = at.found ++ more ∷ [] in
       let seen : seen_by new ≡ (record { tree = history; slices = lists_of new.slices }) = ap (λ (p : PassValue TreeEntry). record { tree = history_of p.seen; slices = lists_of new.slices }) same in
@@ -100,6 +122,15 @@ module _ (script : ScriptValue) (tree : JournalName) (n : ℕ) (c : Op) (q x lin
         few = at.few;
         lines_are = ap (λ k. k + more) at.lines_are ∙ sym (found_at-last script.machine.slices at.found more q x at.made);
         bound = omega (arith, at.bound, few);
+        share_is = record {
+          table_is = stepped.0 ∙ at.share_is.table_is;
+          words = at.share_is.words;
+          parts_are =
+              stepped.1
+              ∙ (ap (parts_after after (happenings.Look e)) at.share_is.parts_are
+              ∙ (ap (λ m. holding (list_of s.tree.seen) s.thread n (Looking m) found) many
+              ∙ ap₂ (λ (p : PassValue TreeEntry) t. holding (list_of p.seen) t n (Looking (length found)) found) (sym same) (sym added.thread)));
+        };
       }
     where
       whole_before : (p : ℕ) → p < q → p * script.machine.slices + script.machine.slices ≤ length at.found
@@ -108,9 +139,9 @@ module _ (script : ScriptValue) (tree : JournalName) (n : ℕ) (c : Op) (q x lin
           omega (arith, one, mul-le (p + 1) script.machine.slices q script.machine.slices (omega (arith, less)) (omega arith), at.made)
 
 -- a count is whole
-pub has_counted : (script : ScriptValue) (n : ℕ) (c : Op) (q lines : ℕ) (numbers : List ℕ) (s : SeenValue) → script.machine.slices ≤ 16 → LooksAt script n c q script.machine.slices lines numbers s
-    → LooksAt script n c (q + 1) 0 0 (numbers ++ lines ∷ []) s
-has_counted script n c q lines numbers s limit at = record {
+pub has_counted : (script : ScriptValue) (table : TableId) (n : ℕ) (c : Op) (q lines : ℕ) (numbers : List ℕ) (s : SeenValue) (worker : ShareValue Part) → script.machine.slices ≤ 16 → LooksAt script table n c q script.machine.slices lines numbers s worker
+    → LooksAt script table n c (q + 1) 0 0 (numbers ++ lines ∷ []) s worker
+has_counted script table n c q lines numbers s worker limit at = record {
   start = at.start;
   ended = at.ended;
   found = at.found;
@@ -126,4 +157,5 @@ has_counted script n c q lines numbers s limit at = record {
   few = All-append (λ n. n ≤ 2 ^ 32) numbers (lines ∷ []) at.few (All-cons (λ n. n ≤ 2 ^ 32) lines [] (omega (arith, at.bound, mul-le script.machine.slices 2097152 16 2097152 limit (omega arith))) (All-nil (λ n. n ≤ 2 ^ 32)));
   lines_are = refl;
   bound = omega arith;
+  share_is = at.share_is;
 }

@@ -1,29 +1,63 @@
 -- What a thread's passes keep from op to op.
-use Rattle.std.proofs.Common.{◌≡◌, ℕ, ◌+◌, ◌<◌, ◌≤◌, ◌^◌, List, [], ◌∷◌, ◌++◌, length, drop, false, Some, sym, ap, ◌∙◌, subst, arith}
+use Rattle.std.proofs.Common.{◌≡◌, ℕ, ◌+◌, ◌<◌, ◌≤◌, ◌^◌, List, [], ◌∷◌, ◌++◌, length, drop, false, true, Bool, Some, sym, ap, ◌∙◌, subst, arith}
 use Rattle.std.specs.Prelude.{IsTrue}
 use Rattle.std.proofs.lemmas.Option.{slice_get_within}
 use Rattle.std.proofs.lemmas.List.{length_push, same_from_push}
+use Rattle.atomic_table.specs.Seated.{TableId}
 use Rattle.live_law.proofs.laws.Passes.{PassesKeep-more}
 use Rattle.live_law.specs.Passes.{PassesKeep}
-use Rattle.live_run.specs.Names.{SeenValue, seen_by}
+use Rattle.live_run.specs.Commands.{HasReplied}
+use Rattle.live_run.specs.Names.{PassesValue, SeenValue, seen_by}
 use Rattle.live_run.specs.Passes.{PassesAreKept}
+use Rattle.live_run.specs.Sharing.{IsResting, begun_in}
 use Rattle.live_run.specs.Steps.{HasTaken}
 use Rattle.rc_base.specs.Buffers.{Looks, Roomy}
+use Rattle.rc_base.specs.declared.replies.Reply.{Reply}
 use Rattle.run_law.proofs.laws.ReadyLists.{rooms_of-access, rooms_of-command}
 use Rattle.run_law.specs.LookLists.{AreReady, rooms_of}
 use Rattle.run_law.specs.Ops.{is_command}
 use Rattle.run_law.specs.Quotas.{most_counts}
+use Rattle.schedule_law.specs.declared.part.Part.{Part}
 use Rattle.script_ops.proofs.laws.Weights.{length-get_or}
 use Rattle.script_ops.specs.Values.{IsLawful, ScriptValue, op_at, ops_of, threads_of}
 use Rattle.script_ops.specs.declared.limits.TheConstants.{MOST_WEIGHT}
 use Rattle.script_ops.specs.declared.op.Op.{Op}
+use Rattle.shared_parts.specs.Shares.{ShareValue}
 
 -- they have seen more, and added nothing
-pub passes_handed : (script : ScriptValue) (old new : SeenValue) (n : ℕ) (lists : List Looks) (shown : Roomy) → HasTaken old new → PassesAreKept script old n lists shown → PassesAreKept script new n lists shown
-passes_handed script old new n lists shown taken kept = record {
+pub passes_handed : (script : ScriptValue) (table : TableId) (old new : SeenValue) (n : ℕ) (lists : List Looks) (shown : Roomy) (share : ShareValue Part) → HasTaken old new → PassesAreKept script table old n lists shown share → PassesAreKept script table new n lists shown share
+passes_handed script table old new n lists shown share taken kept = record {
   keep = subst (λ t. PassesKeep script t n (seen_by new)) (sym taken.thread) (PassesKeep-more script old.thread n (seen_by old) (seen_by new) taken.sees kept.keep);
   lists_are = subst (λ t. AreReady (rooms_of script.machine (drop n (ops_of script t))) lists) (sym taken.thread) kept.lists_are;
   room = kept.room;
+  share_is = subst (λ t. IsResting table t n (begun_in share.parts) share) (sym taken.thread) kept.share_is;
+}
+
+-- whether the phase of a thread is known to have begun stands in its share
+pub resting_begun : (table : TableId) (t n : ℕ) (begun : Bool) (share : ShareValue Part) → IsResting table t n begun share → begun_in share.parts ≡ begun
+resting_begun table t n begun share resting = ap begun_in resting.is.parts_are
+
+-- the share of a thread between two ops, after an op
+pub resting_after : (table : TableId) (t now n : ℕ) (share : ShareValue Part) → now ≡ t → IsResting table t n true share → IsResting table now n (begun_in share.parts) share
+resting_after table t now n share same resting =
+    subst (λ u. IsResting table u n (begun_in share.parts) share) (sym same) (subst (λ b. IsResting table t n b share) (sym (resting_begun table t n true share resting)) resting)
+
+-- and before it
+pub resting_before : (script : ScriptValue) (table : TableId) (s : SeenValue) (n : ℕ) (lists : List Looks) (shown : Roomy) (share : ShareValue Part) → PassesAreKept script table s n lists shown share → begun_in share.parts ≡ true → IsResting table s.thread n true share
+resting_before script table s n lists shown share kept begun = subst (λ b. IsResting table s.thread n b share) begun kept.share_is
+
+-- a reply does not hang on whether the phase is known to have begun
+pub replied_in_phase : (script : ScriptValue) (asked : Bool) (c : Op) (reply : Reply) (old new : PassesValue) (before now : Bool) → HasReplied script asked c reply old new → HasReplied script asked c reply (record old { begun = before }) (record new { begun = now })
+replied_in_phase script asked c reply old new before now replied = record {
+  k = replied.k;
+  h = replied.h;
+  there = replied.there;
+  thread = replied.thread;
+  number = replied.number;
+  noted = replied.noted;
+  late = replied.late;
+  reply_is = replied.reply_is;
+  shown_is = replied.shown_is;
 }
 
 -- the number of the next op is none that is too great

@@ -1,16 +1,21 @@
 -- A phase is made, and handed on.
-use Rattle.std.proofs.Common.{◌≡◌, ℕ, ◌+◌, ◌-◌, ◌<◌, ◌≤◌, inl, inr, List, ◌++◌, length, sym, ap, ◌∙◌, subst, arith}
+use Rattle.std.proofs.Common.{◌≡◌, ℕ, ◌+◌, ◌-◌, ◌<◌, ◌≤◌, inl, inr, true, List, [], ◌∷◌, ◌++◌, length, refl, sym, ap, ◌∙◌, subst, arith}
 use Rattle.std.proofs.lemmas.Bool.{cases_lt}
 use Rattle.std.proofs.lemmas.List.{get_or_append_left, get_or-append-add, length-append}
+use Rattle.atomic_table.specs.Seated.{TableId}
 use Rattle.live_law.proofs.laws.SeenJournals.{HasGrown-self, HasGrown-through}
 use Rattle.live_law.specs.DoneOps.{AreEnded, HasEnded}
 use Rattle.live_law.specs.SeenJournals.{HasGrown}
 use Rattle.live_run.proofs.Endings.{HasEnded-taken, IsAtEnd-handed}
 use Rattle.live_run.proofs.Growth.{HasGrown-taken}
-use Rattle.live_run.proofs.laws.Phases.{AreEnded-in_phase, first_thread-next}
+use Rattle.live_run.proofs.laws.Phases.{AreEnded-in_phase, first_thread-next, phase_in-before}
 use Rattle.live_run.specs.Names.{PassesValue, seen_by}
-use Rattle.live_run.specs.Phases.{AreBefore, HaveHandedOn, HaveWorked, IsAtEnd, MayAllWork, MayWork, no_passes, passes_at}
+use Rattle.live_run.specs.Phases.{AreBefore, AreBegun, AreEndedIn, AreOfPhase, HasWorked, HaveEnded, HaveHandedOn, HaveWorked, IsAtEnd, MayAllWork, MayWork, no_passes, passes_at}
+use Rattle.live_run.specs.Sharing.{IsAtPhase, IsShareOf}
+use Rattle.schedule_law.specs.LiveParts.{live_phase}
+use Rattle.schedule_law.specs.declared.part.Part.{Part}
 use Rattle.script_ops.specs.Values.{ScriptValue, first_thread, phase_at, threads_of}
+use Rattle.shared_parts.specs.Shares.{ShareValue}
 
 -- ---- three parts of a list
 
@@ -83,22 +88,74 @@ module _ (script : ScriptValue) (phase : ℕ) (ps front own later : List PassesV
   later_thread : (l : ℕ) → l < length later → (passes_at later l).seen.thread ≡ length front + (length own + l)
   later_thread l within = subst (λ (p : PassesValue). p.seen.thread ≡ length front + (length own + l)) (at_later front own later l) (before.threads (length front + (length own + l)) (omega (arith, within, length-whole front own later)))
 
-  -- the workers of the phase may begin
-  pub may_work : MayAllWork script own
-  may_work = record {
+  -- the threads are of the phase
+  pub of_phase : (table : TableId) (turn : ShareValue Part) → IsAtPhase script table phase turn → AreOfPhase script table own turn
+  of_phase table turn at = record {
+    phase = phase;
+    ended = first_thread script phase;
+    share = at;
     each = λ k within.
+        let to : (passes_at own k).seen.thread < first_thread script (phase + 1) = omega (arith, own_thread k within, within, next_first) in
+        phase_in-before script.phases phase (passes_at own k).seen.thread to;
+  }
+
+  -- so they may work once it is known that the phase has begun
+  pub may_work : (begun : List PassesValue) → AreBegun (length own) own begun → MayAllWork script begun
+  may_work begun are = record {
+    each = λ k low.
+        let within : k < length own = omega (arith, low, are.count) in
         let t : ℕ = length front + k in
         let among : t < length (front ++ (own ++ later)) = omega (arith, within, length-whole front own later) in
         let from : first_thread script phase ≤ t = omega (arith, parts.front_count) in
-        subst (MayWork script) (at_own front own later k within) (record {
+        let p : PassesValue = passes_at (front ++ (own ++ later)) t in
+        let may : MayWork script (record p { begun = true }) = record {
           there = omega (arith, before.threads t among, among, before.count);
           fresh = before.fresh t among from;
+          begun = refl;
           ended =
               let to : t < first_thread script (phase + 1) = omega (arith, within, next_first) in
-              subst (λ n. AreEnded script (seen_by (passes_at (front ++ (own ++ later)) t).seen) n) (sym (before.threads t among))
-              (AreEnded-in_phase script (seen_by (passes_at (front ++ (own ++ later)) t).seen) phase t parts.there to (λ u early. before.seen t u among from early));
-        });
+              subst (λ n. AreEnded script (seen_by p.seen) n) (sym (before.threads t among))
+              (AreEnded-in_phase script (seen_by p.seen) phase t parts.there to (λ u early. before.seen t u among from early));
+        } in
+        subst (MayWork script) (sym (are.each k within within)) (subst (λ (q : PassesValue). MayWork script (record q { begun = true })) (at_own front own later k within) may);
   }
+
+  -- and when they have worked they are at their ends
+  module _ (begun worked : List PassesValue) (are : AreBegun (length own) own begun) (work : HaveWorked script begun worked) where
+    pub worked_own : HaveWorked script own worked
+    worked_own = record {
+      count = work.count ∙ are.count;
+      each = λ k within.
+          let one : HasWorked script (record (passes_at own k) { begun = true }) (passes_at worked k) = subst (λ (p : PassesValue). HasWorked script p (passes_at worked k)) (are.each k within within) (work.each k (omega (arith, within, are.count))) in
+          record { thread = one.thread; at_end = one.at_end; grown = one.grown };
+    }
+
+    worked_count : length worked ≡ length own
+    worked_count = work.count ∙ are.count
+
+    pub ended_in : (table : TableId) (turn : ShareValue Part) → IsAtPhase script table phase turn → AreEndedIn script table worked turn
+    ended_in table turn at = record {
+      phase = phase;
+      first = first_thread script phase;
+      share = at;
+      threads = λ k low.
+          let within : k < length own = omega (arith, low, worked_count) in
+          (worked_own.each k within).thread ∙ (own_thread k within ∙ ap (λ n. n + k) parts.front_count);
+      ended = λ k low. (worked_own.each k (omega (arith, low, worked_count))).at_end;
+    }
+
+    -- of the phase all are
+    pub all_ended : (table : TableId) (turn now : ShareValue Part) → IsAtPhase script table phase turn → HaveEnded (length worked) turn now → IsShareOf table (live_phase phase (first_thread script phase + length worked) ∷ []) now
+    all_ended table turn now at had =
+        let ended = had phase (first_thread script phase) at.parts_are in
+        record {
+          table_is = ended.0 ∙ at.table_is;
+          words = at.words;
+          parts_are = ended.1;
+        }
+
+    pub all_are : first_thread script phase + length worked ≡ first_thread script (phase + 1)
+    all_are = omega (arith, worked_count, next_first, parts.front_count)
 
   -- and when they have handed on what they saw, so may those of the next
   module _ (worked own_now later_now : List PassesValue) (work : HaveWorked script own worked) (handed : HaveHandedOn script worked own_now later later_now) where

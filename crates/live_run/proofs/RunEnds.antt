@@ -5,6 +5,7 @@ use Rattle.std.specs.declared.alloc.Global.{Global}
 use Rattle.std.proofs.Math.Seq.{take-length}
 use Rattle.std.proofs.lemmas.Bool.{cases_lt}
 use Rattle.std.proofs.lemmas.List.{get_or-map, length-map}
+use Rattle.atomic_table.specs.Seated.{TableId}
 use Rattle.cache_core.specs.declared.entry.SliceEntry.{SliceEntry}
 use Rattle.live_law.specs.Cells.{SliceKeeps}
 use Rattle.live_law.specs.Passes.{PassesKeep}
@@ -33,11 +34,11 @@ use Rattle.seen_journal.specs.Prefixes.{IsPrefix}
 use Rattle.live_run.proofs.ThreadPasses.{of_thread}
 
 -- some element, where there is one
-some_part : (parts : List SliceCellValue) (i : ℕ) → i < length parts → SliceCellValue
+pub some_part : (parts : List SliceCellValue) (i : ℕ) → i < length parts → SliceCellValue
 some_part [] i within = absurd (omega (arith, within))
 some_part (c ∷ cs) i within = c
 
-module _ (script : ScriptValue) (tree : JournalName) (slices : List JournalName) (cell : TreeCellValue) (kept : TreeIsKept script tree slices cell) (parts : List SliceCellValue) (settled : AreSettled script tree slices cell.journal.entries (slice_count script.machine) parts) where
+module _ (script : ScriptValue) (table : TableId) (tree : JournalName) (slices : List JournalName) (cell : TreeCellValue) (kept : TreeIsKept script table tree slices cell) (parts : List SliceCellValue) (settled : AreSettled script table tree slices cell.journal.entries (slice_count script.machine) parts) where
   count_is : length parts ≡ slice_count script.machine
   count_is = omega (arith, settled.count)
 
@@ -65,8 +66,8 @@ module _ (script : ScriptValue) (tree : JournalName) (slices : List JournalName)
     ]
 
     -- the cell, when it has seen the whole lists of the slices
-    cell_now : TreeIsKept script tree slices (record { tree = cell.tree; journal = cell.journal; slices = own })
-    cell_now = tree_meets script tree slices cell kept own passes_now grown
+    cell_now : TreeIsKept script table tree slices (record { tree = cell.tree; journal = cell.journal; slices = own; share = cell.share })
+    cell_now = tree_meets script table tree slices cell kept own passes_now grown
 
 -- ---- the run
 
@@ -78,12 +79,12 @@ lists_of_journals : (parts : List SliceCellValue) → map (λ (j : JournalValue 
 lists_of_journals [] = refl
 lists_of_journals (c ∷ cs) = ap (λ ls. list_of c.journal.entries ∷ ls) (lists_of_journals cs)
 
-module _ (script : ScriptValue) (tree : JournalName) (slices : List JournalName) (quotas : HaveQuotas script tree slices) (cell : TreeCellValue) (kept : TreeIsKept script tree slices cell) (parts : List SliceCellValue)
-    (settled : AreSettled script tree slices cell.journal.entries (slice_count script.machine) parts) (own : List (PassValue SliceEntry)) (shown : HaveSeenEach (length parts) parts cell.slices own)
+module _ (script : ScriptValue) (table : TableId) (tree : JournalName) (slices : List JournalName) (quotas : HaveQuotas script tree slices) (cell : TreeCellValue) (kept : TreeIsKept script table tree slices cell) (parts : List SliceCellValue)
+    (settled : AreSettled script table tree slices cell.journal.entries (slice_count script.machine) parts) (own : List (PassValue SliceEntry)) (shown : HaveSeenEach (length parts) parts cell.slices own)
     (ps : List PassesValue) (trees : List (PassValue TreeEntry)) (lists : List (Vec (PassValue SliceEntry) Global)) (gathered : AreGathered script tree slices ps trees lists) (before : AreBefore script (length script.phases) ps)
     (all_tree : All (HasAll cell.journal.entries) trees) (all_slices : HaveAll (length parts) parts lists) where
   abbrev pub cell_left : TreeCellValue
-  cell_left = record { tree = cell.tree; journal = cell.journal; slices = own }
+  cell_left = record { tree = cell.tree; journal = cell.journal; slices = own; share = cell.share }
 
   parts_count : length parts ≡ slice_count script.machine
   parts_count = omega (arith, settled.count)
@@ -125,9 +126,9 @@ module _ (script : ScriptValue) (tree : JournalName) (slices : List JournalName)
       some_list [] some = absurd (omega (arith, some))
       some_list (l ∷ ls) some = l
 
-  at_end : AreAtEnd script tree slices cell_left (journals_of parts)
+  at_end : AreAtEnd script table tree slices cell_left (journals_of parts)
   at_end = record {
-    kept = cell_now script tree slices cell kept parts settled own shown;
+    kept = cell_now script table tree slices cell kept parts settled own shown;
     count = journals_count ∙ parts_count;
     seen = λ i within.
         let there : i < length parts = omega (arith, within, journals_count) in
@@ -155,8 +156,8 @@ module _ (script : ScriptValue) (tree : JournalName) (slices : List JournalName)
 
     -- the journals are a run
     pub is_run : IsRun script j
-    is_run = subst (IsRun script) are_left (left_is_run script tree slices cell_left (journals_of parts) at_end)
+    is_run = subst (IsRun script) are_left (left_is_run script table tree slices cell_left (journals_of parts) at_end)
 
     -- in which each thread has no entry but those that its passes had seen
     pub is_own : (t : ℕ) → t < length ps → SeesMore t (seen_by (passes_at ps t).seen) j
-    is_own t there = subst (SeesMore t (seen_by (passes_at ps t).seen)) are_left (thread_sees script tree slices cell_left (journals_of parts) at_end t (passes_at ps t).seen (thread_end t there))
+    is_own t there = subst (SeesMore t (seen_by (passes_at ps t).seen)) are_left (thread_sees script table tree slices cell_left (journals_of parts) at_end t (passes_at ps t).seen (thread_end t there))

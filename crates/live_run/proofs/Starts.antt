@@ -1,11 +1,13 @@
 -- The threads before their first ops.
-use Rattle.std.proofs.Common.{◌≡◌, ℕ, ◌+◌, ◌-◌, ◌<◌, ◌≤◌, inl, inr, List, [], ◌∷◌, ◌++◌, length, map, replicate, sym, ap, ◌∙◌, arith}
+use Rattle.std.proofs.Common.{◌≡◌, ℕ, ◌+◌, ◌-◌, ◌<◌, ◌≤◌, inl, inr, List, [], ◌∷◌, ◌++◌, false, length, map, replicate, sym, ap, ◌∙◌, arith}
 use Rattle.std.proofs.Math.ListN.{get_or-map}
 use Rattle.std.proofs.lemmas.Bool.{cases_lt}
 use Rattle.std.proofs.lemmas.List.{get_or_past, length_push, length-append, length-map, length-replicate}
+use Rattle.atomic_table.specs.Seated.{TableId}
 use Rattle.cache_core.specs.declared.entry.SliceEntry.{SliceEntry}
 use Rattle.live_law.proofs.laws.Passes.{PassesKeep-opening}
 use Rattle.live_run.proofs.Bridges.{seen-slice}
+use Rattle.live_run.proofs.FirstShares.{IsResting-known}
 use Rattle.live_run.proofs.Rooms.{each-push}
 use Rattle.live_run.specs.Logs.{AreWhole, LogValue, log_at}
 use Rattle.live_run.specs.Names.{PassesValue, SeenValue, history_of, name_at, no_name, no_pass, seen_by}
@@ -13,20 +15,24 @@ use Rattle.live_run.specs.Openings.{AreFirst, AreGivenTo, AreNew, HaveGiven, IsF
 use Rattle.live_run.specs.Passes.{PassesAreKept}
 use Rattle.live_run.specs.Phases.{AreBefore, no_passes}
 use Rattle.live_run.specs.Quotas.{HaveQuotas}
+use Rattle.live_run.specs.Sharing.{IsShareOf}
 use Rattle.machine.specs.Slices.{slice_count}
 use Rattle.rc_base.specs.Buffers.{Looks, Roomy}
 use Rattle.rc_base.specs.declared.text_buf.TheConstants.{TEXT_MAX}
 use Rattle.run_law.specs.LookLists.{AreReady, rooms_of}
 use Rattle.run_law.specs.Quotas.{commands_of, quotas_of}
+use Rattle.schedule_law.specs.LiveParts.{resting_thread}
+use Rattle.schedule_law.specs.declared.part.Part.{Part}
 use Rattle.script_ops.specs.Values.{ScriptValue, ops_of, threads_of}
 use Rattle.seen_journal.specs.Entries.{list_of}
 use Rattle.seen_journal.specs.Journals.{JournalName}
 use Rattle.seen_journal.specs.Passes.{PassValue, new_pass}
+use Rattle.shared_parts.specs.Shares.{ShareValue}
 
 -- what a thread has seen that has seen nothing
-pub PassesAreKept-first : (script : ScriptValue) (names : List JournalName) (n : ℕ) (s : SeenValue) (lists : List Looks) (shown : Roomy) → s.tree.seen ≡ [] → AreNew names n s.thread s.slices
-    → AreReady (rooms_of script.machine (ops_of script s.thread)) lists → TEXT_MAX ≤ shown.spare + length shown.bytes → PassesAreKept script s 0 lists shown
-PassesAreKept-first script names n s lists shown none new ready room = record {
+pub PassesAreKept-first : (script : ScriptValue) (table : TableId) (names : List JournalName) (n : ℕ) (s : SeenValue) (lists : List Looks) (shown : Roomy) (share : ShareValue Part) → s.tree.seen ≡ [] → AreNew names n s.thread s.slices
+    → AreReady (rooms_of script.machine (ops_of script s.thread)) lists → TEXT_MAX ≤ shown.spare + length shown.bytes → IsShareOf table (resting_thread s.thread 0 false [] ∷ []) share → PassesAreKept script table s 0 lists shown share
+PassesAreKept-first script table names n s lists shown share none new ready room own = record {
   keep =
       PassesKeep-opening script s.thread (seen_by s) (ap history_of none)
       (λ i. seen-slice s i ∙ ap (λ xs. list_of {E = SliceEntry} xs) (elim (cases_lt i n) [
@@ -35,6 +41,7 @@ PassesAreKept-first script names n s lists shown none new ready room = record {
       ]));
   lists_are = ready;
   room = room;
+  share_is = IsResting-known table s.thread 0 false [] share own;
 }
 
 -- one thread more is before its first op

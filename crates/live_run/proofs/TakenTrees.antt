@@ -1,11 +1,12 @@
 -- A thread takes the tree for a command.
-use Rattle.std.proofs.Common.{◌≡◌, ℕ, ◌+◌, ◌^◌, ◌<◌, ◌≤◌, inl, inr, List, [], ◌∷◌, ◌++◌, length, map, Some, refl, sym, ap, ap₂, ◌∙◌, subst, arith}
+use Rattle.std.proofs.Common.{◌≡◌, ℕ, ◌+◌, ◌^◌, ◌<◌, ◌≤◌, inl, inr, List, [], ◌∷◌, ◌++◌, length, map, true, false, Bool, None, Some, refl, sym, ap, ap₂, ◌∙◌, subst, arith}
 use Rattle.std.specs.Prelude.{IsTrue}
 use Rattle.std.specs.List.{flat_map}
 use Rattle.std.proofs.Math.Seq.{take-append_seam, take-length}
 use Rattle.std.proofs.lemmas.Bool.{cases_Bool}
 use Rattle.std.proofs.lemmas.List.{map-append}
 use Rattle.std.proofs.lemmas.List.Elements.{All-nil}
+use Rattle.atomic_table.specs.Seated.{TableId}
 use Rattle.cache_core.specs.declared.entry.SliceEntry.{SliceEntry}
 use Rattle.live_law.proofs.laws.CommandStages.{IsLooking-take}
 use Rattle.live_law.proofs.laws.LaterViews.{PassesKeepFrom-more}
@@ -19,7 +20,8 @@ use Rattle.live_run.proofs.Readings.{All-op_at, next-reading}
 use Rattle.live_run.proofs.Trees.{lists_of, lists_same, tree_meets}
 use Rattle.live_run.specs.Cells.{ArePasses, TreeCellValue, TreeIsKept}
 use Rattle.live_run.specs.Names.{SeenValue, history_of, seen_by}
-use Rattle.live_run.specs.Commands.{LooksAt, shown_after}
+use Rattle.live_run.specs.Commands.{LooksAt, shown_after, shown_where}
+use Rattle.live_run.specs.Sharing.{IsResting, holding}
 use Rattle.live_run.specs.Steps.{HasTaken, HaveGrown, HaveSeenSame}
 use Rattle.lists.specs.Sums.{one_if}
 use Rattle.machine.specs.declared.parameters.Parameters.{Parameters}
@@ -30,12 +32,18 @@ use Rattle.run_law.proofs.laws.NeededCounts.{needs-few}
 use Rattle.run_law.specs.Ops.{is_command}
 use Rattle.run_law.specs.TreeHistory.{TreeEntryValue, tree_after}
 use Rattle.run_law.specs.declared.journals.TreeEntry.{TreeEntry}
+use Rattle.schedule_law.specs.LiveParts.{after as after_event, live_tree}
+use Rattle.schedule_law.specs.declared.part.Happening.TheVariants as happenings
+use Rattle.schedule_law.specs.declared.part.Part.{Part}
 use Rattle.script_ops.specs.Values.{IsLawful, ScriptValue, op_at}
 use Rattle.script_ops.specs.Canonical.{IsNamed, IsShort}
 use Rattle.script_ops.specs.declared.op.Op.{Op}
 use Rattle.seen_journal.specs.Entries.{list_of}
 use Rattle.seen_journal.specs.Journals.{JournalName}
 use Rattle.seen_journal.specs.Passes.{PassValue}
+use Rattle.shared_parts.specs.Parts.{parts_after}
+use Rattle.shared_parts.specs.Shares.{ShareValue}
+use Rattle.step_world.specs.declared.place.Place.TheVariants.{Looking}
 use Rattle.run_law.proofs.laws.SoundHistories.{Fits-op_at, IsSound-take}
 use Rattle.run_law.specs.Quotas.{most_counts}
 use Rattle.file_view.specs.Texts.{is_reading}
@@ -61,26 +69,31 @@ follows_same : (script : ScriptValue) (hs : List TreeEntryValue) (h : TreeEntryV
 unfolding follows_of
 follows_same script hs h op = ap (λ xs. flat_map (follow_jobs script.machine (length hs + 1)) (after script.machine (tree_after script xs) (length hs) op)) (take-append_seam hs (h ∷ []) ∙ sym (take-length hs))
 
-jobs_same : (script : ScriptValue) (hs : List TreeEntryValue) (h : TreeEntryValue) (op : Op) → jobs_of script (hs ++ h ∷ []) (length hs) op ≡ jobs_of script hs (length hs) op
+pub jobs_same : (script : ScriptValue) (hs : List TreeEntryValue) (h : TreeEntryValue) (op : Op) → jobs_of script (hs ++ h ∷ []) (length hs) op ≡ jobs_of script hs (length hs) op
 jobs_same script hs h op = ap₂ (λ (xs ys : List Job). xs ++ ys) (looks_same script hs h op) (follows_same script hs h op)
 
 -- the state of a cell's tree is sound
-pub state_sound : (script : ScriptValue) (tree : JournalName) (slices : List JournalName) (c : TreeCellValue) → TreeIsKept script tree slices c → IsSound script.machine (tree_after script (history_of c.journal.entries))
-state_sound script tree slices c kept =
+pub state_sound : (script : ScriptValue) (table : TableId) (tree : JournalName) (slices : List JournalName) (c : TreeCellValue) → TreeIsKept script table tree slices c → IsSound script.machine (tree_after script (history_of c.journal.entries))
+state_sound script table tree slices c kept =
     let hs : List TreeEntryValue = history_of c.journal.entries in
     subst (λ xs. IsSound script.machine (tree_after script xs)) (take-length hs) (IsSound-take script hs kept.lawful kept.keeps.legal (length hs) (omega arith))
 
 -- a read or a list leaves the state, so that what is shown after it is what it showed before
-pub shown_after-next : (script : ScriptValue) (m : Parameters) (old new : State) (op : Op) (looks : List ℕ) (reply : Reply) (shown : List ℕ) → new ≡ (next m old op looks).state → shown_after script new op looks reply shown ≡ shown_after script old op looks reply shown
+shown_after-next : (script : ScriptValue) (m : Parameters) (old new : State) (op : Op) (looks : List ℕ) (reply : Reply) (shown : List ℕ) → new ≡ (next m old op looks).state → shown_after script new op looks reply shown ≡ shown_after script old op looks reply shown
 shown_after-next script m old new op looks (replies.Refused errno why arg) shown is = refl
 shown_after-next script m old new op looks replies.Ok shown is = elim (cases_Bool (is_reading op)) [
   | inl reads ↦ ap (λ (x : State). shown_after script x op looks replies.Ok shown) (is ∙ next-reading m old op looks reads)
   | inr other ↦ rw other refl
 ]
 
+pub shown_where-next : (asked : Bool) (script : ScriptValue) (m : Parameters) (old new : State) (op : Op) (looks : List ℕ) (reply : Reply) (shown : List ℕ) → new ≡ (next m old op looks).state
+    → shown_where asked script new op looks reply shown ≡ shown_where asked script old op looks reply shown
+shown_where-next true script m old new op looks reply shown is = shown_after-next script m old new op looks reply shown is
+shown_where-next false script m old new op looks reply shown is = refl
+
 -- ---- it takes the tree
 
-module _ (script : ScriptValue) (tree : JournalName) (slices : List JournalName) (c : TreeCellValue) (kept : TreeIsKept script tree slices c) (now : List (PassValue SliceEntry)) (passes : ArePasses script slices now) (grown : HaveGrown c.slices now) (s met : SeenValue) (n : ℕ) (op : Op) (is : op_at script s.thread n ≡ Some op) (command : IsTrue (is_command op)) (taken : HasTaken s met) (whole : met.tree.seen ≡ c.journal.entries) (same : HaveSeenSame now met.slices) (ready : IsReady script s.thread n (seen_by s)) where
+module _ (script : ScriptValue) (table : TableId) (tree : JournalName) (slices : List JournalName) (c : TreeCellValue) (kept : TreeIsKept script table tree slices c) (now : List (PassValue SliceEntry)) (passes : ArePasses script slices now) (grown : HaveGrown c.slices now) (s met : SeenValue) (n : ℕ) (op : Op) (is : op_at script s.thread n ≡ Some op) (command : IsTrue (is_command op)) (taken : HasTaken s met) (whole : met.tree.seen ≡ c.journal.entries) (same : HaveSeenSame now met.slices) (ready : IsReady script s.thread n (seen_by s)) where
   abbrev at_first : JournalsValue
   at_first = record { tree = history_of c.journal.entries; slices = lists_of now }
 
@@ -93,16 +106,17 @@ module _ (script : ScriptValue) (tree : JournalName) (slices : List JournalName)
 
   looking : IsLooking script ready.start s.thread n op [] at_first
   looking =
-      IsLooking-take script ready.start s.thread n op at_first kept.lawful is command kept.keeps.legal (tree_meets script tree slices c kept now passes grown).keeps.made
+      IsLooking-take script ready.start s.thread n op at_first kept.lawful is command kept.keeps.legal (tree_meets script table tree slices c kept now passes grown).keeps.made
       (subst (λ (v : JournalsValue). PassesKeepFrom script ready.start s.thread n n n v) first_was (PassesKeepFrom-more script ready.start s.thread n n n (seen_by s) (seen_by met) taken.sees ready.keeps))
 
   -- it has room for its counts
   pub counts_few : length (needs script.machine (tree_after script (history_of c.journal.entries)) op) ≤ most_counts script.machine op
-  counts_few = needs-few script.machine (tree_after script at_first.tree) op (state_sound script tree slices c kept) (NamesDomain-fits script.machine script.tasks op (Fits-op_at script s.thread n op kept.lawful is))
+  counts_few = needs-few script.machine (tree_after script at_first.tree) op (state_sound script table tree slices c kept) (NamesDomain-fits script.machine script.tasks op (Fits-op_at script s.thread n op kept.lawful is))
 
   -- it looks from here
-  pub command_looks : LooksAt script n op 0 0 0 [] met
-  command_looks = record {
+  pub command_looks : (worker worker_now : ShareValue Part) → IsResting table s.thread n true worker → worker_now.table ≡ worker.table → worker_now.parts ≡ parts_after after_event (happenings.Take s.thread) (c.share.parts ++ worker.parts)
+      → LooksAt script table n op 0 0 0 [] met worker_now
+  command_looks worker worker_now resting same_table stepped = record {
     start = ready.start;
     ended = subst (λ u. AreEnded script ready.start u) (sym taken.thread) ready.ended;
     found = [];
@@ -113,6 +127,15 @@ module _ (script : ScriptValue) (tree : JournalName) (slices : List JournalName)
     few = All-nil (λ n. n ≤ 2 ^ 32);
     lines_are = refl;
     bound = omega arith;
+    share_is = record {
+      table_is = same_table ∙ resting.is.table_is;
+      words = resting.is.words;
+      parts_are =
+          stepped
+          ∙ (ap (λ l. parts_after after_event (happenings.Take s.thread) (l ++ worker.parts)) kept.share_is.parts_are
+          ∙ (ap (λ l. parts_after after_event (happenings.Take s.thread) (live_tree (list_of c.journal.entries) None ∷ l)) resting.is.parts_are
+          ∙ ap₂ (λ (es : List (ℕ × TreeEntry)) t. holding (list_of es) t n (Looking 0) []) (sym whole) (sym taken.thread)));
+    };
   }
 
 -- there is room for it in the tree's history

@@ -4,6 +4,7 @@ use Rattle.std.specs.Prelude.{slice_index_or}
 use Rattle.std.specs.declared.alloc.Global.{Global}
 use Rattle.std.proofs.lemmas.Bool.{cases_lt}
 use Rattle.std.proofs.lemmas.List.{get_or_default, get_or_past}
+use Rattle.atomic_table.specs.Seated.{TableId}
 use Rattle.cache_core.specs.declared.entry.SliceEntry.{SliceEntry}
 use Rattle.live_run.proofs.Counts.{count_by-numbered}
 use Rattle.live_run.proofs.Room.{get_or-quotas}
@@ -83,8 +84,8 @@ module _ (script : ScriptValue) (tree : JournalName) (slices : List JournalName)
     }
 
   -- and those of the slices
-  pub may_close_each : (history : List (ℕ × TreeEntry)) (parts : List SliceCellValue) → AreSettled script tree slices history (slice_count script.machine) parts → MayCloseEach parts lists
-  may_close_each history parts settled =
+  pub may_close_each : (table : TableId) (history : List (ℕ × TreeEntry)) (parts : List SliceCellValue) → AreSettled script table tree slices history (slice_count script.machine) parts → MayCloseEach parts lists
+  may_close_each table history parts settled =
       let count : length parts ≡ slice_count script.machine = omega (arith, settled.count) in
       record {
         count = gathered.count ∙ sym count;

@@ -1,5 +1,6 @@
 -- What the tree's cell keeps, step by step.
 use Rattle.std.proofs.Common.{◌≡◌, ℕ, zero, suc, List, [], ◌∷◌, length, map, get_or, refl, sym, ap, ◌∙◌, subst, arith}
+use Rattle.atomic_table.specs.Seated.{TableId}
 use Rattle.cache_core.specs.declared.entry.SliceEntry.{SliceEntry}
 use Rattle.live_law.specs.Cells.{AreMade}
 use Rattle.seen_journal.specs.Prefixes.{IsPrefix}
@@ -8,7 +9,7 @@ use Rattle.seen_journal.proofs.laws.Prefixes.{IsPrefix-self}
 use Rattle.live_law.proofs.laws.TreeCells.{TreeKeeps-grown}
 use Rattle.live_law.specs.Stages.{HoldsTag}
 use Rattle.live_run.proofs.Bridges.{history_length}
-use Rattle.seen_journal.proofs.laws.Entries.{IsPrefix-list_of}
+use Rattle.seen_journal.proofs.laws.Entries.{IsPrefix-list_of, length-list_of}
 use Rattle.live_run.specs.Cells.{ArePasses, TreeCellValue, TreeIsKept, pass_in, seen_in}
 use Rattle.live_run.specs.Names.{SeenValue, history_of, seen_by}
 use Rattle.live_run.specs.Steps.{HaveGrown, HaveSeenSame}
@@ -19,10 +20,12 @@ use Rattle.rc_base.specs.declared.names.Tag.{Tag}
 use Rattle.run_law.specs.Growth.{tag_of}
 use Rattle.run_law.specs.TreeHistory.{tree_after}
 use Rattle.run_law.proofs.laws.Tasks.{tasks_of-tree_after}
+use Rattle.schedule_law.specs.declared.part.Part.{Part}
 use Rattle.script_ops.specs.Values.{ScriptValue}
 use Rattle.seen_journal.specs.Entries.{list_of}
 use Rattle.seen_journal.specs.Journals.{JournalName}
 use Rattle.seen_journal.specs.Passes.{PassValue}
+use Rattle.shared_parts.specs.Shares.{ShareValue}
 use Rattle.tree_law.specs.Resolving.{Owned, resolve}
 use Rattle.tree_law.specs.State.{State, tasks_of}
 
@@ -44,14 +47,39 @@ lists_same ps qs same = of ps qs same.count same.same
     of (p ∷ ps) [] count same = absurd (omega (arith, count))
     of (p ∷ ps) (q ∷ qs) count same = rw (same 0) (ap (λ (ls : List (List SliceEntry)). list_of q.seen ∷ ls) (of ps qs (omega (arith, count)) (λ i. same (suc i))))
 
-module _ (script : ScriptValue) (tree : JournalName) (slices : List JournalName) (c : TreeCellValue) (kept : TreeIsKept script tree slices c) where
+module _ (script : ScriptValue) (table : TableId) (tree : JournalName) (slices : List JournalName) (c : TreeCellValue) (kept : TreeIsKept script table tree slices c) where
   -- the tasks of the tree are the script's
   pub tree_tasks : tasks_of c.tree.state ≡ script.tasks
   tree_tasks = ap tasks_of kept.keeps.state_is ∙ tasks_of-tree_after script (history_of c.journal.entries)
 
+  -- whatever share has the history
+  pub tree_shares : (share : ShareValue Part) → share.table ≡ c.share.table → share.parts ≡ c.share.parts → TreeIsKept script table tree slices (record { tree = c.tree; journal = c.journal; slices = c.slices; share = share })
+  tree_shares share same parts = record {
+    lawful = kept.lawful;
+    journal_is = kept.journal_is;
+    machine = kept.machine;
+    epoch = kept.epoch;
+    passes = kept.passes;
+    threads = kept.threads;
+    keeps = kept.keeps;
+    named = kept.named;
+    share_is = record { table_is = same ∙ kept.share_is.table_is; words = kept.share_is.words; parts_are = parts ∙ kept.share_is.parts_are };
+  }
+
+  -- what the tree gives to an access
+  pub tree_gives : (task cpu : ℕ) (tag : Tag) → tag.epoch ≡ c.tree.epoch → tag.owner ≡ (resolve c.tree.machine c.tree.state task cpu).owner
+      → tag.class ≡ (resolve c.tree.machine c.tree.state task cpu).class → tag.rmid ≡ (resolve c.tree.machine c.tree.state task cpu).rmid → tag.mask ≡ (resolve c.tree.machine c.tree.state task cpu).mask
+      → tag.domain ≡ domain_of c.tree.machine cpu → tag ≡ tag_of script.machine (tree_after script (history_of c.journal.entries)) (length (list_of c.journal.entries)) task cpu
+  tree_gives task cpu tag epoch owner class rmid mask domain =
+      let history = history_of c.journal.entries in
+      let owned : resolve c.tree.machine c.tree.state task cpu ≡ resolve script.machine (tree_after script history) task cpu =
+      ap (λ (m : Parameters). resolve m c.tree.state task cpu) kept.machine ∙ ap (λ (x : State). resolve script.machine x task cpu) kept.keeps.state_is in
+      same_tag tag (tag_of script.machine (tree_after script history) (length (list_of c.journal.entries)) task cpu) (epoch ∙ (kept.epoch ∙ sym (length-list_of c.journal.entries))) (owner ∙ ap (λ (o : Owned). o.owner) owned) (class ∙ ap (λ (o : Owned). o.class) owned)
+      (rmid ∙ ap (λ (o : Owned). o.rmid) owned) (mask ∙ ap (λ (o : Owned). o.mask) owned) (domain ∙ ap (λ (m : Parameters). domain_of m cpu) kept.machine)
+
   module _ (now : List (PassValue SliceEntry)) (passes : ArePasses script slices now) (grown : HaveGrown c.slices now) where
     -- its passes have met those of a thread
-    pub tree_meets : TreeIsKept script tree slices (record { tree = c.tree; journal = c.journal; slices = now })
+    pub tree_meets : TreeIsKept script table tree slices (record { tree = c.tree; journal = c.journal; slices = now; share = c.share })
     tree_meets = record {
       lawful = kept.lawful;
       journal_is = kept.journal_is;
@@ -66,6 +94,7 @@ module _ (script : ScriptValue) (tree : JournalName) (slices : List JournalName)
           })
           kept.keeps;
       named = kept.named;
+      share_is = kept.share_is;
     }
 
     -- who has seen the same has seen what all commands have made

@@ -1,21 +1,26 @@
 -- What the locks keep, and what a thread's passes keep at every moment.
 -- (For functions and proofs: no promise of the program stands on it.)
-use Rattle.std.specs.Prelude.{◌≡◌, ℕ, ◌<◌, ◌^◌, List, length, map, slice_index_or}
+use Rattle.std.specs.Prelude.{◌≡◌, ℕ, ◌<◌, ◌^◌, List, [], ◌∷◌, None, length, map, slice_index_or}
+use Rattle.atomic_table.specs.Seated.{TableId}
 use Rattle.cache_core.specs.Places.{CacheValue}
 use Rattle.cache_core.specs.Stands.{StandsFor}
 use Rattle.cache_core.specs.declared.entry.SliceEntry.{SliceEntry}
 use Rattle.live_law.specs.Cells.{SliceKeeps, TreeKeeps}
 use Rattle.live_run.specs.Names.{SeenValue, history_of, name_at, no_pass, pass_at}
 use Rattle.live_run.specs.Quotas.{HaveQuotas}
+use Rattle.live_run.specs.Sharing.{IsShareOf}
 use Rattle.machine.specs.Slices.{slice_count}
 use Rattle.machine.specs.declared.parameters.Parameters.{Parameters}
 use Rattle.run_law.specs.Journals.{At, JournalsValue}
 use Rattle.run_law.specs.Slices.{shape_in}
 use Rattle.run_law.specs.declared.journals.TreeEntry.{TreeEntry}
+use Rattle.schedule_law.specs.LiveParts.{live_slice, live_tree}
+use Rattle.schedule_law.specs.declared.part.Part.{Part}
 use Rattle.script_ops.specs.Values.{IsLawful, ScriptValue}
 use Rattle.seen_journal.specs.Entries.{list_of}
 use Rattle.seen_journal.specs.Journals.{JournalName, JournalValue}
 use Rattle.seen_journal.specs.Passes.{PassValue}
+use Rattle.shared_parts.specs.Shares.{ShareValue}
 use Rattle.tree_core.specs.Named.{AreNamed}
 use Rattle.tree_core.specs.Values.{TreeValue}
 
@@ -45,9 +50,10 @@ pub record SliceCellValue : Type 0 where
   pub cache : CacheValue
   pub journal : JournalValue SliceEntry
   pub tree : PassValue TreeEntry
+  pub share : ShareValue Part
 
--- The cache stands for the slice's list, which is kept as far as the tree's history was seen.
-pub record SliceIsKept (script : ScriptValue) (tree slice : JournalName) (i : ℕ) (c : SliceCellValue) : Type 0 where
+-- The cache stands for the slice's list, which is kept as far as the tree's history was seen, and is the part of the share.
+pub record SliceIsKept (script : ScriptValue) (table : TableId) (tree slice : JournalName) (i : ℕ) (c : SliceCellValue) : Type 0 where
   pub lawful : IsLawful script
   pub within : i < slice_count script.machine
   pub journal_is : c.journal.name ≡ slice
@@ -59,6 +65,7 @@ pub record SliceIsKept (script : ScriptValue) (tree slice : JournalName) (i : �
   pub threads : AreOfThreads made_by c.journal.entries
   pub few : length c.journal.entries < 2 ^ 32
   pub tree_threads : AreOfThreads taken_from c.tree.seen
+  pub share_is : IsShareOf table (live_slice i (list_of c.journal.entries) ∷ []) c.share
 
 -- ---- the tree's cell
 
@@ -77,13 +84,15 @@ pub record TreeCellValue : Type 0 where
   pub tree : TreeValue
   pub journal : JournalValue TreeEntry
   pub slices : List (PassValue SliceEntry)
+  pub share : ShareValue Part
 
 -- what its cell has seen of all journals
 abbrev pub seen_in : TreeCellValue → JournalsValue
 seen_in c = record { tree = history_of c.journal.entries; slices = map (λ (p : PassValue SliceEntry). list_of p.seen) c.slices }
 
--- The tree is the one that its history left, which is kept as far as the slices were seen; the names of its groups are the script's.
-pub record TreeIsKept (script : ScriptValue) (tree : JournalName) (slices : List JournalName) (c : TreeCellValue) : Type 0 where
+-- The tree is the one that its history left, which is kept as far as the slices were seen; the names of its groups are the script's;
+-- the history is the part of the share, and nobody holds the tree.
+pub record TreeIsKept (script : ScriptValue) (table : TableId) (tree : JournalName) (slices : List JournalName) (c : TreeCellValue) : Type 0 where
   pub lawful : IsLawful script
   pub journal_is : c.journal.name ≡ tree
   pub machine : c.tree.machine ≡ script.machine
@@ -92,6 +101,7 @@ pub record TreeIsKept (script : ScriptValue) (tree : JournalName) (slices : List
   pub threads : AreOfThreads taken_from c.journal.entries
   pub keeps : TreeKeeps script c.tree.state (seen_in c)
   pub named : AreNamed script.names c.tree.state.groups
+  pub share_is : IsShareOf table (live_tree (list_of c.journal.entries) None ∷ []) c.share
 
 -- ---- the whole
 

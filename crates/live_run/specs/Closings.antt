@@ -1,6 +1,6 @@
 -- What is made at the end of a run.
 -- (For functions and proofs: no promise of the program stands on it.)
-use Rattle.std.specs.Prelude.{◌≡◌, ℕ, ◌+◌, ◌<◌, ◌≤◌, All, List, [], ◌∷◌, ◌++◌, length, slice_index_or, Vec, vec_capacity}
+use Rattle.std.specs.Prelude.{◌≡◌, ℕ, ◌+◌, ◌<◌, ◌≤◌, All, Contains, List, [], ◌∷◌, ◌++◌, length, slice_index_or, Vec, vec_capacity}
 use Rattle.std.specs.declared.alloc.Global.{Global}
 use Rattle.cache_core.specs.declared.entry.SliceEntry.{SliceEntry}
 use Rattle.live_law.specs.Passes.{PassesKeep}
@@ -10,9 +10,11 @@ use Rattle.live_run.specs.Openings.{part_at}
 use Rattle.live_run.specs.Phases.{passes_at}
 use Rattle.machine.specs.Slices.{slice_count}
 use Rattle.run_law.specs.declared.journals.TreeEntry.{TreeEntry}
+use Rattle.schedule_law.specs.declared.part.Part.{Part}
 use Rattle.script_ops.specs.Values.{ScriptValue, threads_of}
 use Rattle.seen_journal.specs.Journals.{JournalName, JournalValue}
 use Rattle.seen_journal.specs.Passes.{EachOnce, HasAll, HasSeen, PassValue}
+use Rattle.shared_parts.specs.Shares.{ShareValue}
 
 -- These lists are empty, and there are so many, each with room for so many.
 pub record AreRoomy {E : Type 0} (n least : ℕ) (lists : List (Vec E Global)) : Type 0 where
@@ -62,6 +64,19 @@ pub record HaveSeenEach (n : ℕ) (parts : List SliceCellValue) (passes passes_n
   pub count : length passes_now ≡ length passes
   pub seen : (i : ℕ) (d : SliceCellValue) → i < n → i < length parts → HasSeen (pass_in passes i) (pass_in passes_now i) (part_at parts i d).journal.entries
   pub rest : (i : ℕ) → n ≤ i → pass_in passes_now i ≡ pass_in passes i
+
+-- ---- the shares
+
+-- A share has taken in those of the first `upto` slices. What goes out of the cells is what it was but for its share.
+pub record HaveTakenIn (upto : ℕ) (all all_now : ShareValue Part) (parts parts_now : List SliceCellValue) : Type 0 where
+  pub table : all_now.table ≡ all.table
+  pub had : (x : ℕ × Part) → Contains all.parts x → Contains all_now.parts x
+  pub taken : (i : ℕ) (d : SliceCellValue) (x : ℕ × Part) → i < upto → i < length parts → Contains (part_at parts i d).share.parts x → Contains all_now.parts x
+  pub count : length parts_now ≡ length parts
+  pub caches : (i : ℕ) (d : SliceCellValue) → i < length parts → (part_at parts_now i d).cache ≡ (part_at parts i d).cache
+  pub journals : (i : ℕ) (d : SliceCellValue) → i < length parts → (part_at parts_now i d).journal ≡ (part_at parts i d).journal
+  pub passes : (i : ℕ) (d : SliceCellValue) → i < length parts → (part_at parts_now i d).tree ≡ (part_at parts i d).tree
+  pub tables : (i : ℕ) (d : SliceCellValue) → i < length parts → (part_at parts_now i d).share.table ≡ (part_at parts i d).share.table
 
 -- ---- the journals
 

@@ -9,5 +9,6 @@ pub mod Openings
 pub mod Passes
 pub mod Phases
 pub mod Quotas
+pub mod Sharing
 pub mod Steps
 pub mod Visits

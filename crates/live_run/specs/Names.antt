@@ -1,6 +1,7 @@
 -- What a Named names, and what contracts see of a thread's passes.
 -- (For functions and proofs: no promise of the program stands on it.)
-use Rattle.std.specs.Prelude.{ℕ, false, List, [], map, slice_index_or}
+use Rattle.std.specs.Prelude.{ℕ, Bool, false, List, [], map, slice_index_or}
+use Rattle.atomic_table.specs.Seated.{TableId}
 use Rattle.cache_core.specs.declared.entry.SliceEntry.{SliceEntry}
 use Rattle.run_law.specs.Entries.{entry_value}
 use Rattle.run_law.specs.Journals.{JournalsValue}
@@ -12,8 +13,11 @@ use Rattle.seen_journal.specs.Journals.{JournalName}
 use Rattle.seen_journal.specs.Passes.{PassValue}
 
 -- for a Named that names nothing
+abbrev pub no_table : TableId
+no_table = record { words = 0; slots = 0; views_name = 0; atom = 0; block = 0; offset = 0; slot_names = [] }
+
 abbrev pub no_name : JournalName
-no_name = record { table = record { words = 0; slots = 0; views_name = 0; atom = 0; block = 0; offset = 0; slot_names = [] }; quotas = [] }
+no_name = record { table = no_table; quotas = [] }
 
 abbrev pub no_script : ScriptValue
 no_script = record {
@@ -48,8 +52,10 @@ history_of seen = map entry_value (list_of seen)
 abbrev pub seen_by : SeenValue → JournalsValue
 seen_by s = record { tree = history_of s.tree.seen; slices = map (λ (p : PassValue SliceEntry). list_of p.seen) s.slices }
 
--- those of a thread between two of its ops, the number of the next, and the text that it was shown last
+-- those of a thread between two of its ops, the number of the next, the text that it was shown last, and whether its phase is known
+-- to have begun
 pub record PassesValue : Type 0 where
   pub seen : SeenValue
   pub next : ℕ
   pub shown : List ℕ
+  pub begun : Bool

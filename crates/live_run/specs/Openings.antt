@@ -1,16 +1,22 @@
 -- Before the first op.
 -- (For functions and proofs: no promise of the program stands on it.)
-use Rattle.std.specs.Prelude.{◌≡◌, ℕ, ◌+◌, ◌-◌, ◌<◌, ◌≤◌, List, [], length, min, slice_index_or}
+use Rattle.std.specs.Prelude.{◌≡◌, ℕ, ◌+◌, ◌-◌, ◌<◌, ◌≤◌, false, List, [], ◌∷◌, drop, length, min, slice_index_or}
+use Rattle.atomic_table.specs.Seated.{TableId}
 use Rattle.cache_core.specs.declared.entry.SliceEntry.{SliceEntry}
 use Rattle.live_run.specs.Cells.{SliceCellValue, SliceIsKept, pass_in}
 use Rattle.live_run.specs.Logs.{LogValue, log_at}
 use Rattle.live_run.specs.Names.{PassesValue, name_at}
 use Rattle.live_run.specs.Phases.{passes_at}
+use Rattle.live_run.specs.Sharing.{IsShareOf}
 use Rattle.machine.specs.Slices.{slice_count}
 use Rattle.run_law.specs.declared.journals.TreeEntry.{TreeEntry}
+use Rattle.schedule_law.specs.LiveParts.{live_slice}
+use Rattle.schedule_law.specs.declared.part.Part.{Part}
 use Rattle.script_ops.specs.Values.{ScriptValue}
 use Rattle.seen_journal.specs.Journals.{JournalName}
 use Rattle.seen_journal.specs.Passes.{PassValue, new_pass}
+use Rattle.shared_parts.specs.Parts.{first_of, has}
+use Rattle.shared_parts.specs.Shares.{ShareValue}
 
 -- ---- passes of the journals
 
@@ -32,6 +38,21 @@ pub record AreNew (slices : List JournalName) (n thread : ℕ) (passes : List (P
   pub count : length passes ≡ n
   pub each : (i : ℕ) → i < n → pass_in passes i ≡ new_pass (name_at slices i) thread
 
+-- ---- shares
+
+-- no two of these parts have one number
+abbrev pub AreNumbered : List (ℕ × Part) → Type 0
+AreNumbered [] = Unit {0}
+AreNumbered (x ∷ xs) = (has x.0 xs ≡ false) × AreNumbered xs
+
+-- The first n parts of a share are shares of their own, in order.
+pub record AreSplit (n : ℕ) (old new : ShareValue Part) (shares : List (ShareValue Part)) : Type 0 where
+  pub count : length shares ≡ n
+  pub table : new.table ≡ old.table
+  pub tables : (k : ℕ) (d : ShareValue Part) → k < n → (slice_index_or shares k d).table ≡ old.table
+  pub each : (k : ℕ) (d : ShareValue Part) → k < n → (slice_index_or shares k d).parts ≡ first_of (drop k old.parts)
+  pub rest : new.parts ≡ drop n old.parts
+
 -- ---- cells of slices
 
 -- The first n journals are of slices.
@@ -43,15 +64,20 @@ pub record AreOfSlices (slices : List JournalName) (n : ℕ) (logs : List LogVal
 abbrev pub part_at : List SliceCellValue → ℕ → SliceCellValue → SliceCellValue
 part_at parts k d = slice_index_or parts k d
 
+-- These shares have the parts of the first n slices, which are empty.
+pub record AreFirstShares (table : TableId) (n : ℕ) (shares : List (ShareValue Part)) : Type 0 where
+  pub count : length shares ≡ n
+  pub each : (i : ℕ) (d : ShareValue Part) → i < n → IsShareOf table (live_slice i [] ∷ []) (slice_index_or shares i d)
+
 -- What goes into the cells of the slices from one on, the last slice first.
-pub record AreParts (script : ScriptValue) (tree : JournalName) (slices : List JournalName) (first : ℕ) (parts : List SliceCellValue) : Type 0 where
+pub record AreParts (script : ScriptValue) (table : TableId) (tree : JournalName) (slices : List JournalName) (first : ℕ) (parts : List SliceCellValue) : Type 0 where
   pub count : length parts ≡ slice_count script.machine - first
-  pub each : (k i : ℕ) (d : SliceCellValue) → k < length parts → i + k + 1 ≡ slice_count script.machine → SliceIsKept script tree (name_at slices i) i (part_at parts k d)
+  pub each : (k i : ℕ) (d : SliceCellValue) → k < length parts → i + k + 1 ≡ slice_count script.machine → SliceIsKept script table tree (name_at slices i) i (part_at parts k d)
 
 -- What was in the cells of the slices before one, in order, when each had seen this whole history of the tree.
-pub record AreSettled (script : ScriptValue) (tree : JournalName) (slices : List JournalName) (history : List (ℕ × TreeEntry)) (upto : ℕ) (parts : List SliceCellValue) : Type 0 where
+pub record AreSettled (script : ScriptValue) (table : TableId) (tree : JournalName) (slices : List JournalName) (history : List (ℕ × TreeEntry)) (upto : ℕ) (parts : List SliceCellValue) : Type 0 where
   pub count : length parts ≡ min upto (slice_count script.machine)
-  pub kept : (i : ℕ) (d : SliceCellValue) → i < length parts → SliceIsKept script tree (name_at slices i) i (part_at parts i d)
+  pub kept : (i : ℕ) (d : SliceCellValue) → i < length parts → SliceIsKept script table tree (name_at slices i) i (part_at parts i d)
   pub seen : (i : ℕ) (d : SliceCellValue) → i < length parts → (part_at parts i d).tree.seen ≡ history
 
 -- ---- threads

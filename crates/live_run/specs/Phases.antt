@@ -1,15 +1,21 @@
 -- From phase to phase.
 -- (For functions and proofs: no promise of the program stands on it.)
-use Rattle.std.specs.Prelude.{◌≡◌, ℕ, ◌<◌, ◌≤◌, List, [], length, slice_index_or}
+use Rattle.std.specs.Prelude.{◌≡◌, ℕ, ◌+◌, ◌<◌, ◌≤◌, false, true, List, [], ◌∷◌, length, slice_index_or}
+use Rattle.atomic_table.specs.Seated.{TableId}
 use Rattle.live_law.specs.DoneOps.{AreEnded, HasEnded}
 use Rattle.live_law.specs.SeenJournals.{HasGrown}
 use Rattle.live_run.specs.Names.{PassesValue, no_name, seen_by}
+use Rattle.live_run.specs.Sharing.{IsShareOf}
 use Rattle.live_run.specs.Steps.{HasTaken}
+use Rattle.run_law.specs.Ops.{phase_in}
+use Rattle.schedule_law.specs.LiveParts.{live_phase}
+use Rattle.schedule_law.specs.declared.part.Part.{Part}
 use Rattle.script_ops.specs.Values.{ScriptValue, first_thread, ops_of, threads_of}
+use Rattle.shared_parts.specs.Shares.{ShareValue}
 
 -- no thread's
 abbrev pub no_passes : PassesValue
-no_passes = record { seen = record { thread = 0; tree = record { name = no_name; number = 0; seen = [] }; slices = [] }; next = 0; shown = [] }
+no_passes = record { seen = record { thread = 0; tree = record { name = no_name; number = 0; seen = [] }; slices = [] }; next = 0; shown = []; begun = false }
 
 -- the passes of a thread
 abbrev pub passes_at : List PassesValue → ℕ → PassesValue
@@ -33,6 +39,7 @@ pub record AreBefore (script : ScriptValue) (phase : ℕ) (ps : List PassesValue
 pub record MayWork (script : ScriptValue) (p : PassesValue) : Type 0 where
   pub there : p.seen.thread < length (threads_of script)
   pub fresh : p.next ≡ 0
+  pub begun : p.begun ≡ true
   pub ended : AreEnded script (seen_by p.seen) p.seen.thread
 
 -- It has made all ops of the same thread, and has seen what it had.
@@ -48,6 +55,47 @@ pub record MayAllWork (script : ScriptValue) (ps : List PassesValue) : Type 0 wh
 pub record HaveWorked (script : ScriptValue) (old new : List PassesValue) : Type 0 where
   pub count : length new ≡ length old
   pub each : (k : ℕ) → k < length old → HasWorked script (passes_at old k) (passes_at new k)
+
+-- ---- the beginning and the end of a phase, for each of its threads
+
+-- A thread is of the phase whose number this share has, or of one before it.
+pub record IsOfPhase (script : ScriptValue) (table : TableId) (p : PassesValue) (turn : ShareValue Part) : Type 0 where
+  pub phase : ℕ
+  pub ended : ℕ
+  pub share : IsShareOf table (live_phase phase ended ∷ []) turn
+  pub low : phase_in script.phases p.seen.thread ≤ phase
+
+-- It is at its end, and is the first that is not known to be there.
+pub record IsEndedIn (script : ScriptValue) (table : TableId) (p : PassesValue) (turn : ShareValue Part) : Type 0 where
+  pub phase : ℕ
+  pub share : IsShareOf table (live_phase phase p.seen.thread ∷ []) turn
+  pub at_end : IsAtEnd script p
+
+-- The threads are of the phase whose number this share has, or of one before it.
+pub record AreOfPhase (script : ScriptValue) (table : TableId) (ps : List PassesValue) (turn : ShareValue Part) : Type 0 where
+  pub phase : ℕ
+  pub ended : ℕ
+  pub share : IsShareOf table (live_phase phase ended ∷ []) turn
+  pub each : (k : ℕ) → k < length ps → phase_in script.phases (passes_at ps k).seen.thread ≤ phase
+
+-- Of those before `upto` the phase is known to have begun.
+pub record AreBegun (upto : ℕ) (ps ps_now : List PassesValue) : Type 0 where
+  pub count : length ps_now ≡ length ps
+  pub each : (k : ℕ) → k < upto → k < length ps → passes_at ps_now k ≡ (record (passes_at ps k) { begun = true })
+  pub rest : (k : ℕ) → upto ≤ k → passes_at ps_now k ≡ passes_at ps k
+
+-- The threads are at their ends, one after the other from the first that is not known to be there.
+pub record AreEndedIn (script : ScriptValue) (table : TableId) (ps : List PassesValue) (turn : ShareValue Part) : Type 0 where
+  pub phase : ℕ
+  pub first : ℕ
+  pub share : IsShareOf table (live_phase phase first ∷ []) turn
+  pub threads : (k : ℕ) → k < length ps → (passes_at ps k).seen.thread ≡ first + k
+  pub ended : (k : ℕ) → k < length ps → IsAtEnd script (passes_at ps k)
+
+-- so many threads more are known to be at their ends
+abbrev pub HaveEnded : ℕ → ShareValue Part → ShareValue Part → Type 0
+HaveEnded n old new =
+    (phase first : ℕ) → old.parts ≡ live_phase phase first ∷ [] → (new.table ≡ old.table) × (new.parts ≡ live_phase phase (first + n) ∷ [])
 
 -- ---- handing on
 

@@ -1,6 +1,6 @@
 //! The room for what is made at the end of a run.
 ghost use Rattle.std.specs.Prelude.{◌≡◌, IfOk};
-ghost use Rattle.live_run.specs.Closings.{AreRoomy, HaveClosingRoom};
+ghost use Rattle.live_run.specs.Closings.{AreRoomy};
 
 use crate::named::Named;
 use crate::parts::Part;
@@ -10,17 +10,25 @@ use run_law::TreeEntry;
 use script_ops::Script;
 use seen_journal::Pass;
 use std::alloc::Global;
-use std::marker::PhantomData;
+use std::marker::Model;
 
 /// The room for what goes out of the cells of the slices, for the threads' passes of each journal, and for the lists of the slices.
 #[derive(Drop)]
 pub(crate) struct Closing<N: Named> {
-    pub(crate) parts: Vec<Part>,
+    pub(crate) parts: Vec<Part<N>>,
     pub(crate) tree: Vec<Pass<TreeEntry>>,
     pub(crate) slices: Vec<Vec<Pass<SliceEntry>>>,
     pub(crate) entries: Vec<Vec<SliceEntry>>,
-    pub(crate) of: PhantomData<N>,
-    ghost are: { HaveClosingRoom N.script parts tree slices entries },
+}
+
+impl<N: Named> Model for Closing<N> {
+    ghost use Rattle.live_run.specs.Closings.{HaveClosingRoom};
+
+    ghost Value = { Unit {0} };
+
+    ghost view = { λ c. tt };
+
+    ghost invariant = { λ c. HaveClosingRoom N.script c.parts c.tree c.slices c.entries };
 }
 
 // So many empty lists, each with room for so many.
@@ -50,7 +58,6 @@ impl<N: Named> Closing<N> {
             tree,
             slices,
             entries,
-            of: PhantomData,
         })
     }
 }

@@ -4,13 +4,13 @@ ghost use Rattle.live_run.specs.Cells.{AreOfThreads, taken_from};
 ghost use Rattle.live_run.specs.Openings.{AreParts, AreSettled};
 ghost use Rattle.machine.specs.Slices.{slice_count};
 
-use crate::named::Named;
+use crate::named::{Named, NamedTable, StepShare};
 use crate::parts::Part;
 use run_law::TreeEntry;
 use seen_journal::Journal;
 
 /// Places for slices, by their numbers over all domains, before and after a run.
-pub trait Fill<N: Named> {
+pub trait Fill<N: Named, T: NamedTable> {
     /// The number of the first.
     ghost first: { ℕ };
 
@@ -21,19 +21,19 @@ pub trait Fill<N: Named> {
     ghost joined: { Type 0 };
 
     /// Filled with what goes into the cells of the slices from the first on, the last slice first.
-    fn open(parts: &mut Vec<Part>) -> Self
+    fn open(parts: &mut Vec<Part<N>>) -> Self
         requires joined { joined }
-        requires parts { AreParts N.script N.tree N.slices first parts.old.items }
-        ensures { AreParts N.script N.tree N.slices (last + 1) parts.new.items };
+        requires parts { AreParts N.script T.table N.tree N.slices first parts.old.items }
+        ensures { AreParts N.script T.table N.tree N.slices (last + 1) parts.new.items };
 
     /// Adds what is in the cells, in order. Each has seen the tree's whole history.
-    fn settle(self, history: &mut Journal<TreeEntry>, into: &mut Vec<Part>)
+    fn settle(self, history: &mut Journal<TreeEntry>, into: &mut Vec<Part<N>>)
         requires joined { joined }
         requires name { history.old.name ≡ N.tree }
         requires threads { AreOfThreads taken_from history.old.entries }
         requires room { slice_count N.script.machine ≤ vec_capacity into.old }
-        requires before { AreSettled N.script N.tree N.slices history.old.entries first into.old.items }
+        requires before { AreSettled N.script T.table N.tree N.slices history.old.entries first into.old.items }
         ensures history { history.new ≡ history.old }
         ensures room { vec_capacity into.new ≡ vec_capacity into.old }
-        ensures after { AreSettled N.script N.tree N.slices history.old.entries (last + 1) into.new.items };
+        ensures after { AreSettled N.script T.table N.tree N.slices history.old.entries (last + 1) into.new.items };
 }

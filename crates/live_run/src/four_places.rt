@@ -3,7 +3,7 @@ ghost use Rattle.std.specs.Prelude.{◌≡◌, ◌+◌};
 
 use crate::fill::Fill;
 use crate::holding::Hold;
-use crate::named::Named;
+use crate::named::{Named, NamedTable, StepShare};
 use crate::parts::Part;
 use crate::place::Place;
 use crate::places::Places;
@@ -18,12 +18,25 @@ use tree_law::Follow;
 
 /// The places of four slices. A type of its own, since what stands on a row of rows ties the impls of them all.
 #[derive(Drop)]
-pub struct FourPlaces<N: Named, const A: usize, const B: usize, const C: usize, const D: usize> {
-    places: Row<Row<Place<N, A>, Place<N, B>>, Row<Place<N, C>, Place<N, D>>>,
+pub struct FourPlaces<
+    N: Named,
+    T: NamedTable,
+    const A: usize,
+    const B: usize,
+    const C: usize,
+    const D: usize,
+> {
+    places: Row<Row<Place<N, T, A>, Place<N, T, B>>, Row<Place<N, T, C>, Place<N, T, D>>>,
 }
 
-impl<N: Named, const A: usize, const B: usize, const C: usize, const D: usize> Places<N>
-    for FourPlaces<N, A, B, C, D> {
+impl<
+    N: Named,
+    T: NamedTable,
+    const A: usize,
+    const B: usize,
+    const C: usize,
+    const D: usize,
+> Places<N, T> for FourPlaces<N, T, A, B, C, D> {
     ghost first = { A };
 
     ghost last = { D };
@@ -36,11 +49,12 @@ impl<N: Named, const A: usize, const B: usize, const C: usize, const D: usize> P
         i: usize,
         history: &mut Journal<TreeEntry>,
         s: &mut Seen<N>,
+        worker: &mut StepShare<N>,
         op: u32,
         epoch: u64,
         rmid: u16,
     ) -> u64 {
-        self.places.look(rt, i, history, s, op, epoch, rmid)
+        self.places.look(rt, i, history, s, worker, op, epoch, rmid)
     }
 
     fn follow<R: Wait>(
@@ -49,11 +63,14 @@ impl<N: Named, const A: usize, const B: usize, const C: usize, const D: usize> P
         i: usize,
         history: &mut Journal<TreeEntry>,
         s: &mut Seen<N>,
+        worker: &mut StepShare<N>,
         op: u32,
         epoch: u64,
         follow: Follow,
+        is_last: bool,
     ) {
-        self.places.follow(rt, i, history, s, op, epoch, follow);
+        self.places
+            .follow(rt, i, history, s, worker, op, epoch, follow, is_last);
     }
 
     fn touch<R: Wait, H: Hold>(
@@ -62,11 +79,12 @@ impl<N: Named, const A: usize, const B: usize, const C: usize, const D: usize> P
         hold: &H,
         i: usize,
         s: &mut Seen<N>,
+        worker: &mut StepShare<N>,
         op: u32,
         tag: &Tag,
         line: u64,
     ) -> Option<Reached> {
-        self.places.touch(rt, hold, i, s, op, tag, line)
+        self.places.touch(rt, hold, i, s, worker, op, tag, line)
     }
 
     fn last() -> usize {
@@ -74,23 +92,26 @@ impl<N: Named, const A: usize, const B: usize, const C: usize, const D: usize> P
     }
 }
 
-impl<N: Named, const A: usize, const B: usize, const C: usize, const D: usize> Fill<N>
-    for FourPlaces<N, A, B, C, D> {
+impl<N: Named, T: NamedTable, const A: usize, const B: usize, const C: usize, const D: usize> Fill<
+    N,
+    T,
+> for FourPlaces<N, T, A, B, C, D> {
     ghost first = { A };
 
     ghost last = { D };
 
     ghost joined = { (A + 1 ≡ B) × (B + 1 ≡ C) × (C + 1 ≡ D) };
 
-    fn open(parts: &mut Vec<Part>) -> Self {
+    fn open(parts: &mut Vec<Part<N>>) -> Self {
         FourPlaces {
-            places: Row::<Row<Place<N, A>, Place<N, B>>, Row<Place<N, C>, Place<N, D>>>::open(
-                parts,
-            ),
+            places: Row::<
+                Row<Place<N, T, A>, Place<N, T, B>>,
+                Row<Place<N, T, C>, Place<N, T, D>>,
+            >::open(parts),
         }
     }
 
-    fn settle(self, history: &mut Journal<TreeEntry>, into: &mut Vec<Part>) {
+    fn settle(self, history: &mut Journal<TreeEntry>, into: &mut Vec<Part<N>>) {
         let FourPlaces { places } = self;
         places.settle(history, into);
     }

@@ -6,7 +6,7 @@ ghost use Rattle.live_run.specs.Closings.{AreGathered, AreRoomy, HaveOneMore};
 ghost use Rattle.machine.specs.Slices.{slice_count};
 ghost use Rattle.seen_journal.specs.Passes.{PassValue};
 
-use crate::named::Named;
+use crate::named::{Named, NamedTable, StepShare};
 use crate::passes::Passes;
 use crate::seen::Seen;
 use cache_core::SliceEntry;
@@ -26,8 +26,8 @@ fn give_each(passes: Vec<Pass<SliceEntry>>, lists: &mut Vec<Vec<Pass<SliceEntry>
 }
 
 /// Adds the passes of all threads to the list of the tree's passes, and to those of the slices', which have the room.
-pub(crate) fn gather<N: Named>(
-    p: Vec<Passes<N>>,
+pub(crate) fn gather<N: Named, T: NamedTable>(
+    p: Vec<Passes<N, T>>,
     trees: &mut Vec<Pass<TreeEntry>>,
     lists: &mut Vec<Vec<Pass<SliceEntry>>>,
 )
@@ -39,9 +39,11 @@ pub(crate) fn gather<N: Named>(
     for passes in p {
         let Passes {
             seen,
+            share: _,
             next: _,
             looks: _,
             shown: _,
+            of: _,
         } = passes;
         let Seen {
             thread: _,

@@ -10,7 +10,7 @@ ghost use Rattle.run_law.specs.TreeHistory.{tree_after};
 ghost use Rattle.tree_law.specs.LawsCounts.{CanLook};
 ghost use Rattle.tree_law.specs.Steps.{needs};
 
-use crate::named::Named;
+use crate::named::{Named, NamedTable, StepShare};
 use crate::seen::Seen;
 use crate::slices::Slices;
 use machine::Machine;
@@ -22,12 +22,13 @@ use std::sync::Wait;
 use tree_core::Counts;
 
 /// All looks of a command that holds the tree, in order: for each count one in each slice of its domain.
-pub(crate) fn look_all<N: Named>(
-    slices: &Slices<N>,
+pub(crate) fn look_all<N: Named, T: NamedTable>(
+    slices: &Slices<N, T>,
     rt: &impl Wait,
     m: &Machine,
     history: &mut Journal<TreeEntry>,
     s: &mut Seen<N>,
+    worker: &mut StepShare<N>,
     number: u32,
     epoch: u64,
     op: &Op,
@@ -43,19 +44,19 @@ pub(crate) fn look_all<N: Named>(
     requires distinct { AreDistinct counts.now }
     requires exist { All (CanLook N.script.machine) counts.now }
     requires room { length counts.now ≤ looks.old.spare }
-    requires at { LooksAt N.script number op.now 0 0 0 looks.old.numbers s.old }
+    requires at { LooksAt N.script T.table number op.now 0 0 0 looks.old.numbers s.old worker.old }
     ensures history { history.new ≡ history.old }
     ensures tree { s.new.tree ≡ s.old.tree }
     ensures thread { s.new.thread ≡ s.old.thread }
     ensures seen { HasGrown (seen_by s.old) (seen_by s.new) }
-    ensures done { LooksAt N.script number op.now (length counts.now) 0 0 looks.new.numbers s.new }
+    ensures done { LooksAt N.script T.table number op.now (length counts.now) 0 0 looks.new.numbers s.new worker.new }
 {
     for q in 0..counts.len() {
         let (domain, rmid) = counts.at(q);
         let mut lines = 0;
         for x in 0..m.slices {
             let i = m.slice_number(domain, x);
-            lines += slices.look(rt, i, history, s, number, epoch, rmid);
+            lines += slices.look(rt, i, history, s, worker, number, epoch, rmid);
         }
         looks.push(lines);
     }

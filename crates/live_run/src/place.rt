@@ -1,10 +1,7 @@
 //! The place of one slice.
-ghost use Rattle.std.specs.Prelude.{◌<◌, IsSome};
-ghost use Rattle.machine.specs.Slices.{slice_count};
-
 use crate::fill::Fill;
 use crate::holding::Hold;
-use crate::named::Named;
+use crate::named::{Named, NamedTable, StepShare};
 use crate::parts::Part;
 use crate::places::Places;
 use crate::seen::Seen;
@@ -13,17 +10,28 @@ use cache_steps::Reached;
 use rc_base::Tag;
 use run_law::TreeEntry;
 use seen_journal::Journal;
+use std::marker::Model;
 use std::sync::{Mutex, Wait};
 use tree_law::Follow;
 
-/// The place of slice I, whose cell is there where the machine has the slice.
+/// The place of slice I, whose cell is there where the machine has the slice. Contracts see its number.
 #[derive(Drop)]
-pub struct Place<N: Named, const I: usize> {
-    cell: Option<Mutex<SliceCell<N, I>>>,
-    ghost filled: { I < slice_count N.script.machine → IsSome cell },
+pub struct Place<N: Named, T: NamedTable, const I: usize> {
+    cell: Option<Mutex<SliceCell<N, T, I>>>,
 }
 
-impl<N: Named, const I: usize> Places<N> for Place<N, I> {
+impl<N: Named, T: NamedTable, const I: usize> Model for Place<N, T, I> {
+    ghost use Rattle.std.specs.Prelude.{ℕ, ◌<◌, IsSome};
+    ghost use Rattle.machine.specs.Slices.{slice_count};
+
+    ghost Value = { ℕ };
+
+    ghost view = { λ p. I };
+
+    ghost invariant = { λ p. I < slice_count N.script.machine → IsSome p.cell };
+}
+
+impl<N: Named, T: NamedTable, const I: usize> Places<N, T> for Place<N, T, I> {
     ghost first = { I };
 
     ghost last = { I };
@@ -36,6 +44,7 @@ impl<N: Named, const I: usize> Places<N> for Place<N, I> {
         _i: usize,
         history: &mut Journal<TreeEntry>,
         s: &mut Seen<N>,
+        worker: &mut StepShare<N>,
         op: u32,
         epoch: u64,
         rmid: u16,
@@ -43,7 +52,7 @@ impl<N: Named, const I: usize> Places<N> for Place<N, I> {
         let Some(cell) = &self.cell else {
             unreachable!()
         };
-        cell.lock(rt).look(history, s, op, epoch, rmid)
+        cell.lock(rt).look(history, s, worker, op, epoch, rmid)
     }
 
     fn follow<R: Wait>(
@@ -52,14 +61,17 @@ impl<N: Named, const I: usize> Places<N> for Place<N, I> {
         _i: usize,
         history: &mut Journal<TreeEntry>,
         s: &mut Seen<N>,
+        worker: &mut StepShare<N>,
         op: u32,
         epoch: u64,
         follow: Follow,
+        is_last: bool,
     ) {
         let Some(cell) = &self.cell else {
             unreachable!()
         };
-        cell.lock(rt).follow(history, s, op, epoch, follow);
+        cell.lock(rt)
+            .follow(history, s, worker, op, epoch, follow, is_last);
     }
 
     fn touch<R: Wait, H: Hold>(
@@ -68,6 +80,7 @@ impl<N: Named, const I: usize> Places<N> for Place<N, I> {
         hold: &H,
         _i: usize,
         s: &mut Seen<N>,
+        worker: &mut StepShare<N>,
         op: u32,
         tag: &Tag,
         line: u64,
@@ -75,7 +88,7 @@ impl<N: Named, const I: usize> Places<N> for Place<N, I> {
         let Some(cell) = &self.cell else {
             unreachable!()
         };
-        cell.lock(rt).touch(hold, s, op, tag, line)
+        cell.lock(rt).touch(hold, s, worker, op, tag, line)
     }
 
     fn last() -> usize {
@@ -83,14 +96,14 @@ impl<N: Named, const I: usize> Places<N> for Place<N, I> {
     }
 }
 
-impl<N: Named, const I: usize> Fill<N> for Place<N, I> {
+impl<N: Named, T: NamedTable, const I: usize> Fill<N, T> for Place<N, T, I> {
     ghost first = { I };
 
     ghost last = { I };
 
     ghost joined = { Unit {0} };
 
-    fn open(parts: &mut Vec<Part>) -> Self {
+    fn open(parts: &mut Vec<Part<N>>) -> Self {
         let cell = match parts.pop() {
             Some(part) => Some(Mutex::new(SliceCell::open(part))),
             None => None,
@@ -98,7 +111,7 @@ impl<N: Named, const I: usize> Fill<N> for Place<N, I> {
         Place { cell }
     }
 
-    fn settle(self, history: &mut Journal<TreeEntry>, into: &mut Vec<Part>) {
+    fn settle(self, history: &mut Journal<TreeEntry>, into: &mut Vec<Part<N>>) {
         let Place { cell } = self;
         if let Some(cell) = cell {
             into.push_reserved(cell.into_inner().settle(history));

@@ -1,7 +1,8 @@
 //! The turns of an access.
-ghost use Rattle.std.specs.Prelude.{◌≡◌, Some};
+ghost use Rattle.std.specs.Prelude.{◌≡◌, ◌+◌, Some, true};
 ghost use Rattle.live_law.specs.Stages.{slice_reached};
 ghost use Rattle.live_run.specs.Accesses.{HasAccessed, HasTurned};
+ghost use Rattle.live_run.specs.Sharing.{IsResting, op_after};
 ghost use Rattle.live_run.specs.Visits.{HasRoomIn};
 ghost use Rattle.machine.specs.Maps.{domain_of, line_of};
 ghost use Rattle.machine.specs.Slices.{slice_of_line};
@@ -10,18 +11,19 @@ ghost use Rattle.script_ops.specs.declared.op.Op.TheVariants.{Access};
 
 use crate::holding::Hold;
 use crate::live::Live;
-use crate::named::Named;
+use crate::named::{Named, NamedTable, StepShare};
 use crate::seen::Seen;
 use cache_steps::Reached;
 use std::sync::Wait;
 
-impl<N: Named> Live<N> {
+impl<N: Named, T: NamedTable> Live<N, T> {
     // One turn: it tags and touches. The epoch of its tag, where that was stale.
     fn turn(
         &self,
         rt: &impl Wait,
         hold: &impl Hold,
         s: &mut Seen<N>,
+        worker: &mut StepShare<N>,
         op: u32,
         task: u32,
         cpu: u8,
@@ -29,12 +31,17 @@ impl<N: Named> Live<N> {
     ) -> Result<Reached, u64>
         requires op { op_at N.script s.old.thread op ≡ Some (Access task cpu addr) }
         requires room { HasRoomIn N.script (slice_reached N.script.machine cpu addr) s.old }
-        ensures { HasTurned N.script op task cpu addr s.old s.new result }
+        requires worker { IsResting T.table s.old.thread op true worker.old }
+        ensures turned { HasTurned N.script op task cpu addr s.old s.new result }
+        ensures worker { IsResting T.table s.old.thread (op_after op result) true worker.new }
     {
-        let tag = self.tree.lock(rt).tag(s, task, cpu);
+        let tag = self.tree.lock(rt).tag(s, worker, task, cpu);
         let line = addr / 64;
         let slice = self.machine.line_slice(tag.domain, line);
-        match self.slices.touch(rt, hold, slice, s, op, &tag, line) {
+        match self
+            .slices
+            .touch(rt, hold, slice, s, worker, op, &tag, line)
+        {
             Some(reached) => Ok(reached),
             None => Err(tag.epoch),
         }
@@ -46,6 +53,7 @@ impl<N: Named> Live<N> {
         rt: &impl Wait,
         hold: &impl Hold,
         s: &mut Seen<N>,
+        worker: &mut StepShare<N>,
         op: u32,
         task: u32,
         cpu: u8,
@@ -53,13 +61,15 @@ impl<N: Named> Live<N> {
     ) -> Reached
         requires op { op_at N.script s.old.thread op ≡ Some (Access task cpu addr) }
         requires room { HasRoomIn N.script (slice_reached N.script.machine cpu addr) s.old }
-        ensures { HasAccessed N.script op task cpu addr result s.old s.new }
+        requires worker { IsResting T.table s.old.thread op true worker.old }
+        ensures accessed { HasAccessed N.script op task cpu addr result s.old s.new }
+        ensures worker { IsResting T.table s.old.thread (op + 1) true worker.new }
     {
-        let mut turn = self.turn(rt, hold, s, op, task, cpu, addr);
+        let mut turn = self.turn(rt, hold, s, worker, op, task, cpu, addr);
         loop {
             match turn {
                 Ok(reached) => return reached,
-                Err(_) => turn = self.turn(rt, hold, s, op, task, cpu, addr),
+                Err(_) => turn = self.turn(rt, hold, s, worker, op, task, cpu, addr),
             }
         }
     }

@@ -4,11 +4,13 @@ ghost use Rattle.cache_core.specs.Stands.{entry as entry_of};
 ghost use Rattle.cache_core.specs.declared.entry.What.TheVariants.{Look};
 ghost use Rattle.live_run.specs.Cells.{AreOfThreads, SliceIsKept, taken_from};
 ghost use Rattle.live_run.specs.Names.{name_at};
+ghost use Rattle.live_run.specs.Sharing.{HasFollowedOn, HasReached, HasStepped, IsNextCount, IsNextFollow, IsTagged};
 ghost use Rattle.live_run.specs.Steps.{HasAdded, HasFollowed, HasTouched};
 ghost use Rattle.live_run.specs.Visits.{MayFollow, MayLook, MayTouch};
+ghost use Rattle.schedule_law.specs.declared.part.Happening.TheVariants as happenings;
 
 use crate::holding::Hold;
-use crate::named::Named;
+use crate::named::{Named, NamedTable, StepShare};
 use crate::noting::note;
 use crate::parts::Part;
 use crate::seen::{Seen, meet};
@@ -16,60 +18,66 @@ use cache_core::{Cache, SliceEntry, What};
 use cache_steps::{Reached, access_of, enact, entry, reach};
 use rc_base::Tag;
 use run_law::TreeEntry;
+use schedule_law::{accesses, commands};
 use seen_journal::{Journal, Pass};
 use std::marker::{Model, PhantomData};
 use tree_law::Follow;
 
-/// What lies under the lock of slice I: its cache, its journal, and a pass of the tree's journal.
+/// What lies under the lock of slice I: its cache, its journal, a pass of the tree's journal, and the share that has the journal as a
+/// part of the machine of steps.
 #[derive(Drop)]
-pub struct SliceCell<N: Named, const I: usize> {
+pub struct SliceCell<N: Named, T: NamedTable, const I: usize> {
     pub(crate) cache: Cache,
     pub(crate) journal: Journal<SliceEntry>,
     pub(crate) tree: Pass<TreeEntry>,
-    pub(crate) of: PhantomData<N>,
+    pub(crate) share: StepShare<N>,
+    pub(crate) of: PhantomData<T>,
 }
 
-impl<N: Named, const I: usize> Model for SliceCell<N, I> {
+impl<N: Named, T: NamedTable, const I: usize> Model for SliceCell<N, T, I> {
     ghost use Rattle.live_run.specs.Names.{name_at};
     ghost use Rattle.live_run.specs.Cells.{SliceCellValue, SliceIsKept};
 
     ghost Value = { SliceCellValue };
 
-    ghost view = { λ c. record { cache = c.cache; journal = c.journal; tree = c.tree } };
+    ghost view = { λ c. record { cache = c.cache; journal = c.journal; tree = c.tree; share = c.share } };
 
-    ghost invariant = { λ c. SliceIsKept N.script N.tree (name_at N.slices I) I (record { cache = c.cache; journal = c.journal; tree = c.tree }) };
+    ghost invariant = { λ c. SliceIsKept N.script T.table N.tree (name_at N.slices I) I (record { cache = c.cache; journal = c.journal; tree = c.tree; share = c.share }) };
 }
 
-impl<N: Named, const I: usize> SliceCell<N, I> {
+impl<N: Named, T: NamedTable, const I: usize> SliceCell<N, T, I> {
     /// The cell of what goes into it.
-    pub(crate) fn open(part: Part) -> SliceCell<N, I>
-        requires { SliceIsKept N.script N.tree (name_at N.slices I) I part }
+    pub(crate) fn open(part: Part<N>) -> SliceCell<N, T, I>
+        requires { SliceIsKept N.script T.table N.tree (name_at N.slices I) I part }
     {
         let Part {
             cache,
             journal,
             tree,
+            share,
         } = part;
         SliceCell {
             cache,
             journal,
             tree,
+            share,
             of: PhantomData,
         }
     }
 
     /// What was in the cell, which has now seen the tree's whole history.
-    pub(crate) fn settle(self, history: &mut Journal<TreeEntry>) -> Part
+    pub(crate) fn settle(self, history: &mut Journal<TreeEntry>) -> Part<N>
         requires name { history.old.name ≡ N.tree }
         requires threads { AreOfThreads taken_from history.old.entries }
         ensures history { history.new ≡ history.old }
-        ensures kept { SliceIsKept N.script N.tree (name_at N.slices I) I result }
+        ensures kept { SliceIsKept N.script T.table N.tree (name_at N.slices I) I result }
         ensures seen { result.tree.seen ≡ history.old.entries }
     {
         let SliceCell {
             cache,
             journal,
             mut tree,
+            share,
             of: _,
         } = self;
         history.show(&mut tree);
@@ -77,6 +85,7 @@ impl<N: Named, const I: usize> SliceCell<N, I> {
             cache,
             journal,
             tree,
+            share,
         }
     }
 
@@ -85,21 +94,25 @@ impl<N: Named, const I: usize> SliceCell<N, I> {
         &mut self,
         history: &mut Journal<TreeEntry>,
         s: &mut Seen<N>,
+        worker: &mut StepShare<N>,
         op: u32,
         epoch: u64,
         rmid: u16,
     ) -> u64
         requires may { MayLook N.script N.tree I op epoch rmid history.old s.old }
+        requires next { IsNextCount N.script T.table I op rmid history.old s.old worker.old }
         ensures few { result ≤ 2097152 }
         ensures history { history.new ≡ history.old }
         ensures tree { s.new.tree ≡ s.old.tree }
         ensures added { HasAdded I (entry_of s.old.thread op epoch (Look rmid result)) s.old s.new }
+        ensures worker { HasStepped (happenings.Look (entry_of s.old.thread op epoch (Look rmid result))) worker.old worker.new }
     {
         history.show(&mut self.tree);
         let lines = self.cache.look(rmid);
         let what = What::Look { rmid, lines };
         let entry = entry(s.thread(), op, epoch, what);
         note::<N, I>(&mut self.journal, s, entry);
+        commands::look(&mut self.share, worker, I, entry);
         lines
     }
 
@@ -108,19 +121,24 @@ impl<N: Named, const I: usize> SliceCell<N, I> {
         &mut self,
         history: &mut Journal<TreeEntry>,
         s: &mut Seen<N>,
+        worker: &mut StepShare<N>,
         op: u32,
         epoch: u64,
         follow: Follow,
+        last: bool,
     )
         requires may { MayFollow N.script N.tree I op epoch follow history.old s.old }
+        requires next { IsNextFollow N.script T.table I op epoch follow last history.old s.old worker.old }
         ensures history { history.new ≡ history.old }
         ensures tree { s.new.tree ≡ s.old.tree }
         ensures followed { HasFollowed I op epoch follow s.old s.new }
+        ensures worker { HasFollowedOn last worker.old worker.new }
     {
         history.show(&mut self.tree);
         let what = enact(&mut self.cache, epoch, follow);
         let entry = entry(s.thread(), op, epoch, what);
         note::<N, I>(&mut self.journal, s, entry);
+        commands::follow(&mut self.share, worker, I, entry, last);
     }
 
     /// Makes the access of a tag, and notes it, unless the tag is stale; then the thread has seen a longer history of the tree.
@@ -128,21 +146,26 @@ impl<N: Named, const I: usize> SliceCell<N, I> {
         &mut self,
         hold: &H,
         s: &mut Seen<N>,
+        worker: &mut StepShare<N>,
         op: u32,
         tag: &Tag,
         line: u64,
     ) -> Option<Reached>
         requires may { MayTouch N.script I op tag.now line s.old }
-        ensures { HasTouched I op tag.now line s.old s.new result }
+        requires tagged { IsTagged N.script T.table I op tag.now line s.old worker.old }
+        ensures touched { HasTouched I op tag.now line s.old s.new result }
+        ensures worker { HasReached s.old.thread op tag.now line result worker.old worker.new }
     {
         meet(&mut self.tree, s);
         if tag.epoch < self.cache.floor() {
+            accesses::tag_again(&mut self.share, worker, I);
             return None;
         }
         hold.hold(s.thread());
         let reached = reach(&mut self.cache, tag, line);
         let entry = entry(s.thread(), op, tag.epoch, access_of(tag, line, reached));
         note::<N, I>(&mut self.journal, s, entry);
+        accesses::touch(&mut self.share, worker, I, entry);
         Some(reached)
     }
 }

@@ -4,14 +4,16 @@ ghost use Rattle.cache_core.specs.Stands.{entry as entry_of};
 ghost use Rattle.cache_core.specs.declared.entry.What.TheVariants.{Look};
 ghost use Rattle.live_run.specs.Cells.{AreOfThreads, taken_from};
 ghost use Rattle.live_run.specs.Openings.{AreParts, AreSettled};
+ghost use Rattle.live_run.specs.Sharing.{HasFollowedOn, HasReached, HasStepped, IsNextCount, IsNextFollow, IsTagged};
 ghost use Rattle.live_run.specs.Steps.{HasAdded, HasFollowed, HasTouched};
 ghost use Rattle.live_run.specs.Visits.{MayFollow, MayLook, MayTouch};
 ghost use Rattle.machine.specs.Slices.{slice_count};
+ghost use Rattle.schedule_law.specs.declared.part.Happening.TheVariants as happenings;
 
 use crate::fill::Fill;
 use crate::four_places::FourPlaces;
 use crate::holding::Hold;
-use crate::named::Named;
+use crate::named::{Named, NamedTable, StepShare};
 use crate::parts::Part;
 use crate::places::Places;
 use crate::row::Row;
@@ -20,49 +22,90 @@ use cache_steps::Reached;
 use rc_base::Tag;
 use run_law::TreeEntry;
 use seen_journal::Journal;
+use std::marker::Model;
 use std::sync::Wait;
 use tree_law::Follow;
 
 // The places of slices 0 to 15, and of 16 to 31.
-type Lower<N> = Row<
-    Row<FourPlaces<N, 0, 1, 2, 3>, FourPlaces<N, 4, 5, 6, 7>>,
-    Row<FourPlaces<N, 8, 9, 10, 11>, FourPlaces<N, 12, 13, 14, 15>>,
+type Lower<N, T> = Row<
+    Row<FourPlaces<N, T, 0, 1, 2, 3>, FourPlaces<N, T, 4, 5, 6, 7>>,
+    Row<FourPlaces<N, T, 8, 9, 10, 11>, FourPlaces<N, T, 12, 13, 14, 15>>,
 >;
 
-type Upper<N> = Row<
-    Row<FourPlaces<N, 16, 17, 18, 19>, FourPlaces<N, 20, 21, 22, 23>>,
-    Row<FourPlaces<N, 24, 25, 26, 27>, FourPlaces<N, 28, 29, 30, 31>>,
+type Upper<N, T> = Row<
+    Row<FourPlaces<N, T, 16, 17, 18, 19>, FourPlaces<N, T, 20, 21, 22, 23>>,
+    Row<FourPlaces<N, T, 24, 25, 26, 27>, FourPlaces<N, T, 28, 29, 30, 31>>,
 >;
 
 /// The slices of all domains, each under a lock of its own. A machine has at most 32.
+/// Contracts see how many the machine has.
 #[derive(Drop)]
-pub struct Slices<N: Named> {
-    places: Row<Lower<N>, Upper<N>>,
-    ghost few: { slice_count N.script.machine ≤ 32 },
+pub struct Slices<N: Named, T: NamedTable> {
+    places: Row<Lower<N, T>, Upper<N, T>>,
 }
 
-impl<N: Named> Slices<N> {
+impl<N: Named, T: NamedTable> Model for Slices<N, T> {
+    ghost use Rattle.std.specs.Prelude.{ℕ, ◌≤◌};
+    ghost use Rattle.machine.specs.Slices.{slice_count};
+
+    ghost Value = { ℕ };
+
+    ghost view = { λ s. slice_count N.script.machine };
+
+    ghost invariant = { λ s. slice_count N.script.machine ≤ 32 };
+}
+
+impl<N: Named, T: NamedTable> Slices<N, T> {
     /// Filled with what goes into the cells of all slices, the last slice first.
-    pub(crate) fn open(parts: &mut Vec<Part>) -> Slices<N>
+    pub(crate) fn open(parts: &mut Vec<Part<N>>) -> Slices<N, T>
         requires few { slice_count N.script.machine ≤ 32 }
-        requires parts { AreParts N.script N.tree N.slices 0 parts.old.items }
+        requires parts { AreParts N.script T.table N.tree N.slices 0 parts.old.items }
     {
+        // One after the other: what is known of a call on all places at once is too large to be checked.
+        let places_0 = FourPlaces::<N, T, 0, 1, 2, 3>::open(parts);
+        let places_4 = FourPlaces::<N, T, 4, 5, 6, 7>::open(parts);
+        let places_8 = FourPlaces::<N, T, 8, 9, 10, 11>::open(parts);
+        let places_12 = FourPlaces::<N, T, 12, 13, 14, 15>::open(parts);
+        let places_16 = FourPlaces::<N, T, 16, 17, 18, 19>::open(parts);
+        let places_20 = FourPlaces::<N, T, 20, 21, 22, 23>::open(parts);
+        let places_24 = FourPlaces::<N, T, 24, 25, 26, 27>::open(parts);
+        let places_28 = FourPlaces::<N, T, 28, 29, 30, 31>::open(parts);
         Slices {
-            places: Row::<Lower<N>, Upper<N>>::open(parts),
+            places: Row::new(
+                Row::new(Row::new(places_0, places_4), Row::new(places_8, places_12)),
+                Row::new(
+                    Row::new(places_16, places_20),
+                    Row::new(places_24, places_28),
+                ),
+            ),
         }
     }
 
     /// Adds what is in the cells of all slices, in order. Each has seen the tree's whole history.
-    pub(crate) fn settle(self, history: &mut Journal<TreeEntry>, into: &mut Vec<Part>)
+    pub(crate) fn settle(self, history: &mut Journal<TreeEntry>, into: &mut Vec<Part<N>>)
         requires name { history.old.name ≡ N.tree }
         requires threads { AreOfThreads taken_from history.old.entries }
         requires empty { into.old.items ≡ [] }
         requires room { slice_count N.script.machine ≤ vec_capacity into.old }
         ensures history { history.new ≡ history.old }
-        ensures after { AreSettled N.script N.tree N.slices history.old.entries (slice_count N.script.machine) into.new.items }
+        ensures after { AreSettled N.script T.table N.tree N.slices history.old.entries (slice_count N.script.machine) into.new.items }
     {
         let Slices { places } = self;
-        places.settle(history, into);
+        let (lower, upper) = places.parted();
+        let (first, second) = lower.parted();
+        let (third, fourth) = upper.parted();
+        let (front, back) = first.parted();
+        front.settle(history, into);
+        back.settle(history, into);
+        let (front, back) = second.parted();
+        front.settle(history, into);
+        back.settle(history, into);
+        let (front, back) = third.parted();
+        front.settle(history, into);
+        back.settle(history, into);
+        let (front, back) = fourth.parted();
+        front.settle(history, into);
+        back.settle(history, into);
     }
 
     /// Counts the lines of an RMID for the command that holds the tree, in the slice of a number.
@@ -72,18 +115,21 @@ impl<N: Named> Slices<N> {
         i: usize,
         history: &mut Journal<TreeEntry>,
         s: &mut Seen<N>,
+        worker: &mut StepShare<N>,
         op: u32,
         epoch: u64,
         rmid: u16,
     ) -> u64
         requires number { i < slice_count N.script.machine }
         requires may { MayLook N.script N.tree i op epoch rmid history.old s.old }
+        requires next { IsNextCount N.script T.table i op rmid history.old s.old worker.old }
         ensures few { result ≤ 2097152 }
         ensures history { history.new ≡ history.old }
         ensures tree { s.new.tree ≡ s.old.tree }
         ensures added { HasAdded i (entry_of s.old.thread op epoch (Look rmid result)) s.old s.new }
+        ensures worker { HasStepped (happenings.Look (entry_of s.old.thread op epoch (Look rmid result))) worker.old worker.new }
     {
-        self.places.look(rt, i, history, s, op, epoch, rmid)
+        self.places.look(rt, i, history, s, worker, op, epoch, rmid)
     }
 
     /// Does what follows the command that holds the tree, in the slice of a number.
@@ -93,17 +139,22 @@ impl<N: Named> Slices<N> {
         i: usize,
         history: &mut Journal<TreeEntry>,
         s: &mut Seen<N>,
+        worker: &mut StepShare<N>,
         op: u32,
         epoch: u64,
         follow: Follow,
+        is_last: bool,
     )
         requires number { i < slice_count N.script.machine }
         requires may { MayFollow N.script N.tree i op epoch follow history.old s.old }
+        requires next { IsNextFollow N.script T.table i op epoch follow is_last history.old s.old worker.old }
         ensures history { history.new ≡ history.old }
         ensures tree { s.new.tree ≡ s.old.tree }
         ensures followed { HasFollowed i op epoch follow s.old s.new }
+        ensures worker { HasFollowedOn is_last worker.old worker.new }
     {
-        self.places.follow(rt, i, history, s, op, epoch, follow);
+        self.places
+            .follow(rt, i, history, s, worker, op, epoch, follow, is_last);
     }
 
     /// Makes the access of a tag in the slice of a number, unless the tag is stale.
@@ -113,14 +164,17 @@ impl<N: Named> Slices<N> {
         hold: &impl Hold,
         i: usize,
         s: &mut Seen<N>,
+        worker: &mut StepShare<N>,
         op: u32,
         tag: &Tag,
         line: u64,
     ) -> Option<Reached>
         requires number { i < slice_count N.script.machine }
         requires may { MayTouch N.script i op tag.now line s.old }
-        ensures { HasTouched i op tag.now line s.old s.new result }
+        requires tagged { IsTagged N.script T.table i op tag.now line s.old worker.old }
+        ensures touched { HasTouched i op tag.now line s.old s.new result }
+        ensures worker { HasReached s.old.thread op tag.now line result worker.old worker.new }
     {
-        self.places.touch(rt, hold, i, s, op, tag, line)
+        self.places.touch(rt, hold, i, s, worker, op, tag, line)
     }
 }

@@ -1,15 +1,17 @@
 //! The threads before their first ops.
-ghost use Rattle.std.specs.Prelude.{◌≡◌, ℕ, ◌<◌, ◌≤◌, IfOk, length};
+ghost use Rattle.std.specs.Prelude.{◌≡◌, ℕ, ◌<◌, ◌≤◌, [], ◌∷◌, IfOk, false, length};
 ghost use Rattle.live_run.specs.Logs.{log_at};
 ghost use Rattle.live_run.specs.Openings.{AreFirst, AreGivenTo, AreNew, AreOfSlices, HaveGiven, IsFirst};
 ghost use Rattle.live_run.specs.Quotas.{HaveQuotas};
+ghost use Rattle.live_run.specs.Sharing.{IsShareOf};
 ghost use Rattle.machine.specs.Slices.{slice_count};
 ghost use Rattle.run_law.specs.Quotas.{AreCounted, commands_of};
+ghost use Rattle.schedule_law.specs.LiveParts.{first_threads, resting_thread};
 ghost use Rattle.script_ops.specs.Values.{IsLawful, ops_of, threads_of};
 ghost use Rattle.seen_journal.specs.Passes.{new_pass};
 
 use crate::log::Log;
-use crate::named::Named;
+use crate::named::{Named, NamedTable, StepShare};
 use crate::passes::Passes;
 use crate::seen::Seen;
 use cache_core::SliceEntry;
@@ -36,20 +38,22 @@ pub(crate) fn take_each(
 }
 
 // A thread before its first op, which has so many commands.
-fn first<N: Named>(
+fn first<N: Named, T: NamedTable>(
     alloc: Global,
     script: &Script,
     thread: u32,
     commands: u64,
     tree: Pass<TreeEntry>,
     slices: Vec<Pass<SliceEntry>>,
-) -> Result<Passes<N>, NoMemory>
+    share: StepShare<N>,
+) -> Result<Passes<N, T>, NoMemory>
     requires script { script.now ≡ N.script }
     requires quotas { HaveQuotas N.script N.tree N.slices }
     requires thread { thread < length (threads_of N.script) }
     requires commands { commands ≡ commands_of (ops_of N.script thread) }
     requires tree { tree ≡ new_pass N.tree thread }
     requires slices { AreNew N.slices (slice_count N.script.machine) thread slices.items }
+    requires share { IsShareOf T.table (resting_thread thread 0 false [] ∷ []) share }
     ensures { IfOk result (λ p. IsFirst thread p) }
 {
     let looks = LookLists::create(alloc, script.machine(), script.ops(thread), commands)?;
@@ -62,25 +66,29 @@ fn first<N: Named>(
     };
     Ok(Passes {
         seen,
+        share,
         next: 0,
         looks,
         shown,
+        of: PhantomData,
     })
 }
 
-/// All threads before their first ops. `counts` says how many commands each has. NoMemory where there is no room for their lists
-/// and texts.
-pub(crate) fn all_first<N: Named>(
+/// All threads before their first ops, each with its part of `workers`. `counts` says how many commands each has. NoMemory where there
+/// is no room for their lists and texts.
+pub(crate) fn all_first<N: Named, T: NamedTable>(
     alloc: Global,
     script: &Script,
     counts: &[u64],
     tree: &mut Log<TreeEntry>,
     slices: &mut Vec<Log<SliceEntry>>,
-) -> Result<Vec<Passes<N>>, NoMemory>
+    workers: &mut StepShare<N>,
+) -> Result<Vec<Passes<N, T>>, NoMemory>
     requires script { script.now ≡ N.script }
     requires counts { AreCounted script.now (length (threads_of script.now)) counts.now }
     requires quotas { HaveQuotas N.script N.tree N.slices }
     requires given { AreGivenTo N.script N.tree N.slices (length (threads_of N.script)) 0 tree.old slices.old.items }
+    requires workers { IsShareOf T.table (first_threads 0 (length (threads_of N.script))) workers.old }
     ensures given { IfOk result (λ p. AreGivenTo N.script N.tree N.slices (length (threads_of N.script)) (length (threads_of N.script)) tree.new slices.new.items) }
     ensures first { IfOk result (λ p. AreFirst (length (threads_of N.script)) p.items) }
     ensures lawful { IsLawful N.script }
@@ -88,22 +96,32 @@ pub(crate) fn all_first<N: Named>(
     let mut all = Vec::new(alloc);
     for t in 0..script.threads() {
         let own = take_each(alloc, slices)?;
-        all.push(first(alloc, script, t, counts[t as usize], tree.take(), own)?)?;
+        all.push(first(
+            alloc,
+            script,
+            t,
+            counts[t as usize],
+            tree.take(),
+            own,
+            workers.split()?,
+        )?)?;
     }
     Ok(all)
 }
 
-/// All threads before their first ops, and the passes of the tree's cell, which are the next of the slices' journals. NoMemory where
-/// there is no room for them.
-pub(crate) fn first_passes<N: Named>(
+/// All threads before their first ops, each with its part of `workers`, and the passes of the tree's cell, which are the next of the
+/// slices' journals. NoMemory where there is no room for them.
+pub(crate) fn first_passes<N: Named, T: NamedTable>(
     alloc: Global,
     script: &Script,
     tree: &mut Log<TreeEntry>,
     slices: &mut Vec<Log<SliceEntry>>,
-) -> Result<(Vec<Passes<N>>, Vec<Pass<SliceEntry>>), NoMemory>
+    workers: &mut StepShare<N>,
+) -> Result<(Vec<Passes<N, T>>, Vec<Pass<SliceEntry>>), NoMemory>
     requires script { script.now ≡ N.script }
     requires quotas { HaveQuotas N.script N.tree N.slices }
     requires given { AreGivenTo N.script N.tree N.slices (length (threads_of N.script)) 0 tree.old slices.old.items }
+    requires workers { IsShareOf T.table (first_threads 0 (length (threads_of N.script))) workers.old }
     ensures name { IfOk result (λ r. tree.new.name ≡ N.tree) }
     ensures left { IfOk result (λ r. length slices.new.items ≤ tree.new.left) }
     ensures logs { IfOk result (λ r. AreOfSlices N.slices (slice_count N.script.machine) slices.new.items) }
@@ -112,7 +130,7 @@ pub(crate) fn first_passes<N: Named>(
     ensures lawful { IfOk result (λ r. IsLawful N.script) }
 {
     let counts = command_counts(alloc, script)?;
-    let passes = all_first(alloc, script, &counts, tree, slices)?;
+    let passes = all_first(alloc, script, &counts, tree, slices, workers)?;
     let own = take_each(alloc, slices)?;
     Ok((passes, own))
 }

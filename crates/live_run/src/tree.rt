@@ -1,20 +1,23 @@
 //! The tree's cell.
-ghost use Rattle.std.specs.Prelude.{◌≡◌, ◌+◌, ◌<◌, ◌≤◌, ◌^◌, [], Contains, IsTrue, Some, length};
+ghost use Rattle.std.specs.Prelude.{◌≡◌, ◌+◌, ◌<◌, ◌≤◌, ◌^◌, [], ◌∷◌, Contains, IsTrue, None, Some, length, true};
 ghost use Rattle.live_law.specs.SeenJournals.{HasGrown};
 ghost use Rattle.live_law.specs.Stages.{HoldsTag, IsReady};
 ghost use Rattle.live_run.specs.Commands.{HasReplied};
 ghost use Rattle.live_run.specs.Names.{seen_by};
 ghost use Rattle.live_run.specs.Openings.{AreNew};
+ghost use Rattle.live_run.specs.Sharing.{HasStepped, IsBeforeAccess, IsResting, IsShareOf};
 ghost use Rattle.live_run.specs.Steps.{HasTaken};
 ghost use Rattle.machine.specs.Slices.{slice_count};
 ghost use Rattle.rc_base.specs.declared.text_buf.TheConstants.{TEXT_MAX};
 ghost use Rattle.run_law.specs.Ops.{is_command};
 ghost use Rattle.run_law.specs.Quotas.{command_count, most_counts};
+ghost use Rattle.schedule_law.specs.LiveParts.{live_tree};
+ghost use Rattle.schedule_law.specs.declared.part.Happening.TheVariants as happenings;
 ghost use Rattle.script_ops.specs.Values.{IsLawful, op_at, threads_of};
 
 use crate::following::follow_all;
 use crate::looking::look_all;
-use crate::named::Named;
+use crate::named::{Named, NamedTable, StepShare, TREE_LOCK};
 use crate::seen::Seen;
 use crate::showing::show;
 use crate::slices::Slices;
@@ -22,6 +25,7 @@ use crate::taking::{decide, release, take};
 use cache_core::SliceEntry;
 use rc_base::{LookList, NoMemory, Reply, Tag, TextBuf};
 use run_law::TreeEntry;
+use schedule_law::{accesses, commands};
 use script_ops::{Op, Script};
 use seen_journal::{Journal, Pass};
 use std::alloc::Global;
@@ -29,26 +33,28 @@ use std::marker::{Model, PhantomData};
 use std::sync::Wait;
 use tree_core::Tree;
 
-/// What lies under the tree's lock: the tree, its journal, and a pass of each slice's journal.
+/// What lies under the tree's lock: the tree, its journal, a pass of each slice's journal, and the share that has the journal as a
+/// part of the machine of steps.
 #[derive(Drop)]
-pub struct TreeCell<N: Named> {
+pub struct TreeCell<N: Named, T: NamedTable> {
     pub(crate) tree: Tree,
     pub(crate) journal: Journal<TreeEntry>,
     pub(crate) slices: Vec<Pass<SliceEntry>>,
-    pub(crate) of: PhantomData<N>,
+    pub(crate) share: StepShare<N>,
+    pub(crate) of: PhantomData<T>,
 }
 
-impl<N: Named> Model for TreeCell<N> {
+impl<N: Named, T: NamedTable> Model for TreeCell<N, T> {
     ghost use Rattle.live_run.specs.Cells.{TreeCellValue, TreeIsKept};
 
     ghost Value = { TreeCellValue };
 
-    ghost view = { λ c. record { tree = c.tree; journal = c.journal; slices = c.slices.items } };
+    ghost view = { λ c. record { tree = c.tree; journal = c.journal; slices = c.slices.items; share = c.share } };
 
-    ghost invariant = { λ c. TreeIsKept N.script N.tree N.slices (record { tree = c.tree; journal = c.journal; slices = c.slices.items }) };
+    ghost invariant = { λ c. TreeIsKept N.script T.table N.tree N.slices (record { tree = c.tree; journal = c.journal; slices = c.slices.items; share = c.share }) };
 }
 
-impl<N: Named> TreeCell<N> {
+impl<N: Named, T: NamedTable> TreeCell<N, T> {
     /// The cell before the first op: the opening tree, its journal, and a pass of each slice's journal. NoMemory where there is no
     /// room for the tree.
     pub(crate) fn open(
@@ -56,46 +62,62 @@ impl<N: Named> TreeCell<N> {
         script: &Script,
         journal: Journal<TreeEntry>,
         slices: Vec<Pass<SliceEntry>>,
-    ) -> Result<TreeCell<N>, NoMemory>
+        share: StepShare<N>,
+    ) -> Result<TreeCell<N, T>, NoMemory>
         requires script { script.now ≡ N.script }
         requires lawful { IsLawful N.script }
         requires name { journal.name ≡ N.tree }
         requires empty { journal.entries ≡ [] }
         requires slices { AreNew N.slices (slice_count N.script.machine) (length (threads_of N.script)) slices.items }
+        requires share { IsShareOf T.table (live_tree [] None ∷ []) share }
     {
         let tree = Tree::create(alloc, script.machine(), script.tasks())?;
         Ok(TreeCell {
             tree,
             journal,
             slices,
+            share,
             of: PhantomData,
         })
     }
 
     /// An access learns its tag: the thread has seen the tree's whole history, and what all its commands have made.
-    pub(crate) fn tag(&mut self, s: &mut Seen<N>, task: u32, cpu: u8) -> Tag
+    pub(crate) fn tag(
+        &mut self,
+        s: &mut Seen<N>,
+        worker: &mut StepShare<N>,
+        task: u32,
+        cpu: u8,
+    ) -> Tag
         requires task { Contains N.script.tasks task }
         requires cpu { cpu < N.script.machine.cpus }
+        requires worker { IsBeforeAccess N.script T.table task cpu s.old worker.old }
         ensures taken { HasTaken s.old s.new }
         ensures tag { HoldsTag N.script (seen_by s.new) task cpu result }
         ensures fresh { length s.old.tree.seen ≤ result.epoch }
         ensures most { result.epoch ≤ command_count N.script }
         ensures known { result.rmid < N.script.machine.rmids }
         ensures valid { (0 < result.mask) × (result.mask < 2 ^ N.script.machine.ways) }
+        ensures worker { HasStepped (happenings.Label result) worker.old worker.new }
     {
         take(&mut self.journal, &mut self.slices, s);
-        self.tree.resolve(task, cpu)
+        let tag = self.tree.resolve(task, cpu);
+        accesses::tag(&mut self.share, worker, TREE_LOCK, &tag);
+        tag
     }
 
     /// A command: it looks in the slices for the counts that it needs, is decided, and is let go when all that follows it is entered.
+    /// The text of a read or list is made only where it is asked for.
     pub(crate) fn command(
         &mut self,
         rt: &impl Wait,
-        slices: &Slices<N>,
+        slices: &Slices<N, T>,
         script: &Script,
         s: &mut Seen<N>,
+        worker: &mut StepShare<N>,
         number: u32,
         op: &Op,
+        asked: bool,
         mut looks: LookList,
         shown: &mut TextBuf,
     ) -> Reply
@@ -106,13 +128,16 @@ impl<N: Named> TreeCell<N> {
         requires list { most_counts N.script.machine op.now ≤ looks.spare }
         requires room { TEXT_MAX ≤ shown.old.spare + length shown.old.bytes }
         requires ready { IsReady N.script s.old.thread number (seen_by s.old) }
+        requires worker { IsResting T.table s.old.thread number true worker.old }
         ensures thread { s.new.thread ≡ s.old.thread }
         ensures seen { HasGrown (seen_by s.old) (seen_by s.new) }
         ensures ready { IsReady N.script s.old.thread (number + 1) (seen_by s.new) }
-        ensures reply { HasReplied N.script op.now result (record { seen = s.old; next = number; shown = shown.old.bytes }) (record { seen = s.new; next = number + 1; shown = shown.new.bytes }) }
+        ensures reply { HasReplied N.script asked op.now result (record { seen = s.old; next = number; shown = shown.old.bytes; begun = true }) (record { seen = s.new; next = number + 1; shown = shown.new.bytes; begun = true }) }
         ensures room { shown.new.spare + length shown.new.bytes ≡ shown.old.spare + length shown.old.bytes }
+        ensures worker { IsResting T.table s.old.thread (number + 1) true worker.new }
     {
         take(&mut self.journal, &mut self.slices, s);
+        commands::take(&mut self.share, worker, TREE_LOCK, u64::from(s.thread()));
         let m = script.machine();
         let counts = self.tree.counts(op);
         let before = self.tree.epoch();
@@ -122,6 +147,7 @@ impl<N: Named> TreeCell<N> {
             m,
             &mut self.journal,
             s,
+            worker,
             number,
             before,
             op,
@@ -129,13 +155,15 @@ impl<N: Named> TreeCell<N> {
             &mut looks,
         );
         let (reply, after) = self.tree.apply(op, looks.items());
-        show(&self.tree, script, op, looks.items(), reply, shown);
+        show(&self.tree, script, op, looks.items(), reply, asked, shown);
         let entry = TreeEntry {
             thread: s.thread(),
             op: number,
             reply,
             looks,
         };
+        let made = counts.len() as u64 * u64::from(m.slices);
+        let entry = commands::decide(worker, TREE_LOCK, entry, after.is_empty(), made);
         decide(&mut self.journal, s, entry);
         let epoch = self.tree.epoch();
         follow_all(
@@ -144,12 +172,14 @@ impl<N: Named> TreeCell<N> {
             m,
             &mut self.journal,
             s,
+            worker,
             number,
             epoch,
             op,
             after.as_slice(),
         );
         release(&mut self.slices, s);
+        commands::release(&mut self.share, worker);
         reply
     }
 }

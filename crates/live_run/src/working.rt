@@ -1,5 +1,5 @@
 //! A worker.
-ghost use Rattle.std.specs.Prelude.{◌≡◌, ◌+◌, Some};
+ghost use Rattle.std.specs.Prelude.{◌≡◌, ◌+◌, Some, true};
 ghost use Rattle.live_law.specs.DoneOps.{AreEnded};
 ghost use Rattle.live_law.specs.SeenJournals.{HasGrown};
 ghost use Rattle.live_run.specs.Names.{seen_by};
@@ -7,19 +7,19 @@ ghost use Rattle.live_run.specs.Phases.{HasWorked, MayWork};
 ghost use Rattle.script_ops.specs.Values.{op_at};
 
 use crate::live::Live;
-use crate::named::Named;
+use crate::named::{Named, NamedTable, StepShare};
 use crate::passes::Passes;
 use rc_stream::{Gate, Point};
 use script_ops::{Op, Script};
 use std::sync::Wait;
 
-impl<N: Named> Live<N> {
+impl<N: Named, T: NamedTable> Live<N, T> {
     /// Makes all ops of a thread that has made none. The gate is called before and after each.
     pub(crate) fn work<R: Wait, G: Gate>(
         &self,
         rt: &R,
         script: &Script,
-        p: &mut Passes<N>,
+        p: &mut Passes<N, T>,
         gate: &G,
     )
         requires script { script.now ≡ N.script }
@@ -37,19 +37,28 @@ impl<N: Named> Live<N> {
         }
     }
 
-    // Makes a thread's next op.
-    fn make<R: Wait, G: Gate>(&self, rt: &R, script: &Script, p: &mut Passes<N>, op: &Op, gate: &G)
+    // Makes a thread's next op. Nobody reads its text.
+    fn make<R: Wait, G: Gate>(
+        &self,
+        rt: &R,
+        script: &Script,
+        p: &mut Passes<N, T>,
+        op: &Op,
+        gate: &G,
+    )
         requires script { script.now ≡ N.script }
         requires op { op_at N.script p.old.seen.thread p.old.next ≡ Some op.now }
         requires ended { p.old.next ≡ 0 → AreEnded N.script (seen_by p.old.seen) p.old.seen.thread }
+        requires begun { p.old.begun ≡ true }
         ensures thread { p.new.seen.thread ≡ p.old.seen.thread }
         ensures next { p.new.next ≡ p.old.next + 1 }
+        ensures begun { p.new.begun ≡ true }
         ensures seen { HasGrown (seen_by p.old.seen) (seen_by p.new.seen) }
     {
         if let Op::Access { .. } = op {
             self.access(rt, p, op, gate);
         } else {
-            self.command(rt, script, p, op);
+            self.carry_out(rt, script, p, op, false);
         }
     }
 }

@@ -1,6 +1,7 @@
 -- Three threads, of which the first is alone in the first of two phases.
-use Rattle.std.proofs.Common.{◌≡◌, ℕ, zero, suc, ◌+◌, ◌*◌, ◌<◌, List, [], ◌∷◌, ◌++◌, length, refl, sym, ap, ◌∙◌, subst, arith}
+use Rattle.std.proofs.Common.{◌≡◌, ℕ, zero, suc, ◌+◌, ◌*◌, ◌<◌, true, List, [], ◌∷◌, ◌++◌, length, refl, sym, ap, ◌∙◌, subst, arith}
 use Rattle.std.proofs.lemmas.List.{length-append}
+use Rattle.atomic_table.specs.Seated.{TableId}
 use Rattle.live_law.proofs.laws.LaterViews.{AreEnded-grown}
 use Rattle.live_law.specs.DoneOps.{AreEnded, HasEnded}
 use Rattle.live_law.specs.SeenJournals.{HasGrown}
@@ -8,10 +9,13 @@ use Rattle.live_run.proofs.laws.Phases.{AreBefore-end, AreEnded-in_phase, first_
 use Rattle.live_run.specs.Names.{PassesValue, seen_by}
 use Rattle.live_run.specs.Openings.{IsFirst}
 use Rattle.live_run.specs.Phases.{AreBefore, IsAtEnd, passes_at}
+use Rattle.live_run.specs.Sharing.{IsAtPhase}
 use Rattle.live_run.specs.Steps.{HasTaken}
-use Rattle.live_tests.specs.Turns.{AreAtFirst, HasMade, HaveMade, IsInTurns}
+use Rattle.live_tests.specs.Turns.{AreAtFirst, HasMade, HaveMade, IsBegun, IsInTurns}
 use Rattle.run_law.specs.Journals.{JournalsValue}
+use Rattle.schedule_law.specs.declared.part.Part.{Part}
 use Rattle.script_ops.specs.Values.{ScriptValue, first_thread, ops_of, phase_at}
+use Rattle.shared_parts.specs.Shares.{ShareValue}
 
 -- what holds of each of three
 each_of_three : (P : ℕ → PassesValue → Type 0) (a b c : PassesValue) → P 0 a → P 1 b → P 2 c → (t : ℕ) → t < length (a ∷ b ∷ c ∷ []) → P t (passes_at (a ∷ b ∷ c ∷ []) t)
@@ -30,10 +34,10 @@ taken_three ps two one (x ∷ xs) a b c last middle front count =
 
 -- with two phases, of one thread and of two
 module _ (script : ScriptValue) (phases : length script.phases ≡ 2) (one : length (phase_at script 0).threads ≡ 1) (two : length (phase_at script 1).threads ≡ 2) where
-  second_phase : first_thread script 1 ≡ 1
+  pub second_phase : first_thread script 1 ≡ 1
   second_phase = omega (arith, first_thread-next script 0 (omega (arith, phases)), one)
 
-  third_phase : first_thread script 2 ≡ 3
+  pub third_phase : first_thread script 2 ≡ 3
   third_phase = omega (arith, first_thread-next script 1 (omega (arith, phases)), second_phase, two)
 
   -- no thread stands before the first
@@ -49,63 +53,85 @@ module _ (script : ScriptValue) (phases : length script.phases ≡ 2) (one : len
 -- ---- before the first op
 
 -- three threads
-pub AreAtFirst-three : (script : ScriptValue) (ps : List PassesValue) (a b c : PassesValue) → ps ≡ a ∷ b ∷ c ∷ [] → AreBefore script 0 ps → ((t : ℕ) → t < length ps → (passes_at ps t).shown ≡ [])
-    → AreAtFirst a b c
-AreAtFirst-three script ps a b c is before shown =
+pub AreAtFirst-three : (script : ScriptValue) (table : TableId) (turn : ShareValue Part) (ps : List PassesValue) (a b c : PassesValue) → ps ≡ a ∷ b ∷ c ∷ [] → AreBefore script 0 ps → ((t : ℕ) → t < length ps → (passes_at ps t).shown ≡ [])
+    → IsAtPhase script table 0 turn → AreAtFirst script table turn a b c
+AreAtFirst-three script table turn ps a b c is before shown at =
     let all : List PassesValue = a ∷ b ∷ c ∷ [] in
     let opened : AreBefore script 0 all = subst (AreBefore script 0) is before in
     let blank : (t : ℕ) → t < length all → (passes_at all t).shown ≡ [] = subst (λ (xs : List PassesValue). (t : ℕ) → t < length xs → (passes_at xs t).shown ≡ []) is shown in
     record {
+      turn_is = at;
       first_is = record { thread = opened.threads 0 (omega arith); fresh = opened.fresh 0 (omega arith) (omega arith); shown = blank 0 (omega arith) };
       second_is = record { thread = opened.threads 1 (omega arith); fresh = opened.fresh 1 (omega arith) (omega arith); shown = blank 1 (omega arith) };
       third_is = record { thread = opened.threads 2 (omega arith); fresh = opened.fresh 2 (omega arith) (omega arith); shown = blank 2 (omega arith) };
     }
 
+-- the phase of one has begun
+pub IsFirst-begun : (t : ℕ) (old new : PassesValue) → new ≡ (record old { begun = true }) → IsFirst t old → IsBegun t new
+IsFirst-begun t old new same is = record {
+  first_is = record { thread = ap (λ (p : PassesValue). p.seen.thread) same ∙ is.thread; fresh = ap (λ (p : PassesValue). p.next) same ∙ is.fresh; shown = ap (λ (p : PassesValue). p.shown) same ∙ is.shown };
+  begun = ap (λ (p : PassesValue). p.begun) same;
+}
+
+-- ---- at its end
+
+-- a thread that has made all its ops
+pub IsAtEnd-made : (script : ScriptValue) (t n : ℕ) (p : PassesValue) → HasMade script t n p → length (ops_of script t) ≡ n → IsAtEnd script p
+IsAtEnd-made script t n p made count = made.next ∙ (sym count ∙ ap (λ u. length (ops_of script u)) (sym made.thread_is))
+
 -- ---- a script whose threads take turns
 
 module _ (script : ScriptValue) (sweeps sweep : ℕ) (turns : IsInTurns script sweeps sweep) where
   -- the first thread may begin
-  pub first_begins : (p : PassesValue) → IsFirst 0 p → HasMade script 0 0 p
+  pub first_begins : (p : PassesValue) → IsBegun 0 p → HasMade script 0 0 p
   first_begins p is = record {
-    thread_is = is.thread;
-    next = is.fresh;
-    ended = subst (AreEnded script (seen_by p.seen)) (sym is.thread) (none_before script turns.phases turns.first turns.others (seen_by p.seen));
+    thread_is = is.first_is.thread;
+    next = is.first_is.fresh;
+    begun = is.begun;
+    ended = subst (AreEnded script (seen_by p.seen)) (sym is.first_is.thread) (none_before script turns.phases turns.first turns.others (seen_by p.seen));
   }
 
   -- it has made its ops when it has handed on
-  pub first_hands_on : (n : ℕ) (old new : PassesValue) → HasMade script 0 n old → HasTaken old.seen new.seen → new.next ≡ old.next → HasMade script 0 n new
-  first_hands_on n old new made taken same = record {
+  pub first_hands_on : (n : ℕ) (old new : PassesValue) → HasMade script 0 n old → HasTaken old.seen new.seen → new.next ≡ old.next → new.begun ≡ old.begun → HasMade script 0 n new
+  first_hands_on n old new made taken same begun = record {
     thread_is = taken.thread ∙ made.thread_is;
     next = same ∙ made.next;
+    begun = begun ∙ made.begun;
     ended = subst (AreEnded script (seen_by new.seen)) (sym (taken.thread ∙ made.thread_is)) (none_before script turns.phases turns.first turns.others (seen_by new.seen));
   }
 
   -- and the other may begin
-  pub other_begins : (t n : ℕ) (first old new : PassesValue) → t < 3 → HasMade script 0 n first → n ≡ length (ops_of script 0) → IsFirst t old → HasTaken old.seen new.seen → new.next ≡ old.next
+  pub other_begins : (t n : ℕ) (first old new : PassesValue) → t < 3 → HasMade script 0 n first → n ≡ length (ops_of script 0) → IsBegun t old → HasTaken old.seen new.seen → new.next ≡ old.next → new.begun ≡ old.begun
       → (IsAtEnd script first → HasEnded script (seen_by new.seen) first.seen.thread) → HasMade script t 0 new
-  other_begins t n first old new within made all is taken same ended = record {
-    thread_is = taken.thread ∙ is.thread;
-    next = same ∙ is.fresh;
+  other_begins t n first old new within made all is taken same begun ended = record {
+    thread_is = taken.thread ∙ is.first_is.thread;
+    next = same ∙ is.first_is.fresh;
+    begun = begun ∙ is.begun;
     ended =
-        let at_end : IsAtEnd script first = made.next ∙ (all ∙ ap (λ u. length (ops_of script u)) (sym made.thread_is)) in
+        let at_end : IsAtEnd script first = IsAtEnd-made script 0 n first made (sym all) in
         let early : AreEnded script (seen_by new.seen) t =
         first_before script turns.phases turns.first turns.others (seen_by new.seen) t within (subst (HasEnded script (seen_by new.seen)) made.thread_is (ended at_end)) in
-        subst (AreEnded script (seen_by new.seen)) (sym (taken.thread ∙ is.thread)) early;
+        subst (AreEnded script (seen_by new.seen)) (sym (taken.thread ∙ is.first_is.thread)) early;
   }
 
   -- all have made their ops
-  pub AreBefore-made : (ps : List PassesValue) (a b c : PassesValue) → ps ≡ a ∷ b ∷ c ∷ [] → HaveMade script (sweeps + 2) (sweeps * sweep) a b c → AreBefore script (length script.phases) ps
-  AreBefore-made ps a b c is made =
+  pub AreBefore-made : (table : TableId) (turn : ShareValue Part) (ps : List PassesValue) (a b c a' b' c' : PassesValue) → a' ≡ a → b' ≡ b → c' ≡ c → ps ≡ a' ∷ b' ∷ c' ∷ []
+      → HaveMade script table (sweeps + 2) (sweeps * sweep) turn a b c → AreBefore script (length script.phases) ps
+  AreBefore-made table turn ps a b c a' b' c' first second third are made =
       let all : List PassesValue = a ∷ b ∷ c ∷ [] in
-      let at_end : (t n : ℕ) (p : PassesValue) → HasMade script t n p → length (ops_of script t) ≡ n → IsAtEnd script p = λ t n p made count. made.next ∙ (sym count ∙ ap (λ u. length (ops_of script u)) (sym made.thread_is)) in
+      let same : (a' ∷ b' ∷ c' ∷ []) ≡ all = λ j. first j ∷ second j ∷ third j ∷ [] in
+      let is : ps ≡ all = are ∙ same in
+      let at_end = IsAtEnd-made script in
       subst (AreBefore script (length script.phases)) (sym is)
       (AreBefore-end script all (sym turns.threads)
       (each_of_three (λ t p. p.seen.thread ≡ t) a b c made.first_made.thread_is made.second_made.thread_is made.third_made.thread_is)
       (each_of_three (λ t p. IsAtEnd script p) a b c (at_end 0 (length (ops_of script 0)) a made.first_made refl) (at_end 1 (sweeps + 2) b made.second_made turns.second_ops) (at_end 2 (sweeps * sweep) c made.third_made turns.third_ops)))
 
 -- the same passes
-pub HaveMade-same : (script : ScriptValue) (m n : ℕ) (a b c a' b' c' : PassesValue) → a' ≡ a → b' ≡ b → c' ≡ c → HaveMade script m n a b c → HaveMade script m n a' b' c'
-HaveMade-same script m n a b c a' b' c' first second third made = record {
+pub HaveMade-same : (script : ScriptValue) (table : TableId) (m n : ℕ) (turn turn' : ShareValue Part) (a b c a' b' c' : PassesValue) → turn' ≡ turn → a' ≡ a → b' ≡ b → c' ≡ c
+    → HaveMade script table m n turn a b c → HaveMade script table m n turn' a' b' c'
+HaveMade-same script table m n turn turn' a b c a' b' c' same first second third made = record {
+  turn_is = subst (IsAtPhase script table 1) (sym same) made.turn_is;
   first_made = subst (HasMade script 0 (length (ops_of script 0))) (sym first) made.first_made;
   second_made = subst (HasMade script 1 m) (sym second) made.second_made;
   third_made = subst (HasMade script 2 n) (sym third) made.third_made;
@@ -114,9 +140,11 @@ HaveMade-same script m n a b c a' b' c' first second third made = record {
 -- ---- the ops of a turn
 
 -- one more
-pub HasMade-next : (script : ScriptValue) (thread n : ℕ) (old new : PassesValue) → HasMade script thread n old → new.seen.thread ≡ old.seen.thread → new.next ≡ old.next + 1 → HasGrown (seen_by old.seen) (seen_by new.seen) → HasMade script thread (n + 1) new
-HasMade-next script thread n old new made same next grown = record {
+pub HasMade-next : (script : ScriptValue) (thread n : ℕ) (old new : PassesValue) → HasMade script thread n old → new.seen.thread ≡ old.seen.thread → new.next ≡ old.next + 1 → HasGrown (seen_by old.seen) (seen_by new.seen) → new.begun ≡ true
+    → HasMade script thread (n + 1) new
+HasMade-next script thread n old new made same next grown begun = record {
   thread_is = same ∙ made.thread_is;
   next = next ∙ ap (λ m. m + 1) made.next;
+  begun = begun;
   ended = subst (AreEnded script (seen_by new.seen)) (sym same) (AreEnded-grown script (seen_by old.seen) (seen_by new.seen) old.seen.thread grown made.ended);
 }

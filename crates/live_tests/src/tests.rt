@@ -3,7 +3,9 @@
 mod accesses;
 mod expected;
 mod hands;
+mod phases;
 mod playing;
+mod rounds;
 mod scripts;
 mod turns;
 

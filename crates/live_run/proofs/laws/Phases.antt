@@ -1,5 +1,5 @@
 -- How the threads of a script stand in its phases, and what a caller of a running thread's ops knows by that.
-use Rattle.std.proofs.Common.{◌≡◌, ℕ, zero, suc, ◌+◌, ◌-◌, ◌<◌, inl, inr, List, [], ◌∷◌, ◌++◌, refl, length, get_or, take, ap, ◌∙◌, subst, arith}
+use Rattle.std.proofs.Common.{◌≡◌, ℕ, zero, suc, ◌+◌, ◌-◌, ◌<◌, ◌≤◌, inl, inr, List, [], ◌∷◌, ◌++◌, refl, length, get_or, take, ap, ◌∙◌, subst, arith}
 use Rattle.std.proofs.Math.Seq.{take-length}
 use Rattle.std.proofs.lemmas.Bool.{cases_lt, le-ltb, lt-ltb}
 use Rattle.std.proofs.lemmas.List.{length-append}
@@ -43,6 +43,50 @@ earlier-first (p ∷ ps) (suc i) u t there within earlier =
             let rest : u - n < length (threads_in (take i ps)) = earlier-first ps i (u - n) (t - n) (omega (arith, there)) (omega (arith, to, after, length-append p.threads (threads_in (take (i + 1) ps)))) (omega (arith, earlier, mine, its)) in
             omega (arith, rest, behind, length-append p.threads (threads_in (take i ps)))
       ]
+    ]
+
+-- a thread stands before the end of its phase
+pub in_phase-before : (phases : List PhaseValue) (i t : ℕ) → i < length phases → phase_in phases t ≡ i → t < length (threads_in (take (i + 1) phases))
+in_phase-before [] i t there is = absurd (omega (arith, there))
+in_phase-before (p ∷ ps) zero t there is = elim (cases_lt t (length p.threads)) [
+  | inl here ↦ omega (arith, here, length-append p.threads [])
+  | inr past ↦
+      let mine : phase_in (p ∷ ps) t ≡ 1 + phase_in ps (t - length p.threads) = rw (le-ltb t (length p.threads) past) refl in
+      absurd (omega (arith, is, mine))
+]
+in_phase-before (p ∷ ps) (suc i) t there is =
+    let n = length p.threads in
+    elim (cases_lt t n) [
+      | inl here ↦
+          let none : phase_in (p ∷ ps) t ≡ 0 = rw (lt-ltb t n here) refl in
+          absurd (omega (arith, is, none))
+      | inr past ↦
+          let mine : phase_in (p ∷ ps) t ≡ 1 + phase_in ps (t - n) = rw (le-ltb t n past) refl in
+          let rest : t - n < length (threads_in (take (i + 1) ps)) = in_phase-before ps i (t - n) (omega (arith, there)) (omega (arith, is, mine)) in
+          let one_more : suc (i + 1) ≡ suc i + 1 = omega arith in
+          let within : t < length (p.threads ++ threads_in (take (i + 1) ps)) = omega (arith, rest, past, length-append p.threads (threads_in (take (i + 1) ps))) in
+          subst (λ m. t < length (threads_in (take m (p ∷ ps)))) one_more within
+    ]
+
+-- and one that stands there is of the phase, or of one before it
+pub phase_in-before : (phases : List PhaseValue) (i t : ℕ) → t < length (threads_in (take (i + 1) phases)) → phase_in phases t ≤ i
+phase_in-before [] i t within = omega arith
+phase_in-before (p ∷ ps) zero t within =
+    let here : t < length p.threads = omega (arith, within, length-append p.threads []) in
+    let none : phase_in (p ∷ ps) t ≡ 0 = rw (lt-ltb t (length p.threads) here) refl in
+    omega (arith, none)
+phase_in-before (p ∷ ps) (suc i) t within =
+    let n = length p.threads in
+    elim (cases_lt t n) [
+      | inl here ↦
+          let none : phase_in (p ∷ ps) t ≡ 0 = rw (lt-ltb t n here) refl in
+          omega (arith, none)
+      | inr past ↦
+          let mine : phase_in (p ∷ ps) t ≡ 1 + phase_in ps (t - n) = rw (le-ltb t n past) refl in
+          let one_more : suc i + 1 ≡ suc (i + 1) = omega arith in
+          let to : t < length (p.threads ++ threads_in (take (i + 1) ps)) = subst (λ m. t < length (threads_in (take m (p ∷ ps)))) one_more within in
+          let rest : phase_in ps (t - n) ≤ i = phase_in-before ps i (t - n) (omega (arith, to, past, length-append p.threads (threads_in (take (i + 1) ps)))) in
+          omega (arith, rest, mine)
     ]
 
 -- the first thread after a phase

@@ -1,63 +1,78 @@
 //! A run that is made by hand: one thread is alone in the first phase, and two take turns in the second.
-ghost use Rattle.std.specs.Prelude.{◌≡◌, ◌+◌, ◌*◌, ◌<◌, IfOk, OnOk, length};
+ghost use Rattle.std.specs.Prelude.{◌≡◌, ◌+◌, ◌*◌, ◌≤◌, [], IfOk, length, vec_capacity};
 ghost use Rattle.live_run.specs.Openings.{IsFirst};
 ghost use Rattle.live_run.specs.Quotas.{HaveQuotas};
+ghost use Rattle.live_run.specs.Sharing.{IsAtPhase, IsShareOf};
 ghost use Rattle.live_tests.specs.Turns.{AreAtFirst, HasMade, HaveMade, IsInTurns};
+ghost use Rattle.schedule_law.specs.LiveParts.{first as first_parts};
 ghost use Rattle.script_ops.specs.Values.{ops_of};
 
 use super::playing::Played;
 use super::scripts::{SWEEP, SWEEPS};
-use super::turns::{Answer, Turn, take_turn};
+use super::turns::Answer;
+use live_run::named::{NamedTable, StepShare};
 use live_run::{Live, Logs, Named, Passes};
 use script_ops::Script;
 use std::alloc::Global;
-use std::sync::Wait;
+use std::mem::forget;
 use std::test::Fail;
 
-/// The shared tree and slices, the passes of the three threads, and what came of them so far.
+/// The share of who starts the phases, the passes of the three threads, and what came of them so far.
 #[derive(Drop)]
-pub struct Hands<N: Named> {
-    live: Live<N>,
-    pub first: Passes<N>,
-    pub second: Passes<N>,
-    pub third: Passes<N>,
+pub struct Hands<N: Named, T: NamedTable> {
+    pub turn: StepShare<N>,
+    pub first: Passes<N, T>,
+    pub second: Passes<N, T>,
+    pub third: Passes<N, T>,
     shown: Vec<Vec<u8>>,
-    answers: Vec<Answer>,
+    pub answers: Vec<Answer>,
 }
 
 // Adds what a thread is shown.
-fn note<N: Named>(alloc: Global, p: &Passes<N>, shown: &mut Vec<Vec<u8>>) -> Result<(), Fail> {
+fn note<N: Named, T: NamedTable>(
+    alloc: Global,
+    p: &Passes<N, T>,
+    shown: &mut Vec<Vec<u8>>,
+) -> Result<(), Fail> {
     let text = Vec::from_slice(alloc, p.text())?;
     shown.push(text)?;
     Ok(())
 }
 
-impl<N: Named> Hands<N> {
-    /// Before the first op.
-    pub fn open(alloc: Global, script: &Script, logs: Logs) -> Result<Hands<N>, Fail>
+impl<N: Named, T: NamedTable> Hands<N, T> {
+    /// The shared tree and slices, and these before the first op.
+    pub fn open(
+        alloc: Global,
+        script: &Script,
+        logs: Logs,
+        share: StepShare<N>,
+    ) -> Result<(Live<N, T>, Hands<N, T>), Fail>
         requires script { script.now ≡ N.script }
         requires tree { logs.tree ≡ N.tree }
         requires slices { logs.slices ≡ N.slices }
         requires quotas { HaveQuotas N.script N.tree N.slices }
+        requires share { IsShareOf T.table (first_parts N.script) share }
         requires turns { IsInTurns N.script SWEEPS SWEEP }
-        ensures { IfOk result (λ h. AreAtFirst h.first h.second h.third) }
+        ensures { IfOk result (λ r. AreAtFirst N.script T.table r.1.turn r.1.first r.1.second r.1.third) }
     {
-        let (live, mut passes) = Live::<N>::create(alloc, script, logs)?;
+        let (live, mut passes, turn) = Live::<N, T>::create(alloc, script, logs, share)?;
         let third = passes.take_last();
         let second = passes.take_last();
         let first = passes.take_last();
-        Ok(Hands {
-            live,
+        let hands = Hands {
+            turn,
             first,
             second,
             third,
             shown: Vec::new(alloc),
             answers: Vec::new(alloc),
-        })
+        };
+        Ok((live, hands))
     }
 
     /// Notes what each of the threads is shown.
     pub fn look(&mut self, alloc: Global) -> Result<(), Fail>
+        ensures turn { self.new.turn ≡ self.old.turn }
         ensures first { self.new.first ≡ self.old.first }
         ensures second { self.new.second ≡ self.old.second }
         ensures third { self.new.third ≡ self.old.third }
@@ -67,119 +82,31 @@ impl<N: Named> Hands<N> {
         note(alloc, &self.third, &mut self.shown)
     }
 
-    /// The first thread makes all its ops.
-    pub fn make_first<R: Wait>(&mut self, rt: &R, script: &Script) -> Result<(), Fail>
-        requires script { script.now ≡ N.script }
-        requires turns { IsInTurns N.script SWEEPS SWEEP }
-        requires first { IsFirst 0 self.old.first }
-        ensures first { OnOk result (HasMade N.script 0 (length (ops_of N.script 0)) self.new.first) }
-        ensures second { self.new.second ≡ self.old.second }
-        ensures third { self.new.third ≡ self.old.third }
-    {
-        let count = script.ops(0).len();
-        let all = Turn {
-            thread: 0,
-            from: 0,
-            to: count as u32,
-        };
-        take_turn(
-            rt,
-            &self.live,
-            script,
-            all,
-            &mut self.first,
-            &mut self.answers,
-        )
-    }
-
     /// The first thread hands on to the others.
-    pub fn hand_on(&mut self)
+    pub fn hand_on(&mut self, live: &Live<N, T>)
         requires turns { IsInTurns N.script SWEEPS SWEEP }
+        requires turn { IsAtPhase N.script T.table 0 self.old.turn }
         requires first { HasMade N.script 0 (length (ops_of N.script 0)) self.old.first }
         requires second { IsFirst 1 self.old.second }
         requires third { IsFirst 2 self.old.third }
-        ensures { HaveMade N.script 0 0 self.new.first self.new.second self.new.third }
+        ensures { HaveMade N.script T.table 0 0 self.new.turn self.new.first self.new.second self.new.third }
     {
-        self.live.hand_on(&mut self.first, &mut self.second);
-        self.live.hand_on(&mut self.first, &mut self.third);
+        self.begin_others();
+        live.hand_on(&mut self.first, &mut self.second);
+        live.hand_on(&mut self.first, &mut self.third);
     }
 
-    // The second thread makes an access, and the third a sweep.
-    fn take_round<R: Wait>(&mut self, rt: &R, script: &Script, i: u32) -> Result<(), Fail>
-        requires script { script.now ≡ N.script }
-        requires within { i < SWEEPS }
-        requires made { HaveMade N.script i (i * SWEEP) self.old.first self.old.second self.old.third }
-        ensures { OnOk result (HaveMade N.script (i + 1) ((i + 1) * SWEEP) self.new.first self.new.second self.new.third) }
-    {
-        let own = Turn {
-            thread: 1,
-            from: i,
-            to: i + 1,
-        };
-        take_turn(
-            rt,
-            &self.live,
-            script,
-            own,
-            &mut self.second,
-            &mut self.answers,
-        )?;
-        let sweep = Turn {
-            thread: 2,
-            from: i * SWEEP,
-            to: (i + 1) * SWEEP,
-        };
-        take_turn(
-            rt,
-            &self.live,
-            script,
-            sweep,
-            &mut self.third,
-            &mut self.answers,
-        )
-    }
-
-    // The second thread makes its last ops.
-    fn finish<R: Wait>(&mut self, rt: &R, script: &Script) -> Result<(), Fail>
-        requires script { script.now ≡ N.script }
-        requires made { HaveMade N.script SWEEPS (SWEEPS * SWEEP) self.old.first self.old.second self.old.third }
-        ensures { OnOk result (HaveMade N.script (SWEEPS + 2) (SWEEPS * SWEEP) self.new.first self.new.second self.new.third) }
-    {
-        let last = Turn {
-            thread: 1,
-            from: SWEEPS,
-            to: SWEEPS + 2,
-        };
-        take_turn(
-            rt,
-            &self.live,
-            script,
-            last,
-            &mut self.second,
-            &mut self.answers,
-        )
-    }
-
-    /// The second thread makes its accesses one by one, and the third a sweep between each two of them.
-    pub fn take_turns<R: Wait>(&mut self, rt: &R, script: &Script) -> Result<(), Fail>
-        requires script { script.now ≡ N.script }
-        requires made { HaveMade N.script 0 0 self.old.first self.old.second self.old.third }
-        ensures { OnOk result (HaveMade N.script (SWEEPS + 2) (SWEEPS * SWEEP) self.new.first self.new.second self.new.third) }
-    {
-        for i in 0..SWEEPS {
-            self.take_round(rt, script, i)?;
-        }
-        self.finish(rt, script)
-    }
-
-    /// What came of the run, when each thread has made all its ops.
-    pub fn close(self, alloc: Global) -> Result<Played, Fail>
+    /// What came of the run, when each thread has made all its ops. The passes go into `passes`, which has room for them.
+    pub fn close(mut self, passes: Vec<Passes<N, T>>, live: Live<N, T>) -> Played
+        requires empty { passes.items ≡ [] }
+        requires room { 3 ≤ vec_capacity passes }
         requires turns { IsInTurns N.script SWEEPS SWEEP }
-        requires made { HaveMade N.script (SWEEPS + 2) (SWEEPS * SWEEP) self.first self.second self.third }
+        requires made { HaveMade N.script T.table (SWEEPS + 2) (SWEEPS * SWEEP) self.turn self.first self.second self.third }
     {
-        let mut passes = Vec::with_capacity(alloc, 3)?;
+        self.end_others();
+        let mut passes = passes;
         let Hands {
-            live,
+            turn,
             first,
             second,
             third,
@@ -189,11 +116,18 @@ impl<N: Named> Hands<N> {
         passes.push_reserved(first);
         passes.push_reserved(second);
         passes.push_reserved(third);
-        let journals = live.close(passes);
-        Ok(Played {
+        let journals = live.close(passes, turn);
+        Played {
             shown,
             answers,
             journals,
-        })
+        }
+    }
+
+    /// A run that could not be made to its end: the test has failed, and its memory is left.
+    pub fn give_up(self, live: Live<N, T>, why: Fail) -> Fail {
+        forget(self);
+        forget(live);
+        why
     }
 }

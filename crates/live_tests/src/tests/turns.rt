@@ -1,11 +1,12 @@
 //! Turns: some ops of one thread.
-ghost use Rattle.std.specs.Prelude.{◌≡◌, ◌+◌, ◌≤◌, OnOk, Some};
+ghost use Rattle.std.specs.Prelude.{◌≡◌, ◌+◌, ◌≤◌, OnOk, Some, true};
 ghost use Rattle.live_law.specs.DoneOps.{AreEnded};
 ghost use Rattle.live_law.specs.SeenJournals.{HasGrown};
 ghost use Rattle.live_run.specs.Names.{seen_by};
 ghost use Rattle.live_tests.specs.Turns.{HasMade};
 ghost use Rattle.script_ops.specs.Values.{op_at};
 
+use live_run::named::NamedTable;
 use live_run::{Live, Named, Passes, Reached};
 use rc_base::Reply;
 use rc_stream::OpenGate;
@@ -31,19 +32,21 @@ pub struct Turn {
 }
 
 // Makes the next op of a thread.
-fn make<N: Named, R: Wait>(
+fn make<N: Named, T: NamedTable, R: Wait>(
     rt: &R,
-    live: &Live<N>,
+    live: &Live<N, T>,
     script: &Script,
     op: &Op,
-    p: &mut Passes<N>,
+    p: &mut Passes<N, T>,
 ) -> Answer
     requires script { script.now ≡ N.script }
     requires op { op_at N.script p.old.seen.thread p.old.next ≡ Some op.now }
     requires ended { p.old.next ≡ 0 → AreEnded N.script (seen_by p.old.seen) p.old.seen.thread }
+    requires begun { p.old.begun ≡ true }
     ensures thread { p.new.seen.thread ≡ p.old.seen.thread }
     ensures next { p.new.next ≡ p.old.next + 1 }
     ensures seen { HasGrown (seen_by p.old.seen) (seen_by p.new.seen) }
+    ensures begun { p.new.begun ≡ true }
 {
     if let Op::Access { .. } = op {
         Answer::Access(live.access(rt, p, op, &OpenGate))
@@ -53,12 +56,12 @@ fn make<N: Named, R: Wait>(
 }
 
 /// Makes the ops of a turn, and adds what the thread is answered.
-pub fn take_turn<N: Named, R: Wait>(
+pub fn take_turn<N: Named, T: NamedTable, R: Wait>(
     rt: &R,
-    live: &Live<N>,
+    live: &Live<N, T>,
     script: &Script,
     turn: Turn,
-    p: &mut Passes<N>,
+    p: &mut Passes<N, T>,
     answers: &mut Vec<Answer>,
 ) -> Result<(), Fail>
     requires script { script.now ≡ N.script }

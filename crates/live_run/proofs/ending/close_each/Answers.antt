@@ -14,7 +14,7 @@ use Rattle.seen_journal.specs.Journals.{JournalValue}
 use Rattle.seen_journal.specs.Passes.{HasAll, PassValue}
 
 pub close-requires-clause-names : goal.close-requires-clause-names
-close-requires-clause-names c =
+close-requires-clause-names g c =
     let had = c.loop-part.invariant in
     let part : SliceCellValue = c.in-Some.part in
     let rest : List SliceCellValue = into_iter_items c.next.new.self in
@@ -22,7 +22,7 @@ close-requires-clause-names c =
     (may_next c.args.parts.items c.loop-part.yielded rest part c.args.lists.items c.loop-part.lists.items c.take_last.new.self.items c.take_last.result split had.left had.same c.take_last.ensures.items c.part.inside.journal (ap (λ (p : SliceCellValue). p.journal) c.part.view_is) c.requires.may).names
 
 pub close-requires-clause-once : goal.close-requires-clause-once
-close-requires-clause-once c =
+close-requires-clause-once g c =
     let had = c.loop-part.invariant in
     let part : SliceCellValue = c.in-Some.part in
     let rest : List SliceCellValue = into_iter_items c.next.new.self in
@@ -30,7 +30,7 @@ close-requires-clause-once c =
     (may_next c.args.parts.items c.loop-part.yielded rest part c.args.lists.items c.loop-part.lists.items c.take_last.new.self.items c.take_last.result split had.left had.same c.take_last.ensures.items c.part.inside.journal (ap (λ (p : SliceCellValue). p.journal) c.part.view_is) c.requires.may).once
 
 pub loop-part-preserved : goal.loop-part-preserved
-loop-part-preserved c =
+loop-part-preserved g c =
     let had = c.loop-part.invariant in
     let part : SliceCellValue = c.in-Some.part in
     let yielded : List SliceCellValue = c.loop-part.yielded in
@@ -52,7 +52,7 @@ loop-part-preserved c =
     }
 
 pub returns-clause-all : goal.returns-clause-all
-returns-clause-all c =
+returns-clause-all g c =
     let had = c.loop-part.invariant in
     let none : length (into_iter_items c.loop-part.part-iterator) ≡ 0 = omega (arith, (c.in-None.ensures.steps).0, c.loop-part.part-iterator.rest.ok.0) in
     let all : length c.loop-part.yielded ≡ length c.args.parts.items = omega (arith, ap length had.split, length-append c.loop-part.yielded (into_iter_items c.loop-part.part-iterator), none) in

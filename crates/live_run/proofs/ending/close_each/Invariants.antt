@@ -10,7 +10,7 @@ use Rattle.seen_journal.specs.Entries.{list_of}
 use Rattle.seen_journal.specs.Passes.{PassValue}
 
 abbrev pub invariant-loop-part : goal.invariant-loop-part
-invariant-loop-part l = record {
+invariant-loop-part g l = record {
   split : l.fn.parts.items ≡ l.yielded ++ into_iter_items l.part-iterator;
   closed : map entries_of l.all.items ≡ map (λ (c : SliceCellValue). list_of c.journal.entries) l.yielded;
   left : length l.lists.items + length l.yielded ≡ length l.fn.parts.items;

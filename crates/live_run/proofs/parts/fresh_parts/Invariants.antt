@@ -1,6 +1,6 @@
 use Rattle.std.proofs.Common.{◌≡◌, ◌≤◌, length}
 use Rattle.live_run.proofs.parts.fresh_parts.Given as goal
-use Rattle.live_run.specs.Openings.{AreOfSlices, AreParts}
+use Rattle.live_run.specs.Openings.{AreFirstShares, AreOfSlices, AreParts}
 use Rattle.machine.specs.Slices.{slice_count}
 
 abbrev pub invariant-loop-alloc : goal.invariant-loop-alloc
@@ -9,7 +9,8 @@ invariant-loop-alloc g l = record {
   left : length l.logs.items ≤ l.tree.left;
   few : length l.logs.items ≤ slice_count g.N.Named.script.machine;
   logs : AreOfSlices g.N.Named.slices (length l.logs.items) l.logs.items;
-  parts : AreParts g.N.Named.script g.N.Named.tree g.N.Named.slices (length l.logs.items) l.parts.items;
+  shares : AreFirstShares g.T.NamedTable.table (length l.logs.items) l.shares.items;
+  parts : AreParts g.N.Named.script g.T.NamedTable.table g.N.Named.tree g.N.Named.slices (length l.logs.items) l.parts.items;
 }
 
 abbrev pub decreases-loop-alloc : goal.decreases-loop-alloc

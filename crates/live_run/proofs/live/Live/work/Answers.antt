@@ -22,6 +22,7 @@ pub loop-i-preserved : goal.loop-i-preserved
 loop-i-preserved g c = record {
   thread = c.make.ensures.thread ∙ c.loop-i.invariant.thread;
   next = search rules;
+  begun = c.make.ensures.begun;
   grown = HasGrown-through _ _ _ c.loop-i.invariant.grown c.make.ensures.seen;
   ended = search rules;
 }

@@ -4,7 +4,7 @@ use Rattle.live_run.proofs.place.PlaceFill.open.Goals as goal
 use Rattle.live_run.proofs.place.PlaceFill.open.Goals.{in-None, in-Some}
 
 pub open-requires : goal.open-requires
-open-requires g c = (omega arith, AreParts-last g.N.Named.script g.N.Named.tree g.N.Named.slices g.row.I c.args.parts.now.items c.pop.new.self.items c.in-Some.part c.in-Some.ensures.items c.requires.parts)
+open-requires g c = (omega arith, AreParts-last g.N.Named.script g.T.NamedTable.table g.N.Named.tree g.N.Named.slices g.row.I c.args.parts.now.items c.pop.new.self.items c.in-Some.part c.in-Some.ensures.items c.requires.parts)
 
 pub returns : goal.returns
 returns g c =
@@ -15,6 +15,6 @@ returns g c =
     let parts = c.args.parts.now.items in
     let rest = c.pop.new.self.items in
     elim c.match-pop.branch [
-      | in-Some w ↦ AreParts-rest script tree slices i parts rest w.in-Some.part w.in-Some.ensures.items c.requires.parts
-      | in-None w ↦ AreParts-none script tree slices i parts rest w.in-None.ensures.items (omega (arith, c.args.parts.now.ok.0, (w.in-None.ensures.cases).0)) c.requires.parts
+      | in-Some w ↦ AreParts-rest script g.T.NamedTable.table tree slices i parts rest w.in-Some.part w.in-Some.ensures.items c.requires.parts
+      | in-None w ↦ AreParts-none script g.T.NamedTable.table tree slices i parts rest w.in-None.ensures.items (omega (arith, c.args.parts.now.ok.0, (w.in-None.ensures.cases).0)) c.requires.parts
     ]

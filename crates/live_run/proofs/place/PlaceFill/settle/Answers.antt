@@ -9,4 +9,4 @@ returns-in-Some-clause-after g c =
     let tree = g.N.Named.tree in
     let slices = g.N.Named.slices in
     let history = c.args.history.now.entries in
-    subst (AreSettled script tree slices history (g.row.I + 1)) (sym c.push_reserved.ensures.items) (AreSettled-push script tree slices history g.row.I c.args.into.now.items c.settle.result c.settle.ensures.kept c.settle.ensures.seen c.requires.before)
+    subst (AreSettled script g.T.NamedTable.table tree slices history (g.row.I + 1)) (sym c.push_reserved.ensures.items) (AreSettled-push script g.T.NamedTable.table tree slices history g.row.I c.args.into.now.items c.settle.result c.settle.ensures.kept c.settle.ensures.seen c.requires.before)

@@ -1,45 +1,76 @@
-use Rattle.std.proofs.Common.{ℕ, ◌<◌, ◌^◌, Contains, List, length, ap, sym, subst, arith}
+use Rattle.std.proofs.Common.{ℕ, ◌<◌, ◌^◌, Contains, List, length, ap, refl, sym, ◌∙◌, subst, arith}
 use Rattle.live_law.proofs.laws.Prefixes.{IsPrefix-no_more}
 use Rattle.seen_journal.proofs.laws.Prefixes.{length-prefix}
 use Rattle.live_law.specs.SeenJournals.{is_from}
-use Rattle.live_run.proofs.Trees.{tree_meets, tree_tags, tree_tasks}
+use Rattle.live_run.proofs.HeldTrees.{tree_lock_there}
+use Rattle.live_run.proofs.Trees.{tree_gives, tree_meets, tree_shares, tree_tags, tree_tasks}
 use Rattle.live_run.proofs.Bridges.{history_length}
 use Rattle.live_run.proofs.tree.TreeCell.tag.Goals as goal
 use Rattle.live_run.specs.Cells.{TreeCellValue, TreeIsKept}
 use Rattle.live_run.specs.Names.{history_of}
 use Rattle.run_law.specs.declared.journals.TreeEntry.{TreeEntry}
+use Rattle.seen_journal.specs.Entries.{list_of}
 use Rattle.seen_journal.specs.Journals.{JournalValue}
 use Rattle.machine.specs.declared.parameters.Parameters.{Parameters}
 
-pub resolve-requires-clause-task : goal.resolve-requires-clause-task
-resolve-requires-clause-task g c =
-    let old : TreeCellValue = record { tree = c.self.inside.tree; journal = c.self.inside.journal; slices = c.self.inside.slices.items } in
-    subst (λ (ts : List ℕ). Contains ts c.args.task) (sym (tree_tasks g.N.Named.script g.N.Named.tree g.N.Named.slices old c.self.invariant)) c.requires.task
+pub resolve-tag-requires-clause-task : goal.resolve-tag-requires-clause-task
+resolve-tag-requires-clause-task g c =
+    let old : TreeCellValue = record { tree = c.self.inside.tree; journal = c.self.inside.journal; slices = c.self.inside.slices.items; share = c.self.inside.share } in
+    subst (λ (ts : List ℕ). Contains ts c.args.task) (sym (tree_tasks g.N.Named.script g.T.NamedTable.table g.N.Named.tree g.N.Named.slices old c.self.invariant)) c.requires.task
 
-pub resolve-requires-clause-cpu : goal.resolve-requires-clause-cpu
-resolve-requires-clause-cpu g c = omega (arith, c.requires.cpu, ap (λ (m : Parameters). m.cpus) c.self.invariant.machine)
+pub resolve-tag-requires-clause-cpu : goal.resolve-tag-requires-clause-cpu
+resolve-tag-requires-clause-cpu g c = omega (arith, c.requires.cpu, ap (λ (m : Parameters). m.cpus) c.self.invariant.machine)
 
 pub invariant_of-self : goal.invariant_of-self
 invariant_of-self g c =
-    let old : TreeCellValue = record { tree = c.self.inside.tree; journal = c.self.inside.journal; slices = c.self.inside.slices.items } in
+    let old : TreeCellValue = record { tree = c.self.inside.tree; journal = c.self.inside.journal; slices = c.self.inside.slices.items; share = c.self.inside.share } in
     let now = c.take.new.slices.items in
-    subst (λ (j : JournalValue TreeEntry). TreeIsKept g.N.Named.script g.N.Named.tree g.N.Named.slices (record { tree = c.self.inside.tree; journal = j; slices = now })) (sym c.take.ensures.journal)
-    (tree_meets g.N.Named.script g.N.Named.tree g.N.Named.slices old c.self.invariant now c.take.ensures.passes c.take.ensures.grown)
+    let mid : TreeCellValue = record { tree = c.self.inside.tree; journal = c.self.inside.journal; slices = now; share = c.self.inside.share } in
+    subst (λ (j : JournalValue TreeEntry). TreeIsKept g.N.Named.script g.T.NamedTable.table g.N.Named.tree g.N.Named.slices (record { tree = c.self.inside.tree; journal = j; slices = now; share = c.tag.new.tree })) (sym c.take.ensures.journal)
+    (tree_shares g.N.Named.script g.T.NamedTable.table g.N.Named.tree g.N.Named.slices mid
+    (tree_meets g.N.Named.script g.T.NamedTable.table g.N.Named.tree g.N.Named.slices old c.self.invariant now c.take.ensures.passes c.take.ensures.grown) c.tag.new.tree c.tag.ensures.table.0 c.tag.ensures.tree)
+
+pub tag-requires-clause-table : goal.tag-requires-clause-table
+tag-requires-clause-table g c = c.self.invariant.share_is.table_is ∙ sym c.requires.worker.resting.is.table_is
+
+pub tag-requires-clause-lock : goal.tag-requires-clause-lock
+tag-requires-clause-lock g c = tree_lock_there g.T.NamedTable.table c.args.worker.now.parts c.args.worker.now (record { table_is = c.requires.worker.resting.is.table_is; words = c.requires.worker.resting.is.words; parts_are = refl })
+
+pub tag-requires-clause-may : goal.tag-requires-clause-may
+tag-requires-clause-may g c =
+    let old : TreeCellValue = record { tree = c.self.inside.tree; journal = c.self.inside.journal; slices = c.self.inside.slices.items; share = c.self.inside.share } in
+    let told = c.resolve-tag.ensures in
+    let its = c.requires.worker in
+    record {
+      some = c.self.invariant.lawful.in_range.some_slice;
+      t = c.args.s.now.thread;
+      n = its.n;
+      task = c.args.task;
+      cpu = c.args.cpu;
+      addr = its.addr;
+      history = list_of c.self.inside.journal.entries;
+      found = its.resting.found;
+      tree_is = c.self.invariant.share_is.parts_are;
+      worker_is = its.resting.is.parts_are;
+      is = its.is;
+      tag_is = tree_gives g.N.Named.script g.T.NamedTable.table g.N.Named.tree g.N.Named.slices old c.self.invariant c.args.task c.args.cpu c.resolve-tag.result told.epoch told.owner told.class told.rmid told.mask told.domain;
+    }
 
 pub returns : goal.returns
 returns g c =
-    let old : TreeCellValue = record { tree = c.self.inside.tree; journal = c.self.inside.journal; slices = c.self.inside.slices.items } in
+    let old : TreeCellValue = record { tree = c.self.inside.tree; journal = c.self.inside.journal; slices = c.self.inside.slices.items; share = c.self.inside.share } in
     let now = c.take.new.slices.items in
-    let told = c.resolve.ensures in
+    let told = c.resolve-tag.ensures in
     let before = c.args.s.now.tree.seen in
     let after = c.take.new.s.tree.seen in
     let longer = length-prefix (history_of before) (history_of after) (IsPrefix-no_more (is_from c.args.s.now.thread) (history_of before) (history_of after) c.take.ensures.taken.sees.tree) in
     record {
       taken = c.take.ensures.taken;
-      tag = tree_tags g.N.Named.script g.N.Named.tree g.N.Named.slices old c.self.invariant now c.take.ensures.passes c.take.ensures.grown c.take.new.s c.args.task c.args.cpu c.resolve.result
+      tag = tree_tags g.N.Named.script g.T.NamedTable.table g.N.Named.tree g.N.Named.slices old c.self.invariant now c.take.ensures.passes c.take.ensures.grown c.take.new.s c.args.task c.args.cpu c.resolve-tag.result
           c.take.ensures.tree c.take.ensures.same told.epoch told.owner told.class told.rmid told.mask told.domain;
       fresh = omega (arith, longer, history_length before, history_length after, ap length c.take.ensures.tree, told.epoch, c.self.invariant.epoch);
       most = omega (arith, c.take.ensures.most, told.epoch, c.self.invariant.epoch);
       known = omega (arith, told.known, ap (λ (m : Parameters). m.rmids) c.self.invariant.machine);
-      valid = (told.valid.0, subst (λ (m : Parameters). c.resolve.result.mask < 2 ^ m.ways) c.self.invariant.machine told.valid.1);
+      worker = (c.tag.ensures.table.1, c.tag.ensures.worker);
+      valid = (told.valid.0, subst (λ (m : Parameters). c.resolve-tag.result.mask < 2 ^ m.ways) c.self.invariant.machine told.valid.1);
     }

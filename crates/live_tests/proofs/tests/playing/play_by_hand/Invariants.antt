@@ -1,4 +1,4 @@
 use Rattle.live_tests.proofs.tests.playing.play_by_hand.Given as goal
 
-abbrev pub ghosts-play_named : goal.ghosts-play_named
-ghosts-play_named g a = record { script = a.script.now; tree = a.logs.tree; slices = a.logs.slices }
+abbrev pub ghosts-play_shared : goal.ghosts-play_shared
+ghosts-play_shared g a = record { script = a.script.now; tree = a.logs.tree; slices = a.logs.slices }

@@ -1,15 +1,17 @@
-use Rattle.std.proofs.Common.{◌≡◌, ℕ, ◌+◌, drop, Some, sym, subst, arith}
+use Rattle.std.proofs.Common.{◌≡◌, ℕ, ◌+◌, drop, true, Some, ap, sym, ◌∙◌, subst, arith}
 use Rattle.live_law.proofs.laws.Passes.{IsReady-begin, PassesKeep-end}
 use Rattle.live_law.specs.DoneOps.{AreEnded}
 use Rattle.live_law.specs.SeenJournals.{HasGrown}
 use Rattle.live_law.specs.Passes.{PassesKeep}
 use Rattle.live_law.specs.Stages.{IsReady}
-use Rattle.live_run.proofs.Openings.{IsListFor, list_for, next_few, some_list}
+use Rattle.live_run.proofs.Openings.{IsListFor, list_for, next_few, replied_in_phase, resting_after, resting_before, resting_begun, some_list}
 use Rattle.live_run.proofs.Turns.{still_ended}
-use Rattle.live_run.proofs.live.Live.command.Goals as goal
-use Rattle.live_run.proofs.live.Live.command.Goals.{After-take-looks}
-use Rattle.live_run.proofs.live.Live.command.Given.{Over}
+use Rattle.live_run.proofs.live.Live.carry_out.Goals as goal
+use Rattle.live_run.proofs.live.Live.carry_out.Goals.{After-take-looks}
+use Rattle.live_run.proofs.live.Live.carry_out.Given.{Over}
+use Rattle.live_run.specs.Commands.{HasReplied}
 use Rattle.live_run.specs.Names.{PassesValue, seen_by}
+use Rattle.live_run.specs.Sharing.{begun_in}
 use Rattle.run_law.specs.LookLists.{AreReady, rooms_of}
 use Rattle.script_ops.specs.Values.{op_at, ops_of}
 
@@ -39,6 +41,10 @@ command-reply-requires-clause-ready g c =
     still_ended script c.p.inside.seen.thread c.p.inside.next (seen_by c.p.inside.seen) c.p.invariant.keep (subst (λ (p : PassesValue). p.next ≡ 0 → AreEnded script (seen_by p.seen) p.seen.thread) (sym c.p.view_is) c.requires.ended) in
     IsReady-begin script c.p.inside.seen.thread c.p.inside.next (seen_by c.p.inside.seen) ended c.p.invariant.keep
 
+pub command-reply-requires-clause-worker : goal.command-reply-requires-clause-worker
+command-reply-requires-clause-worker g c =
+    resting_before g.N.Named.script g.T.NamedTable.table c.p.inside.seen c.p.inside.next c.p.inside.looks c.p.inside.shown c.p.inside.share c.p.invariant (ap (λ (p : PassesValue). p.begun) c.p.view_is ∙ c.requires.begun)
+
 pub overflow_add-p : goal.overflow_add-p
 overflow_add-p g c = omega (arith, next_few g.N.Named.script c.p.inside.seen.thread c.p.inside.next c.args.op.now c.self.invariant.lawful (op_is g (goal.at.overflow_add-p g c).After-take-looks))
 
@@ -52,7 +58,19 @@ invariant_of-p g c =
       keep = subst (λ u. PassesKeep script u (n + 1) (seen_by c.command-reply.new.s)) (sym c.command-reply.ensures.thread) (PassesKeep-end script ready.start t n (seen_by c.command-reply.new.s) ready.ended ready.keeps);
       lists_are = subst (λ u. AreReady (rooms_of script.machine (drop (n + 1) (ops_of script u))) c.take-looks.new.self) (sym c.command-reply.ensures.thread) (list_is g (goal.at.invariant_of-p g c).After-take-looks).rest;
       room = omega (arith, c.p.invariant.room, c.command-reply.ensures.room);
+      share_is = resting_after g.T.NamedTable.table t c.command-reply.new.s.thread (n + 1) c.command-reply.new.worker c.command-reply.ensures.thread c.command-reply.ensures.worker;
     }
 
 pub returns-clause-seen : goal.returns-clause-seen
 returns-clause-seen g c = subst (λ (p : PassesValue). HasGrown (seen_by p.seen) (seen_by c.command-reply.new.s)) c.p.view_is c.command-reply.ensures.seen
+
+pub returns-clause-begun : goal.returns-clause-begun
+returns-clause-begun g c = resting_begun g.T.NamedTable.table c.p.inside.seen.thread (c.p.inside.next + 1) true c.command-reply.new.worker c.command-reply.ensures.worker
+
+pub returns-clause-reply : goal.returns-clause-reply
+returns-clause-reply g c =
+    let old : PassesValue = record { seen = c.p.inside.seen; next = c.p.inside.next; shown = c.p.inside.shown.bytes; begun = true } in
+    let new : PassesValue = record { seen = c.command-reply.new.s; next = c.p.inside.next + 1; shown = c.command-reply.new.shown.bytes; begun = true } in
+    let now : PassesValue = record { seen = c.command-reply.new.s; next = c.p.inside.next + 1; shown = c.command-reply.new.shown.bytes; begun = begun_in c.command-reply.new.worker.parts } in
+    subst (λ (p : PassesValue). HasReplied g.N.Named.script c.args.asked c.args.op.now c.command-reply.result p now) c.p.view_is
+    (replied_in_phase g.N.Named.script c.args.asked c.args.op.now c.command-reply.result old new (begun_in c.p.inside.share.parts) (begun_in c.command-reply.new.worker.parts) c.command-reply.ensures.reply)

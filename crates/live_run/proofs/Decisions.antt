@@ -1,0 +1,134 @@
+-- The decision of a command: what is known then, and the parts of its thread.
+use Rattle.std.proofs.Common.{◌≡◌, ℕ, ◌+◌, ◌*◌, ◌<◌, inl, inr, Bool, List, [], ◌∷◌, ◌++◌, length, take, sum_by, Some, sym, ap, ap₂, ◌∙◌, subst, arith}
+use Rattle.std.specs.List.{flat_map}
+use Rattle.std.specs.Prelude.{◌==◌, IsTrue, nat_lt, not}
+use Rattle.std.proofs.Math.Seq.{take-length}
+use Rattle.std.proofs.lemmas.Bool.{cases_lt, eq-eqb, le-ltb, lt-ltb, ne_eqb}
+use Rattle.std.proofs.lemmas.List.{length-append}
+use Rattle.atomic_table.specs.Seated.{TableId}
+use Rattle.live_run.proofs.Bridges.{history_length}
+use Rattle.live_run.proofs.HeldTrees.{following-decide}
+use Rattle.live_run.proofs.TakenTrees.{history_push, jobs_same}
+use Rattle.live_run.specs.Cells.{TreeCellValue, TreeIsKept}
+use Rattle.live_run.specs.Commands.{LooksAt}
+use Rattle.live_run.specs.Names.{SeenValue, history_of}
+use Rattle.live_run.specs.Sharing.{HasStepped, IsShareOf, following, holding}
+use Rattle.machine.specs.declared.parameters.Parameters.{Parameters}
+use Rattle.run_law.proofs.laws.FollowCounts.{follows-are, length-follows, length-looks, none-follow, some-follow}
+use Rattle.run_law.specs.Entries.{entry_value}
+use Rattle.run_law.specs.Jobs.{follow_jobs, follows_of, jobs_of, looks_of}
+use Rattle.run_law.specs.Ops.{is_command}
+use Rattle.run_law.specs.Targets.{slices_for}
+use Rattle.run_law.specs.TreeHistory.{CommandMayFollow, IsCommandThat, TreeEntryValue, tree_after}
+use Rattle.run_law.specs.declared.journals.TreeEntry.{TreeEntry}
+use Rattle.schedule_law.specs.LiveParts.{after}
+use Rattle.schedule_law.specs.LiveSteps.{MayDecide}
+use Rattle.schedule_law.specs.declared.part.Happening.TheVariants as happenings
+use Rattle.schedule_law.specs.declared.part.Part.{Part}
+use Rattle.script_ops.specs.Values.{ScriptValue, op_at}
+use Rattle.script_ops.specs.declared.op.Op.{Op}
+use Rattle.seen_journal.proofs.laws.Entries.{length-list_of, list_of-append}
+use Rattle.seen_journal.specs.Entries.{list_of}
+use Rattle.seen_journal.specs.Journals.{JournalName}
+use Rattle.shared_parts.specs.Parts.{parts_after}
+use Rattle.shared_parts.specs.Shares.{ShareValue}
+use Rattle.step_world.specs.declared.place.Place.TheVariants.{Looking}
+use Rattle.tree_law.specs.State.{State}
+use Rattle.tree_law.specs.Steps.{after as after_command, needs, next}
+use Rattle.tree_law.specs.declared.follow.Follow.{Follow}
+
+-- nothing follows a command where its looks are all that it makes
+pub none_follows : (script : ScriptValue) (tree : List TreeEntryValue) (op : Op) (fs : List Follow) (made : ℕ) (last : Bool) → 0 < script.machine.slices → fs ≡ after_command script.machine (tree_after script tree) (length tree) op
+    → made ≡ length (needs script.machine (tree_after script tree) op) * script.machine.slices → last ≡ (length fs == 0) → last ≡ not (nat_lt made (length (jobs_of script tree (length tree) op)))
+none_follows script tree op fs made last some follows made_is is =
+    let m : Parameters = script.machine in
+    let k : ℕ = length tree in
+    let front : after_command m (tree_after script (take k tree)) k op ≡ fs = ap (λ hs. after_command m (tree_after script hs) k op) (take-length tree) ∙ sym follows in
+    let many : length (follows_of script tree k op) ≡ sum_by (slices_for m) fs = ap length (follows-are script tree k op ∙ ap (flat_map (follow_jobs m (k + 1))) front) ∙ length-follows m (k + 1) fs in
+    let looks : length (looks_of script tree k op) ≡ made = length-looks script tree op ∙ sym made_is in
+    let all : length (jobs_of script tree k op) ≡ made + sum_by (slices_for m) fs = omega (arith, many, looks, length-append (looks_of script tree k op) (follows_of script tree k op)) in
+    let by : (length fs == 0) ≡ not (nat_lt made (length (jobs_of script tree k op))) =
+    elim (cases_lt 0 (length fs)) [
+      | inl more ↦ ne_eqb (length fs) 0 (λ none. omega (arith, none, more)) ∙ ap not (sym (lt-ltb made (length (jobs_of script tree k op)) (omega (arith, all, some-follow m some fs more))))
+      | inr none ↦ eq-eqb (length fs) 0 (omega (arith, none)) ∙ ap not (sym (le-ltb made (length (jobs_of script tree k op)) (omega (arith, all, none-follow m fs none))))
+    ] in
+    is ∙ by
+
+-- What is known when a thread's command is to be decided: when it had looked for all that it needs, the thread had seen this.
+pub record IsToDecide (script : ScriptValue) (table : TableId) (c : TreeCellValue) (s looked : SeenValue) (n : ℕ) (op : Op) (entry : TreeEntry) (worker : ShareValue Part) : Type 0 where
+  pub same_thread : looked.thread ≡ s.thread
+  pub whole : looked.tree.seen ≡ c.journal.entries
+  pub at : LooksAt script table n op (length (needs script.machine (tree_after script (history_of c.journal.entries)) op)) 0 0 entry.looks.numbers looked worker
+  pub thread : entry.thread ≡ s.thread
+  pub number : entry.op ≡ n
+  pub reply : entry.reply ≡ (next c.tree.machine c.tree.state op entry.looks.numbers).reply
+
+module _ (script : ScriptValue) (table : TableId) (tree : JournalName) (slices : List JournalName) (c : TreeCellValue) (kept : TreeIsKept script table tree slices c) (s looked : SeenValue) (n : ℕ) (op : Op) (entry : TreeEntry) (worker : ShareValue Part) (is : op_at script s.thread n ≡ Some op) (command : IsTrue (is_command op)) (looks : IsToDecide script table c s looked n op entry worker) where
+  abbrev history : List TreeEntryValue
+  history = history_of c.journal.entries
+
+  abbrev h : TreeEntryValue
+  h = entry_value entry
+
+  -- what the tree's law says of it
+  pub state_is : next c.tree.machine c.tree.state op (entry_value entry).looks ≡ next script.machine (tree_after script (history_of c.journal.entries)) op (entry_value entry).looks
+  state_is = ap (λ (m : Parameters). next m c.tree.state op h.looks) kept.machine ∙ ap (λ (x : State). next script.machine x op h.looks) kept.keeps.state_is
+
+  op_is : op_at script h.thread h.op ≡ Some op
+  op_is = rw (looks.thread, looks.number) is
+
+  -- its entry may follow
+  pub entry_follows : CommandMayFollow script (history_of c.journal.entries) (entry_value entry)
+  entry_follows =
+      subst
+      (IsCommandThat (λ d. (length h.looks ≡ length (needs script.machine (tree_after script history) d)) × (h.reply ≡ (next script.machine (tree_after script history) d h.looks).reply)))
+      (sym op_is)
+      (command, (looks.at.count, looks.reply ∙ ap (λ o. o.reply) state_is))
+
+  module _ (last : Bool) (made : ℕ) (made_is : made ≡ length (needs script.machine (tree_after script (history_of c.journal.entries)) op) * script.machine.slices) (ends : last ≡ not (nat_lt made (length (jobs_of script (history_of c.journal.entries) (length (history_of c.journal.entries)) op)))) where
+    all_found : made ≡ length looks.at.found
+    all_found = omega (arith, made_is, looks.at.made)
+
+    -- the parts of the thread
+    parts_are : (t : ℕ) → looked.thread ≡ t → worker.parts ≡ holding (list_of c.journal.entries) t n (Looking made) looks.at.found
+    parts_are t same =
+        looks.at.share_is.parts_are
+        ∙ (ap₂ (λ (es : List (ℕ × TreeEntry)) u. holding (list_of es) u n (Looking (length looks.at.found)) looks.at.found) looks.whole same
+        ∙ ap (λ m. holding (list_of c.journal.entries) t n (Looking m) looks.at.found) (sym all_found))
+
+    -- by the parts at hand it may be decided
+    pub may_decide : MayDecide script worker.parts entry last made
+    may_decide = record {
+      some = kept.lawful.in_range.some_slice;
+      op = op;
+      history = list_of c.journal.entries;
+      found = looks.at.found;
+      worker_is = parts_are entry.thread (looks.same_thread ∙ sym looks.thread) ∙ ap (λ k. holding (list_of c.journal.entries) entry.thread k (Looking made) looks.at.found) (sym looks.number);
+      is = op_is;
+      may = entry_follows;
+      made_is = all_found;
+      all = made_is;
+      count = looks.at.count;
+      each = looks.at.each;
+      ends = subst (λ k. last ≡ not (nat_lt made (length (jobs_of script history k op)))) (history_length c.journal.entries ∙ sym (length-list_of c.journal.entries)) ends;
+    }
+
+    -- after it the thread follows, or has let the tree go
+    pub decided_share : (new : SeenValue) (worker_now : ShareValue Part) → new.thread ≡ looked.thread → new.tree.seen ≡ c.journal.entries ++ (looked.thread, entry) ∷ [] → HasStepped (happenings.Decide entry last made) worker worker_now
+        → IsShareOf table (following (list_of new.tree.seen) new.thread n (length looks.at.found) (length (jobs_of script (history_of new.tree.seen) (length (history_of c.journal.entries)) op)) looks.at.found) worker_now
+    decided_share new worker_now same seen stepped =
+        let k : ℕ = length history in
+        let all : ℕ = length (jobs_of script history k op) in
+        let list : list_of c.journal.entries ++ entry ∷ [] ≡ list_of new.tree.seen = sym (ap list_of seen ∙ list_of-append c.journal.entries ((looked.thread, entry) ∷ [])) in
+        let longer : history ++ h ∷ [] ≡ history_of new.tree.seen = sym (ap history_of seen ∙ history_push c.journal.entries looked.thread entry) in
+        let many : all ≡ length (jobs_of script (history_of new.tree.seen) k op) = ap length (sym (jobs_same script history h op)) ∙ ap (λ hs. length (jobs_of script hs k op)) longer in
+        record {
+          table_is = stepped.0 ∙ looks.at.share_is.table_is;
+          words = looks.at.share_is.words;
+          parts_are =
+              stepped.1
+              ∙ (ap (parts_after after (happenings.Decide entry last made)) (parts_are new.thread (sym same))
+              ∙ (following-decide (list_of c.journal.entries) entry new.thread n made all looks.at.found last ends
+              ∙ (ap₂ (λ es m. following es new.thread n m all looks.at.found) list all_found
+              ∙ ap (λ a. following (list_of new.tree.seen) new.thread n (length looks.at.found) a looks.at.found) many)));
+        }

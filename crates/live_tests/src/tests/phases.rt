@@ -1,0 +1,47 @@
+//! Where one phase ends and the next begins.
+ghost use Rattle.std.specs.Prelude.{◌≡◌, ◌+◌, ◌*◌, length};
+ghost use Rattle.live_run.specs.Openings.{IsFirst};
+ghost use Rattle.live_run.specs.Sharing.{IsAtPhase};
+ghost use Rattle.live_tests.specs.Turns.{HasMade, HaveMade, IsBegun, IsInTurns};
+ghost use Rattle.script_ops.specs.Values.{ops_of};
+
+use super::hands::Hands;
+use super::scripts::{SWEEP, SWEEPS};
+use live_run::Named;
+use live_run::named::{NamedTable, TREE_LOCK};
+use live_run::phases::{begin, end};
+use schedule_law::phases::pass;
+
+impl<N: Named, T: NamedTable> Hands<N, T> {
+    /// The first phase is over, and that of the others has begun.
+    pub fn begin_others(&mut self)
+        requires turns { IsInTurns N.script SWEEPS SWEEP }
+        requires turn { IsAtPhase N.script T.table 0 self.old.turn }
+        requires first { HasMade N.script 0 (length (ops_of N.script 0)) self.old.first }
+        requires second { IsFirst 1 self.old.second }
+        requires third { IsFirst 2 self.old.third }
+        ensures turn { IsAtPhase N.script T.table 1 self.new.turn }
+        ensures first { HasMade N.script 0 (length (ops_of N.script 0)) self.new.first }
+        ensures second { IsBegun 1 self.new.second }
+        ensures third { IsBegun 2 self.new.third }
+    {
+        end(&mut self.turn, &mut self.first);
+        pass(&mut self.turn, TREE_LOCK);
+        begin(&mut self.turn, &mut self.second);
+        begin(&mut self.turn, &mut self.third);
+    }
+
+    /// The second phase is over.
+    pub fn end_others(&mut self)
+        requires turns { IsInTurns N.script SWEEPS SWEEP }
+        requires made { HaveMade N.script T.table (SWEEPS + 2) (SWEEPS * SWEEP) self.old.turn self.old.first self.old.second self.old.third }
+        ensures turn { IsAtPhase N.script T.table 2 self.new.turn }
+        ensures first { self.new.first ≡ self.old.first }
+        ensures second { self.new.second ≡ self.old.second }
+        ensures third { self.new.third ≡ self.old.third }
+    {
+        end(&mut self.turn, &mut self.second);
+        end(&mut self.turn, &mut self.third);
+        pass(&mut self.turn, TREE_LOCK);
+    }
+}
