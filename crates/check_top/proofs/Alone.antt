@@ -1,14 +1,13 @@
 -- The journals that a check hands back are the only ones that its input holds.
-use Rattle.std.proofs.Common.{◌≡◌, ℕ, List, [], Option, Some, None, refl, sym, subst, ap, ◌∙◌, true, inl, inr}
+use Rattle.std.proofs.Common.{◌≡◌, ℕ, List, Option, Some, None, refl, sym, subst, ◌∙◌, inl, inr}
 use Rattle.call_rim.specs.Endings as rim
 use Rattle.call_rim.specs.Outside.{IsToTheEnd, Reading, TakesAll, TakesSome, Writing}
 use Rattle.call_rim.specs.declared.status.Status.{Status}
 use Rattle.call_rim.specs.declared.status.Status.TheVariants as statuses
-use Rattle.check_parts.specs.Division.{division_of, journal_part}
+use Rattle.check_parts.specs.Division.{journal_part}
 use Rattle.check_parts.specs.Inputs.{HoldsJournals}
 use Rattle.check_parts.specs.declared.division.Division.{Division}
-use Rattle.check_parts.specs.declared.form.Form.{Form}
-use Rattle.check_parts.specs.declared.form.Form.TheVariants.{Check, Export}
+use Rattle.check_parts.specs.declared.form.Form.TheVariants.{Check}
 use Rattle.check_top.proofs.RimEndings.{IsToTheEnd-known, refuses_of, reports_check, rim_call}
 use Rattle.check_top.specs.Endings.{AreAlone, Call, call_of}
 use Rattle.check_top.specs.Performances.{Checks}

@@ -1,8 +1,8 @@
 -- Which status is due, from how a call ended.
-use Rattle.std.proofs.Common.{◌≡◌, ℕ, ◌≤◌, ◌<◌, ◌⊎◌, List, Option, Some, None, Ok, Err, length, refl, sym, subst, ap, ◌∙◌, inl, inr, arith}
-use Rattle.call_rim.specs.Outside.{TakesSome, Writing}
+use Rattle.std.proofs.Common.{◌≡◌, ℕ, ◌<◌, List, Option, Some, None, refl, subst, inl, inr, arith}
+use Rattle.call_rim.specs.Outside.{Writing}
 use Rattle.check_parts.specs.BadInputs.{HasScript, IsBad}
-use Rattle.check_parts.specs.Division.{division_of, journal_part}
+use Rattle.check_parts.specs.Division.{journal_part}
 use Rattle.check_parts.specs.Inputs.{HoldsJournals}
 use Rattle.check_parts.specs.declared.bad_input.BadInput.{BadInput}
 use Rattle.check_parts.specs.declared.bad_input.BadInput.TheVariants.{BadJournal, BadScript, NoJournal, TooLarge}

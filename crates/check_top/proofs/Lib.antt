@@ -2,3 +2,4 @@ pub mod Alone
 pub mod Complete
 pub mod MadeOf
 pub mod RimEndings
+pub mod SteppedPlays

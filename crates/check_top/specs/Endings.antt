@@ -23,6 +23,7 @@ use Rattle.journal_text.specs.Readings.{IsTextOf}
 use Rattle.resctrl_top.specs.Isolation.{BeginsGroupWindows, BeginsLockWindows, HoldsRegions, IsolatesGroups}
 use Rattle.run_law.specs.Journals.{JournalsValue}
 use Rattle.run_law.specs.Runs.{IsRun}
+use Rattle.schedule_law.specs.Schedules.{IsPlayBy}
 use Rattle.script_ops.specs.Values.{IsLawful, ScriptValue}
 use Rattle.step_world.specs.Play.{IsPlay}
 
@@ -44,10 +45,11 @@ ReadsWell c = c.source.faults_now ≡ c.source.faults
 abbrev pub WritesWell : Call → Type 0
 WritesWell c = c.sink.faults_now ≡ c.sink.faults
 
--- how a script is played: by its order lines, or in whatever order its workers take the locks
+-- how a script is played: by its order lines, or in whatever order its workers take the locks, for which there are order lists by
+-- which the play of the script has just these journals
 abbrev pub PlaysAs : Play → ScriptValue → JournalsValue → Type 0
 PlaysAs Step script run = IsPlay script run
-PlaysAs Run script run = Unit {0}
+PlaysAs Run script run = (orders : List (List ℕ)) × IsPlayBy script orders run
 
 -- What is proved of every run: it isolates groups and holds regions, each flush and each lock begins a window of each group that
 -- is exclusive then, and each lock begins one of its region.

@@ -113,7 +113,8 @@ pub fn check_step<S: Source, K: Sink>(
 /// lacks it, and the journals of the play. `check` reads such a text, whoever made it, and writes `yes` where the journals are a run of
 /// the script, and otherwise `no` with the word for the first clause that is false. Where the command line is not valid, the sink gets
 /// the usage line, and the source is not called. The source is read to its end, or until there is one byte more than is taken. Only
-/// `export run` waits, for locks and for workers, each of which calls the gate with each op; what is promised holds if it returns.
+/// `export run` waits, for locks and for workers, each of which calls the gate with each op; what is promised holds if it returns. Its
+/// journals are those of the play of the script by some order lists, whatever order the workers took the locks in.
 ///
 /// The status says how the call ended, as `Ends` and `IsComplete` have it: `Done` with the journals that were exported or that are a
 /// run, `No` with journals that are none, `Refused` with what is wrong with the input, `ReadFault` and `WriteFault` only where the

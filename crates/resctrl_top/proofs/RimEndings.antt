@@ -15,7 +15,7 @@ use Rattle.resctrl_top.specs.Endings.{Ends, IsPlayed, IsRefused, call_of}
 use Rattle.resctrl_top.specs.Performances.{Plays, RefusesBytes, ReportsBytes}
 use Rattle.run_law.specs.Journals.{JournalsValue}
 use Rattle.script_ops.specs.declared.limits.TheConstants.{MOST_SCRIPT_BYTES}
-use Rattle.top_parts.specs.Forms.{bytes_of, input_of, is_of_source}
+use Rattle.top_parts.specs.Forms.{bytes_of, is_of_source}
 use Rattle.resctrl_top.specs.Leaving.{LeavesPlayed, LeavesRefused}
 use Rattle.top_parts.specs.Meaning.{meaning, refusal_line}
 use Rattle.top_parts.specs.declared.command.Command.{Command}

@@ -15,6 +15,7 @@ use Rattle.top_parts.specs.declared.refusal.Refusal.{Refusal}
 use Rattle.run_law.specs.Runs.{IsRun}
 use Rattle.run_law.specs.Journals.{JournalsValue}
 use Rattle.script_ops.specs.Values.{IsLawful, ScriptValue}
+use Rattle.schedule_law.specs.Schedules.{IsPlayBy}
 use Rattle.step_world.specs.Play.{IsPlay}
 
 -- a call as it is seen from outside: the form of its words, and its source and its sink before and after
@@ -35,10 +36,11 @@ ReadsWell c = c.source.faults_now ≡ c.source.faults
 abbrev pub WritesWell : Call → Type 0
 WritesWell c = c.sink.faults_now ≡ c.sink.faults
 
--- how a command plays a script: `step` and `gen` by its order lines, and `run` in whatever order its workers take the locks
+-- how a command plays a script: `step` and `gen` by its order lines, and `run` in whatever order its workers take the locks, for which
+-- there are order lists by which the play of the script has just these journals
 abbrev pub PlaysAs : Command → ScriptValue → JournalsValue → Type 0
 PlaysAs Step script run = IsPlay script run
-PlaysAs Run script run = Unit {0}
+PlaysAs Run script run = (orders : List (List ℕ)) × IsPlayBy script orders run
 PlaysAs (Gen n) script run = IsPlay script run
 
 -- What is promised of the journals of a script that was played: the script is lawful, and they are a run of it, played as the

@@ -127,7 +127,8 @@ pub fn top_step<S: Source, K: Sink>(
 /// waits for nobody.
 ///
 /// The status says how the call ended, as for `top_step`. Whatever order the workers took the locks in, the journals of a `run` are a
-/// legal run of the script that isolates groups and holds regions, and the bytes that were written are their report.
+/// legal run of the script that isolates groups and holds regions, and the play of the script by some order lists; and the bytes that
+/// were written are their report.
 pub fn top<R: Threads + Wait + Sync, S: Source, K: Sink, G: Gate>(
     rt: &R,
     alloc: Global,

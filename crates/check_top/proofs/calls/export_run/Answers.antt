@@ -1,4 +1,4 @@
-use Rattle.std.proofs.Common.{Some, [], refl, subst, sym, true}
+use Rattle.std.proofs.Common.{Some, refl, subst, sym}
 use Rattle.call_rim.proofs.laws.Ends.{Ends-made, IsMade-within, LeavesBy-rest}
 use Rattle.call_rim.proofs.laws.InputBytes.{LeavesRest-of}
 use Rattle.call_rim.specs.Outside.{reading_of, writing_of}

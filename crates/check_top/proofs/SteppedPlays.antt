@@ -1,0 +1,12 @@
+-- A play by order lines is one by order lists, so that either kind of export may be made of it.
+use Rattle.check_parts.specs.declared.form.Play.{Play}
+use Rattle.check_parts.specs.declared.form.Play.TheVariants.{Run, Step}
+use Rattle.check_top.specs.Endings.{PlaysAs}
+use Rattle.run_law.specs.Journals.{JournalsValue}
+use Rattle.schedule_law.specs.Schedules.{IsByItsOrders, orders_of}
+use Rattle.script_ops.specs.Values.{ScriptValue}
+use Rattle.step_world.specs.Play.{IsPlay}
+
+pub PlaysAs-stepped : (play : Play) (script : ScriptValue) (run : JournalsValue) → IsByItsOrders script run → IsPlay script run → PlaysAs play script run
+PlaysAs-stepped Step script run same played = played
+PlaysAs-stepped Run script run same played = (orders_of script, same.to played)
