@@ -61,8 +61,8 @@ SIMULATOR = (
     Layer(
         "play", "The play by order lists",
         """What `step`, `gen`, `export step` and `divide` play: the machine of steps, and the play of a script by its order lists
-        (`IsPlay`). `run` and `check` promise nothing of it.""",
-        ("step_world/specs/Play: IsPlay",),
+        (`IsPlay`). `run` and `export run` promise the play by some order lists (`IsPlayBy`), and `check` nothing of it.""",
+        ("step_world/specs/Play: IsPlay", "schedule_law/specs/Schedules: IsPlayBy"),
     ),
     Layer(
         "script", "The text of a script", "Which bytes are which script, and the line that is written of all others.",
@@ -111,10 +111,6 @@ LAWS = (
             "slice_sets: slices_isolate sets_are_lru private_caches_are_lru",
         ),
     ),
-    Layer(
-        "order", "One order of all steps", "When journals have one order of all steps, and a state in parts that threads share.",
-        ("schedule_law", "shared_parts"), is_reached=False,
-    ),
 )
 BULLETS = (
     Layer(
@@ -132,6 +128,11 @@ BULLETS = (
     Layer(
         "shared", "Threads: shared journals", "Journals that threads share, `seen_journal::Journal` and `Pass`.",
         ("seen_journal",), is_reached=False,
+    ),
+    Layer(
+        "order", "Threads: one order of all steps",
+        "When journals have one order of all steps, and a state in parts that threads share (`schedule_law`, `shared_parts`).",
+        ("schedule_law", "shared_parts"), is_reached=False,
     ),
     Layer(
         "threads", "Threads: a run",
