@@ -12,7 +12,7 @@ use Rattle.pair_ops.specs.declared.side.Side.TheVariants.{First, Second}
 use Rattle.pair_tree.proofs.LineEntries.{Adds, Adds-rest, AreRead-added, drop-added}
 use Rattle.pair_tree.proofs.SideMasks.{length-sides}
 use Rattle.pair_tree.specs.Reading.{AreRead}
-use Rattle.schemata_text.proofs.Room.{length-lawful}
+use Rattle.schemata_text.proofs.laws.Room.{length-lawful}
 use Rattle.schemata_text.specs.Items.{Item, items_of_rest}
 use Rattle.schemata_text.specs.Reading.{AreLawful, Continues, domains_of, is_of}
 use Rattle.schemata_text.specs.declared.assignment.Assignment.{Assignment}

@@ -6,7 +6,7 @@ use Rattle.std.proofs.lemmas.Bool.{cases_Bool, eqb-true}
 use Rattle.std.proofs.lemmas.List.{take_all, take-append-drop, take-append-le}
 use Rattle.lackey_text.specs.declared.line.LackeyLine.{LackeyLine}
 use Rattle.lackey_text.specs.declared.uses.LineUse.{LineUse}
-use Rattle.way_curve.proofs.FirstLines.{IsOpen-more, IsOpen-nil, lines-last, lines-newline}
+use Rattle.way_curve.proofs.laws.FirstLines.{IsOpen-more, IsOpen-nil, lines-last, lines-newline}
 use Rattle.way_curve.specs.Reading.{IsGood, IsOpen, TraceValue}
 use Rattle.way_curve.specs.Sampling.{Sampling}
 use Rattle.way_curve.specs.TraceTexts.{said_of, uses_from, uses_with}

@@ -12,9 +12,9 @@ use Rattle.run_law.specs.Progress.{Progress}
 use Rattle.run_law.specs.TreeHistory.{TreeEntryValue, tree_after}
 use Rattle.script_ops.specs.Values.{ScriptValue, op_at}
 use Rattle.script_ops.specs.declared.op.Op.TheVariants.{Access}
-use Rattle.step_world.proofs.AccessSteps.{some_can_be, tag_epoch}
-use Rattle.step_world.proofs.MachineStates.{can_be_is}
-use Rattle.step_world.proofs.StepRows.{step_stale, step_tags, step_touches}
+use Rattle.step_world.proofs.laws.AccessSteps.{some_can_be, tag_epoch}
+use Rattle.step_world.proofs.laws.MachineStates.{can_be_is}
+use Rattle.step_world.proofs.laws.StepRows.{step_stale, step_tags, step_touches}
 use Rattle.step_world.specs.Machine.{MachineValue, Tags, TagsAgain, Touches, thread_at}
 use Rattle.step_world.specs.Moments.{progress_by, progress_in}
 use Rattle.step_world.specs.declared.place.Place.TheVariants.{Ready, Tagged}

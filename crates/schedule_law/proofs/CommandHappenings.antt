@@ -9,8 +9,8 @@ use Rattle.run_law.specs.FoundLooks.{AreDistinct, pairs_for}
 use Rattle.run_law.specs.TreeHistory.{CommandMayFollow, TreeEntryValue, tree_after}
 use Rattle.script_ops.specs.Values.{ScriptValue, op_at}
 use Rattle.script_ops.specs.declared.op.Op.{Op}
-use Rattle.step_world.proofs.LookedCounts.{look_looked, looked_given, take_looked}
-use Rattle.step_world.proofs.StepRows.{step_decides, step_follows, step_looks, step_takes}
+use Rattle.step_world.proofs.laws.LookedCounts.{look_looked, looked_given, take_looked}
+use Rattle.step_world.proofs.laws.StepRows.{step_decides, step_follows, step_looks, step_takes}
 use Rattle.step_world.specs.Machine.{Decides, Follows, Looks, MachineValue, Takes, holder_behind, place_behind, thread_at}
 use Rattle.step_world.specs.Looked.{HasLooked}
 use Rattle.step_world.specs.declared.place.Place.TheVariants.{Ready, Looking, Following}

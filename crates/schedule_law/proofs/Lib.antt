@@ -10,7 +10,6 @@ pub mod LiveHappenings
 pub mod LiveOpenings
 pub mod LivePhases
 pub mod LivePlaces
-pub mod OrderedPlays
 pub mod OwnOrders
 pub mod PartNumbers
 pub mod PartSets
@@ -18,3 +17,4 @@ pub mod PhaseHappenings
 pub mod ReachedParts
 pub mod ScheduledPlays
 pub mod StepStates
+pub mod laws

@@ -7,7 +7,7 @@ use Rattle.machine.specs.Slices.{slice_count}
 use Rattle.run_law.specs.Journals.{slice_at}
 use Rattle.script_ops.specs.Values.{ScriptValue, threads_of}
 use Rattle.run_law.specs.Quotas.{room_of}
-use Rattle.step_world.proofs.EntryRooms.{entries-few}
+use Rattle.step_world.proofs.laws.EntryRooms.{entries-few}
 use Rattle.step_world.specs.Machine.{MachineValue, opening_thread, thread_at}
 use Rattle.step_world.specs.declared.place.Thread.{Thread}
 use Rattle.schedule_law.specs.Law.{SlicesHaveRoom, StatesClose, StatesOpen}

@@ -3,8 +3,8 @@ use Rattle.std.proofs.Common.{◌≡◌, ℕ, zero, suc, ◌+◌, List, [], ◌�
 use Rattle.std.specs.Prelude.{replicate}
 use Rattle.run_law.specs.Runs.{IsRun}
 use Rattle.script_ops.specs.Values.{ScriptValue}
-use Rattle.step_world.proofs.Plays.{step_phase}
-use Rattle.step_world.proofs.Schedules.{each_end}
+use Rattle.step_world.proofs.laws.Plays.{step_phase}
+use Rattle.step_world.proofs.laws.Schedules.{each_end}
 use Rattle.step_world.specs.Machine.{Event, MachineValue, Next, Plays, Step, Steps}
 use Rattle.step_world.specs.Play.{EndInTurn, LetsGo, PlaysPhaseBy, StepsHolding, StepsOf}
 use Rattle.schedule_law.specs.Schedules.{EachPlayIsScheduled, EachScheduleIsARun, PlaysPhasesBy}

@@ -14,11 +14,11 @@ use Rattle.run_law.specs.Slices.{shape_in}
 use Rattle.run_law.specs.TreeHistory.{TreeEntryValue}
 use Rattle.script_ops.specs.Values.{ScriptValue, op_at, ops_of}
 use Rattle.script_ops.specs.declared.op.Op.{Op}
-use Rattle.step_world.proofs.AccessSteps.{some_can_be}
-use Rattle.step_world.proofs.LookedCounts.{others_looked}
-use Rattle.step_world.proofs.Schedules.{each_moment}
+use Rattle.step_world.proofs.laws.AccessSteps.{some_can_be}
+use Rattle.step_world.proofs.laws.LookedCounts.{others_looked}
+use Rattle.step_world.proofs.laws.Schedules.{each_moment}
 use Rattle.step_world.specs.Looked.{HasLooked}
-use Rattle.step_world.proofs.StepRows.{moves_set}
+use Rattle.step_world.proofs.laws.StepRows.{moves_set}
 use Rattle.step_world.specs.Machine.{HasEnded, MachineValue, Moves, Notes, Step, Steps, opening_thread, thread_at}
 use Rattle.step_world.specs.Moments.{IsRunSoFar, progress_by}
 use Rattle.step_world.specs.declared.place.Place.{Place}

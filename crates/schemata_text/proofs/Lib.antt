@@ -1,4 +1,3 @@
 pub mod Parts
-pub mod Room
 pub mod RoundTrips
 pub mod laws

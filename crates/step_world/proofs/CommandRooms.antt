@@ -20,8 +20,8 @@ use Rattle.run_law.specs.TreeHistory.{CommandMayFollow, TreeEntryValue}
 use Rattle.run_law.specs.Truth.{is_taken_from}
 use Rattle.script_ops.specs.Values.{ScriptValue, op_at}
 use Rattle.script_ops.specs.declared.op.Op.{Op}
-use Rattle.step_world.proofs.EntryRooms.{found}
-use Rattle.step_world.proofs.MachineStates.{at_can_be}
+use Rattle.step_world.proofs.laws.EntryRooms.{found}
+use Rattle.step_world.proofs.laws.MachineStates.{at_can_be}
 use Rattle.step_world.specs.Machine.{MachineValue, thread_at}
 use Rattle.step_world.specs.Moments.{IsRunSoFar, progress_by, progress_in}
 use Rattle.step_world.specs.declared.place.Place.TheVariants.{Looking}

@@ -10,7 +10,7 @@ use Rattle.run_law.specs.Progress.{Progress}
 use Rattle.run_law.specs.TreeHistory.{TreeEntryValue, tree_after}
 use Rattle.script_ops.specs.Values.{ScriptValue, op_at}
 use Rattle.script_ops.specs.declared.op.Op.{Op}
-use Rattle.step_world.proofs.AccessSteps.{some_can_be}
+use Rattle.step_world.proofs.laws.AccessSteps.{some_can_be}
 use Rattle.step_world.proofs.LookingWorlds.{held, made-is}
 use Rattle.step_world.specs.Answers.{HasNext}
 use Rattle.run_law.specs.LookLists.{AreReady}

@@ -19,10 +19,10 @@ use Rattle.script_ops.specs.Values.{ScriptValue, op_at}
 use Rattle.script_ops.specs.declared.op.Op.{Op}
 use Rattle.run_law.proofs.laws.FollowCounts.{follows-are, length-follows, none-follow, some-follow, some-slices}
 use Rattle.step_world.proofs.KeptWorlds.{IsWorldOf-step, Leaves, moves-leaves}
-use Rattle.step_world.proofs.LookedCounts.{looked_given}
+use Rattle.step_world.proofs.laws.LookedCounts.{looked_given}
 use Rattle.step_world.proofs.LookingWorlds.{held, lists-there, looks-few}
-use Rattle.step_world.proofs.MachineStates.{holder_off, holder_on, place_behind-ready, place_behind-following}
-use Rattle.step_world.proofs.StepRows.{step_decides}
+use Rattle.step_world.proofs.laws.MachineStates.{holder_off, holder_on, place_behind-ready, place_behind-following}
+use Rattle.step_world.proofs.laws.StepRows.{step_decides}
 use Rattle.step_world.proofs.TakenWorlds.{within-next}
 use Rattle.step_world.specs.Answers.{HasDecided, HasNext}
 use Rattle.run_law.specs.LookLists.{AreReady}

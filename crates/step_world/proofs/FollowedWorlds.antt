@@ -16,8 +16,8 @@ use Rattle.script_ops.specs.Values.{ScriptValue, op_at}
 use Rattle.script_ops.specs.declared.op.Op.{Op}
 use Rattle.run_law.proofs.laws.FollowCounts.{some-slices, sum-next}
 use Rattle.step_world.proofs.KeptWorlds.{AreInPlay-set, IsWorldOf-step, Leaves, moves-leaves, notes-grows}
-use Rattle.step_world.proofs.MachineStates.{holder_off, holder_on, place_behind-ready, place_behind-following}
-use Rattle.step_world.proofs.StepRows.{step_follows}
+use Rattle.step_world.proofs.laws.MachineStates.{holder_off, holder_on, place_behind-ready, place_behind-following}
+use Rattle.step_world.proofs.laws.StepRows.{step_follows}
 use Rattle.step_world.proofs.TakenWorlds.{within-next}
 use Rattle.step_world.specs.Answers.{HasDone, HasNext}
 use Rattle.run_law.specs.LookLists.{AreReady}

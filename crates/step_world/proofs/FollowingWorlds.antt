@@ -24,7 +24,7 @@ use Rattle.script_ops.specs.Values.{ScriptValue, op_at}
 use Rattle.script_ops.specs.declared.op.Op.{Op}
 use Rattle.step_world.proofs.NextRooms.{room-job}
 use Rattle.step_world.proofs.KeptWorlds.{slice_at-journals}
-use Rattle.step_world.proofs.MachineStates.{at_can_be}
+use Rattle.step_world.proofs.laws.MachineStates.{at_can_be}
 use Rattle.step_world.proofs.RoomLeft.{has-room}
 use Rattle.step_world.proofs.SliceFloors.{floor_following}
 use Rattle.step_world.specs.Answers.{HasNext}

@@ -15,7 +15,7 @@ use Rattle.script_ops.specs.Values.{ScriptValue, op_at, ops_of}
 use Rattle.script_ops.specs.declared.op.Op.{Op}
 use Rattle.script_ops.specs.declared.op.Op.TheVariants.{Access}
 use Rattle.step_world.proofs.HeldSteps.{step_from_place}
-use Rattle.step_world.proofs.MachineStates.{nobody_holds}
+use Rattle.step_world.proofs.laws.MachineStates.{nobody_holds}
 use Rattle.step_world.proofs.SliceFloors.{floor_free}
 use Rattle.step_world.proofs.StepParts.{place_of}
 use Rattle.step_world.specs.Machine.{Begins, MachineValue, Reaches, StepFrom, Steps, TagsAgain, Touches, floor_for, thread_at}

@@ -11,7 +11,7 @@ use Rattle.run_law.specs.Ops.{phase_in}
 use Rattle.script_ops.specs.Values.{ScriptValue, op_at}
 use Rattle.script_ops.specs.declared.op.Op.{Op}
 use Rattle.script_ops.specs.declared.op.Op.TheVariants.{Access}
-use Rattle.step_world.proofs.StepRows.{step_at_end, step_blocked, step_decides, step_follows, step_looks, step_of_another, step_stale, step_tags, step_takes, step_touches}
+use Rattle.step_world.proofs.laws.StepRows.{step_at_end, step_blocked, step_decides, step_follows, step_looks, step_of_another, step_stale, step_tags, step_takes, step_touches}
 use Rattle.step_world.specs.Answers.{Answers, Does, HasNext, HasTouched, IsAtEnd, IsBlocked}
 use Rattle.step_world.specs.Machine.{MachineValue, Steps, thread_at}
 use Rattle.step_world.specs.declared.action.Action.{Action}

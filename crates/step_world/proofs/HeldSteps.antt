@@ -11,8 +11,8 @@ use Rattle.run_law.specs.Ops.{phase_in}
 use Rattle.run_law.specs.Progress.{Progress}
 use Rattle.script_ops.specs.Values.{ScriptValue, op_at}
 use Rattle.script_ops.specs.declared.op.Op.{Op}
-use Rattle.step_world.proofs.AccessSteps.{some_can_be}
-use Rattle.step_world.proofs.MachineStates.{holder_off, holder_on, place_behind-ready, place_behind-following}
+use Rattle.step_world.proofs.laws.AccessSteps.{some_can_be}
+use Rattle.step_world.proofs.laws.MachineStates.{holder_off, holder_on, place_behind-ready, place_behind-following}
 use Rattle.step_world.proofs.StepParts.{place_of}
 use Rattle.step_world.specs.Machine.{Decides, Follows, Looks, MachineValue, StepFrom, StepOf, Steps, thread_at}
 use Rattle.step_world.specs.Moments.{IsRunSoFar, progress_by, progress_in}

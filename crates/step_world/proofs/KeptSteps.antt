@@ -14,7 +14,7 @@ use Rattle.step_world.specs.declared.place.Place.TheVariants.{Ready, Looking, Fo
 use Rattle.step_world.specs.Moments.{IsRunSoFar}
 use Rattle.step_world.proofs.LookSteps.{take_step, look_step}
 use Rattle.step_world.proofs.CommandSteps.{follow_step, decide_step}
-use Rattle.step_world.proofs.AccessSteps.{tag_step, untag_step, touch_step}
+use Rattle.step_world.proofs.laws.AccessSteps.{tag_step, untag_step, touch_step}
 
 -- ---- a step of any thread
 

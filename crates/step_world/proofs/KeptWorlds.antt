@@ -29,9 +29,9 @@ use Rattle.step_world.specs.declared.work.Work.{Work}
 use Rattle.step_world.specs.declared.world.World.{World}
 use Rattle.tree_law.specs.Steps.{needs}
 use Rattle.step_world.proofs.KeptSteps.{step_keeps}
-use Rattle.step_world.proofs.LookedCounts.{IsOtherStep, other_step, others_looked}
+use Rattle.step_world.proofs.laws.LookedCounts.{IsOtherStep, other_step, others_looked}
 use Rattle.step_world.proofs.WithinThreads.{AreWithin-step}
-use Rattle.step_world.proofs.StepRows.{adds_set, moves_set}
+use Rattle.step_world.proofs.laws.StepRows.{adds_set, moves_set}
 
 -- ---- threads
 

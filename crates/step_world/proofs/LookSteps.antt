@@ -19,7 +19,7 @@ use Rattle.run_law.proofs.laws.NotedEntries.{note_keeps}
 use Rattle.run_law.proofs.laws.Pairs.{both_eqb-true, both_eqb-same}
 use Rattle.run_law.proofs.laws.Positions.{At-append_front}
 use Rattle.run_law.proofs.laws.GrownLists.{with_tree}
-use Rattle.step_world.proofs.MachineStates.{at_can_be, can_be_at, IsKept-same, nobody_holds, progress_moved, tree_can_be, where_now}
+use Rattle.step_world.proofs.laws.MachineStates.{at_can_be, can_be_at, IsKept-same, nobody_holds, progress_moved, tree_can_be, where_now}
 use Rattle.run_law.proofs.laws.TakenCommands.{fails, take_keeps}
 use Rattle.run_law.specs.Jobs.{follows_of, jobs_of, looks_of}
 use Rattle.step_world.specs.Machine.{Looks, MachineValue, Takes, thread_at}

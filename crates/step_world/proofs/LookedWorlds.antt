@@ -25,11 +25,11 @@ use Rattle.run_law.specs.TreeHistory.{tree_after}
 use Rattle.script_ops.specs.Values.{ScriptValue, op_at}
 use Rattle.script_ops.specs.declared.op.Op.{Op}
 use Rattle.step_world.proofs.KeptWorlds.{AreInPlay-set, IsWorldOf-step, Leaves, moves-leaves, notes-grows}
-use Rattle.step_world.proofs.LookedCounts.{look_looked}
+use Rattle.step_world.proofs.laws.LookedCounts.{look_looked}
 use Rattle.step_world.proofs.NotedLists.{list-noted}
 use Rattle.step_world.proofs.SoundStates.{IsSound-now}
 use Rattle.step_world.proofs.StepParts.{looking_is}
-use Rattle.step_world.proofs.StepRows.{step_looks}
+use Rattle.step_world.proofs.laws.StepRows.{step_looks}
 use Rattle.step_world.proofs.TakenWorlds.{within-next}
 use Rattle.step_world.specs.Answers.{HasCounted, HasNext}
 use Rattle.step_world.specs.Looked.{HasLooked}

@@ -23,11 +23,11 @@ use Rattle.run_law.specs.Quotas.{most_counts, room_of}
 use Rattle.run_law.specs.TreeHistory.{tree_after}
 use Rattle.script_ops.specs.Values.{ScriptValue, op_at}
 use Rattle.script_ops.specs.declared.op.Op.{Op}
-use Rattle.step_world.proofs.AccessSteps.{some_can_be}
+use Rattle.step_world.proofs.laws.AccessSteps.{some_can_be}
 use Rattle.step_world.proofs.NextRooms.{room-job}
 use Rattle.run_law.proofs.laws.ReadyLists.{spare_in-last}
 use Rattle.step_world.proofs.LookedWorlds.{counted}
-use Rattle.step_world.proofs.MachineStates.{can_be_at}
+use Rattle.step_world.proofs.laws.MachineStates.{can_be_at}
 use Rattle.step_world.proofs.RoomLeft.{has-room}
 use Rattle.step_world.proofs.SoundStates.{IsSound-now}
 use Rattle.step_world.proofs.StepParts.{looking_is}

@@ -24,10 +24,10 @@ use Rattle.run_law.specs.Truth.{is_made_by}
 use Rattle.script_ops.specs.Values.{IsLawful, ScriptValue, op_at}
 use Rattle.script_ops.specs.declared.op.Op.{Op}
 use Rattle.script_ops.specs.declared.op.Op.TheVariants as ops
-use Rattle.step_world.proofs.AccessSteps.{some_can_be}
+use Rattle.step_world.proofs.laws.AccessSteps.{some_can_be}
 use Rattle.step_world.specs.Machine.{MachineValue}
 use Rattle.step_world.specs.Moments.{CanBe, IsRunSoFar, progress_in}
-use Rattle.step_world.proofs.EntryRooms.{none_yet, op-few, owed-few}
+use Rattle.step_world.proofs.laws.EntryRooms.{none_yet, op-few, owed-few}
 
 module _ (script : ScriptValue) (s : MachineValue) (lawful : IsLawful script) (so_far : IsRunSoFar script s) where
   module _ (all : List TreeEntryValue) (can : CanBe s s.holder all) (i : ℕ) (there : i < slice_count script.machine) where

@@ -10,7 +10,7 @@ use Rattle.run_law.specs.Journals.{slice_at}
 use Rattle.run_law.specs.Quotas.{command_count}
 use Rattle.run_law.specs.TreeHistory.{TreeEntryValue, tree_after}
 use Rattle.script_ops.specs.Values.{IsLawful, ScriptValue, threads_of}
-use Rattle.step_world.proofs.Schedules.{opening_so_far}
+use Rattle.step_world.proofs.laws.Schedules.{opening_so_far}
 use Rattle.step_world.specs.Machine.{IsOpening, opening_thread}
 use Rattle.step_world.specs.Openings.{AreFirst, AreFresh, AreListed, HasRooms}
 use Rattle.step_world.specs.Slices.{SliceValue}

@@ -21,7 +21,7 @@ use Rattle.script_ops.specs.Values.{IsLawful, ScriptValue, op_at, ops_of, thread
 use Rattle.script_ops.specs.declared.limits.TheConstants.{MOST_WEIGHT}
 use Rattle.script_ops.specs.declared.op.Op.{Op}
 use Rattle.script_ops.specs.declared.op.Op.TheVariants as ops
-use Rattle.step_world.proofs.EntryRooms.{entries-few}
+use Rattle.step_world.proofs.laws.EntryRooms.{entries-few}
 use Rattle.step_world.proofs.NextRooms.{room-access}
 use Rattle.step_world.proofs.KeptWorlds.{slice_at-journals}
 use Rattle.step_world.proofs.TouchedWorlds.{known}

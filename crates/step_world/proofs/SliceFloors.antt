@@ -4,7 +4,7 @@ use Rattle.cache_core.specs.History.{floor_of}
 use Rattle.run_law.specs.Journals.{slice_at}
 use Rattle.script_ops.specs.Values.{ScriptValue}
 use Rattle.run_law.proofs.laws.LegalHistories.{floor_within}
-use Rattle.step_world.proofs.MachineStates.{at_can_be, tree_can_be}
+use Rattle.step_world.proofs.laws.MachineStates.{at_can_be, tree_can_be}
 use Rattle.step_world.specs.Machine.{MachineValue, thread_at}
 use Rattle.step_world.specs.declared.place.Place.TheVariants.{Following}
 use Rattle.step_world.specs.Moments.{CanBe, IsRunSoFar}

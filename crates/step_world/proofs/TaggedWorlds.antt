@@ -13,7 +13,7 @@ use Rattle.script_ops.specs.Fits.{Fits}
 use Rattle.script_ops.specs.Values.{ScriptValue}
 use Rattle.script_ops.specs.declared.op.Op.TheVariants as ops
 use Rattle.step_world.proofs.KeptWorlds.{IsWorldOf-step, Leaves, moves-leaves}
-use Rattle.step_world.proofs.StepRows.{step_tags}
+use Rattle.step_world.proofs.laws.StepRows.{step_tags}
 use Rattle.step_world.specs.Answers.{HasNext, HasTagged}
 use Rattle.step_world.specs.Machine.{Moves, Steps, Tags, thread_at}
 use Rattle.step_world.specs.Passing.{IsResolved}

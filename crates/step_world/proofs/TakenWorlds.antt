@@ -13,8 +13,8 @@ use Rattle.script_ops.specs.declared.op.Op.{Op}
 use Rattle.script_ops.specs.declared.op.Op.TheVariants as ops
 use Rattle.run_law.proofs.laws.CountedOps.{thread_within}
 use Rattle.step_world.proofs.KeptWorlds.{IsWorldOf-step, Leaves, moves-leaves}
-use Rattle.step_world.proofs.LookedCounts.{take_looked}
-use Rattle.step_world.proofs.StepRows.{step_takes}
+use Rattle.step_world.proofs.laws.LookedCounts.{take_looked}
+use Rattle.step_world.proofs.laws.StepRows.{step_takes}
 use Rattle.step_world.specs.Answers.{HasNext, HasTaken}
 use Rattle.run_law.proofs.laws.ReadyLists.{drop-at}
 use Rattle.run_law.specs.FoundLooks.{found_at}

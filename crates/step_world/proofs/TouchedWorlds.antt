@@ -18,10 +18,10 @@ use Rattle.run_law.specs.Progress.{Progress}
 use Rattle.run_law.specs.TreeHistory.{tree_after}
 use Rattle.script_ops.specs.Values.{ScriptValue, op_at}
 use Rattle.script_ops.specs.declared.op.Op.TheVariants as ops
-use Rattle.step_world.proofs.AccessSteps.{some_can_be, tag_epoch}
+use Rattle.step_world.proofs.laws.AccessSteps.{some_can_be, tag_epoch}
 use Rattle.step_world.proofs.KeptWorlds.{AreInPlay-set, IsWorldOf-step, Leaves, moves-leaves, notes-grows, slice_at-journals}
-use Rattle.step_world.proofs.MachineStates.{can_be_is}
-use Rattle.step_world.proofs.StepRows.{step_stale, step_touches}
+use Rattle.step_world.proofs.laws.MachineStates.{can_be_is}
+use Rattle.step_world.proofs.laws.StepRows.{step_stale, step_touches}
 use Rattle.step_world.proofs.TakenWorlds.{IsQuiet, journals-quiet, leaves-quiet, lists-quiet, rooms-access, tree-quiet, within-next}
 use Rattle.step_world.specs.Answers.{HasNext, HasTouched, HasUsed, HasStaleTag}
 use Rattle.run_law.specs.LookLists.{AreReady}

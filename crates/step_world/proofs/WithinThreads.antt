@@ -11,7 +11,7 @@ use Rattle.run_law.specs.TreeHistory.{tree_after}
 use Rattle.script_ops.specs.Values.{ScriptValue, op_at, ops_of}
 use Rattle.script_ops.specs.declared.op.Op.{Op}
 use Rattle.script_ops.specs.declared.op.Op.TheVariants.{Access}
-use Rattle.step_world.proofs.MachineStates.{where_now}
+use Rattle.step_world.proofs.laws.MachineStates.{where_now}
 use Rattle.step_world.specs.Machine.{Begins, Decides, Looks, MachineValue, Moves, Reaches, StepFrom, StepOf, Steps, TagsAgain, Touches, floor_for, place_behind, thread_at}
 use Rattle.step_world.specs.Worlds.{AreWithin, IsIn, IsWithin}
 use Rattle.step_world.specs.declared.place.Place.{Place}

@@ -5,7 +5,6 @@ pub mod CurveLines
 mod CurveSteps
 pub mod FewUses
 pub mod FirstCounts
-pub mod FirstLines
 mod Fronts
 mod Powers
 pub mod SampleLists
@@ -15,3 +14,4 @@ pub mod Steps
 mod Totals
 pub mod UseLists
 pub mod UsesFrom
+pub mod laws

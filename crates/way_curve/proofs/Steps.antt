@@ -8,7 +8,7 @@ use Rattle.lackey_text.specs.Uses.{uses_of}
 use Rattle.way_curve.specs.Reading.{AreOf, BeginsWith, HasRead, IsBad, IsGood, IsOpen, ReadsAs, TraceValue}
 use Rattle.way_curve.specs.Sampling.{AddSampled, HaveSampled, SampledValue, Sampling}
 use Rattle.way_curve.specs.TraceTexts.{said_of, trace_of, uses_from}
-use Rattle.way_curve.proofs.FirstLines.{BeginsWith-byte, BeginsWith-end, BeginsWith-newline, IsOpen-more, IsOpen-nil, bad_first, lines-last, lines-newline}
+use Rattle.way_curve.proofs.laws.FirstLines.{BeginsWith-byte, BeginsWith-end, BeginsWith-newline, IsOpen-more, IsOpen-nil, bad_first, lines-last, lines-newline}
 use Rattle.way_curve.proofs.UsesFrom.{uses_from-bad, uses_from-one, uses_from-same}
 
 -- a trace that is good

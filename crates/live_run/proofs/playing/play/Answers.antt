@@ -2,7 +2,7 @@ use Rattle.std.proofs.Common.{◌<◌, ℕ, List, Result, Ok, Err}
 use Rattle.std.specs.Prelude.{IfOk}
 use Rattle.live_run.proofs.playing.play.Goals as goal
 use Rattle.run_law.specs.Journals.{JournalsValue}
-use Rattle.schedule_law.proofs.OrderedPlays.{schedules_are_plays}
+use Rattle.schedule_law.proofs.laws.OrderedPlays.{schedules_are_plays}
 use Rattle.schedule_law.specs.Schedules.{IsPlayBy, IsScheduled}
 use Rattle.script_ops.specs.Values.{ScriptValue}
 

@@ -1,4 +1,4 @@
-use Rattle.schedule_law.proofs.OrderedPlays.{schedules_are_plays}
+use Rattle.schedule_law.proofs.laws.OrderedPlays.{schedules_are_plays}
 use Rattle.schedule_law.proofs.ScheduledPlays.{plays_are_scheduled, schedules_are_runs}
 use Rattle.schedule_law.proofs.theorems.schedules_are_plays.Goals as goal
 

@@ -2,7 +2,7 @@ use Rattle.std.proofs.Common.{◌≡◌, ◌<◌, false, length, sym, arith}
 use Rattle.std.specs.List.{list_any}
 use Rattle.schemata_text.specs.Reading.{is_of}
 use Rattle.schemata_text.proofs.laws.Lawful.{AreLawful-push}
-use Rattle.schemata_text.proofs.Room.{length-lawful}
+use Rattle.schemata_text.proofs.laws.Room.{length-lawful}
 use Rattle.schemata_text.proofs.laws.Items.{reading_from-entry, reading_from-entry_fault}
 use Rattle.schemata_text.proofs.reading.add_entry.Goals as goal
 

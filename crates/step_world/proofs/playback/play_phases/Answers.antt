@@ -1,7 +1,7 @@
 use Rattle.std.proofs.Common.{◌+◌, ap, sym, subst, ◌∙◌}
 use Rattle.script_ops.specs.Values.{phase_at}
 use Rattle.step_world.proofs.PhaseSteps.{PlaysPhases-suc}
-use Rattle.step_world.proofs.Plays.{phase_count}
+use Rattle.step_world.proofs.laws.Plays.{phase_count}
 use Rattle.step_world.proofs.playback.play_phases.Goals as goal
 use Rattle.step_world.specs.Play.{PlaysPhase, PlaysPhaseBy}
 use Rattle.step_world.specs.Worlds.{machine_of}

@@ -1,7 +1,7 @@
 use Rattle.std.proofs.Common.{ap, arith, refl, ◌∙◌}
 use Rattle.step_world.proofs.HeldSteps.{held_step}
 use Rattle.step_world.proofs.PhaseSteps.{IsLettingGo-step}
-use Rattle.step_world.proofs.Plays.{step_phase}
+use Rattle.step_world.proofs.laws.Plays.{step_phase}
 use Rattle.step_world.proofs.run_phase.let_go.Goals as goal
 use Rattle.step_world.specs.Turns.{holding_left}
 use Rattle.step_world.specs.Worlds.{machine_of}

@@ -1,7 +1,7 @@
 use Rattle.std.proofs.Common.{◌∷◌, [], get_or, take, arith, subst, sym, ◌∙◌}
 use Rattle.std.proofs.lemmas.List.{take_more}
 use Rattle.step_world.proofs.PhaseSteps.{StepsOf-append, StepsOf-one}
-use Rattle.step_world.proofs.Plays.{step_phase}
+use Rattle.step_world.proofs.laws.Plays.{step_phase}
 use Rattle.step_world.proofs.run_phase.step_in_order.Goals as goal
 use Rattle.step_world.specs.Listed.{AreOf}
 use Rattle.step_world.specs.Play.{StepsOf}

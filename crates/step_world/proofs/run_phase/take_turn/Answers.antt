@@ -2,7 +2,7 @@ use Rattle.std.proofs.Common.{◌≡◌, Some, ap, sym, ◌∙◌}
 use Rattle.std.specs.Prelude.{is_some}
 use Rattle.std.proofs.lemmas.List.{get_or_default}
 use Rattle.step_world.proofs.GivenAnswers.{answers-steps}
-use Rattle.step_world.proofs.Plays.{step_phase}
+use Rattle.step_world.proofs.laws.Plays.{step_phase}
 use Rattle.step_world.proofs.TakenWorlds.{within-next}
 use Rattle.step_world.proofs.Turns.{turn}
 use Rattle.step_world.proofs.run_phase.take_turn.Goals as goal

@@ -1,5 +1,5 @@
-use Rattle.step_world.proofs.EntryRooms.{entries-few}
-use Rattle.step_world.proofs.Schedules.{each_moment}
+use Rattle.step_world.proofs.laws.EntryRooms.{entries-few}
+use Rattle.step_world.proofs.laws.Schedules.{each_moment}
 use Rattle.step_world.proofs.theorems.each_journal_has_room.Goals as goal
 
 pub returns : goal.returns

@@ -1,5 +1,5 @@
-use Rattle.step_world.proofs.Plays.{play_is_a_run}
-use Rattle.step_world.proofs.Schedules.{each_end, each_moment}
+use Rattle.step_world.proofs.laws.Plays.{play_is_a_run}
+use Rattle.step_world.proofs.laws.Schedules.{each_end, each_moment}
 use Rattle.step_world.proofs.theorems.each_schedule_is_a_run.Goals as goal
 
 pub returns-clause-so_far : goal.returns-clause-so_far

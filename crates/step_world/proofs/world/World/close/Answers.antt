@@ -3,7 +3,7 @@ use Rattle.cache_core.specs.declared.entry.SliceEntry.{SliceEntry}
 use Rattle.run_law.specs.Journals.{JournalsValue}
 use Rattle.run_law.specs.Runs.{IsRun}
 use Rattle.run_law.specs.TreeHistory.{TreeEntryValue}
-use Rattle.step_world.proofs.Schedules.{run_at_end}
+use Rattle.step_world.proofs.laws.Schedules.{run_at_end}
 use Rattle.step_world.proofs.world.World.close.Goals as goal
 use Rattle.step_world.specs.Worlds.{machine_of}
 

@@ -4,7 +4,7 @@ use Rattle.run_law.specs.Journals.{JournalsValue}
 use Rattle.run_law.specs.Runs.{IsRun}
 use Rattle.script_ops.specs.Values.{ScriptValue}
 use Rattle.step_world.proofs.EndedThreads.{step_moves}
-use Rattle.step_world.proofs.Schedules.{each_end}
+use Rattle.step_world.proofs.laws.Schedules.{each_end}
 use Rattle.step_world.specs.Machine.{Event, MachineValue, Next, Plays, Step, Steps}
 use Rattle.step_world.specs.Play.{EndInTurn, IsPlay, LetsGo, PlaysPhase, PlaysPhases, PlaysTo, StepsHolding, StepsOf}
 

@@ -25,8 +25,8 @@ use Rattle.run_law.specs.Truth.{is_made_by, is_taken_from}
 use Rattle.script_ops.specs.Values.{IsLawful, ScriptValue, op_at}
 use Rattle.script_ops.specs.declared.op.Op.{Op}
 use Rattle.script_ops.specs.declared.op.Op.TheVariants as ops
-use Rattle.step_world.proofs.AccessSteps.{some_can_be}
-use Rattle.step_world.proofs.MachineStates.{can_be_is}
+use Rattle.step_world.proofs.laws.AccessSteps.{some_can_be}
+use Rattle.step_world.proofs.laws.MachineStates.{can_be_is}
 use Rattle.step_world.specs.Machine.{MachineValue}
 use Rattle.step_world.specs.Moments.{CanBe, IsRunSoFar, progress_in}
 use Rattle.tree_law.specs.Sound.{IsSound}

@@ -28,7 +28,7 @@ use Rattle.run_law.proofs.laws.JobKinds.{pair_of_look}
 use Rattle.run_law.proofs.laws.MatchedLooks.{not_by}
 use Rattle.run_law.proofs.laws.Pairs.{both_eqb-true, both_eqb-same}
 use Rattle.run_law.proofs.laws.GrownLists.{Adds, with_slices}
-use Rattle.step_world.proofs.MachineStates.{tree_can_be}
+use Rattle.step_world.proofs.laws.MachineStates.{tree_can_be}
 use Rattle.step_world.specs.Looked.{HasLooked}
 use Rattle.step_world.specs.Machine.{Begins, Looks, MachineValue, Reaches, StepFrom, StepOf, Steps, TagsAgain, Takes, Touches, floor_for, thread_at}
 use Rattle.step_world.specs.declared.place.Place.{Place}

@@ -15,8 +15,8 @@ use Rattle.script_ops.specs.Values.{ScriptValue, op_at}
 use Rattle.script_ops.specs.declared.op.Op.{Op}
 use Rattle.run_law.proofs.laws.Endings.{op_phase, opening_kept, phase_keeps, run_when_over}
 use Rattle.run_law.proofs.laws.OpMarks.{not_some}
-use Rattle.step_world.proofs.MachineStates.{can_be_same, can_be_tree, IsKept-same, tree_can_be}
-use Rattle.step_world.proofs.AccessSteps.{some_can_be}
+use Rattle.step_world.proofs.laws.MachineStates.{can_be_same, can_be_tree, IsKept-same, tree_can_be}
+use Rattle.step_world.proofs.laws.AccessSteps.{some_can_be}
 use Rattle.step_world.proofs.KeptSteps.{step_keeps}
 use Rattle.step_world.specs.Machine.{Event, GoesOn, Happens, IsOpening, IsOver, MachineValue, Next, Plays, Step, opening_thread, thread_at}
 use Rattle.step_world.specs.declared.place.Place.{Place}

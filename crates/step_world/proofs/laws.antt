@@ -1,0 +1,9 @@
+-- Lemmas that crates above cite.
+pub mod AccessSteps
+pub mod EntryRooms
+pub mod LookedCounts
+pub mod MachineStates
+pub mod PhaseThreads
+pub mod Plays
+pub mod Schedules
+pub mod StepRows
