@@ -1,5 +1,7 @@
 -- A change of the bindings that pass a test.
-use Rattle.std.proofs.Common.{◌≡◌, ℕ, suc, ◌+◌, ◌<◌, ◌≤◌, Bool, true, false, List, [], ◌∷◌, ◌++◌, length, take, drop, set, get_or, refl, sym, ap, ◌∙◌, arith, drop-cons, length-set, append-nil}
+use Rattle.std.proofs.Common.{◌≡◌, ℕ, suc, ◌+◌, ◌<◌, ◌≤◌, Bool, true, false, if◌then◌else◌, List, [], ◌∷◌, ◌++◌, length, map, filter, take, drop, set, get_or, slice_get, is_some, refl, sym, ap, ◌∙◌, subst, arith, drop-cons, length-set, inl, inr}
+use Rattle.std.specs.List.{HoldsAt}
+use Rattle.std.proofs.lemmas.Bool.{cases_Bool}
 use Rattle.std.proofs.lemmas.Grind.{common_steps}
 use Rattle.std.proofs.lemmas.List.{take_more, take_more_set, drop-set-lt}
 use Rattle.task_binding.specs.declared.binding.Binding.{Binding}
@@ -9,11 +11,6 @@ use Rattle.task_binding.specs.Bindings.{changed}
 changed-append : (which : Binding → Bool) (how : Binding → Binding) (xs ys : List Binding) → changed which how (xs ++ ys) ≡ changed which how xs ++ changed which how ys
 changed-append which how [] ys = refl
 changed-append which how (x ∷ xs) ys = rw (changed-append which how xs ys) refl
-
--- a change keeps how many there are
-pub length-changed : (which : Binding → Bool) (how : Binding → Binding) (xs : List Binding) → length (changed which how xs) ≡ length xs
-length-changed which how [] = refl
-length-changed which how (x ∷ xs) = ap suc (length-changed which how xs)
 
 -- the first n bindings are changed
 pub record ChangedTo (which : Binding → Bool) (how : Binding → Binding) (before after : List Binding) (n : ℕ) : Type 0 where
@@ -67,9 +64,28 @@ ChangedTo-end which how before after n past c =
     let every : take n before ≡ before = let e = c.long in grind (arith, common_steps) in
     sym all ∙ c.front ∙ ap (changed which how) every
 
--- a whole table that was written through a slice
-pub take-append_drop : (n : ℕ) (before after : List Binding) → n ≡ length before → length after ≡ length before → take n (after ++ drop (length after) before) ≡ after
-take-append_drop n before after count long =
-    let gone : drop (length after) before ≡ [] = grind (arith, common_steps) in
-    let all : take n after ≡ after = grind (arith, common_steps) in
-    rw (gone, append-nil) all
+-- the binding at the next place is changed where it passes the test
+pub ChangedTo-step : (which : Binding → Bool) (how : Binding → Binding) (before after now : List Binding) (n : ℕ) (d : Binding) → n < length after
+    → HoldsAt (λ b. now ≡ (if which b then set after n (how b) else after)) after n → ChangedTo which how before after n → ChangedTo which how before now (n + 1)
+ChangedTo-step which how before after now n d h step c = elim (cases_Bool (which (get_or after n d))) [
+  | inl is ↦ (let changes : now ≡ set after n (how (get_or after n d)) = step d ∙ rw is refl in
+      subst (λ l. ChangedTo which how before l (n + 1)) (sym changes) (ChangedTo-set which how before after n d h is c))
+  | inr other ↦ (let stays : now ≡ after = step d ∙ rw other refl in
+      subst (λ l. ChangedTo which how before l (n + 1)) (sym stays) (ChangedTo-skip which how before after n d h other c))
+]
+
+-- where none passes the test, nothing changes
+pub changed-none : (which : Binding → Bool) (how : Binding → Binding) (xs : List Binding) → filter which xs ≡ [] → changed which how xs ≡ xs
+changed-none which how [] none = refl
+changed-none which how (x ∷ xs) none = elim (cases_Bool (which x)) [
+  | inl is ↦ absurd (let some : x ∷ filter which xs ≡ [] = rw is at none in cc)
+  | inr other ↦ (let rest : filter which xs ≡ [] = rw other at none in rw other (ap (λ l. x ∷ l) (changed-none which how xs rest)))
+]
+
+-- so it is where the test has no first member
+pub changed-no_member : (which : Binding → Bool) (how : Binding → Binding) (xs : List Binding) → is_some (slice_get (map (λ b. b.task) (filter which xs)) 0) ≡ false → changed which how xs ≡ xs
+changed-no_member which how xs none = changed-none which how xs (no_first (filter which xs) none)
+  where
+    no_first : (members : List Binding) → is_some (slice_get (map (λ b. b.task) members) 0) ≡ false → members ≡ []
+    no_first [] none = refl
+    no_first (m ∷ ms) none = absurd (cc)

@@ -1,13 +1,13 @@
 -- Bindings whose tasks rise: each task stands at one place at most.
-use Rattle.std.proofs.Common.{◌≡◌, ◌≢◌, ℕ, zero, suc, ◌+◌, ◌<◌, ◌≤◌, Bool, true, false, cond, List, [], ◌∷◌, length, map, set, get_or, filter, All, Some, None, refl, sym, ap, ◌∙◌, arith, inl, inr}
+use Rattle.std.proofs.Common.{◌≡◌, ◌≢◌, ℕ, zero, suc, ◌+◌, ◌<◌, ◌≤◌, Bool, List, [], ◌∷◌, length, map, set, get_or, filter, All, Some, None, refl, sym, ap, ◌∙◌, arith, inl, inr}
 use Rattle.std.specs.List.{AllWithin}
 use Rattle.std.specs.List.Sorted.{IsStrictlyIncreasing}
 use Rattle.std.proofs.lemmas.Bool.{eq-eqb, ne_eqb}
 use Rattle.std.proofs.lemmas.Bool.{cases_lt}
+use Rattle.std.proofs.lemmas.Grind.{common_steps}
 use Rattle.std.proofs.lemmas.List.{get_or_default}
 use Rattle.std.proofs.lemmas.List.Kept.{AllPairs-filter, AllPairs-from_increasing}
 use Rattle.task_binding.specs.declared.binding.Binding.{Binding}
-use Rattle.task_binding.proofs.Changes.{length-changed}
 use Rattle.task_binding.specs.Bindings.{AreRising, binding_of, changed, is_of, opening_binding}
 
 -- all but the first rise
@@ -86,20 +86,9 @@ AreRising-opening ids rising i j d below within =
     let pair = AllPairs-from_increasing ids rising i j 0 below (omega arith) in
     omega (arith, first, second, pair)
 
--- a change that keeps each task
-get_or-changed_task : (which : Binding → Bool) (how : Binding → Binding) → ((b : Binding) → (how b).task ≡ b.task) → (xs : List Binding) (i : ℕ) (d : Binding) → i < length xs → (get_or (changed which how xs) i d).task ≡ (get_or xs i d).task
-get_or-changed_task which how keeps [] i d h = absurd (omega arith)
-get_or-changed_task which how keeps (x ∷ xs) zero d h = elim (which x) as (λ b. (cond b (how x) x).task ≡ x.task) [ true ↦ keeps x | false ↦ refl ]
-get_or-changed_task which how keeps (x ∷ xs) (suc i) d h = get_or-changed_task which how keeps xs i d (omega arith)
-
--- and so their order
-pub AreRising-changed : (which : Binding → Bool) (how : Binding → Binding) → ((b : Binding) → (how b).task ≡ b.task) → (xs : List Binding) → AreRising xs → AreRising (changed which how xs)
-AreRising-changed which how keeps xs rising i j d below within =
-    let long = length-changed which how xs in
-    let first = get_or-changed_task which how keeps xs i d (omega arith) in
-    let second = get_or-changed_task which how keeps xs j d (omega arith) in
-    let pair = rising i j d below (omega arith) in
-    omega (arith, first, second, pair)
+-- a binding of the same task in its place keeps the order
+pub AreRising-set : (xs : List Binding) (place : ℕ) (to : Binding) → AreRising xs → place < length xs → ((d : Binding) → (get_or xs place d).task ≡ to.task) → AreRising (set xs place to)
+AreRising-set xs place to rising h same = λ i j d below within. grind (arith, common_steps, rising i j d, rising i place d, rising place j d, same d, h)
 
 -- all up to a binding that is below the task are below it, and all from one that is not on are not
 pub get_or-task_below : (task : ℕ) (xs : List Binding) (n : ℕ) (e : Binding) → AreRising xs → n < length xs → (get_or xs n e).task < task → (k : ℕ) (d : Binding) → k < n + 1 → (get_or xs k d).task < task

@@ -2,6 +2,7 @@
 #![tactic(auto)]
 
 pub mod binding;
+mod counts;
 mod search;
 pub mod tasks;
 

@@ -1,8 +1,7 @@
 //! Looking through the bindings, which are in the order of their tasks.
 ghost use Rattle.std.specs.Prelude.{◌≡◌, ◌≢◌, ◌<◌, ◌≤◌, length, All, IfSome, IfNone};
 ghost use Rattle.std.specs.List.{AllWithin, HoldsAt, slice_get};
-ghost use Rattle.task_binding.specs.Bindings.{AreRising, changed, control_members, counted, has_control, has_monitor, joined, monitor_members};
-ghost use Rattle.rc_base.specs.Gids.{default_gid};
+ghost use Rattle.task_binding.specs.Bindings.{AreRising, control_members, has_control, has_monitor, monitor_members};
 
 use crate::binding::Binding;
 use rc_base::Gid;
@@ -42,29 +41,6 @@ fn lower_bound(bindings: &[Binding], task: u64) -> usize
         }
     }
     low
-}
-
-/// Moves the tasks of a control group to the default group.
-pub(crate) fn change_control(bindings: &mut [Binding], group: Gid)
-    ensures { bindings.new ≡ changed (has_control group) (joined default_gid) bindings.old }
-{
-    for b in bindings.iter_mut() {
-        if b.control == group {
-            b.control = Gid::DEFAULT;
-            b.monitor = Gid::DEFAULT;
-        }
-    }
-}
-
-/// Counts the tasks of a group in another.
-pub(crate) fn change_monitor(bindings: &mut [Binding], group: Gid, parent: Gid)
-    ensures { bindings.new ≡ changed (has_monitor group) (counted parent) bindings.old }
-{
-    for b in bindings.iter_mut() {
-        if b.monitor == group {
-            b.monitor = parent;
-        }
-    }
 }
 
 /// The i-th task of a control group.

@@ -1,12 +1,15 @@
 //! All declared tasks with their groups.
-ghost use Rattle.std.specs.Prelude.{◌≡◌, ◌≢◌, ◌↔◌, ◌<◌, map, Some, None, Ok, Err, IsSome, IsSomeAnd, IfOk, OnOk, OnErr};
+ghost use Rattle.std.specs.Prelude.{◌≡◌, ◌≢◌, ◌↔◌, ◌<◌, map, Some, None, Ok, Err, IsSome, IsSomeAnd, IfOk, OnOk, OnErr, is_some};
 ghost use Rattle.std.specs.List.{slice_get};
 ghost use Rattle.std.specs.List.Sorted.{IsStrictlyIncreasing};
 ghost use Rattle.task_binding.specs.Bindings.{binding_of, changed, control_members, counted, has_control, has_monitor, is_of, joined, monitor_members, opening_binding};
 ghost use Rattle.rc_base.specs.Gids.{default_gid};
 
+mod rebinding;
+
 use crate::binding::{BindFault, Binding};
-use crate::search::{change_control, change_monitor, nth_of_control, nth_of_monitor, place_of};
+use crate::counts::{GroupCount, has_tasks, opening_counts};
+use crate::search::{nth_of_control, nth_of_monitor, place_of};
 use rc_base::{Gid, NoMemory};
 use std::alloc::{AllocError, Global};
 use std::marker::Model;
@@ -15,18 +18,25 @@ use std::marker::Model;
 #[derive(Drop)]
 pub struct Tasks {
     bindings: Vec<Binding>,
+    // How many tasks each control group has.
+    controls: Vec<GroupCount>,
+    // How many tasks are counted in each group.
+    monitors: Vec<GroupCount>,
 }
 
 impl Model for Tasks {
-    ghost use Rattle.std.specs.Prelude.{List};
+    ghost use Rattle.std.specs.Prelude.{List, vec_capacity};
     ghost use Rattle.task_binding.specs.declared.binding.Binding.{Binding};
-    ghost use Rattle.task_binding.specs.Bindings.{AreRising};
+    ghost use Rattle.task_binding.specs.Bindings.{AreRising, has_control, has_monitor};
+    ghost use Rattle.task_binding.specs.GroupCounts.{AreCounts};
 
     ghost Value = { List Binding };
 
     ghost view = { λ t. t.bindings.items };
 
-    ghost invariant = { λ t. AreRising t.bindings.items };
+    ghost invariant = { λ t. AreRising t.bindings.items
+        × AreCounts has_control t.bindings.items t.controls.items (vec_capacity t.controls)
+        × AreCounts has_monitor t.bindings.items t.monitors.items (vec_capacity t.monitors) };
 }
 
 impl Tasks {
@@ -36,7 +46,13 @@ impl Tasks {
         ensures { IfOk result (λ tasks. tasks ≡ map opening_binding ids.now) }
     {
         let bindings = opening_bindings(alloc, ids)?;
-        Ok(Tasks { bindings })
+        let controls = opening_counts(alloc, ids.len())?;
+        let monitors = opening_counts(alloc, ids.len())?;
+        Ok(Tasks {
+            bindings,
+            controls,
+            monitors,
+        })
     }
 
     /// Moves a task to a control group. It leaves its monitor group, also where it is in the control group already.
@@ -49,9 +65,15 @@ impl Tasks {
         let Some(place) = place_of(&self.bindings, task) else {
             return Err(BindFault::NoTask);
         };
-        let b = &mut self.bindings[place];
-        b.control = group;
-        b.monitor = group;
+        let b = self.bindings[place];
+        self.rebind(
+            place,
+            Binding {
+                task: b.task,
+                control: group,
+                monitor: group,
+            },
+        );
         Ok(())
     }
 
@@ -65,11 +87,18 @@ impl Tasks {
         let Some(place) = place_of(&self.bindings, task) else {
             return Err(BindFault::NoTask);
         };
-        let b = &mut self.bindings[place];
+        let b = self.bindings[place];
         if b.control != parent {
             return Err(BindFault::OtherControl);
         }
-        b.monitor = group;
+        self.rebind(
+            place,
+            Binding {
+                task: b.task,
+                control: b.control,
+                monitor: group,
+            },
+        );
         Ok(())
     }
 
@@ -77,14 +106,24 @@ impl Tasks {
     pub fn unbind_ctrl(&mut self, group: Gid)
         ensures { self.new ≡ changed (has_control group) (joined default_gid) self.old }
     {
-        change_control(&mut self.bindings, group);
+        if !self.has_ctrl_member(group) {
+            return;
+        }
+        for place in 0..self.bindings.len() {
+            self.unbind_ctrl_at(place, group);
+        }
     }
 
     /// Counts all tasks of a monitor group in its parent.
     pub fn unbind_mon(&mut self, group: Gid, parent: Gid)
         ensures { self.new ≡ changed (has_monitor group) (counted parent) self.old }
     {
-        change_monitor(&mut self.bindings, group, parent);
+        if !self.has_mon_member(group) {
+            return;
+        }
+        for place in 0..self.bindings.len() {
+            self.unbind_mon_at(place, group, parent);
+        }
     }
 
     /// All declared tasks with their groups, in the order of the ids.
@@ -106,6 +145,20 @@ impl Tasks {
             }
             None => unreachable!(),
         }
+    }
+
+    /// Whether a control group has a task.
+    pub fn has_ctrl_member(&self, group: Gid) -> bool
+        ensures { result ≡ is_some (slice_get (control_members group self.now) 0) }
+    {
+        has_tasks(&self.controls, group)
+    }
+
+    /// Whether a task is counted in a group.
+    pub fn has_mon_member(&self, group: Gid) -> bool
+        ensures { result ≡ is_some (slice_get (monitor_members group self.now) 0) }
+    {
+        has_tasks(&self.monitors, group)
     }
 
     /// The i-th task of a control group, from 0, in the order of the ids; `None` where it has no more than i.

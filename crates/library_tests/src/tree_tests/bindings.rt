@@ -16,9 +16,16 @@ fn a_task_that_is_written_to_its_own_group_leaves_its_monitor_group(
     assert_eq!(rt; tasks.bind_ctrl(7, Gid(1)), Ok(()));
     assert_eq!(rt; tasks.bind_mon(7, Gid(1), Gid(2)), Ok(()));
     assert_eq!(rt; tasks.mon_member(Gid(2), 0), Some(7));
+    assert!(rt; tasks.has_mon_member(Gid(2)));
+    assert!(rt; !tasks.has_ctrl_member(Gid(2)));
     assert_eq!(rt; tasks.bind_ctrl(7, Gid(1)), Ok(()));
     assert_eq!(rt; tasks.mon_member(Gid(2), 0), None);
     assert_eq!(rt; tasks.mon_member(Gid(1), 0), Some(7));
+    assert!(rt; !tasks.has_mon_member(Gid(2)));
+    assert!(rt; tasks.has_ctrl_member(Gid(1)));
+    tasks.unbind_ctrl(Gid(1));
+    assert!(rt; !tasks.has_ctrl_member(Gid(1)));
+    assert_eq!(rt; tasks.ctrl_member(Gid::DEFAULT, 1), Some(7));
     Ok(())
 }
 

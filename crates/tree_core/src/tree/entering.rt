@@ -50,9 +50,10 @@ impl Tree {
     fn any_task(&self, gid: Gid) -> u32
         ensures { result ≡ (if is_some (slice_get (control_members gid self.now.state.tasks) 0) then 1 else 0) }
     {
-        match self.tasks.ctrl_member(gid, 0) {
-            Some(_) => 1,
-            None => 0,
+        if self.tasks.has_ctrl_member(gid) {
+            1
+        } else {
+            0
         }
     }
 }

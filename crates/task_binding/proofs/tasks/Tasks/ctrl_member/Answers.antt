@@ -6,4 +6,4 @@ use Rattle.task_binding.proofs.Order.{IsStrictlyIncreasing-filter}
 use Rattle.task_binding.proofs.tasks.Tasks.ctrl_member.Goals as goal
 
 pub returns-clause-rising : goal.returns-clause-rising
-returns-clause-rising c = subst (λ (xs : List Binding). IsStrictlyIncreasing (control_members c.args.group xs)) c.self.view_is (IsStrictlyIncreasing-filter (has_control c.args.group) c.self.inside.bindings.items c.self.invariant)
+returns-clause-rising c = subst (λ (xs : List Binding). IsStrictlyIncreasing (control_members c.args.group xs)) c.self.view_is (IsStrictlyIncreasing-filter (has_control c.args.group) c.self.inside.bindings.items c.self.invariant.0)

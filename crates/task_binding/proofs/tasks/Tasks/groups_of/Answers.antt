@@ -10,7 +10,7 @@ unreachable-requires c =
     let gone = subst (λ (o : Option Binding). IsSome o) (subst (λ (task : ℕ). binding_of task c.args.self.now ≡ None) c.from.ensures none) c.requires in absurd (cc)
 
 IsBoundAt-place : (c : goal.After-result-in-Some-1) → IsBoundAt c.from.result c.self.inside.bindings.items c.in-Some.place c.index-b.result.now
-IsBoundAt-place c = IsBoundAt-at c.from.result c.deref.result.now c.self.inside.bindings.items c.in-Some.place c.index-b.result.now c.deref.ensures.value c.self.invariant c.in-Some.ensures.within c.in-Some.ensures.there c.index-b.ensures
+IsBoundAt-place c = IsBoundAt-at c.from.result c.deref.result.now c.self.inside.bindings.items c.in-Some.place c.index-b.result.now c.deref.ensures.value c.self.invariant.0 c.in-Some.ensures.within c.in-Some.ensures.there c.index-b.ensures
 
 pub returns : goal.returns
 returns c =

@@ -6,4 +6,4 @@ use Rattle.task_binding.proofs.Order.{IsStrictlyIncreasing-filter}
 use Rattle.task_binding.proofs.tasks.Tasks.mon_member.Goals as goal
 
 pub returns-clause-rising : goal.returns-clause-rising
-returns-clause-rising c = subst (λ (xs : List Binding). IsStrictlyIncreasing (monitor_members c.args.group xs)) c.self.view_is (IsStrictlyIncreasing-filter (has_monitor c.args.group) c.self.inside.bindings.items c.self.invariant)
+returns-clause-rising c = subst (λ (xs : List Binding). IsStrictlyIncreasing (monitor_members c.args.group xs)) c.self.view_is (IsStrictlyIncreasing-filter (has_monitor c.args.group) c.self.inside.bindings.items c.self.invariant.0)
