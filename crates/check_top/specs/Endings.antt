@@ -23,9 +23,8 @@ use Rattle.journal_text.specs.Readings.{IsTextOf}
 use Rattle.resctrl_top.specs.Isolation.{BeginsGroupWindows, BeginsLockWindows, HoldsRegions, IsolatesGroups}
 use Rattle.run_law.specs.Journals.{JournalsValue}
 use Rattle.run_law.specs.Runs.{IsRun}
-use Rattle.schedule_law.specs.Schedules.{IsPlayBy}
 use Rattle.script_ops.specs.Values.{IsLawful, ScriptValue}
-use Rattle.step_world.specs.Play.{IsPlay}
+use Rattle.step_world.specs.Play.{IsPlay, IsPlayBy}
 
 -- a call as it is seen from outside: the form of its words, and its source and its sink before and after
 pub record Call : Type 0 where

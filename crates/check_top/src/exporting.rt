@@ -15,7 +15,6 @@ use check_parts::{BadInput, InputError, bad_line_of, export_text, script_in};
 use rc_base::NoMemory;
 use rc_stream::Gate;
 use run_law::Journals;
-use schedule_law::theorems::plays_are_by_their_orders;
 use script_ops::{MOST_SCRIPT_BYTES, Script};
 use std::alloc::Global;
 use std::sync::Wait;
@@ -58,8 +57,6 @@ fn export_of(
 fn step_script(alloc: Global, bytes: Vec<u8>, script: &Script) -> Performed<Journals>
     ensures { (play : _) → HasScript (Export play) bytes.items script.now → Performs (Refuses (Export play)) (Exports play) bytes.items result }
 {
-    // A play by order lines is one by order lists.
-    plays_are_by_their_orders();
     match step_world::play(alloc, script) {
         Ok(journals) => export_of(alloc, bytes, script, journals),
         Err(NoMemory) => Performed::NoMemory,

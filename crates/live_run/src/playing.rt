@@ -4,7 +4,8 @@ ghost use Rattle.live_run.specs.Quotas.{HaveQuotas};
 ghost use Rattle.live_run.specs.Sharing.{IsShareOf};
 ghost use Rattle.run_law.specs.Runs.{IsRun};
 ghost use Rattle.schedule_law.specs.LiveParts.{first};
-ghost use Rattle.schedule_law.specs.Schedules.{IsPlayBy, IsScheduled};
+ghost use Rattle.schedule_law.specs.Schedules.{IsScheduled};
+ghost use Rattle.step_world.specs.Play.{IsPlayBy};
 
 use crate::live::Live;
 use crate::logs::Logs;

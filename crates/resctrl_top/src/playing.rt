@@ -15,7 +15,6 @@ use rc_base::NoMemory;
 use rc_stream::Gate;
 use run_law::{Flags, Journals};
 use run_windows::theorems::{regions_hold, windows_are_isolated, windows_are_one};
-use schedule_law::theorems::plays_are_by_their_orders;
 use script_ops::{MOST_SCRIPT_BYTES, Script};
 use std::alloc::Global;
 use std::sync::Wait;
@@ -57,8 +56,6 @@ fn report_on(alloc: Global, form: Form, script: &Script, journals: Journals) -> 
 pub(crate) fn play(alloc: Global, form: Form, script: &Script) -> Performed<Journals>
     ensures { (bytes : List ℕ) → meaning bytes ≡ Ok script.now → Plays form bytes result }
 {
-    // A play by order lines is one by order lists.
-    plays_are_by_their_orders();
     match step_world::play(alloc, script) {
         Ok(journals) => report_on(alloc, form, script, journals),
         Err(NoMemory) => Performed::NoMemory,

@@ -10,7 +10,6 @@ pub mod LiveHappenings
 pub mod LiveOpenings
 pub mod LivePhases
 pub mod LivePlaces
-pub mod OwnOrders
 pub mod PartNumbers
 pub mod PartSets
 pub mod PhaseHappenings

@@ -6,8 +6,8 @@ use Rattle.script_ops.specs.Values.{ScriptValue}
 use Rattle.step_world.proofs.laws.Plays.{step_phase}
 use Rattle.step_world.proofs.laws.Schedules.{each_end}
 use Rattle.step_world.specs.Machine.{Event, MachineValue, Next, Plays, Step, Steps}
-use Rattle.step_world.specs.Play.{EndInTurn, LetsGo, PlaysPhaseBy, StepsHolding, StepsOf}
-use Rattle.schedule_law.specs.Schedules.{EachPlayIsScheduled, EachScheduleIsARun, PlaysPhasesBy}
+use Rattle.step_world.specs.Play.{EndInTurn, LetsGo, PlaysPhaseBy, PlaysPhasesBy, StepsHolding, StepsOf}
+use Rattle.schedule_law.specs.Schedules.{EachPlayIsScheduled, EachScheduleIsARun}
 use Rattle.schedule_law.proofs.Events.{Plays-append}
 
 -- events that lead from one state to another, so many phases later
@@ -59,10 +59,6 @@ Leads-phase script order old new plays =
     (Leads-append script 0 1 plays.ordered plays.free new (Leads-lets_go script plays.ordered.holder plays.ordered plays.free plays.lets_go)
     (Leads-append script 0 1 plays.free plays.ended new (Leads-ends script _ plays.free plays.ended plays.rest)
     (record { events = Next ∷ []; plays = (new, plays.next, refl); phase = plays.next.phase })))
-
--- after one phase the next one begins
-pub phase-after : (script : ScriptValue) (order : List ℕ) (old new : MachineValue) → PlaysPhaseBy script order old new → new.phase ≡ old.phase + 1
-phase-after script order old new plays = (Leads-phase script order old new plays).phase
 
 -- so many phases
 Leads-phases : (script : ScriptValue) (orders : List (List ℕ)) (old new : MachineValue) → PlaysPhasesBy script orders old new → Leads script (length orders) old new

@@ -1,11 +1,6 @@
 //! Laws of the definitions.
 ghost use Rattle.schedule_law.specs.Law.{SlicesHaveRoom, StatesClose, StatesOpen, StepsMayHappen};
-ghost use Rattle.schedule_law.specs.Schedules.{EachPlayIsByItsOrders, EachPlayIsScheduled, EachScheduleIsAPlay, EachScheduleIsARun};
-
-/// The play of a script is its play by its own order lists, and the other way round.
-pub fn plays_are_by_their_orders()
-    ensures { EachPlayIsByItsOrders }
-{}
+ghost use Rattle.schedule_law.specs.Schedules.{EachPlayIsScheduled, EachScheduleIsAPlay, EachScheduleIsARun};
 
 /// A play by order lists is scheduled. What is scheduled is a run, and it can be played again by order lists.
 pub fn schedules_are_plays()

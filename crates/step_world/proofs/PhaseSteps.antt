@@ -10,7 +10,7 @@ use Rattle.step_world.proofs.HeldSteps.{held_step}
 use Rattle.step_world.proofs.laws.PhaseThreads.{of_phase}
 use Rattle.step_world.specs.Machine.{HasEnded, MachineValue, Steps, thread_at}
 use Rattle.step_world.specs.Moments.{IsRunSoFar}
-use Rattle.step_world.specs.Play.{EndInTurn, LetsGo, PlaysPhase, PlaysPhases, StepsHolding, StepsOf, threads_of_phase}
+use Rattle.step_world.specs.Play.{EndInTurn, LetsGo, PlaysPhaseBy, PlaysPhasesBy, StepsHolding, StepsOf, threads_of_phase}
 use Rattle.step_world.specs.Turns.{EndsThread, HasLetGo, IsLettingGo}
 use Rattle.step_world.specs.declared.place.Place.TheVariants.{Ready}
 use Rattle.step_world.specs.declared.place.Thread.{Thread}
@@ -135,9 +135,6 @@ module _ (script : ScriptValue) where
   -- ---- phases
 
   -- one more phase
-  pub PlaysPhases-suc : (n : ℕ) (old between new : MachineValue) → PlaysPhases script n old between → PlaysPhase script between new → PlaysPhases script (n + 1) old new
-  PlaysPhases-suc n old between new phases phase = (let same : suc n ≡ n + 1 = omega arith in subst (λ k. PlaysPhases script k old new) same (at n old phases))
-    where
-      at : (k : ℕ) (first : MachineValue) → PlaysPhases script k first between → PlaysPhases script (suc k) first new
-      at zero first same = (new, subst (λ s. PlaysPhase script s new) same phase, refl)
-      at (suc k) first (next, one, rest) = (next, one, at k next rest)
+  pub PlaysPhasesBy-push : (orders : List (List ℕ)) (order : List ℕ) (old between new : MachineValue) → PlaysPhasesBy script orders old between → PlaysPhaseBy script order between new → PlaysPhasesBy script (orders ++ order ∷ []) old new
+  PlaysPhasesBy-push [] order old between new same phase = (new, subst (λ s. PlaysPhaseBy script order s new) same phase, refl)
+  PlaysPhasesBy-push (first ∷ orders) order old between new (next, one, rest) phase = (next, one, PlaysPhasesBy-push orders order next between new rest phase)

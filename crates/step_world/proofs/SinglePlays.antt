@@ -10,7 +10,7 @@ use Rattle.step_world.proofs.laws.Schedules.{next_so_far, opening_so_far}
 use Rattle.step_world.proofs.SingleSteps.{Agree, same_journals, step-agree}
 use Rattle.step_world.specs.Machine.{GoesOn, HasEnded, IsOpening, MachineValue, Steps, opening_thread, thread_at}
 use Rattle.step_world.specs.Moments.{IsRunSoFar}
-use Rattle.step_world.specs.Play.{EndInTurn, IsPlay, LetsGo, PlaysPhase, PlaysPhases, PlaysTo, StepsHolding, StepsOf, threads_of_phase}
+use Rattle.step_world.specs.Play.{EndInTurn, IsPlayBy, LetsGo, PlaysPhaseBy, PlaysPhasesBy, StepsHolding, StepsOf, threads_of_phase}
 
 module _ (script : ScriptValue) (lawful : IsLawful script) where
   -- two states agree, and their journals are those of a run so far
@@ -92,19 +92,19 @@ module _ (script : ScriptValue) (lawful : IsLawful script) where
   }
 
   -- one is played
-  phase-one : (a b x y : MachineValue) → AreOne a b → PlaysPhase script a x → PlaysPhase script b y → AreOne x y
-  phase-one a b x y one plays its =
-      let order : AreOne plays.ordered its.ordered = steps-one (phase_at script a.phase).order a b plays.ordered its.ordered one plays.order (subst (λ p. StepsOf script (phase_at script p).order b its.ordered) (sym one.agree.phase) its.order) in
+  phase-one : (order : List ℕ) (a b x y : MachineValue) → AreOne a b → PlaysPhaseBy script order a x → PlaysPhaseBy script order b y → AreOne x y
+  phase-one order a b x y one plays its =
+      let ordered : AreOne plays.ordered its.ordered = steps-one order a b plays.ordered its.ordered one plays.order its.order in
       let free : AreOne plays.free its.free =
-      lets_go-one plays.ordered.holder plays.ordered its.ordered plays.free its.free order plays.lets_go (subst (λ h. LetsGo script h its.ordered its.free) (sym order.agree.holder) its.lets_go) in
+      lets_go-one plays.ordered.holder plays.ordered its.ordered plays.free its.free ordered plays.lets_go (subst (λ h. LetsGo script h its.ordered its.free) (sym ordered.agree.holder) its.lets_go) in
       let ended : AreOne plays.ended its.ended =
       turns-one (threads_of_phase script a.phase) plays.free its.free plays.ended its.ended free plays.rest (subst (λ p. EndInTurn script (threads_of_phase script p) its.free its.ended) (sym one.agree.phase) its.rest) in
       next-one plays.ended its.ended x y ended plays.next its.next
 
   -- so many are
-  phases-one : (n : ℕ) (a b x y : MachineValue) → AreOne a b → PlaysPhases script n a x → PlaysPhases script n b y → AreOne x y
-  phases-one zero a b x y one is its = same-one a b x y is its one
-  phases-one (suc n) a b x y one (between, plays, rest) (amid, phase, more) = phases-one n between amid x y (phase-one a b between amid one plays phase) rest more
+  phases-one : (orders : List (List ℕ)) (a b x y : MachineValue) → AreOne a b → PlaysPhasesBy script orders a x → PlaysPhasesBy script orders b y → AreOne x y
+  phases-one [] a b x y one is its = same-one a b x y is its one
+  phases-one (order ∷ orders) a b x y one (between, plays, rest) (amid, phase, more) = phases-one orders between amid x y (phase-one order a b between amid one plays phase) rest more
 
   -- ---- the play
 
@@ -120,10 +120,8 @@ module _ (script : ScriptValue) (lawful : IsLawful script) where
     so_far = opening_so_far script a first;
   }
 
-  -- two plays have the same journals
-  pub plays-one : (one other : JournalsValue) → IsPlay script one → IsPlay script other → one ≡ other
-  plays-one one other plays its =
-      let first : PlaysTo script plays.last = plays.plays in
-      let second : PlaysTo script its.last = its.plays in
-      let last = phases-one (length script.phases) first.first second.first plays.last its.last (opening-one first.first second.first first.opening second.opening) first.phases second.phases in
+  -- two plays by the same order lists have the same journals
+  pub plays-one : (orders : List (List ℕ)) (one other : JournalsValue) → IsPlayBy script orders one → IsPlayBy script orders other → one ≡ other
+  plays-one orders one other plays its =
+      let last = phases-one orders plays.first its.first plays.last its.last (opening-one plays.first its.first plays.opening its.opening) plays.plays its.plays in
       sym plays.are ∙ (last.agree.journals ∙ its.are)

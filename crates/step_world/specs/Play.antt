@@ -1,9 +1,9 @@
 -- The play of a script: each phase by its order list, then the thread that holds the tree until it lets go, then each thread
 -- of the phase in rising order to its end.
 use Rattle.std.specs.List.{range_with_len}
-use Rattle.std.specs.Prelude.{List, None, Option, Some, [], length, replicate, suc, zero, ℕ, ◌∷◌, ◌≡◌}
+use Rattle.std.specs.Prelude.{List, None, Option, Some, [], length, map, replicate, suc, zero, ℕ, ◌∷◌, ◌≡◌}
 use Rattle.run_law.specs.Journals.{JournalsValue}
-use Rattle.script_ops.specs.Values.{ScriptValue, first_thread, phase_at}
+use Rattle.script_ops.specs.Values.{PhaseValue, ScriptValue, first_thread, phase_at}
 use Rattle.step_world.specs.Machine.{MachineValue, thread_at, Steps, HasEnded, IsOpening, GoesOn}
 
 -- these threads take a step each, one after the other
@@ -24,8 +24,7 @@ LetsGo script (Some t) old new = (n : ℕ) × (between : MachineValue) × StepsH
 -- threads step to their end, one after the other
 abbrev pub EndInTurn : ScriptValue → List ℕ → MachineValue → MachineValue → Type 0
 EndInTurn script [] old new = new ≡ old
-EndInTurn script (t ∷ ts) old new =
-    (n : ℕ) × (between : MachineValue) × StepsOf script (replicate n t) old between × HasEnded script t (thread_at between t) × EndInTurn script ts between new
+EndInTurn script (t ∷ ts) old new = (n : ℕ) × (between : MachineValue) × StepsOf script (replicate n t) old between × HasEnded script t (thread_at between t) × EndInTurn script ts between new
 
 -- the threads of a phase, rising
 abbrev pub threads_of_phase : ScriptValue → ℕ → List ℕ
@@ -41,23 +40,24 @@ pub record PlaysPhaseBy (script : ScriptValue) (steps : List ℕ) (old new : Mac
   pub rest : EndInTurn script (threads_of_phase script old.phase) free ended
   pub next : GoesOn script ended new
 
--- one phase by its own order list
-abbrev pub PlaysPhase : ScriptValue → MachineValue → MachineValue → Type 0
-PlaysPhase script old new = PlaysPhaseBy script (phase_at script old.phase).order old new
+-- these phases are played, one after the other, each by one of these order lists
+abbrev pub PlaysPhasesBy : ScriptValue → List (List ℕ) → MachineValue → MachineValue → Type 0
+PlaysPhasesBy script [] old new = new ≡ old
+PlaysPhasesBy script (order ∷ orders) old new = (between : MachineValue) × PlaysPhaseBy script order old between × PlaysPhasesBy script orders between new
 
--- so many phases are played, one after the other
-abbrev pub PlaysPhases : ScriptValue → ℕ → MachineValue → MachineValue → Type 0
-PlaysPhases script zero old new = new ≡ old
-PlaysPhases script (suc n) old new = (between : MachineValue) × PlaysPhase script old between × PlaysPhases script n between new
-
--- the script was played to its end
-pub record PlaysTo (script : ScriptValue) (last : MachineValue) : Type 0 where
+-- these are the journals of the play of the script by these order lists, one for each phase, in place of its own
+pub record IsPlayBy (script : ScriptValue) (orders : List (List ℕ)) (journals : JournalsValue) : Type 0 where
   pub first : MachineValue
-  pub opening : IsOpening script first
-  pub phases : PlaysPhases script (length script.phases) first last
-
--- these are the journals of the play of the script
-pub record IsPlay (script : ScriptValue) (journals : JournalsValue) : Type 0 where
   pub last : MachineValue
-  pub plays : PlaysTo script last
+  pub opening : IsOpening script first
+  pub each : length orders ≡ length script.phases
+  pub plays : PlaysPhasesBy script orders first last
   pub are : last.journals ≡ journals
+
+-- the order lists of these phases
+abbrev pub orders_of : List PhaseValue → List (List ℕ)
+orders_of phases = map (λ (phase : PhaseValue). phase.order) phases
+
+-- these are the journals of the play of the script, by its own order lists
+abbrev pub IsPlay : ScriptValue → JournalsValue → Type 0
+IsPlay script journals = IsPlayBy script (orders_of script.phases) journals

@@ -1,7 +1,7 @@
 //! Plays a script.
 ghost use Rattle.std.specs.Prelude.{◌≡◌, IfOk, length};
 ghost use Rattle.run_law.specs.Runs.{IsRun};
-ghost use Rattle.step_world.specs.Play.{IsPlay, PlaysPhases};
+ghost use Rattle.step_world.specs.Play.{IsPlay, PlaysPhasesBy, orders_of};
 ghost use Rattle.step_world.specs.Worlds.{IsWorldOf, machine_of};
 
 use crate::world::World;
@@ -15,7 +15,7 @@ fn play_phases(world: &mut World, script: &Script)
     requires world { IsWorldOf script.now world.old }
     requires first { world.old.phase ≡ 0 }
     ensures world { IsWorldOf script.now world.new }
-    ensures phases { PlaysPhases script.now (length script.now.phases) (machine_of world.old) (machine_of world.new) }
+    ensures phases { PlaysPhasesBy script.now (orders_of script.now.phases) (machine_of world.old) (machine_of world.new) }
     ensures over { world.new.phase ≡ length script.now.phases }
 {
     for phase in 0..script.phases() {

@@ -62,7 +62,7 @@ SIMULATOR = (
         "play", "The play by order lists",
         """What `step`, `gen`, `export step` and `divide` play: the machine of steps, and the play of a script by its order lists
         (`IsPlay`). `run` and `export run` promise the play by some order lists (`IsPlayBy`), and `check` nothing of it.""",
-        ("step_world/specs/Play: IsPlay", "schedule_law/specs/Schedules: IsPlayBy"),
+        ("step_world/specs/Play: IsPlay IsPlayBy",),
     ),
     Layer(
         "script", "The text of a script", "Which bytes are which script, and the line that is written of all others.",

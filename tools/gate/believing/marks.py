@@ -14,7 +14,8 @@ STALE = {
 
 def is_marked(part):
     """Whether a definition, or the head of its file, says that the top calls do not reach it."""
-    return not is_stale(part) and (FILE_MARK in part.file.text.splitlines() or part.comment.startswith(MARK))
+    lines = part.file.text.splitlines()
+    return not is_stale(part) and (FILE_MARK in lines or lines[0].startswith(f"-- {MARK}") or part.comment.startswith(MARK))
 
 
 def is_stale(part):

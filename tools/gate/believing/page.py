@@ -23,8 +23,8 @@ To judge what isolation means of given journals, your own or the simulator's, re
 AFTER_THE_TABLE = """Besides these one has to agree with the kit: its prover, its library, and {words} of that library's words.
 
 **Marks.** A definition that no contract of the programs' top calls and of the laws of policies reaches is marked in its file: its
-comment begins with "(For proofs.)", or the head of its file says that no promise of the program stands on it. Both mean "not reached from
-the top calls", and no more: laws and calls below the top may use it, and the lists for further bullets of the README do. If
+comment or the head of its file begins with "(For proofs.)", or that head says that no promise of the program stands on it. Both mean "not
+reached from the top calls", and no more: laws and calls below the top may use it, and the lists for further bullets of the README do. If
 a marked definition were wrong, a proof might fail, or a law or an inner call might promise something else, but no top call
 would. `tools/gate/believe --private` lists them all.
 """

@@ -14,9 +14,9 @@ use Rattle.step_world.proofs.laws.PhaseThreads.{in_phase}
 use Rattle.step_world.proofs.laws.Plays.{step_phase}
 use Rattle.step_world.specs.Machine.{Event, GoesOn, HasEnded, IsOver, MachineValue, Next, Plays, Step, StepOf, Steps, thread_at}
 use Rattle.step_world.specs.Moments.{IsRunSoFar, progress_by, progress_in}
-use Rattle.step_world.specs.Play.{EndInTurn, LetsGo, PlaysPhaseBy, StepsOf}
+use Rattle.step_world.specs.Play.{EndInTurn, LetsGo, PlaysPhaseBy, PlaysPhasesBy, StepsOf}
 use Rattle.schedule_law.specs.Parts.{IsReached}
-use Rattle.schedule_law.specs.Schedules.{EachScheduleIsAPlay, PlaysPhasesBy}
+use Rattle.schedule_law.specs.Schedules.{EachScheduleIsAPlay}
 use Rattle.schedule_law.proofs.StepStates.{so_far}
 use Rattle.schedule_law.proofs.Events.{Plays-push}
 

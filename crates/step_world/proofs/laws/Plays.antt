@@ -6,7 +6,7 @@ use Rattle.script_ops.specs.Values.{ScriptValue}
 use Rattle.step_world.proofs.EndedThreads.{step_moves}
 use Rattle.step_world.proofs.laws.Schedules.{each_end}
 use Rattle.step_world.specs.Machine.{Event, MachineValue, Next, Plays, Step, Steps}
-use Rattle.step_world.specs.Play.{EndInTurn, IsPlay, LetsGo, PlaysPhase, PlaysPhases, PlaysTo, StepsHolding, StepsOf}
+use Rattle.step_world.specs.Play.{EndInTurn, IsPlayBy, LetsGo, PlaysPhaseBy, PlaysPhasesBy, StepsHolding, StepsOf}
 
 -- a schedule
 abbrev Schedule : ScriptValue → MachineValue → MachineValue → Type 0
@@ -52,16 +52,16 @@ ends_schedule script [] old new same = none_yet script old new same
 ends_schedule script (t ∷ ts) old new (n, between, steps, ended, rest) = then script old between new (steps_schedule script (replicate n t) old between steps) (ends_schedule script ts between new rest)
 
 -- one phase
-phase_schedule : (script : ScriptValue) (old new : MachineValue) → PlaysPhase script old new → Schedule script old new
-phase_schedule script old new plays =
-    then script old plays.ordered new (steps_schedule script _ old plays.ordered plays.order)
+phase_schedule : (script : ScriptValue) (order : List ℕ) (old new : MachineValue) → PlaysPhaseBy script order old new → Schedule script old new
+phase_schedule script order old new plays =
+    then script old plays.ordered new (steps_schedule script order old plays.ordered plays.order)
     (then script plays.ordered plays.free new (lets_go_schedule script plays.ordered.holder plays.ordered plays.free plays.lets_go)
     (then script plays.free plays.ended new (ends_schedule script _ plays.free plays.ended plays.rest) (Next ∷ [], (new, plays.next, refl))))
 
 -- so many phases
-phases_schedule : (script : ScriptValue) (n : ℕ) (old new : MachineValue) → PlaysPhases script n old new → Schedule script old new
-phases_schedule script zero old new same = none_yet script old new same
-phases_schedule script (suc n) old new (between, phase, rest) = then script old between new (phase_schedule script old between phase) (phases_schedule script n between new rest)
+phases_schedule : (script : ScriptValue) (orders : List (List ℕ)) (old new : MachineValue) → PlaysPhasesBy script orders old new → Schedule script old new
+phases_schedule script [] old new same = none_yet script old new same
+phases_schedule script (order ∷ orders) old new (between, phase, rest) = then script old between new (phase_schedule script order old between phase) (phases_schedule script orders between new rest)
 
 -- ---- how many phases were played
 
@@ -97,24 +97,21 @@ ends_phase script [] old new same = same_phase old new same
 ends_phase script (t ∷ ts) old new (n, between, steps, ended, rest) = ends_phase script ts between new rest ∙ steps_phase script (replicate n t) old between steps
 
 -- after one phase the next one begins
-pub phase_count : (script : ScriptValue) (old new : MachineValue) → PlaysPhase script old new → new.phase ≡ old.phase + 1
-phase_count script old new plays =
-    omega (arith, plays.next.phase, ends_phase script _ plays.free plays.ended plays.rest, lets_go_phase script plays.ordered.holder plays.ordered plays.free plays.lets_go, steps_phase script _ old plays.ordered plays.order)
+pub phase_count : (script : ScriptValue) (order : List ℕ) (old new : MachineValue) → PlaysPhaseBy script order old new → new.phase ≡ old.phase + 1
+phase_count script order old new plays =
+    omega (arith, plays.next.phase, ends_phase script _ plays.free plays.ended plays.rest, lets_go_phase script plays.ordered.holder plays.ordered plays.free plays.lets_go, steps_phase script order old plays.ordered plays.order)
 
 -- so many phases are played
-phases_count : (script : ScriptValue) (n : ℕ) (old new : MachineValue) → PlaysPhases script n old new → new.phase ≡ old.phase + n
-phases_count script zero old new same = same_phase old new same ∙ omega arith
-phases_count script (suc n) old new (between, plays, rest) =
-    omega (arith, phases_count script n between new rest, phase_count script old between plays)
+phases_count : (script : ScriptValue) (orders : List (List ℕ)) (old new : MachineValue) → PlaysPhasesBy script orders old new → new.phase ≡ old.phase + length orders
+phases_count script [] old new same = same_phase old new same ∙ omega arith
+phases_count script (order ∷ orders) old new (between, plays, rest) =
+    omega (arith, phases_count script orders between new rest, phase_count script order old between plays)
 
 -- ---- the run
 
--- the end of a play is that of a run
-played_to : (script : ScriptValue) (last : MachineValue) → 0 < script.machine.slices → PlaysTo script last → IsRun script last.journals
-played_to script last some play =
-    let (events, plays) = phases_schedule script (length script.phases) play.first last play.phases in
-    each_end script events play.first last some play.opening plays (omega (arith, phases_count script (length script.phases) play.first last play.phases, play.opening.phase))
-
--- the journals of a play are a run
-pub play_is_a_run : (script : ScriptValue) (journals : JournalsValue) → 0 < script.machine.slices → IsPlay script journals → IsRun script journals
-play_is_a_run script journals some play = subst (λ j. IsRun script j) play.are (played_to script play.last some play.plays)
+-- the journals of a play are a run, by whichever order lists
+pub play_is_a_run : (script : ScriptValue) (orders : List (List ℕ)) (journals : JournalsValue) → 0 < script.machine.slices → IsPlayBy script orders journals → IsRun script journals
+play_is_a_run script orders journals some play =
+    let (events, plays) = phases_schedule script orders play.first play.last play.plays in
+    subst (λ j. IsRun script j) play.are
+    (each_end script events play.first play.last some play.opening plays (omega (arith, phases_count script orders play.first play.last play.plays, play.opening.phase, play.each)))

@@ -3,7 +3,8 @@ use Rattle.std.specs.Prelude.{IfOk}
 use Rattle.live_run.proofs.playing.play.Goals as goal
 use Rattle.run_law.specs.Journals.{JournalsValue}
 use Rattle.schedule_law.proofs.laws.OrderedPlays.{schedules_are_plays}
-use Rattle.schedule_law.specs.Schedules.{IsPlayBy, IsScheduled}
+use Rattle.schedule_law.specs.Schedules.{IsScheduled}
+use Rattle.step_world.specs.Play.{IsPlayBy}
 use Rattle.script_ops.specs.Values.{ScriptValue}
 
 -- what is scheduled can be played again

@@ -9,4 +9,4 @@ pub returns-clause-run : goal.returns-clause-run
 returns-clause-run c = each_end
 
 pub returns-clause-play : goal.returns-clause-play
-returns-clause-play c = play_is_a_run
+returns-clause-play c = λ script journals. play_is_a_run script _ journals
