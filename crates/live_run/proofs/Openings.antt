@@ -4,8 +4,12 @@ use Rattle.std.specs.Prelude.{IsTrue}
 use Rattle.std.proofs.lemmas.Option.{slice_get_within}
 use Rattle.std.proofs.lemmas.List.{length_push, same_from_push}
 use Rattle.atomic_table.specs.Seated.{TableId}
+use Rattle.live_law.proofs.laws.LaterViews.{AreEnded-grown}
 use Rattle.live_law.proofs.laws.Passes.{PassesKeep-more}
+use Rattle.live_law.proofs.laws.SeenJournals.{HasGrown-more}
+use Rattle.live_law.specs.DoneOps.{AreEnded}
 use Rattle.live_law.specs.Passes.{PassesKeep}
+use Rattle.live_law.specs.SeenJournals.{HasGrown}
 use Rattle.live_run.specs.Commands.{HasReplied}
 use Rattle.live_run.specs.Names.{PassesValue, SeenValue, seen_by}
 use Rattle.live_run.specs.Passes.{PassesAreKept}
@@ -14,6 +18,7 @@ use Rattle.live_run.specs.Steps.{HasTaken}
 use Rattle.rc_base.specs.Buffers.{Looks, Roomy}
 use Rattle.rc_base.specs.declared.replies.Reply.{Reply}
 use Rattle.run_law.proofs.laws.ReadyLists.{rooms_of-access, rooms_of-command}
+use Rattle.run_law.specs.Journals.{JournalsValue}
 use Rattle.run_law.specs.LookLists.{AreReady, rooms_of}
 use Rattle.run_law.specs.Ops.{is_command}
 use Rattle.run_law.specs.Quotas.{most_counts}
@@ -24,6 +29,10 @@ use Rattle.script_ops.specs.declared.limits.TheConstants.{MOST_WEIGHT}
 use Rattle.script_ops.specs.declared.op.Op.{Op}
 use Rattle.shared_parts.specs.Shares.{ShareValue}
 
+-- what a thread has seen to have ended has ended
+pub still_ended : (script : ScriptValue) (old new : JournalsValue) (t now : ℕ) → HasGrown old new → now ≡ t → AreEnded script old t → AreEnded script new now
+still_ended script old new t now grown same ended = subst (AreEnded script new) (sym same) (AreEnded-grown script old new t grown ended)
+
 -- they have seen more, and added nothing
 pub passes_handed : (script : ScriptValue) (table : TableId) (old new : SeenValue) (n : ℕ) (lists : List Looks) (shown : Roomy) (share : ShareValue Part) → HasTaken old new → PassesAreKept script table old n lists shown share → PassesAreKept script table new n lists shown share
 passes_handed script table old new n lists shown share taken kept = record {
@@ -31,6 +40,7 @@ passes_handed script table old new n lists shown share taken kept = record {
   lists_are = subst (λ t. AreReady (rooms_of script.machine (drop n (ops_of script t))) lists) (sym taken.thread) kept.lists_are;
   room = kept.room;
   share_is = subst (λ t. IsResting table t n (begun_in share.parts) share) (sym taken.thread) kept.share_is;
+  ended = λ begun. still_ended script (seen_by old) (seen_by new) old.thread new.thread (HasGrown-more old.thread (seen_by old) (seen_by new) taken.sees) taken.thread (kept.ended begun);
 }
 
 -- whether the phase of a thread is known to have begun stands in its share

@@ -97,6 +97,16 @@ module _ (script : ScriptValue) (phase : ℕ) (ps front own later : List PassesV
     each = λ k within.
         let to : (passes_at own k).seen.thread < first_thread script (phase + 1) = omega (arith, own_thread k within, within, next_first) in
         phase_in-before script.phases phase (passes_at own k).seen.thread to;
+    earlier = λ k within.
+        let t : ℕ = length front + k in
+        let among : t < length (front ++ (own ++ later)) = omega (arith, within, length-whole front own later) in
+        let from : first_thread script phase ≤ t = omega (arith, parts.front_count) in
+        let p : PassesValue = passes_at (front ++ (own ++ later)) t in
+        let to : t < first_thread script (phase + 1) = omega (arith, within, next_first) in
+        let ended : AreEnded script (seen_by p.seen) p.seen.thread =
+        subst (λ n. AreEnded script (seen_by p.seen) n) (sym (before.threads t among))
+        (AreEnded-in_phase script (seen_by p.seen) phase t parts.there to (λ u early. before.seen t u among from early)) in
+        subst (λ (q : PassesValue). AreEnded script (seen_by q.seen) q.seen.thread) (at_own front own later k within) ended;
   }
 
   -- so they may work once it is known that the phase has begun
@@ -112,10 +122,6 @@ module _ (script : ScriptValue) (phase : ℕ) (ps front own later : List PassesV
           there = omega (arith, before.threads t among, among, before.count);
           fresh = before.fresh t among from;
           begun = refl;
-          ended =
-              let to : t < first_thread script (phase + 1) = omega (arith, within, next_first) in
-              subst (λ n. AreEnded script (seen_by p.seen) n) (sym (before.threads t among))
-              (AreEnded-in_phase script (seen_by p.seen) phase t parts.there to (λ u early. before.seen t u among from early));
         } in
         subst (MayWork script) (sym (are.each k within within)) (subst (λ (q : PassesValue). MayWork script (record q { begun = true })) (at_own front own later k within) may);
   }

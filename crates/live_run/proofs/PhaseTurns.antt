@@ -3,9 +3,10 @@ use Rattle.std.proofs.Common.{◌≡◌, ℕ, ◌+◌, ◌<◌, ◌≤◌, inl, 
 use Rattle.std.proofs.lemmas.Bool.{cases_lt}
 use Rattle.std.proofs.lemmas.List.{get_or-set_other, get_or-set_same, length-set}
 use Rattle.atomic_table.specs.Seated.{TableId}
+use Rattle.live_law.specs.DoneOps.{AreEnded}
 use Rattle.live_run.proofs.FirstShares.{IsResting-known}
 use Rattle.live_run.proofs.laws.Phases.{in_phase-before}
-use Rattle.live_run.specs.Names.{PassesValue, SeenValue}
+use Rattle.live_run.specs.Names.{PassesValue, SeenValue, seen_by}
 use Rattle.live_run.specs.Passes.{PassesAreKept}
 use Rattle.live_run.specs.Phases.{AreBegun, AreEndedIn, AreOfPhase, HaveEnded, IsEndedIn, IsOfPhase, no_passes, passes_at}
 use Rattle.live_run.specs.Sharing.{IsAtPhase, IsShareOf, begun_in}
@@ -57,12 +58,13 @@ module _ (script : ScriptValue) (table : TableId) (s : SeenValue) (n : ℕ) (lis
     pub is_begun : begun_in now.parts ≡ true
     is_begun = ap begun_in begun_parts
 
-    pub begun_kept : PassesAreKept script table s n lists shown now
-    begun_kept = record {
+    pub begun_kept : AreEnded script (seen_by s) s.thread → PassesAreKept script table s n lists shown now
+    begun_kept ended = record {
       keep = kept.keep;
       lists_are = kept.lists_are;
       room = kept.room;
       share_is = IsResting-known table s.thread n true kept.share_is.found now (record { table_is = same ∙ kept.share_is.is.table_is; words = kept.share_is.is.words; parts_are = begun_parts });
+      ended = λ begun. ended;
     }
 
   -- or it has the same part
@@ -93,6 +95,7 @@ module _ (script : ScriptValue) (table : TableId) (ps mid : List PassesValue) (t
     ended = all.ended;
     share = all.share;
     low = subst (λ (p : PassesValue). phase_in script.phases p.seen.thread ≤ all.phase) (sym (begun.rest k (omega arith))) (all.each k there);
+    earlier = subst (λ (p : PassesValue). AreEnded script (seen_by p.seen) p.seen.thread) (sym (begun.rest k (omega arith))) (all.earlier k there);
   }
 
   -- and then of one more the phase is known to have begun

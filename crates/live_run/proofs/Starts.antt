@@ -1,7 +1,7 @@
 -- The threads before their first ops.
 use Rattle.std.proofs.Common.{◌≡◌, ℕ, ◌+◌, ◌-◌, ◌<◌, ◌≤◌, inl, inr, List, [], ◌∷◌, ◌++◌, false, length, map, replicate, sym, ap, ◌∙◌, arith}
 use Rattle.std.proofs.Math.ListN.{get_or-map}
-use Rattle.std.proofs.lemmas.Bool.{cases_lt}
+use Rattle.std.proofs.lemmas.Bool.{cases_lt, false≢true}
 use Rattle.std.proofs.lemmas.List.{get_or_past, length_push, length-append, length-map, length-replicate}
 use Rattle.atomic_table.specs.Seated.{TableId}
 use Rattle.cache_core.specs.declared.entry.SliceEntry.{SliceEntry}
@@ -15,7 +15,7 @@ use Rattle.live_run.specs.Openings.{AreFirst, AreGivenTo, AreNew, HaveGiven, IsF
 use Rattle.live_run.specs.Passes.{PassesAreKept}
 use Rattle.live_run.specs.Phases.{AreBefore, no_passes}
 use Rattle.live_run.specs.Quotas.{HaveQuotas}
-use Rattle.live_run.specs.Sharing.{IsShareOf}
+use Rattle.live_run.specs.Sharing.{IsShareOf, begun_in}
 use Rattle.machine.specs.Slices.{slice_count}
 use Rattle.rc_base.specs.Buffers.{Looks, Roomy}
 use Rattle.rc_base.specs.declared.text_buf.TheConstants.{TEXT_MAX}
@@ -42,6 +42,7 @@ PassesAreKept-first script table names n s lists shown share none new ready room
   lists_are = ready;
   room = room;
   share_is = IsResting-known table s.thread 0 false [] share own;
+  ended = λ begun. absurd (false≢true (sym (ap begun_in own.parts_are) ∙ begun));
 }
 
 -- one thread more is before its first op

@@ -1,12 +1,11 @@
 -- The turns of an access.
-use Rattle.std.proofs.Common.{◌≡◌, ℕ, ◌+◌, ◌%◌, ◌^◌, ◌<◌, ◌≤◌, Contains, zero, suc, length, Some, None, Ok, Err, Result, refl, sym, ap, ◌∙◌, subst, arith}
+use Rattle.std.proofs.Common.{◌≡◌, ℕ, ◌+◌, ◌%◌, ◌^◌, ◌<◌, ◌≤◌, Contains, length, Some, None, Ok, Err, Result, refl, sym, ap, ◌∙◌, subst, arith}
 use Rattle.std.specs.Prelude.{IsSome}
 use Rattle.cache_core.specs.History.{IsOwn}
 use Rattle.cache_core.specs.Stands.{entry}
 use Rattle.cache_core.specs.declared.entry.SliceEntry.{SliceEntry}
 use Rattle.cache_core.specs.declared.entry.What.TheVariants as whats
 use Rattle.live_law.proofs.laws.AccessStages.{PassesKeepFrom-touch}
-use Rattle.live_law.proofs.laws.LaterViews.{AreEnded-grown}
 use Rattle.live_law.proofs.laws.Passes.{IsReady-begin, PassesKeep-end}
 use Rattle.live_law.proofs.laws.Prefixes.{IsPrefix-no_more}
 use Rattle.seen_journal.proofs.laws.Prefixes.{length-prefix}
@@ -150,8 +149,3 @@ passes_access script n task cpu addr r old new ended is accessed keeps =
     subst (λ u. PassesKeep script u (n + 1) (seen_by new)) (sym accessed.thread)
     (PassesKeep-end script ready.start t n (seen_by new) ready.ended
     (PassesKeepFrom-touch script ready.start t n task cpu addr tag (seen_by old) accessed.at (seen_by new) e ready.keeps accessed.sees accessed.holds accessed.late is refl refl refl accessed.adds))
-
--- at its first op a thread is told that those of earlier phases have ended, and keeps it
-pub still_ended : (script : ScriptValue) (t n : ℕ) (v : JournalsValue) → PassesKeep script t n v → (n ≡ 0 → AreEnded script v t) → AreEnded script v t
-still_ended script t zero v keeps first = first refl
-still_ended script t (suc n) v keeps first = AreEnded-grown script keeps.start v t keeps.keeps.begins (keeps.ended (omega arith))

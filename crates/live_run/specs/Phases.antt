@@ -35,12 +35,11 @@ pub record AreBefore (script : ScriptValue) (phase : ℕ) (ps : List PassesValue
 
 -- ---- workers
 
--- It has made no op, and has seen that the threads of earlier phases have ended.
+-- It has made no op, and its phase has begun.
 pub record MayWork (script : ScriptValue) (p : PassesValue) : Type 0 where
   pub there : p.seen.thread < length (threads_of script)
   pub fresh : p.next ≡ 0
   pub begun : p.begun ≡ true
-  pub ended : AreEnded script (seen_by p.seen) p.seen.thread
 
 -- It has made all ops of the same thread, and has seen what it had.
 pub record HasWorked (script : ScriptValue) (old new : PassesValue) : Type 0 where
@@ -58,12 +57,13 @@ pub record HaveWorked (script : ScriptValue) (old new : List PassesValue) : Type
 
 -- ---- the beginning and the end of a phase, for each of its threads
 
--- A thread is of the phase whose number this share has, or of one before it.
+-- A thread is of the phase whose number this share has, or of one before it, and has seen that the threads of earlier phases have ended.
 pub record IsOfPhase (script : ScriptValue) (table : TableId) (p : PassesValue) (turn : ShareValue Part) : Type 0 where
   pub phase : ℕ
   pub ended : ℕ
   pub share : IsShareOf table (live_phase phase ended ∷ []) turn
   pub low : phase_in script.phases p.seen.thread ≤ phase
+  pub earlier : AreEnded script (seen_by p.seen) p.seen.thread
 
 -- It is at its end, and is the first that is not known to be there.
 pub record IsEndedIn (script : ScriptValue) (table : TableId) (p : PassesValue) (turn : ShareValue Part) : Type 0 where
@@ -71,12 +71,13 @@ pub record IsEndedIn (script : ScriptValue) (table : TableId) (p : PassesValue) 
   pub share : IsShareOf table (live_phase phase p.seen.thread ∷ []) turn
   pub at_end : IsAtEnd script p
 
--- The threads are of the phase whose number this share has, or of one before it.
+-- The threads are of the phase whose number this share has, or of one before it, and have seen that those of earlier phases have ended.
 pub record AreOfPhase (script : ScriptValue) (table : TableId) (ps : List PassesValue) (turn : ShareValue Part) : Type 0 where
   pub phase : ℕ
   pub ended : ℕ
   pub share : IsShareOf table (live_phase phase ended ∷ []) turn
   pub each : (k : ℕ) → k < length ps → phase_in script.phases (passes_at ps k).seen.thread ≤ phase
+  pub earlier : (k : ℕ) → k < length ps → AreEnded script (seen_by (passes_at ps k).seen) (passes_at ps k).seen.thread
 
 -- Of those before `upto` the phase is known to have begun.
 pub record AreBegun (upto : ℕ) (ps ps_now : List PassesValue) : Type 0 where

@@ -1,6 +1,6 @@
 //! The shared tree and slices.
 ghost use Rattle.std.specs.Prelude.{◌≡◌, ◌+◌, IsTrue, Some, false, true};
-ghost use Rattle.live_law.specs.DoneOps.{AreEnded, HasEnded};
+ghost use Rattle.live_law.specs.DoneOps.{HasEnded};
 ghost use Rattle.live_law.specs.SeenJournals.{HasGrown};
 ghost use Rattle.live_run.specs.Accesses.{HasAccessed};
 ghost use Rattle.live_run.specs.Commands.{HasReplied};
@@ -55,8 +55,7 @@ impl<N: Named, T: NamedTable> Live<N, T> {
         requires op { op_at N.script p.old.seen.thread p.old.next ≡ Some op.now }
         requires command { IsTrue (is_command op.now) }
 
-        // The threads of earlier phases have ended, as far as this one has seen. Once it has begun this is known.
-        requires ended { p.old.next ≡ 0 → AreEnded N.script (seen_by p.old.seen) p.old.seen.thread }
+        // By `phases::begin`, which asks that the thread has seen that those of earlier phases have ended.
         requires begun { p.old.begun ≡ true }
         ensures reply { HasReplied N.script true op.now result p.old p.new }
         ensures seen { HasGrown (seen_by p.old.seen) (seen_by p.new.seen) }
@@ -81,8 +80,7 @@ impl<N: Named, T: NamedTable> Live<N, T> {
         requires op { op_at N.script p.old.seen.thread p.old.next ≡ Some op.now }
         requires command { IsTrue (is_command op.now) }
 
-        // The threads of earlier phases have ended, as far as this one has seen. Once it has begun this is known.
-        requires ended { p.old.next ≡ 0 → AreEnded N.script (seen_by p.old.seen) p.old.seen.thread }
+        // By `phases::begin`, which asks that the thread has seen that those of earlier phases have ended.
         requires begun { p.old.begun ≡ true }
         ensures reply { HasReplied N.script asked op.now result p.old p.new }
         ensures seen { HasGrown (seen_by p.old.seen) (seen_by p.new.seen) }
@@ -118,7 +116,6 @@ impl<N: Named, T: NamedTable> Live<N, T> {
     ) -> Reached
         requires op { op_at N.script p.old.seen.thread p.old.next ≡ Some op.now }
         requires access { is_command op.now ≡ false }
-        requires ended { p.old.next ≡ 0 → AreEnded N.script (seen_by p.old.seen) p.old.seen.thread }
         requires begun { p.old.begun ≡ true }
         ensures accessed { ByKind (λ task cpu addr. HasAccessed N.script p.old.next task cpu addr result p.old.seen p.new.seen) (Unit {0}) op.now }
         ensures seen { HasGrown (seen_by p.old.seen) (seen_by p.new.seen) }

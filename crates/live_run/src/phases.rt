@@ -71,7 +71,7 @@ impl<N: Named + Send + Sync, T: NamedTable + Send + Sync> Live<N, T> {
     }
 }
 
-/// The phase of a thread has begun: it may make its ops.
+/// The phase of a thread has begun, and the thread has seen that the threads of earlier phases have ended: it may make its ops.
 pub fn begin<N: Named, T: NamedTable>(turn: &mut StepShare<N>, p: &mut Passes<N, T>)
     requires may { IsOfPhase N.script T.table p.old turn.old }
     ensures turn { turn.new ≡ turn.old }

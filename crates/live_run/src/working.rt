@@ -1,6 +1,5 @@
 //! A worker.
 ghost use Rattle.std.specs.Prelude.{◌≡◌, ◌+◌, Some, true};
-ghost use Rattle.live_law.specs.DoneOps.{AreEnded};
 ghost use Rattle.live_law.specs.SeenJournals.{HasGrown};
 ghost use Rattle.live_run.specs.Names.{seen_by};
 ghost use Rattle.live_run.specs.Phases.{HasWorked, MayWork};
@@ -48,7 +47,6 @@ impl<N: Named, T: NamedTable> Live<N, T> {
     )
         requires script { script.now ≡ N.script }
         requires op { op_at N.script p.old.seen.thread p.old.next ≡ Some op.now }
-        requires ended { p.old.next ≡ 0 → AreEnded N.script (seen_by p.old.seen) p.old.seen.thread }
         requires begun { p.old.begun ≡ true }
         ensures thread { p.new.seen.thread ≡ p.old.seen.thread }
         ensures next { p.new.next ≡ p.old.next + 1 }

@@ -3,10 +3,11 @@ use Rattle.std.proofs.Common.{◌≡◌, ℕ, ◌+◌, ◌<◌, ◌≤◌, [], �
 use Rattle.atomic_table.specs.Seated.{TableId}
 use Rattle.live_run.proofs.laws.Phases.{in_phase-before, phase_in-before}
 use Rattle.live_run.specs.Names.{PassesValue}
+use Rattle.live_run.specs.Openings.{IsFirst}
 use Rattle.live_run.specs.Phases.{HaveEnded, IsAtEnd, IsEndedIn, IsOfPhase}
 use Rattle.live_run.specs.Sharing.{IsAtPhase, IsShareOf}
-use Rattle.live_tests.proofs.Threads.{second_phase, third_phase}
-use Rattle.live_tests.specs.Turns.{IsInTurns}
+use Rattle.live_tests.proofs.Threads.{first_earlier, second_phase, third_phase}
+use Rattle.live_tests.specs.Turns.{IsInTurns, IsReady}
 use Rattle.run_law.specs.Ops.{phase_in}
 use Rattle.schedule_law.specs.LiveParts.{after, live_phase}
 use Rattle.schedule_law.specs.LiveSteps.{MayPass}
@@ -67,25 +68,27 @@ module _ (script : ScriptValue) (sweeps sweep : ℕ) (turns : IsInTurns script s
   third_is = third_phase script turns.phases turns.first turns.others
 
   -- the first thread is of the first phase
-  pub first_of_phase : (p : PassesValue) (turn : ShareValue Part) → p.seen.thread ≡ 0 → IsAtPhase script table 0 turn → IsOfPhase script table p turn
-  first_of_phase p turn thread at =
+  pub first_of_phase : (p : PassesValue) (turn : ShareValue Part) → IsFirst 0 p → IsAtPhase script table 0 turn → IsOfPhase script table p turn
+  first_of_phase p turn first at =
       let within : 0 < first_thread script 1 = omega (arith, second_is) in
       record {
         phase = 0;
         ended = first_thread script 0;
         share = at;
-        low = subst (λ t. phase_in script.phases t ≤ 0) (sym thread) (phase_in-before script.phases 0 0 within);
+        low = subst (λ t. phase_in script.phases t ≤ 0) (sym first.thread) (phase_in-before script.phases 0 0 within);
+        earlier = first_earlier script sweeps sweep turns p first;
       }
 
   -- and the others are of the second
-  pub other_of_phase : (t : ℕ) (p : PassesValue) (turn : ShareValue Part) → t < 3 → p.seen.thread ≡ t → IsAtPhase script table 1 turn → IsOfPhase script table p turn
-  other_of_phase t p turn few thread at =
+  pub other_of_phase : (t : ℕ) (p : PassesValue) (turn : ShareValue Part) → t < 3 → IsReady script t p → IsAtPhase script table 1 turn → IsOfPhase script table p turn
+  other_of_phase t p turn few ready at =
       let within : t < first_thread script 2 = omega (arith, third_is, few) in
       record {
         phase = 1;
         ended = first_thread script 1;
         share = at;
-        low = subst (λ t. phase_in script.phases t ≤ 1) (sym thread) (phase_in-before script.phases 1 t within);
+        low = subst (λ t. phase_in script.phases t ≤ 1) (sym ready.first_is.thread) (phase_in-before script.phases 1 t within);
+        earlier = ready.earlier;
       }
 
   -- the first of the first phase

@@ -2,16 +2,14 @@
 use Rattle.std.proofs.Common.{◌≡◌, ℕ, zero, suc, ◌+◌, ◌*◌, ◌<◌, true, List, [], ◌∷◌, ◌++◌, length, refl, sym, ap, ◌∙◌, subst, arith}
 use Rattle.std.proofs.lemmas.List.{length-append}
 use Rattle.atomic_table.specs.Seated.{TableId}
-use Rattle.live_law.proofs.laws.LaterViews.{AreEnded-grown}
 use Rattle.live_law.specs.DoneOps.{AreEnded, HasEnded}
-use Rattle.live_law.specs.SeenJournals.{HasGrown}
 use Rattle.live_run.proofs.laws.Phases.{AreBefore-end, AreEnded-in_phase, first_thread-next}
 use Rattle.live_run.specs.Names.{PassesValue, seen_by}
 use Rattle.live_run.specs.Openings.{IsFirst}
 use Rattle.live_run.specs.Phases.{AreBefore, IsAtEnd, passes_at}
 use Rattle.live_run.specs.Sharing.{IsAtPhase}
 use Rattle.live_run.specs.Steps.{HasTaken}
-use Rattle.live_tests.specs.Turns.{AreAtFirst, HasMade, HaveMade, IsBegun, IsInTurns}
+use Rattle.live_tests.specs.Turns.{AreAtFirst, HasMade, HaveMade, IsInTurns, IsReady}
 use Rattle.run_law.specs.Journals.{JournalsValue}
 use Rattle.schedule_law.specs.declared.part.Part.{Part}
 use Rattle.script_ops.specs.Values.{ScriptValue, first_thread, ops_of, phase_at}
@@ -67,51 +65,36 @@ AreAtFirst-three script table turn ps a b c is before shown at =
     }
 
 -- the phase of one has begun
-pub IsFirst-begun : (t : ℕ) (old new : PassesValue) → new ≡ (record old { begun = true }) → IsFirst t old → IsBegun t new
+pub IsFirst-begun : (t : ℕ) (old new : PassesValue) → new ≡ (record old { begun = true }) → IsFirst t old → HasMade t 0 new
 IsFirst-begun t old new same is = record {
-  first_is = record { thread = ap (λ (p : PassesValue). p.seen.thread) same ∙ is.thread; fresh = ap (λ (p : PassesValue). p.next) same ∙ is.fresh; shown = ap (λ (p : PassesValue). p.shown) same ∙ is.shown };
+  thread_is = ap (λ (p : PassesValue). p.seen.thread) same ∙ is.thread;
+  next = ap (λ (p : PassesValue). p.next) same ∙ is.fresh;
   begun = ap (λ (p : PassesValue). p.begun) same;
 }
 
 -- ---- at its end
 
 -- a thread that has made all its ops
-pub IsAtEnd-made : (script : ScriptValue) (t n : ℕ) (p : PassesValue) → HasMade script t n p → length (ops_of script t) ≡ n → IsAtEnd script p
+pub IsAtEnd-made : (script : ScriptValue) (t n : ℕ) (p : PassesValue) → HasMade t n p → length (ops_of script t) ≡ n → IsAtEnd script p
 IsAtEnd-made script t n p made count = made.next ∙ (sym count ∙ ap (λ u. length (ops_of script u)) (sym made.thread_is))
 
 -- ---- a script whose threads take turns
 
 module _ (script : ScriptValue) (sweeps sweep : ℕ) (turns : IsInTurns script sweeps sweep) where
-  -- the first thread may begin
-  pub first_begins : (p : PassesValue) → IsBegun 0 p → HasMade script 0 0 p
-  first_begins p is = record {
-    thread_is = is.first_is.thread;
-    next = is.first_is.fresh;
-    begun = is.begun;
-    ended = subst (AreEnded script (seen_by p.seen)) (sym is.first_is.thread) (none_before script turns.phases turns.first turns.others (seen_by p.seen));
-  }
+  -- the first thread has seen all that it has to see
+  pub first_earlier : (p : PassesValue) → IsFirst 0 p → AreEnded script (seen_by p.seen) p.seen.thread
+  first_earlier p is = subst (AreEnded script (seen_by p.seen)) (sym is.thread) (none_before script turns.phases turns.first turns.others (seen_by p.seen))
 
-  -- it has made its ops when it has handed on
-  pub first_hands_on : (n : ℕ) (old new : PassesValue) → HasMade script 0 n old → HasTaken old.seen new.seen → new.next ≡ old.next → new.begun ≡ old.begun → HasMade script 0 n new
-  first_hands_on n old new made taken same begun = record {
-    thread_is = taken.thread ∙ made.thread_is;
-    next = same ∙ made.next;
-    begun = begun ∙ made.begun;
-    ended = subst (AreEnded script (seen_by new.seen)) (sym (taken.thread ∙ made.thread_is)) (none_before script turns.phases turns.first turns.others (seen_by new.seen));
-  }
-
-  -- and the other may begin
-  pub other_begins : (t n : ℕ) (first old new : PassesValue) → t < 3 → HasMade script 0 n first → n ≡ length (ops_of script 0) → IsBegun t old → HasTaken old.seen new.seen → new.next ≡ old.next → new.begun ≡ old.begun
-      → (IsAtEnd script first → HasEnded script (seen_by new.seen) first.seen.thread) → HasMade script t 0 new
-  other_begins t n first old new within made all is taken same begun ended = record {
-    thread_is = taken.thread ∙ is.first_is.thread;
-    next = same ∙ is.first_is.fresh;
-    begun = begun ∙ is.begun;
-    ended =
+  -- and another when the first has made its ops and handed on to it
+  pub other_ready : (t n : ℕ) (first old new : PassesValue) → t < 3 → HasMade 0 n first → n ≡ length (ops_of script 0) → IsFirst t old → HasTaken old.seen new.seen → new.next ≡ old.next → new.shown ≡ old.shown
+      → (IsAtEnd script first → HasEnded script (seen_by new.seen) first.seen.thread) → IsReady script t new
+  other_ready t n first old new within made all is taken same blank ended = record {
+    first_is = record { thread = taken.thread ∙ is.thread; fresh = same ∙ is.fresh; shown = blank ∙ is.shown };
+    earlier =
         let at_end : IsAtEnd script first = IsAtEnd-made script 0 n first made (sym all) in
         let early : AreEnded script (seen_by new.seen) t =
         first_before script turns.phases turns.first turns.others (seen_by new.seen) t within (subst (HasEnded script (seen_by new.seen)) made.thread_is (ended at_end)) in
-        subst (AreEnded script (seen_by new.seen)) (sym (taken.thread ∙ is.first_is.thread)) early;
+        subst (AreEnded script (seen_by new.seen)) (sym (taken.thread ∙ is.thread)) early;
   }
 
   -- all have made their ops
@@ -132,19 +115,25 @@ pub HaveMade-same : (script : ScriptValue) (table : TableId) (m n : ℕ) (turn t
     → HaveMade script table m n turn a b c → HaveMade script table m n turn' a' b' c'
 HaveMade-same script table m n turn turn' a b c a' b' c' same first second third made = record {
   turn_is = subst (IsAtPhase script table 1) (sym same) made.turn_is;
-  first_made = subst (HasMade script 0 (length (ops_of script 0))) (sym first) made.first_made;
-  second_made = subst (HasMade script 1 m) (sym second) made.second_made;
-  third_made = subst (HasMade script 2 n) (sym third) made.third_made;
+  first_made = subst (HasMade 0 (length (ops_of script 0))) (sym first) made.first_made;
+  second_made = subst (HasMade 1 m) (sym second) made.second_made;
+  third_made = subst (HasMade 2 n) (sym third) made.third_made;
 }
 
 -- ---- the ops of a turn
 
 -- one more
-pub HasMade-next : (script : ScriptValue) (thread n : ℕ) (old new : PassesValue) → HasMade script thread n old → new.seen.thread ≡ old.seen.thread → new.next ≡ old.next + 1 → HasGrown (seen_by old.seen) (seen_by new.seen) → new.begun ≡ true
-    → HasMade script thread (n + 1) new
-HasMade-next script thread n old new made same next grown begun = record {
+pub HasMade-next : (thread n : ℕ) (old new : PassesValue) → HasMade thread n old → new.seen.thread ≡ old.seen.thread → new.next ≡ old.next + 1 → new.begun ≡ true → HasMade thread (n + 1) new
+HasMade-next thread n old new made same next begun = record {
   thread_is = same ∙ made.thread_is;
   next = next ∙ ap (λ m. m + 1) made.next;
   begun = begun;
-  ended = subst (AreEnded script (seen_by new.seen)) (sym same) (AreEnded-grown script (seen_by old.seen) (seen_by new.seen) old.seen.thread grown made.ended);
+}
+
+-- it has handed on
+pub HasMade-handed : (thread n : ℕ) (old new : PassesValue) → HasMade thread n old → HasTaken old.seen new.seen → new.next ≡ old.next → new.begun ≡ old.begun → HasMade thread n new
+HasMade-handed thread n old new made taken same begun = record {
+  thread_is = taken.thread ∙ made.thread_is;
+  next = same ∙ made.next;
+  begun = begun ∙ made.begun;
 }

@@ -22,17 +22,16 @@ pub record IsInTurns (script : ScriptValue) (sweeps sweep : ℕ) : Type 0 where
 
 -- ---- one thread
 
--- The thread is before its first op, and its phase is known to have begun.
-pub record IsBegun (thread : ℕ) (p : PassesValue) : Type 0 where
+-- The thread is before its first op, and has seen that the threads of earlier phases have ended.
+pub record IsReady (script : ScriptValue) (thread : ℕ) (p : PassesValue) : Type 0 where
   pub first_is : IsFirst thread p
-  pub begun : p.begun ≡ true
+  pub earlier : AreEnded script (seen_by p.seen) p.seen.thread
 
--- The thread has made its first n ops, its phase is known to have begun, and it has seen that the threads of earlier phases have ended.
-pub record HasMade (script : ScriptValue) (thread n : ℕ) (p : PassesValue) : Type 0 where
+-- The thread has made its first n ops, and its phase has begun.
+pub record HasMade (thread n : ℕ) (p : PassesValue) : Type 0 where
   pub thread_is : p.seen.thread ≡ thread
   pub next : p.next ≡ n
   pub begun : p.begun ≡ true
-  pub ended : AreEnded script (seen_by p.seen) p.seen.thread
 
 -- ---- three threads
 
@@ -46,6 +45,6 @@ pub record AreAtFirst (script : ScriptValue) (table : TableId) (turn : ShareValu
 -- The second phase has begun. The first has made all its ops, and of the others each so many.
 pub record HaveMade (script : ScriptValue) (table : TableId) (second_ops third_ops : ℕ) (turn : ShareValue Part) (first second third : PassesValue) : Type 0 where
   pub turn_is : IsAtPhase script table 1 turn
-  pub first_made : HasMade script 0 (length (ops_of script 0)) first
-  pub second_made : HasMade script 1 second_ops second
-  pub third_made : HasMade script 2 third_ops third
+  pub first_made : HasMade 0 (length (ops_of script 0)) first
+  pub second_made : HasMade 1 second_ops second
+  pub third_made : HasMade 2 third_ops third

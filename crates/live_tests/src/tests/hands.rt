@@ -82,18 +82,18 @@ impl<N: Named, T: NamedTable> Hands<N, T> {
         note(alloc, &self.third, &mut self.shown)
     }
 
-    /// The first thread hands on to the others.
+    /// The first thread hands on to the others, and their phase begins.
     pub fn hand_on(&mut self, live: &Live<N, T>)
         requires turns { IsInTurns N.script SWEEPS SWEEP }
         requires turn { IsAtPhase N.script T.table 0 self.old.turn }
-        requires first { HasMade N.script 0 (length (ops_of N.script 0)) self.old.first }
+        requires first { HasMade 0 (length (ops_of N.script 0)) self.old.first }
         requires second { IsFirst 1 self.old.second }
         requires third { IsFirst 2 self.old.third }
         ensures { HaveMade N.script T.table 0 0 self.new.turn self.new.first self.new.second self.new.third }
     {
-        self.begin_others();
         live.hand_on(&mut self.first, &mut self.second);
         live.hand_on(&mut self.first, &mut self.third);
+        self.begin_others();
     }
 
     /// What came of the run, when each thread has made all its ops. The passes go into `passes`, which has room for them.

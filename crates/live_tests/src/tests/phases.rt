@@ -1,8 +1,7 @@
 //! Where one phase ends and the next begins.
 ghost use Rattle.std.specs.Prelude.{◌≡◌, ◌+◌, ◌*◌, length};
-ghost use Rattle.live_run.specs.Openings.{IsFirst};
 ghost use Rattle.live_run.specs.Sharing.{IsAtPhase};
-ghost use Rattle.live_tests.specs.Turns.{HasMade, HaveMade, IsBegun, IsInTurns};
+ghost use Rattle.live_tests.specs.Turns.{HasMade, HaveMade, IsInTurns, IsReady};
 ghost use Rattle.script_ops.specs.Values.{ops_of};
 
 use super::hands::Hands;
@@ -17,13 +16,13 @@ impl<N: Named, T: NamedTable> Hands<N, T> {
     pub fn begin_others(&mut self)
         requires turns { IsInTurns N.script SWEEPS SWEEP }
         requires turn { IsAtPhase N.script T.table 0 self.old.turn }
-        requires first { HasMade N.script 0 (length (ops_of N.script 0)) self.old.first }
-        requires second { IsFirst 1 self.old.second }
-        requires third { IsFirst 2 self.old.third }
+        requires first { HasMade 0 (length (ops_of N.script 0)) self.old.first }
+        requires second { IsReady N.script 1 self.old.second }
+        requires third { IsReady N.script 2 self.old.third }
         ensures turn { IsAtPhase N.script T.table 1 self.new.turn }
-        ensures first { HasMade N.script 0 (length (ops_of N.script 0)) self.new.first }
-        ensures second { IsBegun 1 self.new.second }
-        ensures third { IsBegun 2 self.new.third }
+        ensures first { HasMade 0 (length (ops_of N.script 0)) self.new.first }
+        ensures second { HasMade 1 0 self.new.second }
+        ensures third { HasMade 2 0 self.new.third }
     {
         end(&mut self.turn, &mut self.first);
         pass(&mut self.turn, TREE_LOCK);

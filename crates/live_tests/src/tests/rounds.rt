@@ -28,7 +28,7 @@ impl<N: Named, T: NamedTable> Hands<N, T> {
         requires turn { IsAtPhase N.script T.table 0 self.old.turn }
         requires first { IsFirst 0 self.old.first }
         ensures turn { self.new.turn ≡ self.old.turn }
-        ensures first { OnOk result (HasMade N.script 0 (length (ops_of N.script 0)) self.new.first) }
+        ensures first { OnOk result (HasMade 0 (length (ops_of N.script 0)) self.new.first) }
         ensures second { self.new.second ≡ self.old.second }
         ensures third { self.new.third ≡ self.old.third }
     {

@@ -1,8 +1,5 @@
 //! Turns: some ops of one thread.
 ghost use Rattle.std.specs.Prelude.{◌≡◌, ◌+◌, ◌≤◌, OnOk, Some, true};
-ghost use Rattle.live_law.specs.DoneOps.{AreEnded};
-ghost use Rattle.live_law.specs.SeenJournals.{HasGrown};
-ghost use Rattle.live_run.specs.Names.{seen_by};
 ghost use Rattle.live_tests.specs.Turns.{HasMade};
 ghost use Rattle.script_ops.specs.Values.{op_at};
 
@@ -41,11 +38,9 @@ fn make<N: Named, T: NamedTable, R: Wait>(
 ) -> Answer
     requires script { script.now ≡ N.script }
     requires op { op_at N.script p.old.seen.thread p.old.next ≡ Some op.now }
-    requires ended { p.old.next ≡ 0 → AreEnded N.script (seen_by p.old.seen) p.old.seen.thread }
     requires begun { p.old.begun ≡ true }
     ensures thread { p.new.seen.thread ≡ p.old.seen.thread }
     ensures next { p.new.next ≡ p.old.next + 1 }
-    ensures seen { HasGrown (seen_by p.old.seen) (seen_by p.new.seen) }
     ensures begun { p.new.begun ≡ true }
 {
     if let Op::Access { .. } = op {
@@ -66,8 +61,8 @@ pub fn take_turn<N: Named, T: NamedTable, R: Wait>(
 ) -> Result<(), Fail>
     requires script { script.now ≡ N.script }
     requires on { turn.from ≤ turn.to }
-    requires made { HasMade N.script turn.thread turn.from p.old }
-    ensures made { OnOk result (HasMade N.script turn.thread turn.to p.new) }
+    requires made { HasMade turn.thread turn.from p.old }
+    ensures made { OnOk result (HasMade turn.thread turn.to p.new) }
 {
     for number in turn.from..turn.to {
         let Some(op) = script.op(turn.thread, number) else {

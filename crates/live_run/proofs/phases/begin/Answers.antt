@@ -1,7 +1,8 @@
 use Rattle.std.proofs.Common.{◌≡◌, ◌∙◌, subst, sym}
 use Rattle.live_run.proofs.PhaseTurns.{begun_kept, is_begun, may_begin, same_table, share_is_same, tree_lock_there}
 use Rattle.live_run.proofs.phases.begin.Goals as goal
-use Rattle.live_run.specs.Names.{PassesValue}
+use Rattle.live_law.specs.DoneOps.{AreEnded}
+use Rattle.live_run.specs.Names.{PassesValue, seen_by}
 use Rattle.live_run.specs.Phases.{IsOfPhase}
 
 pub begin-requires-clause-table : goal.begin-requires-clause-table
@@ -22,6 +23,7 @@ begin-requires-clause-may g c =
 pub invariant_of-p : goal.invariant_of-p
 invariant_of-p g c =
     begun_kept g.N.Named.script g.T.NamedTable.table c.p.inside.seen c.p.inside.next c.p.inside.looks c.p.inside.shown c.p.inside.share c.args.turn.now c.p.invariant c.begin.new.worker c.begin.ensures.table.1 c.begin.ensures.worker
+    (subst (λ (p : PassesValue). AreEnded g.N.Named.script (seen_by p.seen) p.seen.thread) (sym c.p.view_is) c.requires.may.earlier)
 
 pub returns-clause-turn : goal.returns-clause-turn
 returns-clause-turn g c = share_is_same c.begin.new.phase c.args.turn.now c.begin.ensures.table.0 c.begin.ensures.phase

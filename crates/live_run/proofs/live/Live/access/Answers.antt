@@ -3,8 +3,8 @@ use Rattle.live_law.proofs.laws.OwnRoom.{access-room}
 use Rattle.live_law.specs.DoneOps.{AreEnded}
 use Rattle.live_law.specs.SeenJournals.{HasGrown}
 use Rattle.live_run.proofs.Growth.{HasGrown-accessed}
-use Rattle.live_run.proofs.Openings.{lists_after_access, next_few, resting_after, resting_before, resting_begun}
-use Rattle.live_run.proofs.Turns.{passes_access, still_ended}
+use Rattle.live_run.proofs.Openings.{lists_after_access, next_few, resting_after, resting_before, resting_begun, still_ended}
+use Rattle.live_run.proofs.Turns.{passes_access}
 use Rattle.live_run.proofs.live.Live.access.Goals as goal
 use Rattle.live_run.specs.Names.{PassesValue, seen_by}
 use Rattle.run_law.specs.LookLists.{AreReady, rooms_of}
@@ -32,8 +32,7 @@ invariant_of-p g c =
     let script = g.N.Named.script in
     let t : ℕ = c.p.inside.seen.thread in
     let n : ℕ = c.p.inside.next in
-    let ended : AreEnded script (seen_by c.p.inside.seen) t =
-    still_ended script t n (seen_by c.p.inside.seen) c.p.invariant.keep (subst (λ (p : PassesValue). p.next ≡ 0 → AreEnded script (seen_by p.seen) p.seen.thread) (sym c.p.view_is) c.requires.ended) in
+    let ended : AreEnded script (seen_by c.p.inside.seen) t = c.p.invariant.ended (ap (λ (p : PassesValue). p.begun) c.p.view_is ∙ c.requires.begun) in
     let its : op_at script t n ≡ Some c.args.op.now = subst (λ (p : PassesValue). op_at script p.seen.thread p.next ≡ Some c.args.op.now) (sym c.p.view_is) c.requires.op in
     let is : op_at script t n ≡ Some (Access c.in-Access.task c.in-Access.cpu c.in-Access.addr) = its ∙ ap (λ o. Some o) c.in-Access.is in
     record {
@@ -42,6 +41,9 @@ invariant_of-p g c =
           (lists_after_access script t n c.args.op.now c.p.inside.looks its c.requires.access c.p.invariant.lists_are);
       room = c.p.invariant.room;
       share_is = resting_after g.T.NamedTable.table t c.reach-reached.new.s.thread (n + 1) c.reach-reached.new.worker c.reach-reached.ensures.accessed.thread c.reach-reached.ensures.worker;
+      ended = λ begun. still_ended script (seen_by c.p.inside.seen) (seen_by c.reach-reached.new.s) t c.reach-reached.new.s.thread
+          (HasGrown-accessed script n c.in-Access.task c.in-Access.cpu c.in-Access.addr c.reach-reached.result c.p.inside.seen c.reach-reached.new.s c.reach-reached.ensures.accessed)
+          c.reach-reached.ensures.accessed.thread ended;
     }
 
 pub returns-clause-seen : goal.returns-clause-seen

@@ -4,8 +4,7 @@ use Rattle.live_law.specs.DoneOps.{AreEnded}
 use Rattle.live_law.specs.SeenJournals.{HasGrown}
 use Rattle.live_law.specs.Passes.{PassesKeep}
 use Rattle.live_law.specs.Stages.{IsReady}
-use Rattle.live_run.proofs.Openings.{IsListFor, list_for, next_few, replied_in_phase, resting_after, resting_before, resting_begun, some_list}
-use Rattle.live_run.proofs.Turns.{still_ended}
+use Rattle.live_run.proofs.Openings.{IsListFor, list_for, next_few, replied_in_phase, resting_after, resting_before, resting_begun, some_list, still_ended}
 use Rattle.live_run.proofs.live.Live.carry_out.Goals as goal
 use Rattle.live_run.proofs.live.Live.carry_out.Goals.{After-take-looks}
 use Rattle.live_run.proofs.live.Live.carry_out.Given.{Over}
@@ -37,8 +36,7 @@ command-reply-requires-clause-list g c = (list_is g (goal.at.command-reply-requi
 pub command-reply-requires-clause-ready : goal.command-reply-requires-clause-ready
 command-reply-requires-clause-ready g c =
     let script = g.N.Named.script in
-    let ended : AreEnded script (seen_by c.p.inside.seen) c.p.inside.seen.thread =
-    still_ended script c.p.inside.seen.thread c.p.inside.next (seen_by c.p.inside.seen) c.p.invariant.keep (subst (λ (p : PassesValue). p.next ≡ 0 → AreEnded script (seen_by p.seen) p.seen.thread) (sym c.p.view_is) c.requires.ended) in
+    let ended : AreEnded script (seen_by c.p.inside.seen) c.p.inside.seen.thread = c.p.invariant.ended (ap (λ (p : PassesValue). p.begun) c.p.view_is ∙ c.requires.begun) in
     IsReady-begin script c.p.inside.seen.thread c.p.inside.next (seen_by c.p.inside.seen) ended c.p.invariant.keep
 
 pub command-reply-requires-clause-worker : goal.command-reply-requires-clause-worker
@@ -59,6 +57,7 @@ invariant_of-p g c =
       lists_are = subst (λ u. AreReady (rooms_of script.machine (drop (n + 1) (ops_of script u))) c.take-looks.new.self) (sym c.command-reply.ensures.thread) (list_is g (goal.at.invariant_of-p g c).After-take-looks).rest;
       room = omega (arith, c.p.invariant.room, c.command-reply.ensures.room);
       share_is = resting_after g.T.NamedTable.table t c.command-reply.new.s.thread (n + 1) c.command-reply.new.worker c.command-reply.ensures.thread c.command-reply.ensures.worker;
+      ended = λ begun. still_ended script (seen_by c.p.inside.seen) (seen_by c.command-reply.new.s) t c.command-reply.new.s.thread c.command-reply.ensures.seen c.command-reply.ensures.thread (c.p.invariant.ended (ap (λ (p : PassesValue). p.begun) c.p.view_is ∙ c.requires.begun));
     }
 
 pub returns-clause-seen : goal.returns-clause-seen

@@ -1,5 +1,4 @@
 use Rattle.std.proofs.Common.{◌≡◌, true}
-use Rattle.live_law.specs.DoneOps.{AreEnded}
 use Rattle.live_law.specs.SeenJournals.{HasGrown}
 use Rattle.live_run.proofs.live.Live.work.Given as goal
 use Rattle.live_run.specs.Names.{seen_by}
@@ -10,5 +9,4 @@ invariant-loop-i g l = record {
   next : l.p.next ≡ l.i;
   begun : l.p.begun ≡ true;
   grown : HasGrown (seen_by l.fn.p.seen) (seen_by l.p.seen);
-  ended : l.p.next ≡ 0 → AreEnded g.N.Named.script (seen_by l.p.seen) l.p.seen.thread;
 }

@@ -32,7 +32,7 @@ begin-requires g c =
     let table = g.T.NamedTable.table in
     let over = first_over script _ _ c.requires.turns table c.args.self.now.turn c.end.new.turn c.requires.turn c.end.ensures.turn in
     let at : IsAtPhase script table 1 c.pass.new.phase = has_passed script table 0 c.end.new.turn (omega (arith, c.requires.turns.phases)) over c.pass.new.phase c.pass.ensures.table c.pass.ensures.phase in
-    record { may = other_of_phase script _ _ c.requires.turns table 1 c.args.self.now.second c.pass.new.phase (omega arith) c.requires.second.thread at }
+    record { may = other_of_phase script _ _ c.requires.turns table 1 c.args.self.now.second c.pass.new.phase (omega arith) c.requires.second at }
 
 pub begin-requires-2 : goal.begin-requires-2
 begin-requires-2 g c =
@@ -40,7 +40,7 @@ begin-requires-2 g c =
     let table = g.T.NamedTable.table in
     let over = first_over script _ _ c.requires.turns table c.args.self.now.turn c.end.new.turn c.requires.turn c.end.ensures.turn in
     let at : IsAtPhase script table 1 c.pass.new.phase = has_passed script table 0 c.end.new.turn (omega (arith, c.requires.turns.phases)) over c.pass.new.phase c.pass.ensures.table c.pass.ensures.phase in
-    record { may = other_of_phase script _ _ c.requires.turns table 2 c.args.self.now.third c.begin.new.turn (omega arith) c.requires.third.thread (subst (IsAtPhase script table 1) (sym c.begin.ensures.turn) at) }
+    record { may = other_of_phase script _ _ c.requires.turns table 2 c.args.self.now.third c.begin.new.turn (omega arith) c.requires.third (subst (IsAtPhase script table 1) (sym c.begin.ensures.turn) at) }
 
 pub returns-clause-turn : goal.returns-clause-turn
 returns-clause-turn g c =
@@ -51,10 +51,10 @@ returns-clause-turn g c =
     subst (IsAtPhase script table 1) (sym (c.begin-2.ensures.turn ∙ c.begin.ensures.turn)) at
 
 pub returns-clause-first : goal.returns-clause-first
-returns-clause-first g c = subst (HasMade g.N.Named.script 0 _) (sym c.end.ensures.same) c.requires.first
+returns-clause-first g c = subst (HasMade 0 _) (sym c.end.ensures.same) c.requires.first
 
 pub returns-clause-second : goal.returns-clause-second
-returns-clause-second g c = IsFirst-begun 1 c.args.self.now.second c.begin.new.p c.begin.ensures.begun c.requires.second
+returns-clause-second g c = IsFirst-begun 1 c.args.self.now.second c.begin.new.p c.begin.ensures.begun c.requires.second.first_is
 
 pub returns-clause-third : goal.returns-clause-third
-returns-clause-third g c = IsFirst-begun 2 c.args.self.now.third c.begin-2.new.p c.begin-2.ensures.begun c.requires.third
+returns-clause-third g c = IsFirst-begun 2 c.args.self.now.third c.begin-2.new.p c.begin-2.ensures.begun c.requires.third.first_is
