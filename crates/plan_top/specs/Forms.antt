@@ -1,10 +1,11 @@
--- What the words after the program's name ask for: `curve SETS WAYS [--one-of N] [--first]` or `divide [--compare]`.
-use Rattle.std.specs.Prelude.{ℕ, ◌+◌, ◌==◌, ◌&&◌, true, false, if◌then◌else◌, List, [], ◌∷◌, ◌++◌, codes, string_bytes, String, Option, Some, None, option_map}
+-- What the words after the program's name ask for: `curve SETS WAYS [--one-of N] [--first]` or `divide [--compare] [--used]`.
+use Rattle.std.specs.Prelude.{ℕ, ◌+◌, ◌==◌, ◌&&◌, false, if◌then◌else◌, List, [], ◌∷◌, ◌++◌, codes, string_bytes, String, Option, Some, None, option_map}
 use Rattle.std.specs.Option.{option_and_then}
 use Rattle.std.specs.declared.alloc.Global.{Global}
 use Rattle.num_text.specs.Numbers.{below, dec_of}
 use Rattle.rc_base.specs.Texts.{is_text}
 use Rattle.plan_top.specs.CurveForms.{CurveWords, with_first}
+use Rattle.plan_top.specs.DivideForms.{divide_in}
 use Rattle.plan_top.specs.declared.form.Form.{Form}
 use Rattle.plan_top.specs.declared.form.Form.TheVariants.{Curve, Divide}
 use Rattle.plan_top.specs.declared.limits.TheConstants.{MOST_SETS, MOST_WAYS}
@@ -33,26 +34,28 @@ sampled_form form text = option_map (λ n. record { sets = form.sets; ways = for
 abbrev pub sample_in : List ℕ → List ℕ → List ℕ → Option CurveWords
 sample_in sets ways one_of = option_and_then (λ (form : CurveWords). sampled_form form one_of) (curve_in sets ways)
 
--- what a command line asks for, and None where it is not valid
-abbrev pub form_of : List (String Global) → Option Form
-form_of (command ∷ []) = if is_text (string_bytes command) (codes "divide") then Some (Divide (record { compare = false })) else None
-form_of (command ∷ word ∷ []) =
-    if is_text (string_bytes command) (codes "divide") && is_text (string_bytes word) (codes "--compare") then Some (Divide (record { compare = true })) else None
-form_of (command ∷ sets ∷ ways ∷ []) = if is_text (string_bytes command) (codes "curve") then option_map Curve (curve_in (string_bytes sets) (string_bytes ways)) else None
-form_of (command ∷ sets ∷ ways ∷ first ∷ []) =
+-- what a command line that is not of `divide` asks for
+abbrev pub curve_form_of : List (String Global) → Option Form
+curve_form_of (command ∷ sets ∷ ways ∷ []) = if is_text (string_bytes command) (codes "curve") then option_map Curve (curve_in (string_bytes sets) (string_bytes ways)) else None
+curve_form_of (command ∷ sets ∷ ways ∷ first ∷ []) =
     if is_text (string_bytes command) (codes "curve") && is_text (string_bytes first) (codes "--first")
     then option_map Curve (option_map with_first (curve_in (string_bytes sets) (string_bytes ways)))
     else None
-form_of (command ∷ sets ∷ ways ∷ word ∷ one_of ∷ []) =
+curve_form_of (command ∷ sets ∷ ways ∷ word ∷ one_of ∷ []) =
     if is_text (string_bytes command) (codes "curve") && is_text (string_bytes word) (codes "--one-of")
     then option_map Curve (sample_in (string_bytes sets) (string_bytes ways) (string_bytes one_of))
     else None
-form_of (command ∷ sets ∷ ways ∷ word ∷ one_of ∷ first ∷ []) =
+curve_form_of (command ∷ sets ∷ ways ∷ word ∷ one_of ∷ first ∷ []) =
     if is_text (string_bytes command) (codes "curve") && is_text (string_bytes word) (codes "--one-of") && is_text (string_bytes first) (codes "--first")
     then option_map Curve (option_map with_first (sample_in (string_bytes sets) (string_bytes ways) (string_bytes one_of)))
     else None
-form_of words = None
+curve_form_of words = None
+
+-- what a command line asks for, and None where it is not valid
+abbrev pub form_of : List (String Global) → Option Form
+form_of [] = None
+form_of (command ∷ words) = if is_text (string_bytes command) (codes "divide") then option_map Divide (divide_in words) else curve_form_of (command ∷ words)
 
 -- the line for a command line that is not valid
 abbrev pub usage_line : List ℕ
-usage_line = codes "usage: resctrl_plan curve SETS WAYS [--one-of N] [--first] | divide [--compare]" ++ 10 ∷ []
+usage_line = codes "usage: resctrl_plan curve SETS WAYS [--one-of N] [--first] | divide [--compare] [--used]" ++ 10 ∷ []

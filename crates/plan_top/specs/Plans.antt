@@ -42,9 +42,9 @@ pub record RefusesScript (bytes text : List ℕ) : Type 0 where
   pub told : text ≡ refusal_line refusal
 
 -- the text tells a plan of a script and, where that is asked, what it is compared with
-abbrev pub TellsAsked : (compare : Bool) → ScriptValue → JournalsValue → List ℕ → Type 0
-TellsAsked false script journals text = TellsPlan script journals text
-TellsAsked true script journals text = TellsComparedPlan script journals text
+abbrev pub TellsAsked : (compare only_used : Bool) → ScriptValue → JournalsValue → List ℕ → Type 0
+TellsAsked false only_used script journals text = TellsPlan only_used script journals text
+TellsAsked true only_used script journals text = TellsComparedPlan only_used script journals text
 
 -- these bytes are a script, and the text tells what is asked of it by the journals of its play
 pub record ReportsPlan (form : DivideForm) (bytes text : List ℕ) : Type 0 where
@@ -53,7 +53,7 @@ pub record ReportsPlan (form : DivideForm) (bytes text : List ℕ) : Type 0 wher
   pub is_script : meaning bytes ≡ Ok script
   pub is_run : IsRun script journals
   pub plays : IsPlay script journals
-  pub plan : TellsAsked form.compare script journals text
+  pub plan : TellsAsked form.compare form.only_used script journals text
 
 -- (For proofs.) what is reported of bytes that are a script, beside which nothing is handed back
 abbrev pub reports_plan : DivideForm → List ℕ → Unit {0} → List ℕ → Type 0

@@ -23,24 +23,34 @@ use top_parts::{InputError, Refusal, line_of, script_in};
 use way_plans::{compared_report, comparisons_of, plan_of, plan_report};
 
 // The text of a plan of a script by the journals of its play.
-fn plan_text(alloc: Global, script: &Script, journals: &Journals) -> Result<Vec<u8>, NoMemory>
+fn plan_text(
+    alloc: Global,
+    form: DivideForm,
+    script: &Script,
+    journals: &Journals,
+) -> Result<Vec<u8>, NoMemory>
     requires lawful { IsLawful script.now }
     requires run { IsRun script.now journals.now }
-    ensures { IfOk result (λ text. TellsPlan script.now journals.now text.items) }
+    ensures { IfOk result (λ text. TellsPlan form.only_used script.now journals.now text.items) }
 {
     let plan = plan_of(alloc, script, journals)?;
-    plan_report(alloc, script, &plan)
+    plan_report(alloc, script, form.only_used, &plan)
 }
 
 // The same text with what each domain's plan is compared with.
-fn compared_text(alloc: Global, script: &Script, journals: &Journals) -> Result<Vec<u8>, NoMemory>
+fn compared_text(
+    alloc: Global,
+    form: DivideForm,
+    script: &Script,
+    journals: &Journals,
+) -> Result<Vec<u8>, NoMemory>
     requires lawful { IsLawful script.now }
     requires run { IsRun script.now journals.now }
-    ensures { IfOk result (λ text. TellsComparedPlan script.now journals.now text.items) }
+    ensures { IfOk result (λ text. TellsComparedPlan form.only_used script.now journals.now text.items) }
 {
     let plan = plan_of(alloc, script, journals)?;
     let comparisons = comparisons_of(alloc, script, journals, &plan.groups)?;
-    compared_report(alloc, script, &plan, &comparisons)
+    compared_report(alloc, script, form.only_used, &plan, &comparisons)
 }
 
 // What is asked of a script that was played.
@@ -52,12 +62,12 @@ fn asked_text(
 ) -> Result<Vec<u8>, NoMemory>
     requires lawful { IsLawful script.now }
     requires run { IsRun script.now journals.now }
-    ensures { IfOk result (λ text. TellsAsked form.compare script.now journals.now text.items) }
+    ensures { IfOk result (λ text. TellsAsked form.compare form.only_used script.now journals.now text.items) }
 {
     if form.compare {
-        compared_text(alloc, script, journals)
+        compared_text(alloc, form, script, journals)
     } else {
-        plan_text(alloc, script, journals)
+        plan_text(alloc, form, script, journals)
     }
 }
 

@@ -5,4 +5,7 @@
 pub struct DivideForm {
     /// Whether each domain's plan is compared with the script as it is and with a cache that all groups share.
     pub compare: bool,
+
+    /// Whether the report leaves out the curves of groups without uses.
+    pub only_used: bool,
 }

@@ -11,7 +11,7 @@ use std::marker::Model;
 pub enum Form {
     /// `curve SETS WAYS [--one-of N] [--first]`: the curves of a trace.
     Curve(CurveForm),
-    /// `divide [--compare]`: the plan of a script.
+    /// `divide [--compare] [--used]`: the plan of a script.
     Divide(DivideForm),
 }
 

@@ -5,6 +5,7 @@
 pub mod calls;
 mod divide;
 pub mod divide_form;
+mod divide_words;
 pub mod form;
 pub mod limits;
 mod program;

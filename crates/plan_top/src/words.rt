@@ -1,8 +1,8 @@
 //! The words after the program's name.
 ghost use Rattle.std.specs.Prelude.{◌≡◌, ◌<◌, ◌≤◌, IfSome};
-ghost use Rattle.plan_top.specs.Forms.{curve_in, form_of as form_in, one_of_in, sample_in, sampled_form, sets_in, usage_line, ways_in};
+ghost use Rattle.plan_top.specs.Forms.{curve_form_of as curve_form_in, curve_in, form_of as form_in, one_of_in, sample_in, sampled_form, sets_in, usage_line, ways_in};
 
-use crate::divide_form::DivideForm;
+use crate::divide_words::divide_of;
 use crate::form::{CurveForm, Form};
 use crate::limits::{MOST_SETS, MOST_WAYS};
 use num_text::read_dec;
@@ -10,7 +10,7 @@ use rc_base::is_text;
 
 /// The line for a command line that is not valid.
 pub const USAGE: &str =
-    "usage: resctrl_plan curve SETS WAYS [--one-of N] [--first] | divide [--compare]\n";
+    "usage: resctrl_plan curve SETS WAYS [--one-of N] [--first] | divide [--compare] [--used]\n";
 
 // The number of sets that a word is.
 fn sets_of(text: &[u8]) -> Option<u32>
@@ -79,20 +79,11 @@ fn sample_of(sets: &[u8], ways: &[u8], one_of: &[u8]) -> Option<CurveForm>
     }
 }
 
-/// What a command line asks for, and None where it is not valid: `curve`, a number of sets, a number of ways, after `--one-of` of how
-/// many lines a sample has one, and `--first`; or `divide` and, where its plan is to be compared, `--compare`; and nothing else. (This
-/// project's profile.)
-pub fn form_of(words: &[String]) -> Option<Form>
-    ensures { result ≡ form_in words.now }
+// What a command line that is not of `divide` asks for.
+fn curve_form_of(words: &[String]) -> Option<Form>
+    ensures { result ≡ curve_form_in words.now }
 {
     match words {
-        [command] if is_text(command.as_bytes(), b"divide") => {
-            Some(Form::Divide(DivideForm { compare: false }))
-        }
-        [command, word]
-            if is_text(command.as_bytes(), b"divide") && is_text(word.as_bytes(), b"--compare") => {
-            Some(Form::Divide(DivideForm { compare: true }))
-        }
         [command, sets, ways] if is_text(command.as_bytes(), b"curve") => {
             curve_of(sets.as_bytes(), ways.as_bytes()).map(Form::Curve)
         }
@@ -116,6 +107,21 @@ pub fn form_of(words: &[String]) -> Option<Form>
         }
         _ => None,
     }
+}
+
+/// What a command line asks for, and None where it is not valid: `curve`, a number of sets, a number of ways, after `--one-of` of how
+/// many lines a sample has one, and `--first`; or `divide`, where its plan is to be compared `--compare`, and where groups without uses are
+/// left out `--used`; and nothing else. (This project's profile.)
+pub fn form_of(words: &[String]) -> Option<Form>
+    ensures { result ≡ form_in words.now }
+{
+    let [command, flags @ ..] = words else {
+        return None;
+    };
+    if !is_text(command.as_bytes(), b"divide") {
+        return curve_form_of(words);
+    }
+    divide_of(flags).map(Form::Divide)
 }
 
 /// The usage line as bytes.

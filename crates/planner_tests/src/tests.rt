@@ -7,6 +7,7 @@ mod first_uses;
 mod plans;
 mod samples;
 mod traces;
+mod used_groups;
 
 use call_rim::Status;
 use plan_top::top_plan;

@@ -1,5 +1,5 @@
 -- What is printed of a plan: the curves of each domain's groups, how many misses the domain has, and the lines of a script.
-use Rattle.std.specs.Prelude.{ℕ, ◌+◌, ◌-◌, Bool, true, false, ◌&&◌, is_some, if◌then◌else◌, List, [], ◌∷◌, ◌++◌, get_or, codes, decimal, Option, Some, None}
+use Rattle.std.specs.Prelude.{ℕ, ◌+◌, ◌-◌, Bool, true, false, ◌&&◌, ◌==◌, is_some, if◌then◌else◌, List, [], ◌∷◌, ◌++◌, get_or, codes, decimal, Option, Some, None}
 use Rattle.std.specs.List.{flat_map, range_with_len}
 use Rattle.way_curve.specs.CurveTexts.{ways_line}
 use Rattle.group_tree.specs.declared.group.Group.{Group}
@@ -49,11 +49,15 @@ group_heading names domain g = codes "domain " ++ decimal domain ++ codes " grou
 abbrev pub curve_text : List (List ℕ) → ℕ → ℕ → Group → List ℕ → List ℕ
 curve_text names ways domain g row = group_heading names domain g ++ flat_map (row_line row) (range_with_len 1 ways)
 
+-- nothing of a group without uses, where only those with uses are asked for
+abbrev pub asked_curve : Bool → List (List ℕ) → ℕ → ℕ → Group → List ℕ → List ℕ
+asked_curve only_used names ways domain g row = if only_used && (get_or row 0 0 == 0) then [] else curve_text names ways domain g row
+
 -- the same of each group
-abbrev pub curve_texts : List (List ℕ) → ℕ → ℕ → List Group → List (List ℕ) → List ℕ
-curve_texts names ways domain [] rows = []
-curve_texts names ways domain (g ∷ gs) [] = []
-curve_texts names ways domain (g ∷ gs) (row ∷ rows) = curve_text names ways domain g row ++ curve_texts names ways domain gs rows
+abbrev pub curve_texts : Bool → List (List ℕ) → ℕ → ℕ → List Group → List (List ℕ) → List ℕ
+curve_texts only_used names ways domain [] rows = []
+curve_texts only_used names ways domain (g ∷ gs) [] = []
+curve_texts only_used names ways domain (g ∷ gs) (row ∷ rows) = asked_curve only_used names ways domain g row ++ curve_texts only_used names ways domain gs rows
 
 -- ---- divisions
 
@@ -67,13 +71,13 @@ abbrev pub division_line : ℕ → DomainPart → List ℕ
 division_line domain part = codes "domain " ++ decimal domain ++ division_told part.misses part.spans
 
 -- the curves of a domain's groups, and the line of its division
-abbrev pub domain_text : List (List ℕ) → ℕ → List Group → ℕ → DomainPart → List ℕ
-domain_text names ways groups domain part = curve_texts names ways domain groups part.misses ++ division_line domain part
+abbrev pub domain_text : Bool → List (List ℕ) → ℕ → List Group → ℕ → DomainPart → List ℕ
+domain_text only_used names ways groups domain part = curve_texts only_used names ways domain groups part.misses ++ division_line domain part
 
 -- the same of each domain, numbered from this one
-abbrev pub domain_texts : List (List ℕ) → ℕ → List Group → ℕ → List DomainPart → List ℕ
-domain_texts names ways groups domain [] = []
-domain_texts names ways groups domain (part ∷ parts) = domain_text names ways groups domain part ++ domain_texts names ways groups (domain + 1) parts
+abbrev pub domain_texts : Bool → List (List ℕ) → ℕ → List Group → ℕ → List DomainPart → List ℕ
+domain_texts only_used names ways groups domain [] = []
+domain_texts only_used names ways groups domain (part ∷ parts) = domain_text only_used names ways groups domain part ++ domain_texts only_used names ways groups (domain + 1) parts
 
 -- ---- the lines of a script
 
@@ -121,6 +125,6 @@ abbrev pub script_lines : List (List ℕ) → ℕ → List Group → List Domain
 script_lines names ways groups parts =
     if is_whole parts then flat_map (shareable_line names) groups ++ schemata_lines names ways parts 0 groups ++ flat_map (exclusive_line names) groups else []
 
--- The whole text: each domain, and the lines of a script.
-abbrev pub plan_text : List (List ℕ) → ℕ → List Group → List DomainPart → List ℕ
-plan_text names ways groups parts = domain_texts names ways groups 0 parts ++ script_lines names ways groups parts
+-- The whole text: each domain, with the curves of all groups or of those that have uses, and the lines of a script.
+abbrev pub plan_text : (only_used : Bool) → List (List ℕ) → ℕ → List Group → List DomainPart → List ℕ
+plan_text only_used names ways groups parts = domain_texts only_used names ways groups 0 parts ++ script_lines names ways groups parts

@@ -1,5 +1,5 @@
 -- The plan of a script that was played, and the text that tells it.
-use Rattle.std.specs.Prelude.{◌≡◌, ℕ, ◌+◌, List, [], ◌∷◌, length, Option, Some, None}
+use Rattle.std.specs.Prelude.{◌≡◌, ℕ, ◌+◌, Bool, List, [], ◌∷◌, length, Option, Some, None}
 use Rattle.way_plans.specs.ComparedTexts.{compared_text}
 use Rattle.way_plans.specs.Comparisons.{comparisons_in}
 use Rattle.way_plans.specs.PlanTexts.{DomainPart, plan_text}
@@ -30,14 +30,14 @@ pub record AreParts (script : ScriptValue) (j : JournalsValue) (parts : List Dom
   pub all : length parts ≡ script.machine.domains
   pub each : ArePartsFrom script j 0 parts
 
--- The text tells a plan of the script.
-pub record TellsPlan (script : ScriptValue) (j : JournalsValue) (text : List ℕ) : Type 0 where
+-- The text tells a plan of the script, with the curves of all groups or of those that have uses.
+pub record TellsPlan (only_used : Bool) (script : ScriptValue) (j : JournalsValue) (text : List ℕ) : Type 0 where
   pub parts : List DomainPart
   pub are_parts : AreParts script j parts
-  pub is_text : text ≡ plan_text script.names script.machine.ways (planned (tree_after script j.tree)) parts
+  pub is_text : text ≡ plan_text only_used script.names script.machine.ways (planned (tree_after script j.tree)) parts
 
 -- The text tells a plan of the script and, after the plan of each domain, what that is compared with.
-pub record TellsComparedPlan (script : ScriptValue) (j : JournalsValue) (text : List ℕ) : Type 0 where
+pub record TellsComparedPlan (only_used : Bool) (script : ScriptValue) (j : JournalsValue) (text : List ℕ) : Type 0 where
   pub parts : List DomainPart
   pub are_parts : AreParts script j parts
-  pub is_text : text ≡ compared_text script.names script.machine.ways (planned (tree_after script j.tree)) parts (comparisons_in script j (planned (tree_after script j.tree)))
+  pub is_text : text ≡ compared_text only_used script.names script.machine.ways (planned (tree_after script j.tree)) parts (comparisons_in script j (planned (tree_after script j.tree)))

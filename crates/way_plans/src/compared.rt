@@ -37,6 +37,7 @@ fn push_comparison(
 pub(crate) fn push_compared(
     text: &mut GrowingText,
     script: &Script,
+    only_used: bool,
     groups: &[Group],
     domain: u8,
     plans: &[DomainPlan],
@@ -45,7 +46,7 @@ pub(crate) fn push_compared(
     requires named { AreNamed script.now.names groups.now }
     requires few { domain + length plans.now ≤ 8 }
     requires small { All IsSmall plans.now }
-    ensures { OnOk result (text.new ≡ text.old ++ compared_domains script.now.names script.now.machine.ways groups.now domain (parts_of plans.now) comparisons.now) }
+    ensures { OnOk result (text.new ≡ text.old ++ compared_domains only_used script.now.names script.now.machine.ways groups.now domain (parts_of plans.now) comparisons.now) }
 {
     let [plan, later @ ..] = plans else {
         return Ok(());
@@ -53,7 +54,7 @@ pub(crate) fn push_compared(
     let [comparison, others @ ..] = comparisons else {
         return Ok(());
     };
-    push_domain(text, script, groups, domain, plan)?;
+    push_domain(text, script, only_used, groups, domain, plan)?;
     push_comparison(text, domain, *comparison)?;
-    push_compared(text, script, groups, domain + 1, later, others)
+    push_compared(text, script, only_used, groups, domain + 1, later, others)
 }

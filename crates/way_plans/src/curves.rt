@@ -3,7 +3,7 @@ ghost use Rattle.std.specs.Prelude.{◌≡◌, ◌≤◌, ◌++◌, OnOk};
 ghost use Rattle.std.specs.List.{flat_map, range_with_len};
 ghost use Rattle.way_curve.specs.CurveTexts.{ways_line};
 ghost use Rattle.path_names.specs.PathTexts.{path_text};
-ghost use Rattle.way_plans.specs.PlanTexts.{curve_text, curve_texts, group_heading, row_line};
+ghost use Rattle.way_plans.specs.PlanTexts.{asked_curve, curve_text, curve_texts, group_heading, row_line};
 ghost use Rattle.tree_core.specs.Named.{AreNamed, IsNamed};
 
 use crate::MOST_WAYS;
@@ -90,16 +90,35 @@ fn push_curve(
     push_row(text, row, script.machine().ways)
 }
 
-/// Adds the curve of each group in a domain.
+// Adds the curve of a group in a domain, where it is asked for.
+fn push_asked(
+    text: &mut GrowingText,
+    script: &Script,
+    only_used: bool,
+    domain: u8,
+    group: &Group,
+    row: &[u64; MOST_WAYS + 1],
+) -> Result<(), NoMemory>
+    requires { IsNamed script.now.names group.now }
+    ensures { OnOk result (text.new ≡ text.old ++ asked_curve only_used script.now.names script.now.machine.ways domain group.now row.now) }
+{
+    if only_used && row[0] == 0 {
+        return Ok(());
+    }
+    push_curve(text, script, domain, group, row)
+}
+
+/// Adds the curve of each group in a domain, or where `only_used` is set of each group that has uses there.
 pub(crate) fn push_curves(
     text: &mut GrowingText,
     script: &Script,
+    only_used: bool,
     domain: u8,
     groups: &[Group],
     rows: &[[u64; MOST_WAYS + 1]],
 ) -> Result<(), NoMemory>
     requires { AreNamed script.now.names groups.now }
-    ensures { OnOk result (text.new ≡ text.old ++ curve_texts script.now.names script.now.machine.ways domain groups.now rows.now) }
+    ensures { OnOk result (text.new ≡ text.old ++ curve_texts only_used script.now.names script.now.machine.ways domain groups.now rows.now) }
 {
     let [group, later @ ..] = groups else {
         return Ok(());
@@ -107,6 +126,6 @@ pub(crate) fn push_curves(
     let [row, later_rows @ ..] = rows else {
         return Ok(());
     };
-    push_curve(text, script, domain, group, row)?;
-    push_curves(text, script, domain, later, later_rows)
+    push_asked(text, script, only_used, domain, group, row)?;
+    push_curves(text, script, only_used, domain, later, later_rows)
 }

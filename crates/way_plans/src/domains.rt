@@ -11,19 +11,27 @@ use group_tree::Group;
 use rc_base::NoMemory;
 use script_ops::{GrowingText, Script};
 
-/// Adds what is told of a domain.
+/// Adds what is told of a domain, where `only_used` is set without the curves of groups that have no uses there.
 pub(crate) fn push_domain(
     text: &mut GrowingText,
     script: &Script,
+    only_used: bool,
     groups: &[Group],
     domain: u8,
     plan: &DomainPlan,
 ) -> Result<(), NoMemory>
     requires named { AreNamed script.now.names groups.now }
     requires small { IsSmall plan.now }
-    ensures { OnOk result (text.new ≡ text.old ++ domain_text script.now.names script.now.machine.ways groups.now domain (part_of plan.now)) }
+    ensures { OnOk result (text.new ≡ text.old ++ domain_text only_used script.now.names script.now.machine.ways groups.now domain (part_of plan.now)) }
 {
-    push_curves(text, script, domain, groups, plan.misses.as_slice())?;
+    push_curves(
+        text,
+        script,
+        only_used,
+        domain,
+        groups,
+        plan.misses.as_slice(),
+    )?;
     push_division(text, domain, plan)
 }
 
@@ -31,6 +39,7 @@ pub(crate) fn push_domain(
 pub(crate) fn push_domains(
     text: &mut GrowingText,
     script: &Script,
+    only_used: bool,
     groups: &[Group],
     domain: u8,
     plans: &[DomainPlan],
@@ -38,13 +47,13 @@ pub(crate) fn push_domains(
     requires named { AreNamed script.now.names groups.now }
     requires few { domain + length plans.now ≤ 8 }
     requires small { All IsSmall plans.now }
-    ensures { OnOk result (text.new ≡ text.old ++ domain_texts script.now.names script.now.machine.ways groups.now domain (parts_of plans.now)) }
+    ensures { OnOk result (text.new ≡ text.old ++ domain_texts only_used script.now.names script.now.machine.ways groups.now domain (parts_of plans.now)) }
 {
     let [plan, later @ ..] = plans else {
         return Ok(());
     };
-    push_domain(text, script, groups, domain, plan)?;
-    push_domains(text, script, groups, domain + 1, later)
+    push_domain(text, script, only_used, groups, domain, plan)?;
+    push_domains(text, script, only_used, groups, domain + 1, later)
 }
 
 /// Whether each domain has a division.

@@ -34,15 +34,20 @@ fn push_script_lines(
     push_all_exclusive(text, script.names(), groups)
 }
 
-/// The text of a plan (this project's profile): for each domain the curve of each group, a line for each number of ways that the
-/// machine has, and how many misses the best division has, or that there is none; then, where each domain has one, the lines of a
-/// script that make the division. NoMemory where the allocator gives no room for it.
-pub fn plan_report(alloc: Global, script: &Script, plan: &Plan) -> Result<Vec<u8>, NoMemory>
+/// The text of a plan (this project's profile): for each domain the curve of each group, or where `only_used` is set of each group that
+/// has uses there, with a line for each number of ways that the machine has, and how many misses the best division has, or that there is
+/// none; then, where each domain has one, the lines of a script that make the division. NoMemory where the allocator gives no room for it.
+pub fn plan_report(
+    alloc: Global,
+    script: &Script,
+    only_used: bool,
+    plan: &Plan,
+) -> Result<Vec<u8>, NoMemory>
     requires { IsPrintable script.now.names plan.now.groups.items plan.now.domains.items }
-    ensures { IfOk result (λ bytes. bytes.items ≡ plan_text script.now.names script.now.machine.ways plan.now.groups.items (parts_of plan.now.domains.items)) }
+    ensures { IfOk result (λ bytes. bytes.items ≡ plan_text only_used script.now.names script.now.machine.ways plan.now.groups.items (parts_of plan.now.domains.items)) }
 {
     let mut text = GrowingText::create(alloc)?;
-    push_domains(&mut text, script, &plan.groups, 0, &plan.domains)?;
+    push_domains(&mut text, script, only_used, &plan.groups, 0, &plan.domains)?;
     push_script_lines(alloc, &mut text, script, &plan.groups, &plan.domains)?;
     Ok(text.into_bytes())
 }
@@ -52,16 +57,18 @@ pub fn plan_report(alloc: Global, script: &Script, plan: &Plan) -> Result<Vec<u8
 pub fn compared_report(
     alloc: Global,
     script: &Script,
+    only_used: bool,
     plan: &Plan,
     comparisons: &[Comparison],
 ) -> Result<Vec<u8>, NoMemory>
     requires { IsPrintable script.now.names plan.now.groups.items plan.now.domains.items }
-    ensures { IfOk result (λ bytes. bytes.items ≡ compared_text script.now.names script.now.machine.ways plan.now.groups.items (parts_of plan.now.domains.items) comparisons.now) }
+    ensures { IfOk result (λ bytes. bytes.items ≡ compared_text only_used script.now.names script.now.machine.ways plan.now.groups.items (parts_of plan.now.domains.items) comparisons.now) }
 {
     let mut text = GrowingText::create(alloc)?;
     push_compared(
         &mut text,
         script,
+        only_used,
         &plan.groups,
         0,
         &plan.domains,

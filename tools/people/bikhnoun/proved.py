@@ -14,6 +14,7 @@ FLAG_HELPS = {
     "--windows": "the report also has each window in which a group was exclusive",
     "--quiet": "the report has no lines of commands",
     "--compare": "each division is compared with the script as it is and with a cache that all groups share",
+    "--used": "the report leaves out the curves of groups without uses; after --compare",
 }
 STATUSES = """exit status: 0 all is written; 1 the input is invalid; 2 the command line is wrong; 3 the input could not be read, or the
 program is missing; 4 the output could not be written; 5 out of memory{}.
@@ -78,7 +79,7 @@ PLANS = {
         explained_as("trace"),
     ),
     "divide": Proved(
-        programs.PLANNER, ("divide",), "SCRIPT", ("--compare",), "dividing", 60 * MB, "counts this for the groups of a script, and divides the ways among them", EXPLAINED
+        programs.PLANNER, ("divide",), "SCRIPT", ("--compare", "--used"), "dividing", 60 * MB, "counts this for the groups of a script, and divides the ways among them", EXPLAINED
     ),
 }
 

@@ -75,7 +75,7 @@ fn what_is_no_trace_is_told(rt: HostRuntime) -> Result<(), Fail> {
     Ok(())
 }
 
-const NO_FORMS: [&[&str]; 26] = [
+const NO_FORMS: [&[&str]; 31] = [
     &["curve", "1048577", "1"],
     &["curve", "4294967297", "1"],
     &["curve", "0", "1"],
@@ -102,10 +102,15 @@ const NO_FORMS: [&[&str]; 26] = [
     &["divide", "--compared"],
     &["divide", "--compare", "--compare"],
     &["curve", "--compare"],
+    &["curve", "--used"],
+    &["divide", "--used", "--compare"],
+    &["divide", "--used", "--used"],
+    &["divide", "--Used"],
+    &["divide", "--compare", "--used", "1"],
 ];
 
 const USAGE_LINE: &[u8] =
-    b"usage: resctrl_plan curve SETS WAYS [--one-of N] [--first] | divide [--compare]\n";
+    b"usage: resctrl_plan curve SETS WAYS [--one-of N] [--first] | divide [--compare] [--used]\n";
 
 #[test]
 fn other_words_are_no_form(rt: HostRuntime) -> Result<(), Fail> {
