@@ -14,6 +14,7 @@ pub mod MappedPlaces
 pub mod MarkedOps
 pub mod NextOps
 pub mod NoEntry
+pub mod QuietScripts
 pub mod RisingHoldings
 pub mod RisingStays
 pub mod SegmentEnds

@@ -12,5 +12,6 @@ pub mod JointWindows
 pub mod Kept
 pub mod LevelJournals
 pub mod Partitions
+pub mod Quiet
 pub mod Replays
 pub mod Segments

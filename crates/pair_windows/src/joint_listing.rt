@@ -19,6 +19,7 @@ use crate::hits::hits_on;
 use crate::holdings::{Holding, has_exclusive, stays_of};
 use crate::joint_counted::push_counted;
 use crate::joint_window::JointWindow;
+use crate::quiet::has_exclusive_write;
 use crate::segments::{Hits, is_end, take_segment};
 use cache_core::{SliceEntry, What};
 use pair_ops::Side;
@@ -160,8 +161,9 @@ fn push_domain(
 /// lie in it, after a flush, and uses lines: by L3 domain, by the position of the flush, and by group in order of creation (this
 /// project's profile).
 ///
-/// For each L3 domain the tree is played once more, and its uses after a flush at which groups are exclusive are walked some times,
-/// whatever the number of groups, as `private_lru` says.
+/// Where no command writes the mode exclusive, there are none, and the ops are looked at once. Else for each L3 domain the tree is
+/// played once more, and its uses after a flush at which groups are exclusive are walked some times, whatever the number of groups,
+/// as `private_lru` says.
 pub fn joint_windows(
     alloc: Global,
     script: &PairScript,
@@ -172,6 +174,9 @@ pub fn joint_windows(
     requires { IsPlayedOnLevels script.now (level_journals replies.now l2.now l3.now) }
     ensures { IfOk result (λ windows. windows.items ≡ joint_windows script.now (level_journals replies.now l2.now l3.now)) }
 {
+    if !has_exclusive_write(script) {
+        return Ok(Vec::new(alloc));
+    }
     let l2 = hits_on(alloc, script, Side::First, l2)?;
     let l3 = hits_on(alloc, script, Side::Second, l3)?;
     let hits = Hits { l2, l3 };

@@ -18,6 +18,7 @@ pub mod joint_window;
 mod kept;
 mod line_uses;
 pub mod partition;
+mod quiet;
 pub mod replay;
 mod segments;
 pub mod theorems;

@@ -14,6 +14,7 @@ use crate::Replay;
 use crate::cdp_window::CdpWindow;
 use crate::counted::{counts_at, kept_between, push_counted};
 use crate::fronts::{front_len, is_flush};
+use crate::quiet::has_exclusive_write;
 use cache_core::SliceEntry;
 use pair_text::PairScript;
 use rc_base::{NoMemory, Reply};
@@ -123,8 +124,9 @@ fn push_domain(
 /// flush, and uses lines: by domain, by the position of the flush, by group in order of creation, and of data before code (this
 /// project's profile).
 ///
-/// For each domain the tree is played once more, and its entries after a flush at which a side of a group has ways for itself are
-/// walked some times, whatever the number of groups, as `private_lru` says.
+/// Where no command writes the mode exclusive, there are none, and the ops are looked at once. Else for each domain the tree is played
+/// once more, and its entries after a flush at which a side of a group has ways for itself are walked some times, whatever the number
+/// of groups, as `private_lru` says.
 pub fn cdp_windows(
     alloc: Global,
     script: &PairScript,
@@ -134,6 +136,9 @@ pub fn cdp_windows(
     requires { IsPlayed script.now (cdp_journals replies.now slices.now) }
     ensures { IfOk result (λ windows. windows.items ≡ cdp_windows script.now (cdp_journals replies.now slices.now)) }
 {
+    if !has_exclusive_write(script) {
+        return Ok(Vec::new(alloc));
+    }
     let mut windows: Vec<CdpWindow> = Vec::new(alloc);
     for domain in 0..script.machine().domains {
         push_domain(alloc, script, replies, slices, domain, &mut windows)?;
