@@ -51,9 +51,15 @@ def pair_tasks(script, count):
     script.write(f"machine\ntasks {LONG_TASKS}\n" + "read /tasks\n" * count)
 
 
-def pair_tasks_same(script, count):
+def pair_tasks_same(script, count, machine="machine"):
     """Texts that move one task two thousand times."""
-    script.write("machine\ntasks 1-4096\nmkdir /a\n" + ("write /a/tasks " + "1," * 2_047 + "\n") * count)
+    script.write(f"{machine}\ntasks 1-4096\nmkdir /a\n" + ("write /a/tasks " + "1," * 2_047 + "\n") * count)
+
+
+def pair_tasks_same8(script, count):
+    """The same before a flush of eight caches, in none of which a group is ever exclusive."""
+    pair_tasks_same(script, count, f"machine domains={DOMAINS}")
+    script.write("flush\n")
 
 
 def pair_groups(machine, texts):
@@ -136,9 +142,11 @@ ROWS = (
     *checked(named(caches.ROWS, "names"), "resctrl_replay", ("order",)),
     Row("cdp_read_tasks", "resctrl_cdp", [], 19_990, pair_tasks, REPORT),
     Row("cdp_spread", "resctrl_cdp", ["--quiet"], USES - COMMANDS, cdp_spread),
+    Row("cdp_tasks_same8", "resctrl_cdp", ["--quiet"], 16_000, pair_tasks_same8),
     Row("cdp_toggle", "resctrl_cdp", ["--quiet"], COMMANDS - 200, cdp_toggle),
     Row("l2_read_tasks", "resctrl_l2", [], 19_990, pair_tasks, REPORT),
     Row("l2_tasks_same", "resctrl_l2", ["--quiet"], 16_000, pair_tasks_same),
+    Row("l2_tasks_same8", "resctrl_l2", ["--quiet"], 16_000, pair_tasks_same8),
     Row("l2_scatter", "resctrl_l2", ["--quiet"], USES - COMMANDS, l2_scatter),
     Row("l2_modes", "resctrl_l2", ["--quiet"], COMMANDS - 200, l2_modes),
     Row("l2_windows", "resctrl_l2", ["--quiet"], COMMANDS - 200, l2_windows),
