@@ -49,6 +49,15 @@ _bikhnoun() {
 }
 complete -o default -F _bikhnoun bikhnoun
 
+# The flags of a curve that may follow this one and its word.
+_plan_flags() {
+    case $1 in
+        --l1) echo "--l2 --one-of --first" ;;
+        --l2) echo "--one-of --first" ;;
+        --one-of) echo "--first" ;;
+    esac
+}
+
 # The programs, which have few words and no --help, and the names of an earlier version.
 _resctrl() {
     local name=${COMP_WORDS[0]##*/}
@@ -58,8 +67,8 @@ _resctrl() {
         resctrl_plan:1) _bikhnoun_offer "curve divide" ;;
         resctrl_plan:2) [ "${COMP_WORDS[1]}" != divide ] || _bikhnoun_offer "--compare --used" ;;
         resctrl_plan:3) [ "${COMP_WORDS[2]}" != --compare ] || _bikhnoun_offer "--used" ;;
-        resctrl_plan:4) [ "${COMP_WORDS[1]}" != curve ] || _bikhnoun_offer "--one-of --first" ;;
-        resctrl_plan:6) [ "${COMP_WORDS[4]}" != --one-of ] || _bikhnoun_offer "--first" ;;
+        resctrl_plan:4) [ "${COMP_WORDS[1]}" != curve ] || _bikhnoun_offer "--l1 --l2 --one-of --first" ;;
+        resctrl_plan:*) _bikhnoun_offer "$(_plan_flags "${COMP_WORDS[COMP_CWORD - 2]}")" ;;
         resctrl_check:1) _bikhnoun_offer "export check" ;;
         resctrl_check:2) [ "${COMP_WORDS[1]}" != export ] || _bikhnoun_offer "step run" ;;
         resctrl_cdp:1 | resctrl_l2:1) _bikhnoun_offer "--quiet" ;;

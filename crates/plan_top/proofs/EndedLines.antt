@@ -8,7 +8,7 @@ use Rattle.lackey_text.specs.declared.line.LackeyLine.{LackeyLine}
 use Rattle.lackey_text.specs.declared.uses.LineUse.{LineUse}
 use Rattle.way_curve.proofs.laws.FirstLines.{IsOpen-more, IsOpen-nil, lines-last, lines-newline}
 use Rattle.way_curve.specs.Reading.{IsGood, IsOpen, TraceValue}
-use Rattle.way_curve.specs.Sampling.{Sampling}
+use Rattle.way_curve.specs.Filtering.{Filtering}
 use Rattle.way_curve.specs.TraceTexts.{said_of, uses_from, uses_with}
 use Rattle.plan_top.specs.Beginnings.{HasNoBadLine}
 
@@ -65,8 +65,8 @@ pub HasNoBadLine-nil : HasNoBadLine []
 HasNoBadLine-nil = λ ended rest is. let counts = ap length is in absurd (omega (arith, counts, length-append ended (10 ∷ rest)))
 
 -- bytes that are read well
-pub HasNoBadLine-good : (sampling : Sampling) (t : TraceValue) (bytes : List ℕ) → IsGood sampling t bytes → HasNoBadLine bytes
-HasNoBadLine-good sampling t bytes good = λ ended rest is.
+pub HasNoBadLine-good : (filtering : Filtering) (t : TraceValue) (bytes : List ℕ) → IsGood filtering t bytes → HasNoBadLine bytes
+HasNoBadLine-good filtering t bytes good = λ ended rest is.
     let last = t.rest ++ 97 ∷ [] in
     let one : lines last ≡ last ∷ [] = lines-last last (IsOpen-more t.rest 97 refl good.is_open) (omega (arith, length-append t.rest (97 ∷ []))) in
     let by_trace : lines (bytes ++ 97 ∷ []) ≡ good.whole ++ last ∷ [] = good.begins (97 ∷ []) ∙ ap (λ (ls : List (List ℕ)). good.whole ++ ls) one in

@@ -1,10 +1,13 @@
--- What the words after the program's name ask for: `curve SETS WAYS [--one-of N] [--first]` or `divide [--compare] [--used]`.
+-- What the words after the program's name ask for: `curve SETS WAYS [--l1 SETSxWAYS] [--l2 SETSxWAYS] [--one-of N] [--first]` or `divide [--compare] [--used]`.
 use Rattle.std.specs.Prelude.{ℕ, ◌+◌, ◌==◌, ◌&&◌, false, if◌then◌else◌, List, [], ◌∷◌, ◌++◌, codes, string_bytes, String, Option, Some, None, option_map}
+use Rattle.std.specs.List.{after_first, before_first, list_any}
 use Rattle.std.specs.Option.{option_and_then}
 use Rattle.std.specs.declared.alloc.Global.{Global}
 use Rattle.num_text.specs.Numbers.{below, dec_of}
 use Rattle.rc_base.specs.Texts.{is_text}
-use Rattle.plan_top.specs.CurveForms.{CurveWords, with_first}
+use Rattle.way_curve.specs.FirstLevels.{no_levels}
+use Rattle.way_curve.specs.declared.first_level.LevelShape.{LevelShape}
+use Rattle.plan_top.specs.CurveForms.{CurveWords, with_first, with_l1, with_l2, with_sample}
 use Rattle.plan_top.specs.DivideForms.{divide_in}
 use Rattle.plan_top.specs.declared.form.Form.{Form}
 use Rattle.plan_top.specs.declared.form.Form.TheVariants.{Curve, Divide}
@@ -22,32 +25,48 @@ ways_in text = option_and_then (λ n. if n == 0 then None else Some n) (below (M
 abbrev pub one_of_in : ℕ → List ℕ → Option ℕ
 one_of_in sets text = option_and_then (λ n. if n == 0 then None else Some n) (below (sets + 1) (dec_of text))
 
+-- a level that has these sets and ways
+abbrev pub shape_in : List ℕ → List ℕ → Option LevelShape
+shape_in sets ways = option_and_then (λ s. option_map (λ w. record { sets = s; ways = w }) (ways_in ways)) (sets_in sets)
+
+-- a level, SETSxWAYS: its sets stand before the first `x`, and its ways after that
+abbrev pub level_in : List ℕ → Option LevelShape
+level_in text = if list_any (λ b. b == 120) text then shape_in (before_first (λ b. b == 120) text) (after_first (λ b. b == 120) text) else None
+
 -- what two numbers after `curve` ask for
 abbrev pub curve_in : List ℕ → List ℕ → Option CurveWords
-curve_in sets ways = option_and_then (λ s. option_map (λ w. record { sets = s; ways = w; one_of = None; has_first = false }) (ways_in ways)) (sets_in sets)
+curve_in sets ways = option_and_then (λ s. option_map (λ w. record { sets = s; ways = w; levels = no_levels; one_of = None; has_first = false }) (ways_in ways)) (sets_in sets)
 
--- the same of a sample
-abbrev pub sampled_form : CurveWords → List ℕ → Option CurveWords
-sampled_form form text = option_map (λ n. record { sets = form.sets; ways = form.ways; one_of = Some n; has_first = form.has_first }) (one_of_in form.sets text)
+-- A form with what the words after it ask for: each of `--l1 SETSxWAYS`, `--l2 SETSxWAYS`, `--one-of N` and `--first` may stand there, in
+-- this order, and nothing else. From behind: those from `--first` on, which is the last word,
+abbrev pub from_first : CurveWords → List (String Global) → Option CurveWords
+from_first form [] = Some form
+from_first form (flag ∷ []) = if is_text (string_bytes flag) (codes "--first") then Some (with_first form) else None
+from_first form words = None
 
--- what two numbers after `curve` and one after `--one-of` ask for
-abbrev pub sample_in : List ℕ → List ℕ → List ℕ → Option CurveWords
-sample_in sets ways one_of = option_and_then (λ (form : CurveWords). sampled_form form one_of) (curve_in sets ways)
+-- those from `--one-of` on,
+abbrev pub from_sample : CurveWords → List (String Global) → Option CurveWords
+from_sample form (flag ∷ one_of ∷ rest) =
+    if is_text (string_bytes flag) (codes "--one-of") then option_and_then (λ n. from_first (with_sample form n) rest) (one_of_in form.sets (string_bytes one_of)) else from_first form (flag ∷ one_of ∷ rest)
+from_sample form words = from_first form words
+
+-- those from `--l2` on,
+abbrev pub from_l2 : CurveWords → List (String Global) → Option CurveWords
+from_l2 form (flag ∷ level ∷ rest) =
+    if is_text (string_bytes flag) (codes "--l2") then option_and_then (λ l. from_sample (with_l2 form l) rest) (level_in (string_bytes level)) else from_sample form (flag ∷ level ∷ rest)
+from_l2 form words = from_sample form words
+
+-- and all of them.
+abbrev pub from_l1 : CurveWords → List (String Global) → Option CurveWords
+from_l1 form (flag ∷ level ∷ rest) =
+    if is_text (string_bytes flag) (codes "--l1") then option_and_then (λ l. from_l2 (with_l1 form l) rest) (level_in (string_bytes level)) else from_l2 form (flag ∷ level ∷ rest)
+from_l1 form words = from_l2 form words
 
 -- what a command line that is not of `divide` asks for
 abbrev pub curve_form_of : List (String Global) → Option Form
-curve_form_of (command ∷ sets ∷ ways ∷ []) = if is_text (string_bytes command) (codes "curve") then option_map Curve (curve_in (string_bytes sets) (string_bytes ways)) else None
-curve_form_of (command ∷ sets ∷ ways ∷ first ∷ []) =
-    if is_text (string_bytes command) (codes "curve") && is_text (string_bytes first) (codes "--first")
-    then option_map Curve (option_map with_first (curve_in (string_bytes sets) (string_bytes ways)))
-    else None
-curve_form_of (command ∷ sets ∷ ways ∷ word ∷ one_of ∷ []) =
-    if is_text (string_bytes command) (codes "curve") && is_text (string_bytes word) (codes "--one-of")
-    then option_map Curve (sample_in (string_bytes sets) (string_bytes ways) (string_bytes one_of))
-    else None
-curve_form_of (command ∷ sets ∷ ways ∷ word ∷ one_of ∷ first ∷ []) =
-    if is_text (string_bytes command) (codes "curve") && is_text (string_bytes word) (codes "--one-of") && is_text (string_bytes first) (codes "--first")
-    then option_map Curve (option_map with_first (sample_in (string_bytes sets) (string_bytes ways) (string_bytes one_of)))
+curve_form_of (command ∷ sets ∷ ways ∷ flags) =
+    if is_text (string_bytes command) (codes "curve")
+    then option_map Curve (option_and_then (λ (form : CurveWords). from_l1 form flags) (curve_in (string_bytes sets) (string_bytes ways)))
     else None
 curve_form_of words = None
 
@@ -58,4 +77,4 @@ form_of (command ∷ words) = if is_text (string_bytes command) (codes "divide")
 
 -- the line for a command line that is not valid
 abbrev pub usage_line : List ℕ
-usage_line = codes "usage: resctrl_plan curve SETS WAYS [--one-of N] [--first] | divide [--compare] [--used]" ++ 10 ∷ []
+usage_line = codes "usage: resctrl_plan curve SETS WAYS [--l1 SETSxWAYS] [--l2 SETSxWAYS] [--one-of N] [--first] | divide [--compare] [--used]" ++ 10 ∷ []

@@ -23,11 +23,11 @@ pub record RefusesTrace (bytes text : List ℕ) : Type 0 where
   pub bad : trace_of bytes ≡ Err line
   pub told : text ≡ bad_line_text line
 
--- these bytes are a trace, and the text is the report of its uses, or of those of the sample
+-- these bytes are a trace, and the text is the report of its uses, or of what the levels and the sample leave of them
 pub record ReportsCurves (form : CurveWords) (bytes text : List ℕ) : Type 0 where
   pub uses : List LineUse
   pub trace : trace_of bytes ≡ Ok uses
-  pub report : text ≡ curves_text form.one_of form.has_first form.sets form.ways uses
+  pub report : text ≡ curves_text form.levels form.one_of form.has_first form.sets form.ways uses
 
 -- (For proofs.) what a form reports of bytes, beside which it hands nothing back
 abbrev pub reports_of : CurveWords → List ℕ → Unit {0} → List ℕ → Type 0

@@ -1,26 +1,29 @@
 //! What the words after the program's name ask for.
-ghost use Rattle.std.specs.Prelude.{◌≡◌, ◌<◌, ◌≤◌, Some, None, false};
-ghost use Rattle.plan_top.specs.CurveForms.{with_first};
+ghost use Rattle.std.specs.Prelude.{◌≡◌, ◌<◌, ◌≤◌, None, false, IfSome};
+ghost use Rattle.way_curve.specs.FirstLevels.{no_levels};
 ghost use Rattle.way_curve.specs.Samples.{sample_sets};
+ghost use Rattle.plan_top.specs.CurveForms.{with_first, with_l1, with_l2, with_sample};
 
 use crate::divide_form::DivideForm;
 use std::marker::Model;
+use way_curve::{LevelShape, LevelShapes};
 
 /// What a command line asks for.
 #[derive(Drop)]
 pub enum Form {
-    /// `curve SETS WAYS [--one-of N] [--first]`: the curves of a trace.
+    /// `curve SETS WAYS [--l1 SETSxWAYS] [--l2 SETSxWAYS] [--one-of N] [--first]`: the curves of a trace.
     Curve(CurveForm),
     /// `divide [--compare] [--used]`: the plan of a script.
     Divide(DivideForm),
 }
 
 /// What `curve SETS WAYS` asks for: the hits of caches of so many sets, 1 at least, with each number of ways up to this one; of all
-/// lines, or of a sample of one line of so many; with first uses or without.
+/// uses, or of those that an L1 and an L2 before leave; of all lines, or of a sample of one line of so many; with first uses or without.
 #[derive(Drop)]
 pub struct CurveForm {
     sets: u32,
     ways: u8,
+    levels: LevelShapes,
     one_of: Option<u32>,
     has_first: bool,
 }
@@ -30,23 +33,60 @@ impl Model for CurveForm {
 
     ghost Value = { CurveWords };
 
-    ghost view = { λ f. record { sets = f.sets; ways = f.ways; one_of = f.one_of; has_first = f.has_first } };
+    ghost view = { λ f. record { sets = f.sets; ways = f.ways; levels = f.levels; one_of = f.one_of; has_first = f.has_first } };
 
-    ghost invariant = { λ f. IsInRange f.sets f.ways f.one_of };
+    ghost invariant = { λ f. IsInRange f.sets f.ways f.levels f.one_of };
 }
 
 impl CurveForm {
-    /// What these numbers ask for, of all lines.
+    /// What these numbers ask for, of all uses.
     pub fn new(sets: u32, ways: u8) -> CurveForm
         requires some { 0 < sets }
         requires few { ways ≤ 32 }
-        ensures { result ≡ record { sets = sets; ways = ways; one_of = None; has_first = false } }
+        ensures { result ≡ record { sets = sets; ways = ways; levels = no_levels; one_of = None; has_first = false } }
     {
         CurveForm {
             sets,
             ways,
+            levels: LevelShapes { l1: None, l2: None },
             one_of: None,
             has_first: false,
+        }
+    }
+
+    /// The same behind an L1 of this shape.
+    pub fn with_l1(self, level: LevelShape) -> CurveForm
+        requires some { 0 < level.sets }
+        requires few { level.ways ≤ 32 }
+        ensures { result ≡ with_l1 self level }
+    {
+        CurveForm {
+            sets: self.sets,
+            ways: self.ways,
+            levels: LevelShapes {
+                l1: Some(level),
+                l2: self.levels.l2,
+            },
+            one_of: self.one_of,
+            has_first: self.has_first,
+        }
+    }
+
+    /// The same behind an L2 of this shape.
+    pub fn with_l2(self, level: LevelShape) -> CurveForm
+        requires some { 0 < level.sets }
+        requires few { level.ways ≤ 32 }
+        ensures { result ≡ with_l2 self level }
+    {
+        CurveForm {
+            sets: self.sets,
+            ways: self.ways,
+            levels: LevelShapes {
+                l1: self.levels.l1,
+                l2: Some(level),
+            },
+            one_of: self.one_of,
+            has_first: self.has_first,
         }
     }
 
@@ -54,11 +94,12 @@ impl CurveForm {
     pub fn sampled(self, one_of: u32) -> CurveForm
         requires some { 0 < one_of }
         requires few { one_of ≤ self.sets }
-        ensures { result ≡ record { sets = self.sets; ways = self.ways; one_of = Some one_of; has_first = self.has_first } }
+        ensures { result ≡ with_sample self one_of }
     {
         CurveForm {
             sets: self.sets,
             ways: self.ways,
+            levels: self.levels,
             one_of: Some(one_of),
             has_first: self.has_first,
         }
@@ -71,9 +112,19 @@ impl CurveForm {
         CurveForm {
             sets: self.sets,
             ways: self.ways,
+            levels: self.levels,
             one_of: self.one_of,
             has_first: true,
         }
+    }
+
+    /// The levels that the trace is played through before it is counted, each of 1 set at least and 32 ways at most.
+    pub fn levels(&self) -> LevelShapes
+        ensures levels { result ≡ self.now.levels }
+        ensures first { IfSome result.l1 (λ s. (0 < s.sets) × (s.ways ≤ 32)) }
+        ensures second { IfSome result.l2 (λ s. (0 < s.sets) × (s.ways ≤ 32)) }
+    {
+        self.levels
     }
 
     /// How many sets the cache has that is asked about, 1 at least.

@@ -3,11 +3,13 @@
 #![tactic(auto)]
 
 pub mod calls;
+mod curve_words;
 mod divide;
 pub mod divide_form;
 mod divide_words;
 pub mod form;
 pub mod limits;
+mod numbers;
 mod program;
 pub mod theorems;
 mod words;

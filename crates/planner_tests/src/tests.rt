@@ -3,6 +3,7 @@
 mod comparisons;
 mod curve_calls;
 mod curves;
+mod first_levels;
 mod first_uses;
 mod plans;
 mod samples;

@@ -71,12 +71,30 @@ is_below-position x most l =
     ]
 
 -- a use hits just with more ways than its distance
-is_below-hit : (sets ways x : ℕ) (lines : List ℕ) → ways ≤ 32
+pub is_below-hit : (sets ways x : ℕ) (lines : List ℕ) → ways ≤ 32
     → is_below ways (position (λ (y : ℕ). y == x) (take 32 (alive (reverse (uses_of_set sets (x % sets) lines))))) ≡ is_set_hit sets ways lines x
 is_below-hit sets ways x lines le =
     let own : List ℕ = filter (λ (y : ℕ). y % sets == x % sets) lines in
     let all : List ℕ = alive (reverse (uses own)) in
     is_below-position x ways (take 32 all) ∙ (ap (λ (l : List ℕ). among x l) (take-take ways 32 all le) ∙ sym (private_hit-uses ways x own))
+
+-- the last lines of each set after a use
+pub recent-more : (sets : ℕ) (recent : List (List ℕ)) (lines : List ℕ) (x : ℕ) → length recent ≡ sets
+    → ((s : ℕ) → s < sets → get_or recent s [] ≡ take 32 (alive (reverse (uses_of_set sets s lines))))
+    → (s : ℕ) → s < sets → get_or (set recent (x % sets) (take 32 (x ∷ without_first x (get_or recent (x % sets) [])))) s [] ≡ take 32 (alive (reverse (uses_of_set sets s (lines ++ x ∷ []))))
+recent-more sets recent lines x len are = λ s lt. elim (cases_Bool (x % sets == s)) [
+  | inl own ↦
+      let here : x % sets ≡ s = eqb-true (x % sets) s own in
+      let moved : List ℕ = take 32 (x ∷ without_first x (get_or recent (x % sets) [])) in
+      let last : get_or recent (x % sets) [] ≡ take 32 (alive (reverse (uses_of_set sets s lines))) = ap (λ (k : ℕ). get_or recent k []) here ∙ are s lt in
+      ap (λ (k : ℕ). get_or (set recent k moved) s []) here
+      ∙ (get_or-set_same recent s moved [] (subst (λ (n : ℕ). s < n) (sym len) lt)
+      ∙ (ap (λ (l : List ℕ). take 32 (x ∷ without_first x l)) last ∙ recent-own sets s x lines own))
+  | inr other ↦
+      let ne : s ≢ x % sets = λ e. eqb-false (x % sets) s other (sym e) in
+      get_or-set_other recent (x % sets) s (take 32 (x ∷ without_first x (get_or recent (x % sets) []))) [] ne
+      ∙ (are s lt ∙ ap (λ (items : List Item). take 32 (alive (reverse items))) (sym (uses_of_set-other sets s x lines other)))
+]
 
 -- two totals that were equal, and one more of each
 total-more : (total old hit hits new_hits is_hit : ℕ) → total ≡ old + hit → old ≡ hits → hit ≡ is_hit → new_hits ≡ hits + is_hit → total ≡ new_hits
@@ -92,19 +110,7 @@ pub IsCurve-more :
     → IsCurve (record { sets = sets; uses = count + 1; recent = set recent (x % sets) (take 32 (x ∷ without_first x (get_or recent (x % sets) []))); at_distance = new_at }) (lines ++ x ∷ [])
 IsCurve-more sets count recent at new_at lines x distance below len is counted curve = record {
   uses = ap (λ (n : ℕ). n + 1) curve.uses ∙ sym (length_push lines x);
-  recent = λ s lt. elim (cases_Bool (x % sets == s)) [
-    | inl own ↦
-        let here : x % sets ≡ s = eqb-true (x % sets) s own in
-        let moved : List ℕ = take 32 (x ∷ without_first x (get_or recent (x % sets) [])) in
-        let last : get_or recent (x % sets) [] ≡ take 32 (alive (reverse (uses_of_set sets s lines))) = ap (λ (k : ℕ). get_or recent k []) here ∙ curve.recent s lt in
-        ap (λ (k : ℕ). get_or (set recent k moved) s []) here
-        ∙ (get_or-set_same recent s moved [] (subst (λ (n : ℕ). s < n) (sym len) lt)
-        ∙ (ap (λ (l : List ℕ). take 32 (x ∷ without_first x l)) last ∙ recent-own sets s x lines own))
-    | inr other ↦
-        let ne : s ≢ x % sets = λ e. eqb-false (x % sets) s other (sym e) in
-        get_or-set_other recent (x % sets) s (take 32 (x ∷ without_first x (get_or recent (x % sets) []))) [] ne
-        ∙ (curve.recent s lt ∙ ap (λ (items : List Item). take 32 (alive (reverse items))) (sym (uses_of_set-other sets s x lines other)))
-  ];
+  recent = recent-more sets recent lines x len curve.recent;
   hits = λ ways le.
       let same : is_below ways distance ≡ is_set_hit sets ways lines x =
       ap (λ (o : Option ℕ). is_below ways o) (is ∙ ap (λ (l : List ℕ). position (λ (y : ℕ). y == x) l) (curve.recent (x % sets) below)) ∙ is_below-hit sets ways x lines le in

@@ -2,10 +2,12 @@ mod Alive
 pub mod Appends
 pub mod Counts
 pub mod CurveLines
-mod CurveSteps
+pub mod CurveSteps
 pub mod FewUses
+pub mod FilteredSteps
 pub mod FirstCounts
 mod Fronts
+pub mod LevelSteps
 mod Powers
 pub mod SampleLists
 mod SetHits

@@ -2,6 +2,7 @@
 use Rattle.std.proofs.Common.{◌≡◌, ℕ, ◌≤◌, ◌++◌, Bool, true, false, if◌then◌else◌, List, [], ◌∷◌, length, Option, Some, None, refl, sym, ap, ◌∙◌, subst, inl, inr, arith}
 use Rattle.std.specs.Prelude.{IfSome}
 use Rattle.std.proofs.lemmas.Bool.{cases_Bool}
+use Rattle.std.proofs.lemmas.List.{append-nil}
 use Rattle.std.proofs.lemmas.List.Elements.{filter-append}
 use Rattle.lackey_text.specs.declared.uses.LineUse.{LineUse}
 use Rattle.way_curve.specs.Counting.{AddUses, HaveCounted}
@@ -60,4 +61,26 @@ AddSampled-counted old new more kept adds notes = λ sampling uses have.
       counted = subst (λ (us : List LineUse). HaveCounted sampling.sets new.curves us) both (adds sampling.sets (sampled sampling.one_of uses) have.counted);
       has_first = notes.kept ∙ have.has_first;
       noted = subst (λ (us : List LineUse). IfSome new.first (λ (noted : NotedUses). HaveNotedUses noted us)) both (notes.notes (sampled sampling.one_of uses) have.noted);
+    }
+
+-- a use that the sample has
+pub AddSampled-in : (old new : SampledValue) (u : LineUse) → is_kept old.one_of u.line ≡ true → new.one_of ≡ old.one_of → AddUses old.curves new.curves (u ∷ [])
+    → NoteFirst old.first new.first (u ∷ []) → AddSampled old new (u ∷ [])
+AddSampled-in old new u is_in kept adds notes =
+    let left : sampled old.one_of (u ∷ []) ≡ u ∷ [] = sampled-cons_in old.one_of u [] is_in ∙ ap (λ (us : List LineUse). u ∷ us) (sampled-nil old.one_of) in
+    AddSampled-counted old new (u ∷ []) kept (subst (λ (us : List LineUse). AddUses old.curves new.curves us) (sym left) adds)
+    (subst (λ (us : List LineUse). NoteFirst old.first new.first us) (sym left) notes)
+
+-- and one that it has not
+pub AddSampled-out : (old : SampledValue) (u : LineUse) → is_kept old.one_of u.line ≡ false → AddSampled old old (u ∷ [])
+AddSampled-out old u is_out = λ sampling uses have.
+    let none : sampled sampling.one_of (u ∷ []) ≡ [] =
+    ap (λ (o : Option ℕ). sampled o (u ∷ [])) (sym have.same) ∙ (sampled-cons_out old.one_of u [] is_out ∙ sampled-nil old.one_of) in
+    let both : sampled sampling.one_of uses ≡ sampled sampling.one_of (uses ++ u ∷ []) =
+    sym (sampled-append sampling.one_of uses (u ∷ []) ∙ (ap (λ (us : List LineUse). sampled sampling.one_of uses ++ us) none ∙ append-nil (sampled sampling.one_of uses))) in
+    record {
+      same = have.same;
+      counted = subst (λ (us : List LineUse). HaveCounted sampling.sets old.curves us) both have.counted;
+      has_first = have.has_first;
+      noted = subst (λ (us : List LineUse). IfSome old.first (λ (noted : NotedUses). HaveNotedUses noted us)) both have.noted;
     }

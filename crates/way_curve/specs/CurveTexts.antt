@@ -4,8 +4,11 @@ use Rattle.std.specs.List.{flat_map, range_with_len}
 use Rattle.lackey_text.specs.declared.uses.LineUse.{LineUse}
 use Rattle.way_curve.specs.Curves.{set_hits_of}
 use Rattle.way_curve.specs.Counting.{all_lines, code_lines, data_lines}
+use Rattle.way_curve.specs.FirstLevels.{left_by}
 use Rattle.way_curve.specs.FirstUses.{first_uses_if}
 use Rattle.way_curve.specs.Samples.{sample_sets, sampled}
+use Rattle.way_curve.specs.declared.first_level.LevelShape.{LevelShape}
+use Rattle.way_curve.specs.declared.first_levels.LevelShapes.{LevelShapes}
 
 -- the line of one number of ways, by how many uses there are and how many of them hit: `ways W: accesses A hits H misses M`
 unfoldable pub ways_line : ℕ → ℕ → ℕ → List ℕ
@@ -51,10 +54,20 @@ abbrev pub sample_text : Option ℕ → ℕ → List ℕ
 sample_text None sets = []
 sample_text (Some one_of) sets = (codes "sample: one of " ++ decimal one_of) ++ (codes " lines, " ++ decimal sets) ++ (codes " sets" ++ 10 ∷ [])
 
--- The report of these uses for a cache of so many sets, with up to so many ways: of all of them, or of a sample of one line of so many,
--- which says so; with first uses, if they are asked for.
-abbrev pub curves_text : Option ℕ → Bool → ℕ → ℕ → List LineUse → List ℕ
-curves_text one_of has_first sets ways uses = sample_text one_of (sample_sets one_of sets) ++ report_of has_first (sample_sets one_of sets) ways (sampled one_of uses)
+-- the line of a level, if there is one, after its name: `NAME: S sets of W ways`
+abbrev pub level_text : List ℕ → Option LevelShape → List ℕ
+level_text name None = []
+level_text name (Some level) = (name ++ decimal level.sets) ++ (codes " sets of " ++ decimal level.ways) ++ (codes " ways" ++ 10 ∷ [])
+
+-- What stands above the report where uses are counted that levels leave: a line for each of them.
+abbrev pub levels_text : LevelShapes → List ℕ
+levels_text levels = level_text (codes "l1: ") levels.l1 ++ level_text (codes "l2: ") levels.l2
+
+-- The report of those uses that the levels leave, if there are any, for a cache of so many sets, with up to so many ways: of all of them,
+-- or of a sample of one line of so many; lines above say which levels and which sample; with first uses, if they are asked for.
+abbrev pub curves_text : LevelShapes → Option ℕ → Bool → ℕ → ℕ → List LineUse → List ℕ
+curves_text levels one_of has_first sets ways uses =
+    levels_text levels ++ sample_text one_of (sample_sets one_of sets) ++ report_of has_first (sample_sets one_of sets) ways (sampled one_of (left_by levels uses))
 
 -- The line that refuses a trace by the number of its first bad line: `line N: bad trace line`.
 abbrev pub bad_line_text : ℕ → List ℕ

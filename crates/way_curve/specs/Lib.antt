@@ -2,9 +2,12 @@ pub mod Counting
 pub mod CurveTexts
 pub mod Curves
 pub mod Distances
+pub mod Filtering
+pub mod FirstLevels
 pub mod FirstUses
 pub mod IsCurve
 pub mod Laws
+pub mod LevelSteps
 pub mod Noted
 pub mod Reading
 pub mod Samples

@@ -90,8 +90,8 @@ impl Curve {
     }
 }
 
-// The set of a line. Where there are as many as a power of two nothing is divided.
-fn set_of(sets: usize, line: u64) -> usize
+/// The set of a line. Where there are as many as a power of two nothing is divided.
+pub(crate) fn set_of(sets: usize, line: u64) -> usize
     requires { 0 < sets }
     ensures { result ≡ line % sets }
 {
@@ -103,8 +103,8 @@ fn set_of(sets: usize, line: u64) -> usize
     }
 }
 
-// So many sets of which no line was used.
-fn empty_sets(alloc: Global, sets: u32) -> Result<Vec<RecentLines>, NoMemory>
+/// So many sets of which no line was used.
+pub(crate) fn empty_sets(alloc: Global, sets: u32) -> Result<Vec<RecentLines>, NoMemory>
     ensures { IfOk result (λ v. v.items ≡ replicate sets []) }
 {
     let mut recent = Vec::with_capacity(alloc, sets as usize)?;

@@ -1,6 +1,6 @@
 //! How many hits a private cache of each number of ways would have, counted in one pass over the lines that are used (`Curve`); the
-//! same of a trace that Valgrind's lackey wrote, whose text comes in pieces (`Trace`), of all its uses or of those of a sample of
-//! the lines; and the report of that. What is printed is added to a text that has room for it. A call that runs out of memory answers
+//! same of a trace that Valgrind's lackey wrote, whose text comes in pieces (`Trace`), of all its uses, or of those that an L1 and an
+//! L2 before the cache leave (`FirstLevels`), and of all these or of a sample of the lines; and the report of that. What is printed is added to a text that has room for it. A call that runs out of memory answers
 //! NoMemory.
 //!
 //! A cache of w ways that replaces the line used longest ago keeps the w lines used last of each set. So one list of the last
@@ -15,7 +15,11 @@ pub mod curve;
 pub mod curves;
 pub mod different_lines;
 mod distances;
+pub mod filtered_curves;
+pub mod first_level;
+pub mod first_levels;
 pub mod first_uses;
+pub mod level_report;
 pub mod limits;
 pub mod noted_uses;
 mod numbers;
@@ -35,12 +39,18 @@ pub mod trace_theorems;
 pub use curve::Curve;
 pub use curves::UseCurves;
 pub use different_lines::DifferentLines;
+pub use filtered_curves::FilteredCurves;
+pub use first_level::{FirstLevel, LevelShape};
+pub use first_levels::{FirstLevels, LevelShapes};
 pub use first_uses::FirstUses;
+pub use level_report::push_levels;
 pub use limits::{MOST_LINE_BYTES, MOST_TRACE_BYTES};
 pub use noted_uses::NotedUses;
 pub use refusal::push_bad_line;
 pub use report::{push_report, push_sample};
-pub use report_limits::{MOST_REFUSAL_BYTES, MOST_REPORT_BYTES, MOST_SAMPLE_BYTES};
+pub use report_limits::{
+    MOST_LEVELS_BYTES, MOST_REFUSAL_BYTES, MOST_REPORT_BYTES, MOST_SAMPLE_BYTES,
+};
 pub use sample::is_sampled;
 pub use sampled_curves::SampledCurves;
 pub use trace::{BadTrace, Trace};

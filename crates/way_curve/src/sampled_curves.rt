@@ -1,5 +1,5 @@
 //! The curves of all uses, or of those of a sample of the lines, and the first uses among them.
-ghost use Rattle.std.specs.Prelude.{◌≡◌, ◌+◌, ◌^◌, ◌<◌, ◌≤◌, List, [], length, IfOk, IfSome, is_some};
+ghost use Rattle.std.specs.Prelude.{◌≡◌, ◌+◌, ◌-◌, ◌^◌, ◌<◌, ◌≤◌, List, [], ◌∷◌, length, IfOk, IfSome, is_some};
 ghost use Rattle.lackey_text.specs.declared.uses.LineUse.{LineUse as Use};
 ghost use Rattle.lackey_text.specs.Lines.{IsInMemory};
 ghost use Rattle.lackey_text.specs.Uses.{uses_of};
@@ -12,7 +12,8 @@ ghost use Rattle.way_curve.specs.Sampling.{AddSampled, HaveSampled, NoteFirst, S
 use crate::curves::UseCurves;
 use crate::first_uses::FirstUses;
 use crate::noted_uses::NotedUses;
-use lackey_text::LackeyLine;
+use crate::sample::is_kept;
+use lackey_text::{LackeyLine, LineUse};
 use rc_base::NoMemory;
 use std::alloc::Global;
 use std::marker::Model;
@@ -66,6 +67,18 @@ impl SampledCurves {
     {
         count_line(&mut self.curves, self.one_of, said);
         note_first(&mut self.first, self.one_of, said);
+    }
+
+    /// Notes the use of a line of memory, if the sample has it.
+    pub fn note(&mut self, used: LineUse)
+        requires room { self.old.curves.uses < 2 ^ 64 - 1 }
+        ensures uses { self.new.curves.uses ≤ self.old.curves.uses + 1 }
+        ensures sampled { AddSampled self.old self.new (used ∷ []) }
+    {
+        if is_kept(self.one_of, used.line) {
+            self.curves.note(used);
+            note_used(&mut self.first, used);
+        }
     }
 
     /// The curves of what was counted.
@@ -123,5 +136,14 @@ fn note_first(first: &mut Option<NotedUses>, one_of: Option<u32>, said: &LackeyL
 {
     if let Some(noted) = first {
         noted.note_line(one_of, said);
+    }
+}
+
+// Notes the line of a use, where first uses are counted.
+fn note_used(first: &mut Option<NotedUses>, used: LineUse)
+    ensures { NoteFirst first.old first.new (used ∷ []) }
+{
+    if let Some(noted) = first {
+        noted.note(used);
     }
 }

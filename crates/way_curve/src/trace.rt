@@ -1,13 +1,14 @@
 //! A trace whose text comes in pieces.
 ghost use Rattle.std.specs.Prelude.{◌≡◌, ◌+◌, ◌≤◌, ◌<◌, ℕ, List, [], ◌∷◌, ◌++◌, length, IfOk, IfSome, MatchResult, Err, None, false};
+ghost use Rattle.way_curve.specs.Filtering.{Filtering};
 ghost use Rattle.way_curve.specs.Reading.{AreOf, HasRead, IsGood, ReadsOn};
-ghost use Rattle.way_curve.specs.Sampling.{Sampling};
 ghost use Rattle.way_curve.specs.TraceTexts.{trace_of};
 ghost use Rattle.way_curve.specs.declared.limits.TheConstants.{MOST_TRACE_BYTES};
 
+use crate::filtered_curves::FilteredCurves;
+use crate::first_levels::LevelShapes;
 use crate::limits::MOST_LINE_BYTES;
 use crate::said::{said_of, said_of_ended};
-use crate::sampled_curves::SampledCurves;
 use rc_base::NoMemory;
 use std::alloc::Global;
 use std::marker::Model;
@@ -26,7 +27,7 @@ pub struct Trace {
     ended: u64,
     rest: Vec<u8>,
     is_bad: bool,
-    curves: SampledCurves,
+    curves: FilteredCurves,
 }
 
 impl Model for Trace {
@@ -41,21 +42,26 @@ impl Model for Trace {
 }
 
 impl Trace {
-    /// A trace of no text, for caches of so many sets, 1 at least, for a sample of one line of memory of so many, if one is taken, and
-    /// with first uses, if they are counted. NoMemory where the allocator gives no room for the longest line and for the last lines
-    /// of each set. No other call takes memory but for first uses.
+    /// A trace of no text behind levels of these shapes, each of 1 set at least and 32 ways at most; for caches of so many sets, 1 at
+    /// least, for a sample of one line of memory of so many, if one is taken, and with first uses, if they are counted. NoMemory where
+    /// the allocator gives no room for the longest line and for the last lines of each set. No other call takes memory but for first
+    /// uses.
     pub fn create(
         alloc: Global,
+        levels: LevelShapes,
         sets: u32,
         one_of: Option<u32>,
         has_first: bool,
     ) -> Result<Trace, NoMemory>
-        requires { 0 < sets }
+        requires some { 0 < sets }
+        requires first { IfSome levels.l1 (λ s. (0 < s.sets) × (s.ways ≤ 32)) }
+        requires second { IfSome levels.l2 (λ s. (0 < s.sets) × (s.ways ≤ 32)) }
         ensures bytes { IfOk result (λ t. t.bytes ≡ 0) }
-        ensures empty { IfOk result (λ t. HasRead (record { sets = sets; one_of = one_of; has_first = has_first }) t []) }
+        ensures empty { IfOk result (λ t. HasRead
+            (record { levels = levels; sampling = record { sets = sets; one_of = one_of; has_first = has_first } }) t []) }
     {
         let rest = Vec::with_capacity(alloc, MOST_LINE_BYTES + 1)?;
-        let curves = SampledCurves::create(alloc, sets, one_of, has_first)?;
+        let curves = FilteredCurves::create(alloc, levels, sets, one_of, has_first)?;
         Ok(Trace {
             bytes: 0,
             ended: 0,
@@ -116,8 +122,8 @@ impl Trace {
     /// The first line that is none of a trace, whatever follows. None where each line that has ended is one of a trace, and the
     /// next one is not too long so far.
     pub fn bad_line(&self) -> Option<BadTrace>
-        ensures told { IfSome result (λ bad. (sampling : Sampling) (text more : List ℕ) → HasRead sampling self.now text → trace_of (text ++ more) ≡ Err bad.line) }
-        ensures none { result ≡ None → (sampling : Sampling) (text : List ℕ) → HasRead sampling self.now text → IsGood sampling self.now text }
+        ensures told { IfSome result (λ bad. (filtering : Filtering) (text more : List ℕ) → HasRead filtering self.now text → trace_of (text ++ more) ≡ Err bad.line) }
+        ensures none { result ≡ None → (filtering : Filtering) (text : List ℕ) → HasRead filtering self.now text → IsGood filtering self.now text }
     {
         if !self.is_bad {
             return None;
@@ -128,8 +134,8 @@ impl Trace {
     }
 
     /// The curves of the whole text, whose last line may lack its newline; or the first line that is none of a trace.
-    pub fn finish(self) -> Result<SampledCurves, BadTrace>
-        ensures { (sampling : Sampling) (text : List ℕ) → HasRead sampling self text → MatchResult result (λ curves. AreOf sampling curves text) (λ bad. trace_of text ≡ Err bad.line) }
+    pub fn finish(self) -> Result<FilteredCurves, BadTrace>
+        ensures { (filtering : Filtering) (text : List ℕ) → HasRead filtering self text → MatchResult result (λ curves. AreOf filtering curves text) (λ bad. trace_of text ≡ Err bad.line) }
     {
         let Trace {
             bytes: _,

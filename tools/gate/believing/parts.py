@@ -24,7 +24,7 @@ class Part:
 
     def words(self):
         """Its words in the order of its text, each once, with the word behind the dot where there is one; then its operators."""
-        text = re.sub(r"--.*|//.*", "", self.text)
+        text = re.sub(r"--(?!\w).*|//.*", "", self.text)
         signs = OPERATOR.findall(text) + [">>="] * bool(re.search(r"\bdo$", text, re.M))
         return dict.fromkeys(NAME.findall(text) + [(f"◌{sign}◌", "") for sign in signs])
 

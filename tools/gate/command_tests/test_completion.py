@@ -41,7 +41,10 @@ class Completion(unittest.TestCase):
         self.assertEqual(completed("bikhnoun", "traces", "--for", ""), set(WRITERS))
         self.assertEqual(completed("bikhnoun", "translate", ""), set(FORMS))
         self.assertEqual(completed("resctrl_check", "export", ""), {"step", "run"})
-        self.assertEqual(completed("resctrl_plan", "curve", "4", "2", ""), {"--one-of", "--first"})
+        flags = ["--l1", "--l2", "--one-of", "--first"]
+        self.assertEqual(completed("resctrl_plan", "curve", "4", "2", ""), set(flags))
+        for place, flag in enumerate(flags[:-1], 1):
+            self.assertEqual(completed("resctrl_plan", "curve", "4", "2", flag, "4", ""), set(flags[place:]))
 
     def test_flags_are_those_of_the_help(self):
         for word in WORDS:

@@ -55,6 +55,9 @@ class Plays(unittest.TestCase):
         self.assertEqual(bikhnoun("plan", "curve", "4", "2", "--one-of", "2", data=TRACE).stdout, wanted)
         wanted = program("resctrl_plan", "curve", "4", "2", "--first", data=TRACE).stdout
         self.assertEqual(bikhnoun("plan", "curve", "4", "2", "--first", data=TRACE).stdout, wanted)
+        levels = ["--l1", "2x1", "--l2", "2x2"]
+        wanted = program("resctrl_plan", "curve", "4", "2", *levels, data=TRACE).stdout
+        self.assertEqual(bikhnoun("plan", "curve", "4", "2", *levels, data=TRACE).stdout, wanted)
 
     def test_two_masks(self):
         pairs = EXAMPLES / "pairs"

@@ -75,7 +75,7 @@ fn what_is_no_trace_is_told(rt: HostRuntime) -> Result<(), Fail> {
     Ok(())
 }
 
-const NO_FORMS: [&[&str]; 31] = [
+const NO_FORMS: [&[&str]; 46] = [
     &["curve", "1048577", "1"],
     &["curve", "4294967297", "1"],
     &["curve", "0", "1"],
@@ -99,6 +99,21 @@ const NO_FORMS: [&[&str]; 31] = [
     &["curve", "4", "1", "--first", "--first"],
     &["curve", "4", "1", "--first", "--one-of", "2"],
     &["curve", "4", "1", "--one-of", "2", "--one-of"],
+    &["curve", "4", "1", "--l1"],
+    &["curve", "4", "1", "--l1", "0x1"],
+    &["curve", "4", "1", "--l1", "1048577x1"],
+    &["curve", "4", "1", "--l1", "4x0"],
+    &["curve", "4", "1", "--l1", "4x33"],
+    &["curve", "4", "1", "--l1", "4"],
+    &["curve", "4", "1", "--l1", "4X4"],
+    &["curve", "4", "1", "--l1", "4x4x4"],
+    &["curve", "4", "1", "--l1", "x4"],
+    &["curve", "4", "1", "--l2", "4x"],
+    &["curve", "4", "1", "--l1", "4x4", "--l1", "4x4"],
+    &["curve", "4", "1", "--l2", "4x4", "--l1", "4x4"],
+    &["curve", "4", "1", "--one-of", "2", "--l2", "4x4"],
+    &["curve", "4", "1", "--first", "--l1", "4x4"],
+    &["divide", "4", "1", "--l1", "4x4"],
     &["divide", "--compared"],
     &["divide", "--compare", "--compare"],
     &["curve", "--compare"],
@@ -110,7 +125,7 @@ const NO_FORMS: [&[&str]; 31] = [
 ];
 
 const USAGE_LINE: &[u8] =
-    b"usage: resctrl_plan curve SETS WAYS [--one-of N] [--first] | divide [--compare] [--used]\n";
+    b"usage: resctrl_plan curve SETS WAYS [--l1 SETSxWAYS] [--l2 SETSxWAYS] [--one-of N] [--first] | divide [--compare] [--used]\n";
 
 #[test]
 fn other_words_are_no_form(rt: HostRuntime) -> Result<(), Fail> {

@@ -5,7 +5,7 @@ ghost use Rattle.std.specs.Prelude.{◌≡◌, IfOk};
 use rc_base::NoMemory;
 use std::alloc::Global;
 use std::test::Fail;
-use way_curve::{BadTrace, Trace};
+use way_curve::{BadTrace, LevelShapes, Trace};
 
 // A trace for caches of so many sets, 1 at least.
 fn trace_of(alloc: Global, sets: u32) -> Result<Trace, NoMemory>
@@ -14,7 +14,8 @@ fn trace_of(alloc: Global, sets: u32) -> Result<Trace, NoMemory>
     if sets == 0 {
         return Err(NoMemory);
     }
-    Trace::create(alloc, sets, None, false)
+    let levels = LevelShapes { l1: None, l2: None };
+    Trace::create(alloc, levels, sets, None, false)
 }
 
 #[test]
@@ -24,8 +25,8 @@ fn pieces_end_anywhere(rt: HostRuntime) -> Result<(), Fail> {
     trace.take(b"==1== Lackey\nI  0,4\r\n L 0,");
     trace.take(b"4\n M 7e,4\n S 0,4");
     assert_eq!(rt; trace.bad_line(), None);
-    let sampled = trace.finish()?;
-    let curves = sampled.counted();
+    let filtered = trace.finish()?;
+    let curves = filtered.counted();
     assert_eq!(rt; curves.of_all().uses(), 7);
     assert_eq!(rt; curves.of_all().hits(1), 1);
     assert_eq!(rt; curves.of_all().hits(2), 3);

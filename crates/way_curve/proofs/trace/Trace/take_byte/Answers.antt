@@ -6,9 +6,9 @@ use Rattle.way_curve.proofs.Steps.{bad-long}
 use Rattle.way_curve.proofs.trace.Trace.take_byte.Goals as goal
 
 pub returns-else-len-le-MOST_LINE_BYTES-clause-byte : goal.returns-else-len-le-MOST_LINE_BYTES-clause-byte
-returns-else-len-le-MOST_LINE_BYTES-clause-byte c = λ sampling text read.
+returns-else-len-le-MOST_LINE_BYTES-clause-byte c = λ filtering text read.
     let t = c.args.self.now in
     let good : t.is_bad ≡ false = sym (ap (λ (v : TraceValue). v.is_bad) c.self.view_is) ∙ c.if-self.false in
     let full : 65536 < length c.self.inside.rest.items = grind (arith, common_steps) in
     let long : length c.self.inside.rest.items ≡ length t.rest = ap (λ (v : TraceValue). length v.rest) c.self.view_is in
-    bad-long sampling t text good read c.self.inside.ended c.args.byte (ne_eqb c.args.byte 10 c.if-byte-eq10.false) (omega (arith, full, long)) (ap (λ (v : TraceValue). v.ended) c.self.view_is)
+    bad-long filtering t text good read c.self.inside.ended c.args.byte (ne_eqb c.args.byte 10 c.if-byte-eq10.false) (omega (arith, full, long)) (ap (λ (v : TraceValue). v.ended) c.self.view_is)
