@@ -1,26 +1,24 @@
 -- What entries of each kind do to the places.
 use Rattle.std.proofs.Common.{◌≡◌, ℕ, ◌+◌, ◌*◌, ◌-◌, ◌^◌, ◌%◌, ◌<◌, ◌≤◌, ◌==◌, ◌&&◌, inl, inr, cond, Bool, true, false, List, [], ◌∷◌, ◌++◌, length, Option, Some, None, refl, sym, ap, ◌∙◌, subst, arith}
 use Rattle.std.specs.Prelude.{IfSome, option_map}
-use Rattle.std.proofs.Math.Nat.{mul-le-mul_left, mul-le-mul_right}
+use Rattle.std.proofs.Math.Nat.{mul-le-mul_right}
 use Rattle.std.proofs.lemmas.Bool.{cases_Bool, eq-eqb, eqb-true}
 use Rattle.std.proofs.lemmas.Nat.Bits.{bit_at-zero}
 use Rattle.cache_core.proofs.laws.Histories.{held-push, used-push}
 use Rattle.cache_core.proofs.laws.Places.{places_with-le}
 use Rattle.cache_core.specs.Fills.{IsOutcome, Resident}
-use Rattle.cache_core.specs.History.{EntryMayFollow, IsOwn, MayHappen, Shape, decides, floor_of, held, is_of, is_own, left_by, sets_floor, used, uses, ways_below}
+use Rattle.cache_core.specs.History.{EntryMayFollow, MayHappen, Shape, decides, held, is_of, is_own, left_by, sets_floor, used, uses, ways_below}
 use Rattle.cache_core.specs.Loads.{loaded}
 use Rattle.cache_core.specs.declared.entry.SliceEntry.{SliceEntry}
 use Rattle.cache_core.specs.declared.entry.What.{What}
-use Rattle.cache_core.specs.declared.entry.What.TheVariants.{Access, Drop, Flush, Lock, Raise}
+use Rattle.cache_core.specs.declared.entry.What.TheVariants.{Access, Drop, Flush, Lock}
 use Rattle.cache_core.specs.declared.place.Place.{Place}
 use Rattle.cbm.proofs.laws.Ways.{has_way-zero}
 use Rattle.cbm.specs.Masks.{has_way}
-use Rattle.rc_base.specs.declared.names.Gid.{Gid}
 use Rattle.journal_check.proofs.ChangedLines.{places_with-some}
 use Rattle.journal_check.specs.Replays.{IsAccessOf, IsPlace, IsRmidAfter, LeavesRegion, StandsFor}
 use Rattle.journal_check.specs.RmidCounts.{count_at}
 use Rattle.journal_check.specs.Slots.{left_place, place_at, resident_of, rmid_of}
-use Rattle.journal_check.specs.declared.region.Region.{Region}
 use Rattle.journal_check.specs.declared.replay.Replay.{Replay}
 
 -- a place is not another

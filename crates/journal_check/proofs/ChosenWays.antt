@@ -1,11 +1,10 @@
 -- The way that a fill takes, by what was used when.
-use Rattle.std.proofs.Common.{◌≡◌, ◌↔◌, ℕ, ◌<◌, ◌≤◌, inl, inr, true, false, Option, Some, None, refl, sym, ap, ◌∙◌, subst, arith}
-use Rattle.std.specs.Prelude.{IsSome, IsTrue, nat_lt, option_map}
-use Rattle.std.proofs.lemmas.Bool.{cases_Bool, cases_lt, le-ltb, lt-ltb, ltb-true}
-use Rattle.cache_core.specs.Fills.{IsVictim}
+use Rattle.std.proofs.Common.{◌≡◌, ◌↔◌, ℕ, ◌<◌, Option, Some, None, refl, arith}
+use Rattle.std.specs.Prelude.{IsSome, IsTrue, option_map}
+use Rattle.std.proofs.lemmas.Bool.{lt-ltb, ltb-true}
 use Rattle.cache_core.specs.declared.place.Place.{Place}
 use Rattle.cbm.specs.Masks.{has_way}
-use Rattle.journal_check.specs.Outcomes.{AreFull, AreNotOlder, IsNotOlder, IsVictimAt, ages_at, residents_at, used_at}
+use Rattle.journal_check.specs.Outcomes.{AreFull, AreNotOlder, IsVictimAt, ages_at, residents_at, used_at}
 use Rattle.journal_check.specs.Slots.{SlotsValue, age_of, place_at, resident_of}
 
 -- when the line of a place was used

@@ -1,5 +1,5 @@
 -- Lists of entries that are legal, entry by entry.
-use Rattle.std.proofs.Common.{◌≡◌, ℕ, ◌+◌, ◌<◌, ◌≤◌, false, List, [], ◌∷◌, ◌++◌, length, get_or, take, sym, ap, ◌∙◌, subst}
+use Rattle.std.proofs.Common.{◌≡◌, ℕ, ◌+◌, ◌<◌, false, List, [], ◌∷◌, ◌++◌, length, get_or, take, sym, subst}
 use Rattle.std.proofs.lemmas.List.{take_more}
 use Rattle.cache_core.proofs.laws.Histories.{IsLegal-push}
 use Rattle.cache_core.specs.History.{EntryMayFollow, IsLegal, Shape}

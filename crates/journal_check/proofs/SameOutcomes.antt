@@ -1,12 +1,11 @@
 -- What a set answers, by its history and by its places.
-use Rattle.std.proofs.Common.{◌≡◌, ◌↔◌, ℕ, ◌%◌, ◌<◌, ◌≤◌, Bool, true, false, Option, Some, None, refl, sym, ap, ◌∙◌, subst, arith, List}
-use Rattle.std.specs.Prelude.{IsSome, IsTrue, option_map}
+use Rattle.std.proofs.Common.{◌≡◌, ◌↔◌, ℕ, ◌<◌, Bool, true, false, Option, Some, None, refl, sym, ap, ◌∙◌, subst, arith, List}
+use Rattle.std.specs.Prelude.{IsSome, option_map}
 use Rattle.cache_core.specs.Fills.{IsOutcome, IsPlaceOf, IsVictim, Resident}
 use Rattle.cache_core.specs.History.{held, used}
 use Rattle.cache_core.specs.declared.entry.SliceEntry.{SliceEntry}
 use Rattle.cache_core.specs.declared.place.Place.{Place}
-use Rattle.cbm.specs.Masks.{has_way}
-use Rattle.journal_check.specs.Outcomes.{IsOutcomeAt, IsPlaceAt, ages_at, residents_at}
+use Rattle.journal_check.specs.Outcomes.{ages_at, residents_at}
 use Rattle.journal_check.specs.Replays.{StandsFor}
 use Rattle.journal_check.specs.Slots.{age_of, place_at, resident_of}
 use Rattle.journal_check.specs.declared.replay.Replay.{Replay}

@@ -1,12 +1,12 @@
 -- What is kept of a slice after one more entry.
-use Rattle.std.proofs.Common.{◌≡◌, ℕ, ◌+◌, ◌*◌, ◌/◌, ◌%◌, ◌<◌, ◌≤◌, ◌==◌, ◌&&◌, inl, inr, cond, Bool, true, false, List, [], ◌∷◌, ◌++◌, length, Option, Some, None, refl, sym, ap, ◌∙◌, subst, arith}
+use Rattle.std.proofs.Common.{◌≡◌, ℕ, ◌+◌, ◌*◌, ◌/◌, ◌%◌, ◌<◌, ◌≤◌, ◌==◌, inl, inr, cond, Bool, true, false, List, [], ◌∷◌, ◌++◌, length, Option, Some, None, refl, sym, ap, ◌∙◌, subst, arith}
 use Rattle.std.specs.Prelude.{max}
 use Rattle.std.proofs.lemmas.Bool.{cases_Bool, cases_eq, eq-eqb, eqb-true}
 use Rattle.std.proofs.lemmas.List.{length_push}
 use Rattle.cache_core.proofs.laws.Places.{places_with-same}
 use Rattle.cache_core.proofs.laws.Histories.{floor_of-push, held-push, used-push}
 use Rattle.cache_core.specs.Fills.{Resident}
-use Rattle.cache_core.specs.History.{IsOwn, Shape, decides, floor_of, held, is_of, is_own, left_by, lines_of, sets_floor, used, uses, ways_below}
+use Rattle.cache_core.specs.History.{Shape, decides, floor_of, held, is_of, is_own, left_by, lines_of, sets_floor, used, uses, ways_below}
 use Rattle.cache_core.specs.Loads.{loaded}
 use Rattle.cache_core.specs.RmidCounts.{is_rmid}
 use Rattle.cbm.specs.Masks.{has_way}

@@ -1,6 +1,6 @@
 -- What a set answers to an access, by its places.
 -- (For functions and proofs: no promise of the program stands on it.)
-use Rattle.std.specs.Prelude.{◌≡◌, ℕ, ◌%◌, ◌<◌, ◌≤◌, Bool, IsSome, IsTrue, Option, Some, None, nat_lt, option_map, true}
+use Rattle.std.specs.Prelude.{◌≡◌, ℕ, ◌%◌, ◌<◌, ◌≤◌, Bool, IsSome, IsTrue, Option, Some, nat_lt, option_map, true}
 use Rattle.cache_core.specs.Fills.{IsOutcome, IsPlaceOf, IsVictim, Resident}
 use Rattle.cache_core.specs.declared.place.Place.{Place}
 use Rattle.cbm.specs.Masks.{has_way}

@@ -1,9 +1,9 @@
 -- What a thread knows of the parts at hand when it steps in a slice.
-use Rattle.std.proofs.Common.{◌≡◌, ℕ, ◌<◌, ◌≤◌, false, Bool, List, [], ◌∷◌, ◌++◌, length, refl, sym, ap, ◌∙◌, subst, arith}
+use Rattle.std.proofs.Common.{◌≡◌, ℕ, ◌<◌, ◌≤◌, false, Bool, [], ◌∷◌, ◌++◌, length, refl, sym, ap, ◌∙◌, subst, arith}
 use Rattle.atomic_table.specs.Seated.{TableId}
 use Rattle.cache_core.specs.History.{IsLegal, Shape, floor_of}
 use Rattle.cache_core.specs.Places.{CacheValue}
-use Rattle.cache_core.specs.Stands.{Adds, StandsFor, entry}
+use Rattle.cache_core.specs.Stands.{Adds, entry}
 use Rattle.cache_core.specs.declared.entry.SliceEntry.{SliceEntry}
 use Rattle.cache_core.specs.declared.entry.What.{What}
 use Rattle.cache_core.specs.declared.entry.What.TheVariants as whats

@@ -1,5 +1,5 @@
 -- The parts of a thread in a turn of its access.
-use Rattle.std.proofs.Common.{◌≡◌, ℕ, ◌+◌, true, [], ◌∷◌, None, Some, Option, Result, Ok, Err, refl, sym, ap, ◌∙◌, subst}
+use Rattle.std.proofs.Common.{◌≡◌, ℕ, ◌+◌, true, [], ◌∷◌, None, Some, refl, sym, ap, ◌∙◌}
 use Rattle.atomic_table.specs.Seated.{TableId}
 use Rattle.cache_core.specs.Stands.{entry}
 use Rattle.cache_core.specs.declared.entry.What.TheVariants as whats

@@ -29,7 +29,6 @@ use Rattle.run_law.proofs.laws.OwnLines.{IsOwn-shape_in, mod-some_way}
 use Rattle.run_law.proofs.laws.SoundHistories.{Fits-op_at}
 use Rattle.run_law.specs.Quotas.{command_count}
 use Rattle.run_law.specs.Slices.{shape_in}
-use Rattle.run_law.specs.Journals.{JournalsValue}
 use Rattle.script_ops.specs.Values.{IsLawful, ScriptValue, op_at}
 use Rattle.script_ops.specs.declared.op.Op.TheVariants.{Access}
 

@@ -11,7 +11,7 @@ use Rattle.machine.specs.Maps.{line_of}
 use Rattle.machine.specs.Slices.{slice_of_line}
 use Rattle.rc_base.specs.declared.names.Tag.{Tag}
 use Rattle.run_law.specs.FoundLooks.{AreDistinct, pairs_for}
-use Rattle.run_law.specs.Jobs.{Job, jobs_of}
+use Rattle.run_law.specs.Jobs.{jobs_of}
 use Rattle.run_law.specs.Journals.{At}
 use Rattle.run_law.specs.Owed.{what_of}
 use Rattle.run_law.specs.declared.journals.TreeEntry.{TreeEntry}

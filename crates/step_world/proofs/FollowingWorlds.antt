@@ -1,16 +1,14 @@
 -- A world whose tree is held by a command that was decided: what follows it, and that there is room for that.
 use Rattle.std.proofs.Common.{◌≡◌, ℕ, ◌+◌, ◌*◌, ◌<◌, ◌≤◌, List, [], length, take, get_or, All, Some, refl, sym, ap, ◌∙◌, subst, arith}
-use Rattle.std.specs.Prelude.{◌%◌, ◌^◌, IsSome, slice_get, sum_by}
+use Rattle.std.specs.Prelude.{◌^◌, IsSome, slice_get, sum_by}
 use Rattle.std.specs.List.{flat_map}
 use Rattle.std.proofs.lemmas.List.{length-append}
 use Rattle.std.proofs.lemmas.List.Sums.{sum_by-le, sum_by-take-le}
 use Rattle.std.proofs.lemmas.Nat.{mul-le}
 use Rattle.std.proofs.lemmas.Option.{get_or_from_slice_get, slice_get-get_or}
-use Rattle.cache_core.specs.History.{IsOwn, Shape, floor_of}
-use Rattle.cache_core.specs.Places.{CacheValue}
+use Rattle.cache_core.specs.History.{floor_of}
 use Rattle.cache_steps.proofs.laws.FollowNeeds.{CanFollow-ready}
 use Rattle.cache_steps.specs.Needs.{CanFollow}
-use Rattle.machine.specs.Slices.{slice_of_line}
 use Rattle.machine.specs.declared.parameters.Parameters.{Parameters}
 use Rattle.run_law.proofs.laws.FollowCounts.{follow-at, follow_job, follows-are, job_behind, length-follows}
 use Rattle.run_law.specs.Jobs.{Job, follow_jobs, follows_of, jobs_of, looks_of}
@@ -37,7 +35,7 @@ use Rattle.step_world.specs.declared.world.World.{World}
 use Rattle.tree_core.specs.Follows.{IsReady}
 use Rattle.tree_law.specs.Steps.{Target, EachSlice, SliceOf, follow_domain, goes_to}
 use Rattle.tree_law.specs.declared.follow.Follow.{Follow}
-use Rattle.tree_law.specs.declared.follow.Follow.TheVariants.{Raise, Flush, Lock, Touch, Drop}
+use Rattle.tree_law.specs.declared.follow.Follow.TheVariants.{Raise}
 
 -- ---- one follow-up
 

@@ -1,8 +1,8 @@
 -- The list of a command that noted a number more.
-use Rattle.std.proofs.Common.{◌≡◌, ℕ, ◌+◌, List, [], ◌∷◌, ◌++◌, sym, ap, ◌∙◌, subst, arith}
+use Rattle.std.proofs.Common.{ℕ, ◌+◌, List, [], ◌∷◌, ◌++◌, sym, ap, ◌∙◌, subst, arith}
 use Rattle.std.proofs.lemmas.List.{length_push, same_from_push}
 use Rattle.rc_base.specs.Buffers.{Looks as LooksValue}
-use Rattle.run_law.specs.LookLists.{AreReady, HasNoted, spare_in}
+use Rattle.run_law.specs.LookLists.{AreReady, HasNoted}
 use Rattle.script_ops.specs.Values.{ScriptValue}
 use Rattle.step_world.specs.Worlds.{HasList, rooms_from}
 

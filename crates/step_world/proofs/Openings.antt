@@ -1,17 +1,11 @@
 -- The slices, the threads and the lists of counts before the first step.
-use Rattle.std.proofs.Common.{◌≡◌, ℕ, ◌+◌, ◌-◌, ◌<◌, ◌≤◌, true, false, inl, inr, List, [], ◌∷◌, ◌++◌, length, drop, get_or, Some, refl, sym, ap, ◌∙◌, subst, arith}
+use Rattle.std.proofs.Common.{◌≡◌, ℕ, ◌+◌, ◌-◌, ◌<◌, inl, inr, List, [], ◌∷◌, ◌++◌, length, get_or, sym, ◌∙◌, subst, arith}
 use Rattle.std.proofs.lemmas.Bool.{cases_lt}
 use Rattle.std.proofs.Math.Seq.{get_or-append_seam}
 use Rattle.std.proofs.lemmas.List.{get_or_append_left, length-append}
-use Rattle.std.proofs.lemmas.Option.{slice_get-get_or}
-use Rattle.machine.specs.declared.parameters.Parameters.{Parameters}
-use Rattle.rc_base.specs.Buffers.{Looks}
-use Rattle.run_law.specs.Journals.{At}
-use Rattle.run_law.specs.Ops.{is_command}
-use Rattle.run_law.specs.Quotas.{most_counts, room_of}
+use Rattle.run_law.specs.Quotas.{room_of}
 use Rattle.script_ops.specs.Values.{ScriptValue}
 use Rattle.script_ops.specs.declared.op.Op.{Op}
-use Rattle.script_ops.specs.declared.op.Op.TheVariants.{Access}
 use Rattle.step_world.specs.Openings.{AreFresh}
 use Rattle.step_world.specs.Slices.{IsFresh, SliceValue}
 

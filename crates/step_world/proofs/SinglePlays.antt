@@ -2,7 +2,7 @@
 use Rattle.std.proofs.Common.{◌≡◌, ℕ, zero, suc, ◌<◌, List, [], ◌∷◌, length, get_or, replicate, Option, Some, None, sym, ap, ◌∙◌, subst, arith}
 use Rattle.run_law.specs.Journals.{JournalsValue, slice_at}
 use Rattle.run_law.specs.Slices.{shape_in}
-use Rattle.script_ops.specs.Values.{IsLawful, ScriptValue, phase_at}
+use Rattle.script_ops.specs.Values.{IsLawful, ScriptValue}
 use Rattle.step_world.proofs.EndedThreads.{ended_rests}
 use Rattle.step_world.proofs.HeldLines.{HoldsOnce, HoldsOnce-legal}
 use Rattle.step_world.proofs.KeptSteps.{step_keeps}

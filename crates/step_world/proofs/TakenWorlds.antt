@@ -1,10 +1,10 @@
 -- A command takes the tree of a world.
-use Rattle.std.proofs.Common.{◌≡◌, ◌≢◌, ℕ, zero, suc, ◌+◌, ◌*◌, ◌<◌, ◌≤◌, true, List, [], ◌∷◌, length, map, drop, get_or, set, Option, Some, None, refl, sym, ap, ◌∙◌, subst, arith}
+use Rattle.std.proofs.Common.{◌≡◌, ◌≢◌, ℕ, ◌+◌, ◌*◌, ◌<◌, ◌≤◌, true, List, [], ◌∷◌, length, map, get_or, set, Option, Some, None, refl, sym, ap, ◌∙◌, subst, arith}
 use Rattle.std.specs.Prelude.{◌^◌, IsSome, vec_capacity}
 use Rattle.std.proofs.lemmas.Option.{same_Some}
 use Rattle.rc_base.specs.Buffers.{Looks}
 use Rattle.run_law.specs.Entries.{entry_value}
-use Rattle.run_law.specs.Journals.{At, JournalsValue}
+use Rattle.run_law.specs.Journals.{JournalsValue}
 use Rattle.run_law.specs.Ops.{is_command}
 use Rattle.run_law.specs.Quotas.{most_counts}
 use Rattle.run_law.specs.TreeHistory.{tree_after}

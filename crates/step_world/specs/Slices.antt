@@ -1,7 +1,7 @@
 -- One slice while a script is played.
 -- (For functions and proofs: no promise of the program stands on it.)
-use Rattle.std.specs.Prelude.{◌≡◌, ℕ, ◌%◌, ◌^◌, ◌<◌, true, false, List, [], ◌∷◌, ◌++◌}
-use Rattle.cache_core.specs.History.{IsOwn, lines_of}
+use Rattle.std.specs.Prelude.{◌≡◌, ℕ, ◌<◌, true, false, List, [], ◌∷◌, ◌++◌}
+use Rattle.cache_core.specs.History.{lines_of}
 use Rattle.cache_core.specs.Places.{CacheValue}
 use Rattle.cache_core.specs.Stands.{StandsFor, entry}
 use Rattle.cache_core.specs.declared.entry.SliceEntry.{SliceEntry}
@@ -13,7 +13,6 @@ use Rattle.rc_base.specs.declared.names.Tag.{Tag}
 use Rattle.run_law.specs.Owed.{paid_by, what_of}
 use Rattle.run_law.specs.Caches.{IsCacheOf}
 use Rattle.tree_law.specs.declared.follow.Follow.{Follow}
-use Rattle.tree_law.specs.declared.follow.Follow.TheVariants.{Raise, Flush, Lock, Touch, Drop}
 
 -- a slice that is played: its cache, its entries so far, and for how many it has room
 pub record SliceValue : Type 0 where

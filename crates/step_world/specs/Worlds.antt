@@ -2,7 +2,6 @@
 -- (For functions and proofs: no promise of the program stands on it.)
 use Rattle.std.specs.Prelude.{◌≡◌, ℕ, ◌+◌, ◌*◌, ◌^◌, ◌<◌, ◌≤◌, List, [], ◌∷◌, ◌++◌, drop, take, length, map, IsSome, Option, Some, slice_get, slice_index_or, sum_by, vec_capacity, false}
 use Rattle.std.specs.List.{All}
-use Rattle.lists.specs.Sums.{sum_below}
 use Rattle.machine.specs.Slices.{slice_count}
 use Rattle.rc_base.specs.Buffers.{Looks}
 use Rattle.run_law.specs.Entries.{entry_value}

@@ -1,25 +1,25 @@
 -- The script of a trace meets the rules of every script.
 use lib.Count.{ones}
-use Rattle.std.proofs.Common.{◌≡◌, ℕ, zero, suc, ◌+◌, ◌*◌, ◌%◌, ◌<◌, ◌≤◌, ◌^◌, true, List, [], ◌∷◌, length, map, get_or, sum_by, refl, sym, ap, ◌∙◌, arith, All}
+use Rattle.std.proofs.Common.{◌≡◌, ℕ, zero, suc, ◌+◌, ◌*◌, ◌%◌, ◌<◌, ◌≤◌, true, List, [], ◌∷◌, length, map, refl, arith, All}
 use Rattle.std.specs.Prelude.{codes}
-use Rattle.std.specs.List.{AllByRecursion, Contains, range_with_len}
+use Rattle.std.specs.List.{Contains, range_with_len}
 use Rattle.std.specs.List.Sorted.{IsStrictlyIncreasing}
 use Rattle.std.proofs.lemmas.List.Elements.{All-cons, All-from_recursion, All-nil}
 use Rattle.std.proofs.lemmas.List.FromFn.{length-map-range_with_len}
 use Rattle.std.proofs.lemmas.List.Sums.{sum_by-cons}
 use Rattle.machine.proofs.laws.Ranges.{is_machine-true}
-use Rattle.machine.specs.Ranges.{InRange, is_machine}
+use Rattle.machine.specs.Ranges.{is_machine}
 use Rattle.machine.specs.declared.parameters.Parameters.{Parameters}
 use Rattle.path_names.specs.ShortNames.{IsShortName}
 use Rattle.script_ops.specs.Canonical.{AreAllShort, AreNamed, IsNamed, IsShort}
 use Rattle.script_ops.specs.Fits.{AreFit, Fits}
-use Rattle.script_ops.specs.Values.{IsLawful, PhaseValue, ScriptValue, threads_of, total_weight}
+use Rattle.script_ops.specs.Values.{IsLawful, PhaseValue, threads_of, total_weight}
 use Rattle.script_ops.specs.Weights.{weight_of, weights_of}
-use Rattle.script_ops.specs.declared.limits.TheConstants.{MOST_PHASE_THREADS, MOST_WEIGHT}
+use Rattle.script_ops.specs.declared.limits.TheConstants.{MOST_PHASE_THREADS}
 use Rattle.script_ops.specs.declared.op.Op.{Op}
 use Rattle.trace_gen.specs.Draws.{draw_at}
-use Rattle.trace_gen.specs.Scripts.{access, accesses, opening_ops, trace_machine, trace_phase, trace_script}
-use Rattle.trace_gen.specs.Trace.{address, cpu_of, task_draws}
+use Rattle.trace_gen.specs.Scripts.{access, accesses, opening_ops, trace_machine, trace_script}
+use Rattle.trace_gen.specs.Trace.{task_draws}
 use Rattle.trace_gen.specs.declared.making.TheConstants.{MOST_THREAD_ACCESSES}
 
 -- the machine passes the test

@@ -4,7 +4,7 @@ use Rattle.std.proofs.lemmas.List.{append-nil}
 use Rattle.lackey_text.specs.declared.uses.LineUse.{LineUse}
 use Rattle.way_curve.specs.Filtering.{AddFiltered, FilteredValue, HaveFiltered, HaveSeenIf, behind}
 use Rattle.way_curve.specs.FirstLevels.{left_by, no_levels}
-use Rattle.way_curve.specs.LevelSteps.{HaveSeen, LevelsValue, SeesUse}
+use Rattle.way_curve.specs.LevelSteps.{LevelsValue, SeesUse}
 use Rattle.way_curve.specs.Sampling.{AddSampled, HaveSampled, SampledValue}
 use Rattle.way_curve.specs.declared.first_level.LevelShape.{LevelShape}
 use Rattle.way_curve.specs.declared.first_levels.LevelShapes.{LevelShapes}

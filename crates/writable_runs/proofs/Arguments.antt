@@ -3,7 +3,6 @@ use Rattle.std.proofs.Common.{◌≡◌, ℕ, ◌^◌, ◌<◌, ◌≤◌, cond,
 use Rattle.std.proofs.lemmas.List.Elements.{All-head, All-tail}
 use Rattle.std.proofs.lemmas.List.FromFn.{get_or-range_with_len, length-range_with_len}
 use Rattle.std.specs.List.{All, range_with_len}
-use Rattle.std.specs.Option.{option_map_or}
 use Rattle.std.specs.Prelude.{◌==◌, is_none, nat_le}
 use Rattle.cbm.specs.Masks.{ways_of}
 use Rattle.cpu_lists.specs.Lists.{list_cpus}
@@ -30,7 +29,7 @@ use Rattle.script_ops.specs.declared.op.Op.{Op}
 use Rattle.tree_law.proofs.laws.FreeIds.{find-range}
 use Rattle.tree_law.proofs.laws.Readings.{reading-valid}
 use Rattle.tree_law.specs.Places.{control_at, controlling, group_at, is_closed}
-use Rattle.tree_law.specs.Refusals.{Refusal, first_of, plain}
+use Rattle.tree_law.specs.Refusals.{first_of, plain}
 use Rattle.tree_law.specs.Space.{free_rmid, full_domain, geometry_of}
 use Rattle.tree_law.specs.State.{State}
 use Rattle.tree_law.specs.Steps.{refusal}

@@ -1,7 +1,7 @@
 -- One command more, or a use, among the commands so far.
-use Rattle.std.proofs.Common.{◌≡◌, ℕ, ◌+◌, ◌<◌, ◌≤◌, true, false, List, [], ◌∷◌, ◌++◌, length, filter, take, Some, refl, sym, ap, ap₂, ◌∙◌, arith}
+use Rattle.std.proofs.Common.{◌≡◌, ℕ, ◌+◌, ◌<◌, ◌≤◌, true, false, List, [], ◌∷◌, ◌++◌, length, filter, take, Some, sym, ap, ap₂, ◌∙◌, arith}
 use Rattle.std.proofs.lemmas.List.{take_all}
-use Rattle.pair_law.specs.Epochs.{replies_to, state_after, state_at}
+use Rattle.pair_law.specs.Epochs.{replies_to, state_at}
 use Rattle.pair_law.specs.State.{PairState, opening}
 use Rattle.pair_law.specs.Steps.{next}
 use Rattle.pair_ops.specs.Values.{Machines, PairScriptValue, commands_of, epoch_at, is_command, op_at}

@@ -1,5 +1,5 @@
 -- The kinds of ops.
-use Rattle.std.proofs.Common.{◌≡◌, ◌≢◌, ℕ, ◌<◌, Bool, true, All, List, length, get_or, Option, Some, refl, sym, ap, ◌∙◌, subst}
+use Rattle.std.proofs.Common.{◌≡◌, ◌≢◌, ℕ, ◌<◌, Bool, true, List, length, get_or, Option, Some, refl, sym, ap, ◌∙◌, subst}
 use Rattle.std.proofs.lemmas.Option.{slice_get_read}
 use Rattle.pair_ops.specs.Values.{Fits, HasShortName, IsLawful, PairScriptValue, is_command, op_at}
 use Rattle.pair_ops.specs.declared.op.PairOp.{PairOp}

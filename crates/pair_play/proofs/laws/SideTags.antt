@@ -9,14 +9,14 @@ use Rattle.pair_law.specs.Bounds.{tasks_of}
 use Rattle.pair_law.specs.Epochs.{state_at}
 use Rattle.pair_law.specs.Registers.{mask_of_group}
 use Rattle.pair_law.specs.State.{PairState, owner_of}
-use Rattle.pair_ops.specs.Values.{IsLawful, LiesBelow, Machines, PairScriptValue, commands_of, epoch_at, side_machine}
+use Rattle.pair_ops.specs.Values.{IsLawful, LiesBelow, Machines, PairScriptValue, epoch_at, side_machine}
 use Rattle.pair_ops.specs.declared.side.Side.{Side}
 use Rattle.pair_ops.specs.declared.side.Side.TheVariants.{First, Second}
 use Rattle.pair_play.proofs.laws.LevelsSoFar.{CanAccess-IsLevelSoFar}
-use Rattle.pair_play.proofs.laws.Users.{gid-owner, some_way-owner, tasks_of-state_at}
+use Rattle.pair_play.proofs.laws.Users.{some_way-owner, tasks_of-state_at}
 use Rattle.pair_play.specs.Histories.{CanAccess, LevelValue}
 use Rattle.pair_play.specs.SideTags.{tag_in, tag_on}
-use Rattle.pair_play.specs.SoFar.{AreCommandsSoFar, CommandsValue, IsLevelSoFar, IsShort}
+use Rattle.pair_play.specs.SoFar.{AreCommandsSoFar, CommandsValue, IsLevelSoFar}
 use Rattle.pair_tree.specs.Tags.{tag_of}
 use Rattle.pair_tree.specs.declared.tag.PairTag.{PairTag}
 use Rattle.rc_base.specs.declared.names.Gid.{Gid}

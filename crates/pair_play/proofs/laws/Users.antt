@@ -1,7 +1,6 @@
 -- What a tag of a script's use says: a declared task, a mask with some way, and a serial number that is small.
-use Rattle.std.proofs.Common.{◌≡◌, ℕ, ◌+◌, ◌%◌, ◌<◌, ◌≤◌, List, [], ◌∷◌, length, map, take, Contains, Some, inl, inr, refl, sym, ap, ◌∙◌, subst, arith}
+use Rattle.std.proofs.Common.{◌≡◌, ℕ, ◌+◌, ◌%◌, ◌<◌, ◌≤◌, List, [], ◌∷◌, length, take, inl, inr, refl, sym, ap, ◌∙◌, subst, arith}
 use Rattle.std.specs.Prelude.{◌^◌}
-use Rattle.std.specs.List.{All}
 use Rattle.std.proofs.lemmas.Bool.{cases_lt}
 use Rattle.std.proofs.lemmas.List.{length-take}
 use Rattle.cbm.proofs.laws.Validity.{checked-zero}
@@ -13,14 +12,12 @@ use Rattle.pair_law.proofs.laws.Owners.{IsGroup-owner, IsRecord-group, IsValid-r
 use Rattle.pair_law.specs.Bounds.{tasks_of}
 use Rattle.pair_law.specs.Epochs.{state_after, state_at}
 use Rattle.pair_law.specs.Registers.{mask_of_group}
-use Rattle.pair_law.specs.State.{PairGroup, PairState, has_gid, mask_in, opening, owner_of}
+use Rattle.pair_law.specs.State.{PairGroup, PairState, has_gid, opening, owner_of}
 use Rattle.pair_law.specs.Steps.{next}
 use Rattle.pair_ops.specs.Values.{IsLawful, Machines, PairScriptValue, commands_of, side_machine}
 use Rattle.pair_ops.specs.declared.op.PairOp.{PairOp}
 use Rattle.pair_ops.specs.declared.side.Side.{Side}
 use Rattle.run_law.proofs.laws.OwnLines.{mod-some_way}
-use Rattle.task_binding.specs.Bindings.{opening_binding}
-use Rattle.task_binding.specs.declared.binding.Binding.{Binding}
 use Rattle.tree_law.specs.Masks.{IsValid}
 use Rattle.tree_law.specs.Space.{geometry_of}
 

@@ -1,4 +1,4 @@
-use Rattle.std.proofs.Common.{◌≡◌, ◌<◌, ℕ, List, length, true, false, sym, ap, ◌∙◌, [], ◌∷◌, arith}
+use Rattle.std.proofs.Common.{◌≡◌, ◌<◌, ℕ, List, length, true, false, sym, ap, ◌∙◌, [], arith}
 use Rattle.std.specs.List.{after_first, before_first, list_any}
 use Rattle.journal_text.specs.Lines.{first_line}
 use Rattle.journal_text.specs.Readings.{parts_of}

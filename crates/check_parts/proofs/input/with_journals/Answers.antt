@@ -1,6 +1,5 @@
-use Rattle.std.proofs.Common.{◌≡◌, ◌≤◌, ◌+◌, ◌^◌, length, Err, arith}
-use Rattle.std.proofs.lemmas.Grind.{common_steps}
-use Rattle.journal_text.specs.Readings.{IsBadLine, Reads, whole_lines}
+use Rattle.std.proofs.Common.{arith}
+use Rattle.journal_text.specs.Readings.{IsBadLine}
 use Rattle.journal_text.specs.declared.fault.ReadError.TheVariants as errors
 use Rattle.check_parts.proofs.WholeLines.{length-whole_lines}
 use Rattle.check_parts.proofs.input.with_journals.Goals as goal

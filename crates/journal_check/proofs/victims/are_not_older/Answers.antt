@@ -1,4 +1,4 @@
-use Rattle.std.proofs.Common.{◌≡◌, ◌<◌, ◌≤◌, arith}
+use Rattle.std.proofs.Common.{arith}
 use Rattle.journal_check.proofs.Told.{is_true}
 use Rattle.journal_check.specs.Outcomes.{AreNotOlder}
 use Rattle.journal_check.proofs.victims.are_not_older.Goals as goal

@@ -1,9 +1,8 @@
-use Rattle.std.proofs.Common.{◌≡◌, ℕ, ◌<◌, ◌∙◌, ap, arith, length, subst, sym}
+use Rattle.std.proofs.Common.{◌≡◌, ℕ, ◌<◌, ◌∙◌, arith, length, subst, sym}
 use Rattle.std.proofs.lemmas.List.{get_or_default}
-use Rattle.live_run.proofs.TakenShares.{HasGiven, HaveTakenIn-next, HaveTakenIn-none, rest-next}
+use Rattle.live_run.proofs.TakenShares.{HasGiven, HaveTakenIn-next, rest-next}
 use Rattle.live_run.proofs.ending.absorb_each.Goals as goal
 use Rattle.live_run.specs.Cells.{SliceCellValue}
-use Rattle.live_run.specs.Closings.{HaveTakenIn}
 use Rattle.live_run.specs.Openings.{part_at}
 
 pub give-requires : goal.give-requires

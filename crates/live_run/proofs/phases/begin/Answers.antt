@@ -1,4 +1,4 @@
-use Rattle.std.proofs.Common.{◌≡◌, ◌∙◌, subst, sym}
+use Rattle.std.proofs.Common.{subst, sym}
 use Rattle.live_run.proofs.PhaseTurns.{begun_kept, is_begun, may_begin, same_table, share_is_same, tree_lock_there}
 use Rattle.live_run.proofs.phases.begin.Goals as goal
 use Rattle.live_law.specs.DoneOps.{AreEnded}

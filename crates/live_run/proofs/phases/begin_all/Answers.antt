@@ -1,7 +1,7 @@
 use Rattle.std.proofs.Common.{◌≡◌, ℕ, ◌<◌, ◌∙◌, true, ap, arith, length, subst, sym}
 use Rattle.std.specs.Prelude.{slice_index_or}
 use Rattle.std.proofs.lemmas.List.{get_or_default}
-use Rattle.live_run.proofs.PhaseTurns.{AreBegun-next, AreBegun-none, IsOfPhase-next}
+use Rattle.live_run.proofs.PhaseTurns.{AreBegun-next, IsOfPhase-next}
 use Rattle.live_run.proofs.phases.begin_all.Goals as goal
 use Rattle.live_run.specs.Names.{PassesValue}
 use Rattle.live_run.specs.Phases.{AreBegun, IsOfPhase, no_passes, passes_at}

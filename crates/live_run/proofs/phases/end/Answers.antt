@@ -1,5 +1,5 @@
 use Rattle.std.proofs.Common.{◌≡◌, ◌∙◌, ap, subst, sym}
-use Rattle.live_run.proofs.PhaseTurns.{HaveEnded-one, may_end, same_kept, same_table, share_is_same, tree_lock_there}
+use Rattle.live_run.proofs.PhaseTurns.{HaveEnded-one, may_end, same_kept, same_table, tree_lock_there}
 use Rattle.live_run.proofs.phases.end.Goals as goal
 use Rattle.live_run.specs.Names.{PassesValue}
 use Rattle.live_run.specs.Phases.{IsEndedIn}

@@ -1,7 +1,7 @@
 use Rattle.std.proofs.Common.{◌≡◌, ℕ, ◌<◌, ◌∙◌, ap, arith, length, set, subst, sym}
 use Rattle.std.specs.Prelude.{slice_index_or}
 use Rattle.std.proofs.lemmas.List.{get_or_default, set-get_or}
-use Rattle.live_run.proofs.PhaseTurns.{HaveEnded-next, HaveEnded-none, IsEndedIn-next}
+use Rattle.live_run.proofs.PhaseTurns.{HaveEnded-next, IsEndedIn-next}
 use Rattle.live_run.proofs.phases.end_all.Goals as goal
 use Rattle.live_run.specs.Names.{PassesValue}
 use Rattle.live_run.specs.Phases.{HaveEnded, IsEndedIn, no_passes, passes_at}

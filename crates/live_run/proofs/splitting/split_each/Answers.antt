@@ -1,5 +1,5 @@
-use Rattle.std.proofs.Common.{◌+◌, ◌∙◌, ap, subst, sym}
-use Rattle.live_run.proofs.FirstShares.{AreApart-numbered, AreNumbered-drop, AreSplit-next, AreSplit-none}
+use Rattle.std.proofs.Common.{◌+◌, subst, sym}
+use Rattle.live_run.proofs.FirstShares.{AreApart-numbered, AreNumbered-drop, AreSplit-next}
 use Rattle.live_run.proofs.splitting.split_each.Goals as goal
 use Rattle.live_run.specs.Openings.{AreNumbered, AreSplit}
 

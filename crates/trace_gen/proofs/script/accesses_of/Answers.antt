@@ -1,4 +1,4 @@
-use Rattle.std.proofs.Common.{◌≡◌, ℕ, ◌∷◌, ◌++◌, ◌+◌, ◌*◌, [], refl, sym, ap, ◌∙◌, arith}
+use Rattle.std.proofs.Common.{◌≡◌, ◌∷◌, ◌++◌, ◌+◌, ◌*◌, [], ap, ◌∙◌, arith}
 use Rattle.script_ops.specs.declared.op.Op.{Op}
 use Rattle.trace_gen.specs.Draws.{number_at}
 use Rattle.trace_gen.specs.Scripts.{access}

@@ -1,4 +1,4 @@
-use Rattle.std.proofs.Common.{◌≡◌, ◌∷◌, sym, subst, ◌∙◌, arith}
+use Rattle.std.proofs.Common.{sym, subst, ◌∙◌}
 use Rattle.script_ops.specs.Values.{IsLawful}
 use Rattle.trace_gen.proofs.Lawful.{IsLawful-trace_script, trace_script-parts}
 use Rattle.trace_gen.proofs.script.make_script.Goals as goal

@@ -1,4 +1,4 @@
-use Rattle.std.proofs.Common.{◌≡◌, ℕ, ◌+◌, ◌%◌, ◌<◌, Bool, true, Some, length, sym, ap, ◌∙◌, subst, arith}
+use Rattle.std.proofs.Common.{◌+◌, ◌%◌, ◌<◌, Some, length, subst}
 use Rattle.journal_check.proofs.AddedEntries.{access-decides, access-floor, access-place, access-uses, access-way, count-small, left-some}
 use Rattle.journal_check.proofs.StandingPlaces.{StandsFor-writes}
 use Rattle.journal_check.specs.Replays.{IsRmidAfter, Writes}

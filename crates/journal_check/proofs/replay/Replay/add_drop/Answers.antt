@@ -1,6 +1,4 @@
-use Rattle.std.proofs.Common.{◌≡◌, ℕ, ◌%◌, ◌<◌, Bool, true, None, sym, ap, ◌∙◌, subst, arith}
-use Rattle.std.specs.Prelude.{IfSome}
-use Rattle.cache_core.specs.History.{is_own}
+use Rattle.std.proofs.Common.{◌%◌, ◌<◌, None, subst}
 use Rattle.journal_check.proofs.AddedEntries.{drop-decides, drop-floor, drop-place, drop-uses, drop-way, left-some}
 use Rattle.journal_check.proofs.StandingPlaces.{StandsFor-writes}
 use Rattle.journal_check.specs.Replays.{Writes}

@@ -1,4 +1,4 @@
-use Rattle.std.proofs.Common.{◌≡◌, ◌≤◌, ◌<◌, arith}
+use Rattle.std.proofs.Common.{arith}
 use Rattle.journal_check.proofs.StandingPlaces.{StandsFor-empties}
 use Rattle.journal_check.proofs.replay.Replay.add_emptying.Goals as goal
 

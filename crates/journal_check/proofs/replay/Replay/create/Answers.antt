@@ -1,4 +1,4 @@
-use Rattle.std.proofs.Common.{◌≡◌, ℕ, ◌<◌, ◌≤◌, [], Some, None, refl, sym, ap, ◌∙◌, arith}
+use Rattle.std.proofs.Common.{◌≡◌, [], Some, None, refl, sym, ap, ◌∙◌, arith}
 use Rattle.cache_core.specs.History.{held, shape_of}
 use Rattle.machine.proofs.laws.WholeSets.{mod-sets_slices}
 use Rattle.machine.specs.Maps.{parameters_of}

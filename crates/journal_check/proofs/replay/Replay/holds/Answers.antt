@@ -1,5 +1,4 @@
-use Rattle.std.proofs.Common.{◌≡◌, ◌↔◌, ℕ, ◌%◌, ◌<◌, ◌≤◌, true, sym, ap, ◌∙◌, subst, arith}
-use Rattle.std.specs.Prelude.{IsTrue}
+use Rattle.std.proofs.Common.{◌%◌}
 use Rattle.std.proofs.Math.Nat.{mod-lt}
 use Rattle.journal_check.proofs.SameOutcomes.{place-held}
 use Rattle.journal_check.proofs.replay.Replay.holds.Goals as goal

@@ -1,4 +1,4 @@
-use Rattle.std.proofs.Common.{◌≡◌, refl, sym, ◌∙◌}
+use Rattle.std.proofs.Common.{refl, sym, ◌∙◌}
 use Rattle.journal_check.proofs.StandingPlaces.{StandsFor-quiet, floor-kept}
 use Rattle.journal_check.proofs.replay.Replay.pass.Goals as goal
 

@@ -1,4 +1,4 @@
-use Rattle.std.proofs.Common.{◌≡◌, ℕ, ◌≤◌, refl, arith}
+use Rattle.std.proofs.Common.{refl, arith}
 use Rattle.journal_check.proofs.StampedCounts.{count_at-zero}
 use Rattle.journal_check.proofs.rmid_counts.RmidCounts.create.Goals as goal
 

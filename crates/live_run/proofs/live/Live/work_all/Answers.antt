@@ -1,4 +1,4 @@
-use Rattle.std.proofs.Common.{◌≡◌, ◌<◌, ◌∙◌, sym, subst, rules}
+use Rattle.std.proofs.Common.{◌∙◌, sym, subst, rules}
 use Rattle.std.proofs.lemmas.List.{get_or_default}
 use Rattle.live_run.proofs.live.Live.work_all.Goals as goal
 use Rattle.live_run.specs.Phases.{MayWork, no_passes}

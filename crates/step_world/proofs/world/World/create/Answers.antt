@@ -1,4 +1,4 @@
-use Rattle.std.proofs.Common.{ap, arith, refl, ◌∙◌, None}
+use Rattle.std.proofs.Common.{ap, refl, ◌∙◌, None}
 use Rattle.step_world.proofs.OpeningWorlds.{HasRooms-made, IsOpening-made, IsWorldOf-made}
 use Rattle.step_world.proofs.world.World.create.Goals as goal
 use Rattle.tree_law.specs.State.{opening}

@@ -1,4 +1,4 @@
-use Rattle.std.proofs.Common.{◌≡◌, ◌<◌, ◌∙◌, arith, refl, subst, sym}
+use Rattle.std.proofs.Common.{◌∙◌, arith, refl, subst, sym}
 use Rattle.live_run.specs.Sharing.{IsAtPhase}
 use Rattle.live_tests.proofs.Phases.{IsEndedIn-next, at_first, first_over, has_passed, lock_there, may_pass, other_of_phase}
 use Rattle.live_tests.proofs.Threads.{IsAtEnd-made, IsFirst-begun}

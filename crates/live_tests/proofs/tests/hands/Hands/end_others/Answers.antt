@@ -1,4 +1,4 @@
-use Rattle.std.proofs.Common.{◌≡◌, ◌<◌, [], ◌∷◌, arith}
+use Rattle.std.proofs.Common.{[], ◌∷◌, arith}
 use Rattle.live_run.specs.Sharing.{IsShareOf}
 use Rattle.live_tests.proofs.Phases.{IsEndedIn-next, IsShareOf-ended, at_second, has_passed, lock_there, may_pass, second_over}
 use Rattle.live_tests.proofs.Threads.{IsAtEnd-made}
