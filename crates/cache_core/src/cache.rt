@@ -128,7 +128,7 @@ impl Cache {
             first_line: first_line + u64::from(self.slice),
             set_step: self.machine.slices,
             way_step: self.machine.sets,
-            stamp: self.clock,
+            stamp: self.clock as u32,
         });
         self.counts.clear();
         self.counts
@@ -191,7 +191,7 @@ impl Cache {
         let place = Place {
             line,
             rmid: tag.rmid,
-            used: self.clock,
+            used: self.clock as u32,
         };
         self.clock += 1;
         let set = own_set(&self.machine, self.shift, line);

@@ -17,7 +17,7 @@ pub struct RegionLoad {
     pub first_line: u64,
     pub set_step: u8,
     pub way_step: u32,
-    pub stamp: u64,
+    pub stamp: u32,
     pub ghost far: { first_line < 2 ^ 61 },
 }
 

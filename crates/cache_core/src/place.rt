@@ -7,6 +7,6 @@ pub struct Place {
     pub line: u64,
     /// The RMID for which it was filled.
     pub rmid: u16,
-    /// When it was last used, as the slice counts its entries.
-    pub used: u64,
+    /// When it was last used, as the slice counts its entries, of which it makes at most 2^32.
+    pub used: u32,
 }

@@ -20,7 +20,7 @@ pub struct Sets {
     ways: u8,
     valid: Vec<u32>,
     lines: LineTable,
-    used: Vec<u64>,
+    used: Vec<u32>,
     rmids: Vec<u16>,
 }
 
@@ -74,7 +74,7 @@ impl Sets {
         if !self.lines.may_have(line) {
             return None;
         }
-        let lines = part(self.lines.lines(), set, self.ways);
+        let lines = lines_of_set(self.lines.lines(), set, self.ways);
         way_fill::find(lines, self.valid[set as usize], line)
     }
 
@@ -84,12 +84,12 @@ impl Sets {
         requires mask { 0 < mask % 2 ^ length (set_in self.now set) }
         ensures { IsVictim (length (set_in self.now set)) mask (resident_in (set_in self.now set)) (stamp_in (set_in self.now set)) result }
     {
-        let used = part(&self.used, set, self.ways);
+        let used = stamps_of_set(&self.used, set, self.ways);
         way_fill::victim(used, self.valid[set as usize], mask)
     }
 
     /// Notes that a way is used, which holds a line.
-    pub fn mark(&mut self, set: u32, way: u8, stamp: u64)
+    pub fn mark(&mut self, set: u32, way: u8, stamp: u32)
         requires set { set < length self.old }
         requires way { way < length (set_in self.old set) }
         ensures { self.new ≡ slice_set self.old set (slice_set (set_in self.old set) way (option_map (λ (p : Place). record p { used = stamp }) (place_in (set_in self.old set) way))) }
@@ -136,14 +136,24 @@ impl Sets {
     }
 }
 
-// The numbers of a set's ways.
-fn part(all: &[u64], set: u32, ways: u8) -> &[u64]
+// The lines of a set's ways.
+fn lines_of_set(all: &[u64], set: u32, ways: u8) -> &[u64]
     requires { set * ways + ways ≤ length all.now }
     ensures count { length result.now ≡ ways }
     ensures items { (way : ℕ) → way < ways → slice_index result.now way ≡ slice_index all.now (set * ways + way) }
 {
     let start = set as usize * ways as usize;
     &all[start..start + ways as usize]
+}
+
+// The stamps of a set's ways.
+fn stamps_of_set(all: &[u32], set: u32, ways: u8) -> &[u32]
+    requires { set * ways + ways ≤ length all.now }
+    ensures count { length result.now ≡ ways }
+    ensures items { (way : ℕ) → way < ways → slice_index result.now way ≡ slice_index all.now (set * ways + way) }
+{
+    let first = set as usize * ways as usize;
+    &all[first..first + ways as usize]
 }
 
 // The RMID of a way, where it holds a line.

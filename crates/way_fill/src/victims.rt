@@ -11,10 +11,8 @@ fn lowest_empty(valid: u32, mask: u32) -> u8
     (mask & !valid).trailing_zeros() as u8
 }
 
-/// The way of the mask with the least stamp, the lowest of these. `used` has the stamp of each way. The ways are read one after
-/// the other: lanes took more time at every number of ways up to 32, for stamps are numbers of 64 bits without a sign, whose
-/// lesser takes four instructions for every two of them.
-pub fn least_used(used: &[u64], mask: u32) -> u8
+/// The way of the mask with the least stamp, the lowest of these. `used` has the stamp of each way.
+pub fn least_used(used: &[u32], mask: u32) -> u8
     requires ways { length used.now ≤ 32 }
     requires mask { 0 < mask % 2 ^ length used.now }
     ensures { IsLeast used.now mask (length used.now) result }
@@ -33,7 +31,7 @@ pub fn least_used(used: &[u64], mask: u32) -> u8
 
 /// The way of a set that a fill takes: the lowest empty one of the mask, or else the one that was used longest ago, the
 /// lowest of these (this project's profile). `used` has the stamp of each way, and `valid` the ways that hold a line.
-pub fn victim(used: &[u64], valid: u32, mask: u32) -> u8
+pub fn victim(used: &[u32], valid: u32, mask: u32) -> u8
     requires ways { length used.now ≤ 32 }
     requires mask { 0 < mask % 2 ^ length used.now }
     ensures { IsChosen used.now valid mask result }

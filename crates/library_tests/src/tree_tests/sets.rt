@@ -27,5 +27,5 @@ fn many_ways_are_compared_at_once(rt: HostRuntime) {
     );
     assert_eq!(rt; find(&lines, 0x8000_0000, 7), Some(31));
     assert_eq!(rt; find(&lines, 0x10, 5), None);
-    assert_eq!(rt; least_used(&lines, 0x8000_0010), 4);
+    assert_eq!(rt; least_used(&[7; 32], 0x8000_0010), 4);
 }

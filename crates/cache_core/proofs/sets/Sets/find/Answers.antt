@@ -9,8 +9,8 @@ use Rattle.cache_core.proofs.FlatReads.{IsRow, IsRow-flat_sets, MatchOption-find
 use Rattle.cache_core.proofs.FlatViews.{lt-sets}
 use Rattle.cache_core.proofs.sets.Sets.find.Goals as goal
 
-pub part-lines-requires : goal.part-lines-requires
-part-lines-requires c =
+pub lines_of_set-lines-requires : goal.lines_of_set-lines-requires
+lines_of_set-lines-requires c =
     let i = c.self.inside in
     let f : Flat = record { ways = i.ways; valid = i.valid.items; lines = i.lines; used = i.used.items; rmids = i.rmids.items } in
     let within : c.args.set < length f.valid = lt-sets f c.args.self.now c.args.set c.self.view_is c.requires in
@@ -30,10 +30,10 @@ returns c =
     let within : set < length f.valid = lt-sets f c.args.self.now set c.self.view_is c.requires in
     let value : c.index.result.now ≡ slice_index f.valid set = c.index.ensures ∙ get_or_default f.valid set c.index.result.now 0 within in
     let row : IsRow (set_in (flat_sets f) set) f.ways c.index.result.now (here_in f set) = subst (λ v. IsRow (set_in (flat_sets f) set) f.ways v (here_in f set)) (sym value) (IsRow-flat_sets f set within) in
-    let reads : (w : ℕ) → w < f.ways → slice_index c.part-lines.result.now w ≡ slice_index f.lines (set * f.ways + w) = λ w l. c.part-lines.ensures.items w l ∙ ap (λ ps. slice_index ps (set * f.ways + w)) c.lines.ensures in
+    let reads : (w : ℕ) → w < f.ways → slice_index c.lines_of_set-lines.result.now w ≡ slice_index f.lines (set * f.ways + w) = λ w l. c.lines_of_set-lines.ensures.items w l ∙ ap (λ ps. slice_index ps (set * f.ways + w)) c.lines.ensures in
     subst (λ (now : List (List (Option Place))). MatchOption c.find.result ((way : ℕ) → Holds (resident_in (set_in now set)) c.args.line way → ⊥) (λ way. (way < length (set_in now set)) × Holds (resident_in (set_in now set)) c.args.line way))
     c.self.view_is
-    (MatchOption-find (set_in (flat_sets f) set) f.ways c.index.result.now (here_in f set) c.part-lines.result.now c.args.line c.find.result row c.part-lines.ensures.count reads c.find.ensures)
+    (MatchOption-find (set_in (flat_sets f) set) f.ways c.index.result.now (here_in f set) c.lines_of_set-lines.result.now c.args.line c.find.result row c.lines_of_set-lines.ensures.count reads c.find.ensures)
 
 pub returns-then-not-may_have : goal.returns-then-not-may_have
 returns-then-not-may_have c way holds =

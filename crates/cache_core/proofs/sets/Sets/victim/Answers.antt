@@ -9,8 +9,8 @@ use Rattle.cache_core.proofs.FlatReads.{IsRow, IsRow-flat_sets, IsVictim-chosen}
 use Rattle.cache_core.proofs.FlatViews.{lt-sets, length-set_in_flat}
 use Rattle.cache_core.proofs.sets.Sets.victim.Goals as goal
 
-pub part-used-requires : goal.part-used-requires
-part-used-requires c =
+pub stamps_of_set-used-requires : goal.stamps_of_set-used-requires
+stamps_of_set-used-requires c =
     let i = c.self.inside in
     let f : Flat = record { ways = i.ways; valid = i.valid.items; lines = i.lines; used = i.used.items; rmids = i.rmids.items } in
     let within : c.args.set < length f.valid = lt-sets f c.args.self.now c.args.set c.self.view_is c.requires.set in
@@ -26,7 +26,7 @@ pub victim-requires-clause-mask : goal.victim-requires-clause-mask
 victim-requires-clause-mask c =
     let i = c.self.inside in
     let f : Flat = record { ways = i.ways; valid = i.valid.items; lines = i.lines; used = i.used.items; rmids = i.rmids.items } in
-    subst (λ n. 0 < c.args.mask % 2 ^ n) (length-set_in_flat f c.args.self.now c.args.set c.self.view_is c.requires.set ∙ sym c.part-used.ensures.count) c.requires.mask
+    subst (λ n. 0 < c.args.mask % 2 ^ n) (length-set_in_flat f c.args.self.now c.args.set c.self.view_is c.requires.set ∙ sym c.stamps_of_set-used.ensures.count) c.requires.mask
 
 pub returns : goal.returns
 returns c =
@@ -36,7 +36,7 @@ returns c =
     let within : set < length f.valid = lt-sets f c.args.self.now set c.self.view_is c.requires.set in
     let value : c.index.result.now ≡ slice_index f.valid set = c.index.ensures ∙ get_or_default f.valid set c.index.result.now 0 within in
     let row : IsRow (set_in (flat_sets f) set) f.ways c.index.result.now (here_in f set) = subst (λ v. IsRow (set_in (flat_sets f) set) f.ways v (here_in f set)) (sym value) (IsRow-flat_sets f set within) in
-    let reads : (w : ℕ) → w < f.ways → slice_index c.part-used.result.now w ≡ slice_index f.used (set * f.ways + w) = λ w l. c.part-used.ensures.items w l ∙ ap (λ ps. slice_index ps (set * f.ways + w)) c.deref.ensures.value in
+    let reads : (w : ℕ) → w < f.ways → slice_index c.stamps_of_set-used.result.now w ≡ slice_index f.used (set * f.ways + w) = λ w l. c.stamps_of_set-used.ensures.items w l ∙ ap (λ ps. slice_index ps (set * f.ways + w)) c.deref.ensures.value in
     subst (λ (now : List (List (Option Place))). IsVictim (length (set_in now set)) c.args.mask (resident_in (set_in now set)) (stamp_in (set_in now set)) c.victim.result)
     c.self.view_is
-    (IsVictim-chosen (set_in (flat_sets f) set) f.ways c.index.result.now (here_in f set) c.part-used.result.now c.args.mask c.victim.result row c.part-used.ensures.count reads c.victim.ensures)
+    (IsVictim-chosen (set_in (flat_sets f) set) f.ways c.index.result.now (here_in f set) c.stamps_of_set-used.result.now c.args.mask c.victim.result row c.stamps_of_set-used.ensures.count reads c.victim.ensures)
