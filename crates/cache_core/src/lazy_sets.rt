@@ -123,7 +123,8 @@ impl LazySets {
     }
 }
 
-// Renews a set of an earlier generation: stores there what the last emptying left.
+// Renews a set of an earlier generation: stores there what the last emptying left. Before the first emptying no set is behind,
+// and `renewed` is not read: it would be one cache line more of each set that is touched.
 #[inline(always)]
 fn renew(sets: &mut Sets, renewed: &mut Vec<u64>, generation: u64, emptied: &Emptied, set: u32)
     requires lazy { IsLazy sets.old renewed.old.items generation }
@@ -133,6 +134,9 @@ fn renew(sets: &mut Sets, renewed: &mut Vec<u64>, generation: u64, emptied: &Emp
     ensures count { length sets.new ≡ length sets.old }
     ensures places { lazy_sets emptied.now sets.new renewed.new.items generation ≡ lazy_sets emptied.now sets.old renewed.old.items generation }
 {
+    if generation == 0 {
+        return;
+    }
     if renewed[set as usize] < generation {
         emptied.renew(sets, set);
         renewed[set as usize] = generation;
