@@ -1,6 +1,7 @@
 #!/usr/bin/env python3
 """Times `resctrl_sim step` on 1, 2 and 4 million accesses: one sweep, the same over a cache of four slices, a line for each (some
-60 MB of text at the most), and short sweeps in turn over twelve groups, by one of 4,096 declared tasks and by all of them.
+60 MB of text at the most), short sweeps in turn over twelve groups, by one of 4,096 declared tasks and by all of them, and short
+sweeps at random over full sets, of which half hit.
 
 usage: accesses.py PROGRAM      PROGRAM is the built program, after `make demo`: crates/resctrl_sim/out/resctrl_sim
 
@@ -14,6 +15,7 @@ from timing import table
 HEADS = "tasks 1\nphase\nthread\n"
 TASKS = 4096
 GROUPS = 12
+MIXED = 4
 
 
 def write_sweep(script, accesses, slices=1):
@@ -47,6 +49,18 @@ def write_turns(script, accesses, used):
         script.write(f"sweep {1 + turn % used} 0 {turn * 6400 % 2 ** 30} 100 64\n")
 
 
+def write_mix(script, accesses):
+    """Sweeps of 100 accesses by four groups at random over twice as many lines as the cache has places: its sets are soon full,
+    half of the accesses hit, and a miss looks for the line before it takes the place that was used longest ago.
+    """
+    numbers = random.Random(2)
+    script.write(f"machine sets=4096 ways=16\ntasks 1-{MIXED}\nphase\nthread\n")
+    for task in range(1, MIXED + 1):
+        script.write(f"mkdir /tenant{task}\nwrite /tenant{task}/tasks {task}\n")
+    for _ in range(accesses // 100 - 1):
+        script.write(f"sweep {numbers.randint(1, MIXED)} 0 {numbers.randrange(2 * 4096 * 16) * 64} 100 64\n")
+
+
 def write_one_task(script, accesses):
     write_turns(script, accesses, 1)
 
@@ -63,5 +77,6 @@ if __name__ == "__main__":
         ("lines", write_lines),
         ("one task", write_one_task),
         ("all tasks", write_all_tasks),
+        ("full sets", write_mix),
     )
     table(__doc__, [(name, size, write) for name, write in KINDS for size in SIZES])
