@@ -2,6 +2,8 @@ pub mod Counts
 pub mod Digits
 pub mod EachDomain
 pub mod Edits
+pub mod Indices
 pub mod Lookups
+pub mod Orders
 pub mod Unions
 pub mod laws

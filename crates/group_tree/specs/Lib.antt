@@ -1,4 +1,6 @@
 pub mod Counts
+pub mod Indices
+pub mod Keys
 pub mod Lists
 pub mod Opening
 pub mod Others

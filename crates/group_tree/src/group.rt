@@ -1,6 +1,6 @@
 //! The record of one group.
 ghost use Rattle.std.specs.Prelude.{◌≡◌, ◌<◌};
-ghost use Rattle.group_tree.specs.Records.{blank, has_gid, has_name, is_control_named, is_monitor_named, mask_in};
+ghost use Rattle.group_tree.specs.Records.{blank, mask_in};
 
 use crate::group_kind::GroupKind;
 use path_names::NameId;
@@ -45,37 +45,6 @@ impl Default for Group {
 }
 
 impl Group {
-    /// Whether it is the group with this gid.
-    pub(crate) fn has_gid(&self, gid: Gid) -> bool
-        ensures { result ≡ has_gid gid self.now }
-    {
-        gid.0 == self.gid.0
-    }
-
-    /// Whether it is the control group of this name.
-    pub(crate) fn is_control_named(&self, name: NameId) -> bool
-        ensures { result ≡ is_control_named name self.now }
-    {
-        self.kind.is_control() && self.has_name(name)
-    }
-
-    /// Whether it is the monitor group of this name of a control group.
-    pub(crate) fn is_monitor_named(&self, parent: Gid, name: NameId) -> bool
-        ensures { result ≡ is_monitor_named parent name self.now }
-    {
-        self.kind.is_monitor_of(parent) && self.has_name(name)
-    }
-
-    // Whether its directory has this name.
-    fn has_name(&self, name: NameId) -> bool
-        ensures { result ≡ has_name name self.now.name }
-    {
-        match self.name {
-            Some(own) => name.0 == own.0,
-            None => false,
-        }
-    }
-
     /// Its mask in a domain.
     pub(crate) fn mask_in(&self, domain: u8) -> u32
         requires { domain < 8 }

@@ -1,6 +1,6 @@
 //! The two kinds of group.
 ghost use Rattle.std.specs.Prelude.{◌≡◌};
-ghost use Rattle.group_tree.specs.Records.{is_control, is_monitor_of};
+ghost use Rattle.group_tree.specs.Records.{is_control};
 
 use rc_base::Gid;
 
@@ -24,16 +24,6 @@ impl GroupKind {
         match self {
             GroupKind::Control => true,
             GroupKind::Monitor { .. } => false,
-        }
-    }
-
-    /// Whether the kind is Monitor, with this control group as the parent.
-    pub(crate) fn is_monitor_of(self, control: Gid) -> bool
-        ensures { result ≡ is_monitor_of control self }
-    {
-        match self {
-            GroupKind::Control => false,
-            GroupKind::Monitor { parent } => control.0 == parent.0,
         }
     }
 }

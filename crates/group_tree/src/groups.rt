@@ -8,10 +8,13 @@ ghost use Rattle.machine.specs.Maps.{parameters_of};
 ghost use Rattle.group_tree.specs.Others.{IsUseByOthers};
 ghost use Rattle.group_tree.specs.Records.{has_gid, is_control_named, is_monitor_named};
 
+mod lookup;
+
 use crate::edit::{put, take_out};
 use crate::group::Group;
 use crate::group_counts::GroupCounts;
-use crate::lookup::{find_control, find_gid, find_monitor, find_own};
+use crate::index::{Entry, enter, index_of_one, leave, rename};
+use crate::key::Key;
 use crate::opening::default_group;
 use arrayvec::ArrayVec;
 use machine::Machine;
@@ -25,24 +28,27 @@ use std::marker::Model;
 pub const PLACES: usize = 328;
 
 /// The groups of the tree in order of creation, the default group first. Contracts see the list of their records, and
-/// the machine's shareable bits. Gids differ. How many groups have each way is kept beside them, so that no walk over
-/// the groups is needed to see which ways are in use. All places stand in one allocation, so that the value itself is small.
+/// the machine's shareable bits. Gids differ. Two indices beside them, by gid and by directory, find a group in a few
+/// steps. How many groups have each way is kept too, so that no walk over the groups is needed to see which ways are in
+/// use. All places stand in three allocations, so that the value itself is small.
 #[derive(Debug, Drop)]
 pub struct Groups {
     records: Box<ArrayVec<Group, PLACES>>,
+    gids: Box<ArrayVec<Entry, PLACES>>,
+    names: Box<ArrayVec<Entry, PLACES>>,
     counts: GroupCounts,
     shareable: u32,
 }
 
 impl Model for Groups {
-    ghost use Rattle.group_tree.specs.Counts.{IsCountedTree};
+    ghost use Rattle.group_tree.specs.Indices.{IsIndexedTree};
     ghost use Rattle.group_tree.specs.Lists.{GroupList};
 
     ghost Value = { GroupList };
 
     ghost view = { λ t. record { groups = t.records.value.items; shareable = t.shareable } };
 
-    ghost invariant = { λ t. IsCountedTree t.records.value.items t.counts.domains };
+    ghost invariant = { λ t. IsIndexedTree t.records.value.items t.gids.value.items t.names.value.items t.counts.domains };
 }
 
 impl Groups {
@@ -55,8 +61,12 @@ impl Groups {
         let first = default_group(m);
         let mut records = Box::new(alloc, ArrayVec::new())?;
         records.push(first);
+        let gids = index_of_one(alloc, Key::of_gid(first.gid))?;
+        let names = index_of_one(alloc, Key::of_directory(&first))?;
         Ok(Groups {
             records,
+            gids,
+            names,
             counts: GroupCounts::of_one(&first),
             shareable: m.shareable,
         })
@@ -77,6 +87,21 @@ impl Groups {
         ensures last { self.new.groups ≡ self.old.groups ++ g ∷ [] }
         ensures kept { self.new.shareable ≡ self.old.shareable }
     {
+        let place = self.records.len();
+        enter(
+            &mut self.gids,
+            Entry {
+                key: Key::of_gid(g.gid),
+                place,
+            },
+        );
+        enter(
+            &mut self.names,
+            Entry {
+                key: Key::of_directory(&g),
+                place,
+            },
+        );
         self.counts.add(&g);
         self.records.push(g);
     }
@@ -87,7 +112,9 @@ impl Groups {
         ensures replaced { self.new.groups ≡ replaced g self.old.groups }
         ensures kept { self.new.shareable ≡ self.old.shareable }
     {
-        let old = put(&mut self.records, g);
+        let place = self.place_of(g.gid);
+        rename(&mut self.names, self.records.as_slice(), place, &g);
+        let old = put(&mut self.records, place, g);
         self.counts.remove(&old);
         self.counts.add(&g);
     }
@@ -99,7 +126,10 @@ impl Groups {
         ensures without { self.new.groups ≡ without gid self.old.groups }
         ensures kept { self.new.shareable ≡ self.old.shareable }
     {
-        let gone = take_out(&mut self.records, gid);
+        let place = self.place_of(gid);
+        leave(&mut self.gids, place);
+        leave(&mut self.names, place);
+        let gone = take_out(&mut self.records, place, gid);
         self.counts.remove(&gone);
     }
 
@@ -108,7 +138,7 @@ impl Groups {
         ensures found { option_copied result ≡ find (has_gid gid) self.now.groups }
         ensures there { is_some result ≡ has_group gid self.now.groups }
     {
-        find_gid(self.records.as_slice(), gid)
+        self.at_place(self.place_of(gid))
     }
 
     /// The i-th group in order of creation, from 0, and None where there are not so many.
@@ -124,7 +154,7 @@ impl Groups {
         ensures found { result ≡ option_map (λ g. g.gid) (find (is_control_named name) self.now.groups) }
         ensures there { is_some result ≡ list_any (is_control_named name) self.now.groups }
     {
-        find_control(self.records.as_slice(), name).map(|g| g.gid)
+        self.find_control(name).map(|g| g.gid)
     }
 
     /// The monitor group of this name of a control group, and None where there is no such group.
@@ -132,7 +162,7 @@ impl Groups {
         ensures found { result ≡ option_map (λ g. g.gid) (find (is_monitor_named parent name) self.now.groups) }
         ensures there { is_some result ≡ list_any (is_monitor_named parent name) self.now.groups }
     {
-        find_monitor(self.records.as_slice(), parent, name).map(|g| g.gid)
+        self.find_monitor(parent, name).map(|g| g.gid)
     }
 
     /// What all control groups but this one use of the cache of a domain, from 0 to 7; where none is named, what all of
@@ -142,8 +172,7 @@ impl Groups {
         requires { domain < 8 }
         ensures { IsUseByOthers self.now gid domain result }
     {
-        let groups = self.records.as_slice();
-        let own = find_own(groups, gid);
+        let own = self.find_own(gid);
         self.counts.without(own, domain).used(self.shareable)
     }
 }

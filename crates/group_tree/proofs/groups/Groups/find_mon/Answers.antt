@@ -1,11 +1,7 @@
-use Rattle.std.proofs.Common.{find, ap, ◌∙◌}
-use Rattle.arrayvec.specs.ArrayVec.{ArrayVec}
-use Rattle.group_tree.specs.Lists.{GroupList}
+use Rattle.std.proofs.Common.{◌∙◌}
 use Rattle.group_tree.specs.Records.{is_monitor_named}
-use Rattle.group_tree.specs.declared.group.Group.{Group}
 use Rattle.group_tree.proofs.Lookups.{is_some-list_any}
 use Rattle.group_tree.proofs.groups.Groups.find_mon.Goals as goal
 
 pub returns-clause-there : goal.returns-clause-there
-returns-clause-there c =
-    c.map.ensures.variant ∙ is_some-list_any c.find_monitor.result (is_monitor_named c.args.parent c.args.name) c.args.self.now.groups (c.find_monitor.ensures ∙ ap (find (is_monitor_named c.args.parent c.args.name)) (c.as_slice.ensures.value ∙ ap (λ (v : ArrayVec Group). v.items) c.deref.ensures ∙ ap (λ (t : GroupList). t.groups) c.self.view_is))
+returns-clause-there c = c.map.ensures.variant ∙ is_some-list_any c.find_monitor.result (is_monitor_named c.args.parent c.args.name) c.args.self.now.groups c.find_monitor.ensures

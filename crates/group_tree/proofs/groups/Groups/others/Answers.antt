@@ -1,6 +1,5 @@
 use Rattle.std.proofs.Common.{Option, get_or, sym, subst, ap, ◌∙◌}
 use Rattle.rc_base.specs.declared.names.Mode.TheVariants.{Shareable, Exclusive, Locked}
-use Rattle.arrayvec.specs.ArrayVec.{ArrayVec}
 use Rattle.group_tree.specs.Counts.{ModeCountsAre, groups_with, own_group, without_some}
 use Rattle.group_tree.specs.Lists.{GroupList}
 use Rattle.group_tree.specs.Others.{IsUseByOthers}
@@ -16,11 +15,11 @@ returns c =
     let gid = c.args.gid in
     let domain = c.args.domain in
     let all = get_or c.self.inside.counts.domains domain c.without.result in
-    let own = c.find_own-own.ensures ∙ ap (own_group gid) (c.as_slice-groups.ensures.value ∙ ap (λ (v : ArrayVec Group). v.items) c.deref.ensures) in
+    let own = c.find_own-own.ensures ∙ ap (λ (t : GroupList). own_group gid t.groups) (sym c.self.view_is) in
     let kept = c.without.ensures c.without.result ∙ ap (λ (o : Option Group). without_some o domain all) own in
     let counts : ModeCountsAre c.without.result (groups_with (others_than gid gs) domain)
     = subst (λ (x : ModeCounts). ModeCountsAre x (groups_with (others_than gid gs) domain)) (sym kept)
-    (ModeCountsAre-without_some gid domain gs all c.self.invariant.tree.gids_differ (c.self.invariant.counted.each domain c.without.result c.requires)) in
+    (ModeCountsAre-without_some gid domain gs all c.self.invariant.counted.tree.gids_differ (c.self.invariant.counted.counted.each domain c.without.result c.requires)) in
     subst (λ (t : GroupList). IsUseByOthers t gid domain c.used.result) c.self.view_is (record {
       hardware = c.used.ensures.hardware;
       shared = IsUnionOfOthers-counted gid Shareable domain gs c.without.result.shareable.digits c.used.result.shared counts.shareable c.used.ensures.shared;
