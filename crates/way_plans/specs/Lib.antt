@@ -5,6 +5,7 @@ pub mod GroupLines
 pub mod Masks
 pub mod NoWays
 pub mod Noted
+pub mod PlanCommands
 pub mod PlanTexts
 pub mod Planned
 pub mod Plans

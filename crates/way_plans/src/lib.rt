@@ -12,6 +12,7 @@
 #![tactic(auto)]
 
 mod choice;
+pub mod command_theorems;
 mod compared;
 pub mod comparison;
 mod comparisons;
