@@ -1,0 +1,10 @@
+mod BestChoices
+pub mod BestRows
+pub mod Fractions
+mod FewUses
+mod LongLines
+pub mod NearLines
+pub mod Plays
+pub mod Reported
+pub mod Steps
+pub mod UsesFrom

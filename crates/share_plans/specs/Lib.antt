@@ -1,0 +1,9 @@
+pub mod Divisions
+pub mod Laws
+pub mod Played
+pub mod Reading
+pub mod Reports
+pub mod Rows
+pub mod Scores
+pub mod Sharing
+pub mod Streams
