@@ -7,6 +7,7 @@ mod first_levels;
 mod first_uses;
 mod plans;
 mod samples;
+mod shares;
 mod traces;
 mod used_groups;
 
