@@ -1,3 +1,4 @@
+pub mod AppliedTexts
 pub mod ComparedTexts
 pub mod Comparisons
 pub mod Divisions

@@ -11,6 +11,7 @@
 //! there are groups, first ways and numbers of ways.
 #![tactic(auto)]
 
+mod applied;
 mod choice;
 pub mod command_theorems;
 mod compared;
@@ -44,6 +45,7 @@ mod table;
 pub mod theorems;
 mod writes;
 
+pub use applied::applied_plan;
 pub use comparison::Comparison;
 pub use comparisons::comparisons_of;
 pub use division::divide;

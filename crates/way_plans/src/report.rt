@@ -15,8 +15,8 @@ use rc_base::NoMemory;
 use script_ops::{GrowingText, Script};
 use std::alloc::Global;
 
-// Adds the lines of a script, where each domain has a division.
-fn push_script_lines(
+/// Adds the lines of a script, where each domain has a division.
+pub(crate) fn push_script_lines(
     alloc: Global,
     text: &mut GrowingText,
     script: &Script,
