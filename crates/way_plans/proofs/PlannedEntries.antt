@@ -1,7 +1,7 @@
 -- The assignments of a plan to one group: their text reads back, nothing is against them, and the group has their masks then.
 use Rattle.std.proofs.Common.{◌≡◌, ℕ, zero, suc, ◌+◌, ◌*◌, ◌^◌, ◌<◌, ◌≤◌, true, false, List, [], ◌∷◌, ◌++◌, length, get_or, map, Option, None, Some, Ok, inl, inr, refl, sym, ap, ◌∙◌, arith, length-append}
 use Rattle.std.specs.Prelude.{All, codes, decimal, nat_eq, set}
-use Rattle.std.specs.List.{AllByRecursion, IsDistinct, join_with_byte, list_any}
+use Rattle.std.specs.List.{AllByRecursion, IsDistinct, list_any}
 use Rattle.std.specs.Option.{option_or}
 use Rattle.std.proofs.lemmas.Bool.{cases_order, ne_eqb}
 use Rattle.std.proofs.lemmas.List.{get_or-set_other, get_or-set_same, length-set}
@@ -22,7 +22,7 @@ use Rattle.rc_base.specs.declared.names.Mode.{Mode}
 use Rattle.rc_base.specs.declared.names.Mode.TheVariants.{Shareable}
 use Rattle.schemata_text.proofs.laws.Entries.{length-hexadecimal_mask, others_text, printed-some}
 use Rattle.schemata_text.specs.Printed.{ReadsBack, entry_text, mask_digits, printed}
-use Rattle.schemata_text.specs.Reading.{AreLawful, domains_of, reading}
+use Rattle.schemata_text.specs.Reading.{domains_of, reading}
 use Rattle.schemata_text.specs.declared.assignment.Assignment.{Assignment}
 use Rattle.tree_law.specs.Counted.{is_counted}
 use Rattle.tree_law.specs.Space.{geometry_of, region_mask, used_in}

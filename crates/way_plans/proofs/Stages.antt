@@ -5,7 +5,7 @@ use Rattle.std.specs.List.{AllByRecursion, list_any}
 use Rattle.std.proofs.lemmas.Bool.{eq-eqb, eqb-false, eqb-true, or_cases}
 use Rattle.group_tree.proofs.laws.Records.{exchanged-gid}
 use Rattle.group_tree.specs.Lists.{exchanged, replaced}
-use Rattle.group_tree.specs.Records.{has_gid, is_control}
+use Rattle.group_tree.specs.Records.{has_gid}
 use Rattle.group_tree.specs.declared.group.Group.{Group}
 use Rattle.lists.proofs.Keyed.{All-replaced, get_or-key}
 use Rattle.lists.proofs.Tests.{find-found, find-map}
