@@ -54,7 +54,7 @@ _plan_flags() {
     case $1 in
         --l1) echo "--l2 --one-of --first" ;;
         --l2) echo "--one-of --first" ;;
-        --one-of) echo "--first" ;;
+        --one-of) echo "--scaled --first" ;;
     esac
 }
 

@@ -1,4 +1,4 @@
--- What the words after the program's name ask for: `curve SETS WAYS [--l1 SETSxWAYS] [--l2 SETSxWAYS] [--one-of N] [--first]` or `divide [--compare] [--used]`.
+-- What the words after the program's name ask for: `curve SETS WAYS [--l1 SETSxWAYS] [--l2 SETSxWAYS] [--one-of N [--scaled]] [--first]` or `divide [--compare] [--used]`.
 use Rattle.std.specs.Prelude.{ℕ, ◌+◌, ◌==◌, false, if◌then◌else◌, List, [], ◌∷◌, ◌++◌, codes, string_bytes, String, Option, Some, None, option_map}
 use Rattle.std.specs.List.{after_first, before_first, list_any}
 use Rattle.std.specs.Option.{option_and_then}
@@ -7,7 +7,7 @@ use Rattle.num_text.specs.Numbers.{below, dec_of}
 use Rattle.rc_base.specs.Texts.{is_text}
 use Rattle.way_curve.specs.FirstLevels.{no_levels}
 use Rattle.way_curve.specs.declared.first_level.LevelShape.{LevelShape}
-use Rattle.plan_top.specs.CurveForms.{CurveWords, with_first, with_l1, with_l2, with_sample}
+use Rattle.plan_top.specs.CurveForms.{CurveWords, with_first, with_l1, with_l2, with_sample, with_scale}
 use Rattle.plan_top.specs.DivideForms.{divide_in}
 use Rattle.plan_top.specs.declared.form.Form.{Form}
 use Rattle.plan_top.specs.declared.form.Form.TheVariants.{Curve, Divide}
@@ -35,19 +35,24 @@ level_in text = if list_any (λ b. b == 120) text then shape_in (before_first (�
 
 -- what two numbers after `curve` ask for
 abbrev pub curve_in : List ℕ → List ℕ → Option CurveWords
-curve_in sets ways = option_and_then (λ s. option_map (λ w. record { sets = s; ways = w; levels = no_levels; one_of = None; has_first = false }) (ways_in ways)) (sets_in sets)
+curve_in sets ways = option_and_then (λ s. option_map (λ w. record { sets = s; ways = w; levels = no_levels; one_of = None; is_scaled = false; has_first = false }) (ways_in ways)) (sets_in sets)
 
--- A form with what the words after it ask for: each of `--l1 SETSxWAYS`, `--l2 SETSxWAYS`, `--one-of N` and `--first` may stand there, in
--- this order, and nothing else. From behind: those from `--first` on, which is the last word,
+-- A form with what the words after it ask for: each of `--l1 SETSxWAYS`, `--l2 SETSxWAYS`, `--one-of N`, which `--scaled` may follow, and
+-- `--first` may stand there, in this order, and nothing else. From behind: those from `--first` on, which is the last word,
 abbrev pub from_first : CurveWords → List (String Global) → Option CurveWords
 from_first form [] = Some form
 from_first form (flag ∷ []) = if is_text (string_bytes flag) (codes "--first") then Some (with_first form) else None
 from_first form words = None
 
+-- those after `--one-of N`,
+abbrev pub from_scaled : CurveWords → List (String Global) → Option CurveWords
+from_scaled form [] = Some form
+from_scaled form (flag ∷ rest) = if is_text (string_bytes flag) (codes "--scaled") then from_first (with_scale form) rest else from_first form (flag ∷ rest)
+
 -- those from `--one-of` on,
 abbrev pub from_sample : CurveWords → List (String Global) → Option CurveWords
 from_sample form (flag ∷ one_of ∷ rest) =
-    if is_text (string_bytes flag) (codes "--one-of") then option_and_then (λ n. from_first (with_sample form n) rest) (one_of_in form.sets (string_bytes one_of)) else from_first form (flag ∷ one_of ∷ rest)
+    if is_text (string_bytes flag) (codes "--one-of") then option_and_then (λ n. from_scaled (with_sample form n) rest) (one_of_in form.sets (string_bytes one_of)) else from_first form (flag ∷ one_of ∷ rest)
 from_sample form words = from_first form words
 
 -- those from `--l2` on,
@@ -77,4 +82,4 @@ form_of (command ∷ words) = if is_text (string_bytes command) (codes "divide")
 
 -- the line for a command line that is not valid
 abbrev pub usage_line : List ℕ
-usage_line = codes "usage: resctrl_plan curve SETS WAYS [--l1 SETSxWAYS] [--l2 SETSxWAYS] [--one-of N] [--first] | divide [--compare] [--used]" ++ 10 ∷ []
+usage_line = codes "usage: resctrl_plan curve SETS WAYS [--l1 SETSxWAYS] [--l2 SETSxWAYS] [--one-of N [--scaled]] [--first] | divide [--compare] [--used]" ++ 10 ∷ []

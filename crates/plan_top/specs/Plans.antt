@@ -27,7 +27,7 @@ pub record RefusesTrace (bytes text : List ℕ) : Type 0 where
 pub record ReportsCurves (form : CurveWords) (bytes text : List ℕ) : Type 0 where
   pub uses : List LineUse
   pub trace : trace_of bytes ≡ Ok uses
-  pub report : text ≡ curves_text form.levels form.one_of form.has_first form.sets form.ways uses
+  pub report : text ≡ curves_text form.levels form.one_of form.is_scaled form.has_first form.sets form.ways uses
 
 -- (For proofs.) what a form reports of bytes, beside which it hands nothing back
 abbrev pub reports_of : CurveWords → List ℕ → Unit {0} → List ℕ → Type 0

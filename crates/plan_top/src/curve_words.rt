@@ -2,7 +2,7 @@
 ghost use Rattle.std.specs.Prelude.{◌≡◌};
 ghost use Rattle.std.specs.Option.{option_and_then};
 ghost use Rattle.plan_top.specs.CurveForms.{CurveWords, with_l1 as l1_with, with_l2 as l2_with, with_sample as sample_with};
-ghost use Rattle.plan_top.specs.Forms.{curve_in, from_first as from_first_in, from_l1 as from_l1_in, from_l2 as from_l2_in, from_sample as from_sample_in, level_in, one_of_in};
+ghost use Rattle.plan_top.specs.Forms.{curve_in, from_first as from_first_in, from_l1 as from_l1_in, from_l2 as from_l2_in, from_scaled as from_scaled_in, from_sample as from_sample_in, level_in, one_of_in};
 
 use crate::form::CurveForm;
 use crate::numbers::{curve_of, level_of, one_of_of};
@@ -19,12 +19,25 @@ fn from_first(form: CurveForm, words: &[String]) -> Option<CurveForm>
     }
 }
 
+// The form of a sample with what the words after its number ask for.
+fn from_scaled(form: CurveForm, words: &[String]) -> Option<CurveForm>
+    ensures { result ≡ from_scaled_in form words.now }
+{
+    match words {
+        [] => Some(form),
+        [flag, rest @ ..] if is_text(flag.as_bytes(), b"--scaled") => {
+            from_first(form.scaled(), rest)
+        }
+        _ => from_first(form, words),
+    }
+}
+
 // The form of a sample, with what the words after that ask for.
 fn with_sample(form: CurveForm, one_of: &[u8], rest: &[String]) -> Option<CurveForm>
-    ensures { result ≡ option_and_then (λ n. from_first_in (sample_with form n) rest.now) (one_of_in form.sets one_of.now) }
+    ensures { result ≡ option_and_then (λ n. from_scaled_in (sample_with form n) rest.now) (one_of_in form.sets one_of.now) }
 {
     match one_of_of(form.sets(), one_of) {
-        Some(one_of) => from_first(form.sampled(one_of), rest),
+        Some(one_of) => from_scaled(form.sampled(one_of), rest),
         None => None,
     }
 }

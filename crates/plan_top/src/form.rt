@@ -1,8 +1,8 @@
 //! What the words after the program's name ask for.
 ghost use Rattle.std.specs.Prelude.{◌≡◌, ◌<◌, ◌≤◌, None, false, IfSome};
 ghost use Rattle.way_curve.specs.FirstLevels.{no_levels};
-ghost use Rattle.way_curve.specs.Samples.{sample_sets};
-ghost use Rattle.plan_top.specs.CurveForms.{with_first, with_l1, with_l2, with_sample};
+ghost use Rattle.way_curve.specs.Samples.{sample_sets, scale_of};
+ghost use Rattle.plan_top.specs.CurveForms.{with_first, with_l1, with_l2, with_sample, with_scale};
 
 use crate::divide_form::DivideForm;
 use std::marker::Model;
@@ -11,20 +11,22 @@ use way_curve::{LevelShape, LevelShapes};
 /// What a command line asks for.
 #[derive(Drop)]
 pub enum Form {
-    /// `curve SETS WAYS [--l1 SETSxWAYS] [--l2 SETSxWAYS] [--one-of N] [--first]`: the curves of a trace.
+    /// `curve SETS WAYS [--l1 SETSxWAYS] [--l2 SETSxWAYS] [--one-of N [--scaled]] [--first]`: the curves of a trace.
     Curve(CurveForm),
     /// `divide [--compare] [--used]`: the plan of a script.
     Divide(DivideForm),
 }
 
 /// What `curve SETS WAYS` asks for: the hits of caches of so many sets, 1 at least, with each number of ways up to this one; of all
-/// uses, or of those that an L1 and an L2 before leave; of all lines, or of a sample of one line of so many; with first uses or without.
+/// uses, or of those that an L1 and an L2 before leave; of all lines, or of a sample of one line of so many, whose misses may be scaled; with first
+/// uses or without.
 #[derive(Drop)]
 pub struct CurveForm {
     sets: u32,
     ways: u8,
     levels: LevelShapes,
     one_of: Option<u32>,
+    is_scaled: bool,
     has_first: bool,
 }
 
@@ -33,7 +35,7 @@ impl Model for CurveForm {
 
     ghost Value = { CurveWords };
 
-    ghost view = { λ f. record { sets = f.sets; ways = f.ways; levels = f.levels; one_of = f.one_of; has_first = f.has_first } };
+    ghost view = { λ f. record { sets = f.sets; ways = f.ways; levels = f.levels; one_of = f.one_of; is_scaled = f.is_scaled; has_first = f.has_first } };
 
     ghost invariant = { λ f. IsInRange f.sets f.ways f.levels f.one_of };
 }
@@ -43,13 +45,14 @@ impl CurveForm {
     pub fn new(sets: u32, ways: u8) -> CurveForm
         requires some { 0 < sets }
         requires few { ways ≤ 32 }
-        ensures { result ≡ record { sets = sets; ways = ways; levels = no_levels; one_of = None; has_first = false } }
+        ensures { result ≡ record { sets = sets; ways = ways; levels = no_levels; one_of = None; is_scaled = false; has_first = false } }
     {
         CurveForm {
             sets,
             ways,
             levels: LevelShapes { l1: None, l2: None },
             one_of: None,
+            is_scaled: false,
             has_first: false,
         }
     }
@@ -68,6 +71,7 @@ impl CurveForm {
                 l2: self.levels.l2,
             },
             one_of: self.one_of,
+            is_scaled: self.is_scaled,
             has_first: self.has_first,
         }
     }
@@ -86,6 +90,7 @@ impl CurveForm {
                 l2: Some(level),
             },
             one_of: self.one_of,
+            is_scaled: self.is_scaled,
             has_first: self.has_first,
         }
     }
@@ -101,6 +106,21 @@ impl CurveForm {
             ways: self.ways,
             levels: self.levels,
             one_of: Some(one_of),
+            is_scaled: self.is_scaled,
+            has_first: self.has_first,
+        }
+    }
+
+    /// The same with the misses of the sample scaled.
+    pub fn scaled(self) -> CurveForm
+        ensures { result ≡ with_scale self }
+    {
+        CurveForm {
+            sets: self.sets,
+            ways: self.ways,
+            levels: self.levels,
+            one_of: self.one_of,
+            is_scaled: true,
             has_first: self.has_first,
         }
     }
@@ -114,6 +134,7 @@ impl CurveForm {
             ways: self.ways,
             levels: self.levels,
             one_of: self.one_of,
+            is_scaled: self.is_scaled,
             has_first: true,
         }
     }
@@ -159,6 +180,13 @@ impl CurveForm {
         ensures { result ≡ self.now.one_of }
     {
         self.one_of
+    }
+
+    /// By how much the misses of the sample are scaled, where that is asked for.
+    pub fn scale(&self) -> Option<u32>
+        ensures { result ≡ scale_of self.now.is_scaled self.now.one_of }
+    {
+        if self.is_scaled { self.one_of } else { None }
     }
 
     /// The most ways that they have, 32 at most.

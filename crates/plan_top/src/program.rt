@@ -33,17 +33,17 @@ fn push_curves(
     requires { MOST_LEVELS_BYTES + MOST_SAMPLE_BYTES + MOST_REPORT_BYTES ≤ out.old.spare }
     ensures { (uses : List Use) → HaveFiltered (filtering_of form.now) curves.now uses
         → first ≡ asked_first_uses form.now.has_first (sampled form.now.one_of (left_by form.now.levels uses))
-        → out.new.bytes ≡ out.old.bytes ++ curves_text form.now.levels form.now.one_of form.now.has_first form.now.sets form.now.ways uses }
+        → out.new.bytes ≡ out.old.bytes ++ curves_text form.now.levels form.now.one_of form.now.is_scaled form.now.has_first form.now.sets form.now.ways uses }
 {
     push_levels(form.levels(), out);
     push_sample(form.one_of(), form.sample_sets(), out);
-    push_report(curves.counted(), first, form.ways(), out);
+    push_report(curves.counted(), form.scale(), first, form.ways(), out);
 }
 
 // The report of curves.
 fn report(alloc: Global, form: &CurveForm, curves: &FilteredCurves) -> Result<Vec<u8>, NoMemory>
     ensures { IfOk result (λ text. (uses : List Use) → HaveFiltered (filtering_of form.now) curves.now uses
-        → text.items ≡ curves_text form.now.levels form.now.one_of form.now.has_first form.now.sets form.now.ways uses) }
+        → text.items ≡ curves_text form.now.levels form.now.one_of form.now.is_scaled form.now.has_first form.now.sets form.now.ways uses) }
 {
     let first = curves.first_uses()?;
     let mut text = TextBuf::with_room(

@@ -1,5 +1,5 @@
 -- Samples of uses: those of the lines whose hash falls into one of so many equal parts.
-use Rattle.std.specs.Prelude.{ℕ, ◌*◌, ◌/◌, ◌%◌, ◌^◌, Bool, true, nat_lt, bit_xor, List, Option, Some, None}
+use Rattle.std.specs.Prelude.{ℕ, ◌*◌, ◌/◌, ◌%◌, ◌^◌, Bool, true, false, nat_lt, bit_xor, List, Option, Some, None}
 use Rattle.std.specs.List.{filter}
 use Rattle.lackey_text.specs.declared.uses.LineUse.{LineUse}
 
@@ -39,3 +39,8 @@ is_kept (Some one_of) line = is_sampled one_of line
 abbrev pub sample_sets : Option ℕ → ℕ → ℕ
 sample_sets None sets = sets
 sample_sets (Some one_of) sets = sets / one_of
+
+-- By how much the misses of a sample of one line of so many are scaled, where that is asked for: by as many.
+abbrev pub scale_of : Bool → Option ℕ → Option ℕ
+scale_of false one_of = None
+scale_of true one_of = one_of

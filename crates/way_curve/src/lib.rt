@@ -11,6 +11,7 @@
 //! as one that is new does.
 #![tactic(auto)]
 
+mod asked_first;
 pub mod curve;
 pub mod curves;
 pub mod different_lines;

@@ -1,38 +1,52 @@
 //! The report of the curves of a trace.
-ghost use Rattle.std.specs.Prelude.{◌≡◌, ◌+◌, ◌-◌, ◌≤◌, ◌++◌, ℕ, Bool, List, Some, length, option_map};
+ghost use Rattle.std.specs.Prelude.{◌≡◌, ◌+◌, ◌-◌, ◌≤◌, ◌++◌, ℕ, Bool, List, Some, length};
 ghost use Rattle.lackey_text.specs.declared.uses.LineUse.{LineUse as Use};
 ghost use Rattle.way_curve.specs.Counting.{HaveCounted, IsCurveOf};
-ghost use Rattle.way_curve.specs.CurveTexts.{curve_lines, first_lines, first_text, hint_text, line_of_ways, part_text, report_of, sample_text, ways_line};
+ghost use Rattle.way_curve.specs.CurveTexts.{counts_line, curve_lines, estimate_text, first_lines, first_text, hint_text, line_of_ways, part_text, report_of, sample_text};
 ghost use Rattle.way_curve.specs.FirstUses.{asked_first_uses};
 ghost use Rattle.way_curve.specs.declared.report_limits.TheConstants.{MOST_REPORT_BYTES, MOST_SAMPLE_BYTES};
 
-use crate::numbers::push_number;
+use crate::asked_first::{first_of_all, first_of_code, first_of_data};
+use crate::numbers::{push_number, push_wide};
 use crate::{Curve, FirstUses, UseCurves};
 use rc_base::TextBuf;
 
+// Adds the estimate of the misses of all lines by those of a sample, if it is asked for.
+fn push_estimate(scale: Option<u32>, misses: u64, out: &mut TextBuf)
+    requires { 50 ≤ out.old.spare }
+    ensures bytes { out.new.bytes ≡ out.old.bytes ++ estimate_text scale misses }
+    ensures spare { out.old.spare ≤ out.new.spare + 50 }
+{
+    if let Some(one_of) = scale {
+        let estimate = u128::from(one_of) * u128::from(misses);
+        push_wide(b" estimate ".as_slice(), estimate, out);
+    }
+}
+
 // Adds the line of one number of ways.
-#[tactic(auto, unfolding(crate::specs::CurveTexts::ways_line))]
-fn push_counts(ways: u8, uses: u64, hits: u64, out: &mut TextBuf)
+#[tactic(auto, unfolding(crate::specs::CurveTexts::counts_line))]
+fn push_counts(scale: Option<u32>, ways: u8, uses: u64, hits: u64, out: &mut TextBuf)
     requires hits { hits ≤ uses }
-    requires room { 111 ≤ out.old.spare }
-    ensures bytes { out.new.bytes ≡ out.old.bytes ++ ways_line ways uses hits }
-    ensures spare { out.old.spare ≤ out.new.spare + 111 }
+    requires room { 161 ≤ out.old.spare }
+    ensures bytes { out.new.bytes ≡ out.old.bytes ++ counts_line scale ways uses hits }
+    ensures spare { out.old.spare ≤ out.new.spare + 161 }
 {
     push_number(b"ways ".as_slice(), u64::from(ways), out);
     push_number(b": accesses ".as_slice(), uses, out);
     push_number(b" hits ".as_slice(), hits, out);
     push_number(b" misses ".as_slice(), uses - hits, out);
+    push_estimate(scale, uses - hits, out);
     out.push(b'\n');
 }
 
 // Adds the line of one number of ways of a curve.
-fn push_line(curve: &Curve, ways: u8, out: &mut TextBuf)
+fn push_line(scale: Option<u32>, curve: &Curve, ways: u8, out: &mut TextBuf)
     requires ways { ways ≤ 32 }
-    requires room { 111 ≤ out.old.spare }
-    ensures bytes { (sets : ℕ) (lines : List ℕ) → IsCurveOf sets curve.now lines → out.new.bytes ≡ out.old.bytes ++ line_of_ways sets lines ways }
-    ensures spare { out.old.spare ≤ out.new.spare + 111 }
+    requires room { 161 ≤ out.old.spare }
+    ensures bytes { (sets : ℕ) (lines : List ℕ) → IsCurveOf sets curve.now lines → out.new.bytes ≡ out.old.bytes ++ line_of_ways scale sets lines ways }
+    ensures spare { out.old.spare ≤ out.new.spare + 161 }
 {
-    push_counts(ways, curve.uses(), curve.hits(ways), out);
+    push_counts(scale, ways, curve.uses(), curve.hits(ways), out);
 }
 
 // Adds the hint, where there is one.
@@ -69,29 +83,36 @@ fn push_first(first: Option<u64>, curve: &Curve, out: &mut TextBuf)
 }
 
 // Adds a line for each number of ways.
-fn push_lines(curve: &Curve, ways: u8, out: &mut TextBuf)
+fn push_lines(scale: Option<u32>, curve: &Curve, ways: u8, out: &mut TextBuf)
     requires ways { ways ≤ 32 }
-    requires room { 3552 ≤ out.old.spare }
-    ensures bytes { (sets : ℕ) (lines : List ℕ) → IsCurveOf sets curve.now lines → out.new.bytes ≡ out.old.bytes ++ curve_lines sets ways lines }
-    ensures spare { out.old.spare ≤ out.new.spare + 3552 }
+    requires room { 5152 ≤ out.old.spare }
+    ensures bytes { (sets : ℕ) (lines : List ℕ) → IsCurveOf sets curve.now lines → out.new.bytes ≡ out.old.bytes ++ curve_lines scale sets ways lines }
+    ensures spare { out.old.spare ≤ out.new.spare + 5152 }
 {
     for fewer in 0..ways {
-        push_line(curve, fewer + 1, out);
+        push_line(scale, curve, fewer + 1, out);
     }
 }
 
 // Adds a part of the report, whose name stands on a line.
-fn push_part(name: &[u8], first: Option<u64>, curve: &Curve, ways: u8, out: &mut TextBuf)
+fn push_part(
+    name: &[u8],
+    scale: Option<u32>,
+    first: Option<u64>,
+    curve: &Curve,
+    ways: u8,
+    out: &mut TextBuf,
+)
     requires ways { ways ≤ 32 }
     requires name { length name.now ≤ 15 }
-    requires room { 3646 ≤ out.old.spare }
+    requires room { 5246 ≤ out.old.spare }
     ensures bytes { (sets : ℕ) (lines : List ℕ) → IsCurveOf sets curve.now lines
-        → out.new.bytes ≡ out.old.bytes ++ part_text first sets ways name.now lines }
-    ensures spare { out.old.spare ≤ out.new.spare + 3646 }
+        → out.new.bytes ≡ out.old.bytes ++ part_text scale first sets ways name.now lines }
+    ensures spare { out.old.spare ≤ out.new.spare + 5246 }
 {
     out.push_all(name);
     push_first(first, curve, out);
-    push_lines(curve, ways, out);
+    push_lines(scale, curve, ways, out);
 }
 
 // Adds the line that says that counts are of a sample.
@@ -117,48 +138,38 @@ pub fn push_sample(one_of: Option<u32>, sets: u32, out: &mut TextBuf)
     }
 }
 
-// The first uses of all uses, if they are counted.
-fn first_of_all(first: Option<FirstUses>) -> Option<u64>
-    ensures { result ≡ option_map (λ f. f.of_all) first }
-{
-    match first {
-        Some(first) => Some(first.of_all),
-        None => None,
-    }
-}
-
-// The first uses of the uses of data, if they are counted.
-fn first_of_data(first: Option<FirstUses>) -> Option<u64>
-    ensures { result ≡ option_map (λ f. f.of_data) first }
-{
-    match first {
-        Some(first) => Some(first.of_data),
-        None => None,
-    }
-}
-
-// The first uses of the uses of code, if they are counted.
-fn first_of_code(first: Option<FirstUses>) -> Option<u64>
-    ensures { result ≡ option_map (λ f. f.of_code) first }
-{
-    match first {
-        Some(first) => Some(first.of_code),
-        None => None,
-    }
-}
-
-/// Adds the report of the curves of a trace for each number of ways from 1 to this one, 32 at most; with first uses, if they are
-/// counted.
-pub fn push_report(curves: &UseCurves, first: Option<FirstUses>, ways: u8, out: &mut TextBuf)
+/// Adds the report of the curves of a trace for each number of ways from 1 to this one, 32 at most; with estimates by the misses of a
+/// sample of one line of so many, if they are asked for, and with first uses, if they are counted.
+pub fn push_report(
+    curves: &UseCurves,
+    scale: Option<u32>,
+    first: Option<FirstUses>,
+    ways: u8,
+    out: &mut TextBuf,
+)
     requires ways { ways ≤ 32 }
     requires room { MOST_REPORT_BYTES ≤ out.old.spare }
     ensures { (has_first : Bool) (sets : ℕ) (uses : List Use) → HaveCounted sets curves.now uses → first ≡ asked_first_uses has_first uses
-        → out.new.bytes ≡ out.old.bytes ++ report_of has_first sets ways uses }
+        → out.new.bytes ≡ out.old.bytes ++ report_of scale has_first sets ways uses }
 {
     let all = b"data and code:\n".as_slice();
-    push_part(all, first_of_all(first), curves.of_all(), ways, out);
+    push_part(all, scale, first_of_all(first), curves.of_all(), ways, out);
     let data = b"data:\n".as_slice();
-    push_part(data, first_of_data(first), curves.of_data(), ways, out);
+    push_part(
+        data,
+        scale,
+        first_of_data(first),
+        curves.of_data(),
+        ways,
+        out,
+    );
     let code = b"code:\n".as_slice();
-    push_part(code, first_of_code(first), curves.of_code(), ways, out);
+    push_part(
+        code,
+        scale,
+        first_of_code(first),
+        curves.of_code(),
+        ways,
+        out,
+    );
 }

@@ -43,8 +43,9 @@ class Completion(unittest.TestCase):
         self.assertEqual(completed("resctrl_check", "export", ""), {"step", "run"})
         flags = ["--l1", "--l2", "--one-of", "--first"]
         self.assertEqual(completed("resctrl_plan", "curve", "4", "2", ""), set(flags))
-        for place, flag in enumerate(flags[:-1], 1):
+        for place, flag in enumerate(flags[:-2], 1):
             self.assertEqual(completed("resctrl_plan", "curve", "4", "2", flag, "4", ""), set(flags[place:]))
+        self.assertEqual(completed("resctrl_plan", "curve", "4", "2", "--one-of", "4", ""), {"--scaled", "--first"})
 
     def test_flags_are_those_of_the_help(self):
         for word in WORDS:

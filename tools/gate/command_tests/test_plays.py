@@ -53,6 +53,8 @@ class Plays(unittest.TestCase):
         self.assertEqual(bikhnoun("plan", "curve", "4", "2", data=TRACE).stdout, wanted)
         wanted = program("resctrl_plan", "curve", "4", "2", "--one-of", "2", data=TRACE).stdout
         self.assertEqual(bikhnoun("plan", "curve", "4", "2", "--one-of", "2", data=TRACE).stdout, wanted)
+        wanted = program("resctrl_plan", "curve", "4", "2", "--one-of", "2", "--scaled", data=TRACE).stdout
+        self.assertEqual(bikhnoun("plan", "curve", "4", "2", "--one-of", "2", "--scaled", data=TRACE).stdout, wanted)
         wanted = program("resctrl_plan", "curve", "4", "2", "--first", data=TRACE).stdout
         self.assertEqual(bikhnoun("plan", "curve", "4", "2", "--first", data=TRACE).stdout, wanted)
         levels = ["--l1", "2x1", "--l2", "2x2"]

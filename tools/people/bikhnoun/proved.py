@@ -126,7 +126,7 @@ def export(arguments, name):
 
 def add_cache(part, is_named):
     """Adds the words that say which cache a curve is for. Where its machine is named, they are not its sets and ways."""
-    part.usage = "bikhnoun plan curve [-h] (SETS WAYS | --machine NAME) [--l1 SETSxWAYS] [--l2 SETSxWAYS] [--one-of N] [--first] [TRACE]"
+    part.usage = "bikhnoun plan curve [-h] (SETS WAYS | --machine NAME) [--l1 SETSxWAYS] [--l2 SETSxWAYS] [--one-of N [--scaled]] [--first] [TRACE]"
     if not is_named:
         part.add_argument("sets", metavar="SETS", help="the sets of the cache, from 1 to 1048576")
         part.add_argument("ways", metavar="WAYS", help="its ways, up to 32")
@@ -137,6 +137,7 @@ def add_cache(part, is_named):
     part.add_argument("--l1", metavar="SETSxWAYS", help="count what misses in an L1 for data and one for code, each of so many sets and ways")
     part.add_argument("--l2", metavar="SETSxWAYS", help="count what misses in an L2 for both, too, which is used where the L1 misses")
     part.add_argument("--one-of", metavar="N", help="count a sample: the uses of one line of memory of N, in N times fewer sets")
+    part.add_argument("--scaled", action="store_true", help="print N times the misses of the sample, too, which estimate those of all lines")
     part.add_argument("--first", action="store_true", help="count the first uses of lines, too, which takes memory for each line")
 
 
@@ -158,7 +159,8 @@ def curve_words(given, name):
     """The words after `curve`."""
     flags = (("--l1", given.l1), ("--l2", given.l2), ("--one-of", given.one_of))
     values = [word for flag, value in flags if value is not None for word in (flag, value)]
-    return *shape_of(given, name), *values, *(("--first",) if given.first else ())
+    switches = (("--scaled", given.scaled), ("--first", given.first))
+    return *shape_of(given, name), *values, *(flag for flag, is_given in switches if is_given)
 
 
 def plan(arguments, name):

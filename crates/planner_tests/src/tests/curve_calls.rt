@@ -75,7 +75,7 @@ fn what_is_no_trace_is_told(rt: HostRuntime) -> Result<(), Fail> {
     Ok(())
 }
 
-const NO_FORMS: [&[&str]; 46] = [
+const NO_FORMS: [&[&str]; 51] = [
     &["curve", "1048577", "1"],
     &["curve", "4294967297", "1"],
     &["curve", "0", "1"],
@@ -99,6 +99,11 @@ const NO_FORMS: [&[&str]; 46] = [
     &["curve", "4", "1", "--first", "--first"],
     &["curve", "4", "1", "--first", "--one-of", "2"],
     &["curve", "4", "1", "--one-of", "2", "--one-of"],
+    &["curve", "4", "1", "--scaled"],
+    &["curve", "4", "1", "--l1", "4x4", "--scaled"],
+    &["curve", "4", "1", "--scaled", "--one-of", "2"],
+    &["curve", "4", "1", "--one-of", "2", "--scaled", "--scaled"],
+    &["curve", "4", "1", "--one-of", "2", "--first", "--scaled"],
     &["curve", "4", "1", "--l1"],
     &["curve", "4", "1", "--l1", "0x1"],
     &["curve", "4", "1", "--l1", "1048577x1"],
@@ -125,7 +130,7 @@ const NO_FORMS: [&[&str]; 46] = [
 ];
 
 const USAGE_LINE: &[u8] =
-    b"usage: resctrl_plan curve SETS WAYS [--l1 SETSxWAYS] [--l2 SETSxWAYS] [--one-of N] [--first] | divide [--compare] [--used]\n";
+    b"usage: resctrl_plan curve SETS WAYS [--l1 SETSxWAYS] [--l2 SETSxWAYS] [--one-of N [--scaled]] [--first] | divide [--compare] [--used]\n";
 
 #[test]
 fn other_words_are_no_form(rt: HostRuntime) -> Result<(), Fail> {

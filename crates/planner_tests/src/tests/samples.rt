@@ -77,3 +77,31 @@ fn samples_have_their_reports(rt: HostRuntime) -> Result<(), Fail> {
     }
     Ok(())
 }
+
+// The lines of `ONE_OF_TWO` with two times the misses.
+const SCALED: &[u8] = b"sample: one of 2 lines, 1 sets
+data and code:
+first uses 2
+hint: most misses with one way are first uses
+ways 1: accesses 5 hits 2 misses 3 estimate 6
+ways 2: accesses 5 hits 3 misses 2 estimate 4
+data:
+first uses 2
+hint: most misses with one way are first uses
+ways 1: accesses 4 hits 1 misses 3 estimate 6
+ways 2: accesses 4 hits 2 misses 2 estimate 4
+code:
+first uses 1
+hint: most misses with one way are first uses
+ways 1: accesses 1 hits 0 misses 1 estimate 2
+ways 2: accesses 1 hits 0 misses 1 estimate 2
+";
+
+#[test]
+fn misses_of_a_sample_are_scaled(rt: HostRuntime) -> Result<(), Fail> {
+    let words = ["curve", "3", "2", "--one-of", "2", "--scaled", "--first"];
+    let (status, taken) = told_by(rt.alloc(), &words, TRACE, 7, &[])?;
+    assert_eq!(rt; status, Status::Done);
+    assert_eq!(rt; taken.as_slice(), SCALED);
+    Ok(())
+}

@@ -5,6 +5,6 @@ use Rattle.way_curve.proofs.report.push_lines.Given as goal
 
 abbrev pub invariant-loop-fewer : goal.invariant-loop-fewer
 invariant-loop-fewer l = record {
-  bytes : (sets : ℕ) (lines : List ℕ) → IsCurveOf sets l.curve lines → l.out.bytes ≡ l.initial.out.bytes ++ curve_lines sets l.fewer lines;
-  spare : l.initial.out.spare ≤ l.out.spare + 111 * l.fewer;
+  bytes : (sets : ℕ) (lines : List ℕ) → IsCurveOf sets l.curve lines → l.out.bytes ≡ l.initial.out.bytes ++ curve_lines l.scale sets l.fewer lines;
+  spare : l.initial.out.spare ≤ l.out.spare + 161 * l.fewer;
 }

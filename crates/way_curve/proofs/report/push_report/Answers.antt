@@ -25,6 +25,7 @@ asked-code false uses = refl
 pub returns : goal.returns
 returns c = λ has_first sets uses have is_first.
     let ways = c.args.ways in
+    let scale = c.args.scale in
     let old = c.args.out.now.bytes in
     let a = c.push_part.new.out.bytes in
     let b = c.push_part-2.new.out.bytes in
@@ -32,9 +33,9 @@ returns c = λ has_first sets uses have is_first.
     let name : List ℕ = codes "data and code:" ++ 10 ∷ [] in
     let data_name : List ℕ = codes "data:" ++ 10 ∷ [] in
     let code_name : List ℕ = codes "code:" ++ 10 ∷ [] in
-    let both : List ℕ = part_text (first_uses_if has_first (all_lines uses)) sets ways name (all_lines uses) in
-    let own_data : List ℕ = part_text (first_uses_if has_first (data_lines uses)) sets ways data_name (data_lines uses) in
-    let own_code : List ℕ = part_text (first_uses_if has_first (code_lines uses)) sets ways code_name (code_lines uses) in
+    let both : List ℕ = part_text scale (first_uses_if has_first (all_lines uses)) sets ways name (all_lines uses) in
+    let own_data : List ℕ = part_text scale (first_uses_if has_first (data_lines uses)) sets ways data_name (data_lines uses) in
+    let own_code : List ℕ = part_text scale (first_uses_if has_first (code_lines uses)) sets ways code_name (code_lines uses) in
     let of_all : IsCurveOf sets c.of_all.result.now (all_lines uses) = subst (λ (v : CurveValue). IsCurveOf sets v (all_lines uses)) (sym c.of_all.ensures) have.of_all in
     let of_data : IsCurveOf sets c.of_data.result.now (data_lines uses) = subst (λ (v : CurveValue). IsCurveOf sets v (data_lines uses)) (sym c.of_data.ensures) have.of_data in
     let of_code : IsCurveOf sets c.of_code.result.now (code_lines uses) = subst (λ (v : CurveValue). IsCurveOf sets v (code_lines uses)) (sym c.of_code.ensures) have.of_code in
@@ -45,12 +46,12 @@ returns c = λ has_first sets uses have is_first.
     let first_code : c.first_of_code.result ≡ first_uses_if has_first (code_lines uses) =
     c.first_of_code.ensures ∙ (ap (λ (o : Option FirstUses). option_map (λ (f : FirstUses). f.of_code) o) is_first ∙ asked-code has_first uses) in
     let first : a ≡ old ++ both = c.push_part.ensures.bytes sets (all_lines uses) of_all
-    ∙ (ap (λ (n : List ℕ). old ++ part_text c.first_of_all.result sets ways n (all_lines uses)) c.as_slice-all.ensures
-    ∙ ap (λ (o : Option ℕ). old ++ part_text o sets ways name (all_lines uses)) first_all) in
+    ∙ (ap (λ (n : List ℕ). old ++ part_text scale c.first_of_all.result sets ways n (all_lines uses)) c.as_slice-all.ensures
+    ∙ ap (λ (o : Option ℕ). old ++ part_text scale o sets ways name (all_lines uses)) first_all) in
     let next : b ≡ a ++ own_data = c.push_part-2.ensures.bytes sets (data_lines uses) of_data
-    ∙ (ap (λ (n : List ℕ). a ++ part_text c.first_of_data.result sets ways n (data_lines uses)) c.as_slice-data.ensures
-    ∙ ap (λ (o : Option ℕ). a ++ part_text o sets ways data_name (data_lines uses)) first_data) in
+    ∙ (ap (λ (n : List ℕ). a ++ part_text scale c.first_of_data.result sets ways n (data_lines uses)) c.as_slice-data.ensures
+    ∙ ap (λ (o : Option ℕ). a ++ part_text scale o sets ways data_name (data_lines uses)) first_data) in
     let last : new ≡ b ++ own_code = c.push_part-3.ensures.bytes sets (code_lines uses) of_code
-    ∙ (ap (λ (n : List ℕ). b ++ part_text c.first_of_code.result sets ways n (code_lines uses)) c.as_slice-code.ensures
-    ∙ ap (λ (o : Option ℕ). b ++ part_text o sets ways code_name (code_lines uses)) first_code) in
+    ∙ (ap (λ (n : List ℕ). b ++ part_text scale c.first_of_code.result sets ways n (code_lines uses)) c.as_slice-code.ensures
+    ∙ ap (λ (o : Option ℕ). b ++ part_text scale o sets ways code_name (code_lines uses)) first_code) in
     append-three old a b new both own_data own_code first next last
