@@ -65,7 +65,7 @@ _resctrl() {
         resctrl_sim:1) _bikhnoun_offer "step run gen" ;;
         resctrl_sim:*) _bikhnoun_offer "--journal --json --windows --quiet" ;;
         resctrl_plan:1) _bikhnoun_offer "curve divide" ;;
-        resctrl_plan:2) [ "${COMP_WORDS[1]}" != divide ] || _bikhnoun_offer "--compare --used" ;;
+        resctrl_plan:2) [ "${COMP_WORDS[1]}" != divide ] || _bikhnoun_offer "--compare --used --apply" ;;
         resctrl_plan:3) [ "${COMP_WORDS[2]}" != --compare ] || _bikhnoun_offer "--used" ;;
         resctrl_plan:4) [ "${COMP_WORDS[1]}" != curve ] || _bikhnoun_offer "--l1 --l2 --one-of --first" ;;
         resctrl_plan:*) _bikhnoun_offer "$(_plan_flags "${COMP_WORDS[COMP_CWORD - 2]}")" ;;

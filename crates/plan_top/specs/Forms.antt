@@ -1,4 +1,4 @@
--- What the words after the program's name ask for: `curve SETS WAYS [--l1 SETSxWAYS] [--l2 SETSxWAYS] [--one-of N [--scaled]] [--first]` or `divide [--compare] [--used]`.
+-- What the words after the program's name ask for: `curve SETS WAYS [--l1 SETSxWAYS] [--l2 SETSxWAYS] [--one-of N [--scaled]] [--first]`, `divide [--compare] [--used]` or `divide --apply`.
 use Rattle.std.specs.Prelude.{ℕ, ◌+◌, ◌==◌, false, if◌then◌else◌, List, [], ◌∷◌, ◌++◌, codes, string_bytes, String, Option, Some, None, option_map}
 use Rattle.std.specs.List.{after_first, before_first, list_any}
 use Rattle.std.specs.Option.{option_and_then}
@@ -82,4 +82,4 @@ form_of (command ∷ words) = if is_text (string_bytes command) (codes "divide")
 
 -- the line for a command line that is not valid
 abbrev pub usage_line : List ℕ
-usage_line = codes "usage: resctrl_plan curve SETS WAYS [--l1 SETSxWAYS] [--l2 SETSxWAYS] [--one-of N [--scaled]] [--first] | divide [--compare] [--used]" ++ 10 ∷ []
+usage_line = codes "usage: resctrl_plan curve SETS WAYS [--l1 SETSxWAYS] [--l2 SETSxWAYS] [--one-of N [--scaled]] [--first] | divide [--compare] [--used] | divide --apply" ++ 10 ∷ []

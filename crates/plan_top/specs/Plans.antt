@@ -7,11 +7,13 @@ use Rattle.script_ops.specs.Values.{ScriptValue}
 use Rattle.step_world.specs.Play.{IsPlay}
 use Rattle.way_curve.specs.TraceTexts.{trace_of}
 use Rattle.way_curve.specs.CurveTexts.{bad_line_text, curves_text}
+use Rattle.way_plans.specs.AppliedTexts.{TellsAppliedPlan}
 use Rattle.way_plans.specs.Planned.{TellsComparedPlan, TellsPlan}
 use Rattle.top_parts.specs.Meaning.{meaning, refusal_line}
 use Rattle.top_parts.specs.declared.refusal.Refusal.{Refusal}
 use Rattle.plan_top.specs.CurveForms.{CurveWords}
 use Rattle.plan_top.specs.declared.divide_form.DivideForm.{DivideForm}
+use Rattle.plan_top.specs.declared.divide_form.DivideForm.TheVariants.{Apply, Report}
 use Rattle.plan_top.specs.declared.form.Form.{Form}
 use Rattle.plan_top.specs.declared.form.Form.TheVariants.{Curve, Divide}
 
@@ -46,6 +48,11 @@ abbrev pub TellsAsked : (compare only_used : Bool) → ScriptValue → JournalsV
 TellsAsked false only_used script journals text = TellsPlan only_used script journals text
 TellsAsked true only_used script journals text = TellsComparedPlan only_used script journals text
 
+-- the text tells what is asked of a script, of which these are the bytes
+abbrev pub TellsDivided : DivideForm → List ℕ → ScriptValue → JournalsValue → List ℕ → Type 0
+TellsDivided (Report form) bytes script journals text = TellsAsked form.compare form.only_used script journals text
+TellsDivided Apply bytes script journals text = TellsAppliedPlan script journals bytes text
+
 -- these bytes are a script, and the text tells what is asked of it by the journals of its play
 pub record ReportsPlan (form : DivideForm) (bytes text : List ℕ) : Type 0 where
   pub script : ScriptValue
@@ -53,7 +60,7 @@ pub record ReportsPlan (form : DivideForm) (bytes text : List ℕ) : Type 0 wher
   pub is_script : meaning bytes ≡ Ok script
   pub is_run : IsRun script journals
   pub plays : IsPlay script journals
-  pub plan : TellsAsked form.compare form.only_used script journals text
+  pub plan : TellsDivided form bytes script journals text
 
 -- (For proofs.) what is reported of bytes that are a script, beside which nothing is handed back
 abbrev pub reports_plan : DivideForm → List ℕ → Unit {0} → List ℕ → Type 0

@@ -1,5 +1,5 @@
 //! What `divide` makes of a script.
-ghost use Rattle.std.specs.Prelude.{◌≡◌, ◌+◌, ◌-◌, ◌<◌, ◌≤◌, ◌^◌, ℕ, List, IfOk, Ok, Err, true};
+ghost use Rattle.std.specs.Prelude.{◌≡◌, ◌+◌, ◌-◌, ◌<◌, ◌≤◌, ◌^◌, ℕ, List, IfOk, Ok, Err, length, true};
 ghost use Rattle.call_rim.specs.Endings.{Ends, LeavesBy, call_of};
 ghost use Rattle.call_rim.specs.Outside.{reading_of, writing_of};
 ghost use Rattle.call_rim.specs.Performing.{Performs};
@@ -10,8 +10,11 @@ ghost use Rattle.top_parts.specs.Meaning.{meaning};
 ghost use Rattle.way_plans.specs.Planned.{TellsComparedPlan, TellsPlan};
 ghost use Rattle.plan_top.specs.Plans.{RefusesScript, ReportsPlan, TellsAsked, reports_plan};
 ghost use Rattle.plan_top.specs.declared.divide_form.DivideForm.{DivideForm as Asked};
+ghost use Rattle.plan_top.specs.declared.divide_form.DivideForm.TheVariants.{Apply, Report};
 
+use crate::apply::{kept_bytes, tell_applied};
 use crate::divide_form::DivideForm;
+use crate::plan_form::PlanForm;
 use call_rim::{Ended, Performed, Program, call};
 use rc_base::NoMemory;
 use rc_stream::{Sink, Source};
@@ -25,7 +28,7 @@ use way_plans::{compared_report, comparisons_of, plan_of, plan_report};
 // The text of a plan of a script by the journals of its play.
 fn plan_text(
     alloc: Global,
-    form: DivideForm,
+    form: PlanForm,
     script: &Script,
     journals: &Journals,
 ) -> Result<Vec<u8>, NoMemory>
@@ -40,7 +43,7 @@ fn plan_text(
 // The same text with what each domain's plan is compared with.
 fn compared_text(
     alloc: Global,
-    form: DivideForm,
+    form: PlanForm,
     script: &Script,
     journals: &Journals,
 ) -> Result<Vec<u8>, NoMemory>
@@ -56,7 +59,7 @@ fn compared_text(
 // What is asked of a script that was played.
 fn asked_text(
     alloc: Global,
-    form: DivideForm,
+    form: PlanForm,
     script: &Script,
     journals: &Journals,
 ) -> Result<Vec<u8>, NoMemory>
@@ -72,8 +75,8 @@ fn asked_text(
 }
 
 // What is asked of a script, which is played.
-fn played_text(alloc: Global, form: DivideForm, script: &Script) -> Result<Vec<u8>, NoMemory>
-    ensures { IfOk result (λ text. (bytes : List ℕ) → meaning bytes ≡ Ok script.now → ReportsPlan form bytes text.items) }
+fn played_text(alloc: Global, form: PlanForm, script: &Script) -> Result<Vec<u8>, NoMemory>
+    ensures { IfOk result (λ text. (bytes : List ℕ) → meaning bytes ≡ Ok script.now → ReportsPlan (Report form) bytes text.items) }
 {
     // A script that was read is lawful.
     let _threads = script.threads();
@@ -82,8 +85,8 @@ fn played_text(alloc: Global, form: DivideForm, script: &Script) -> Result<Vec<u
 }
 
 // What is asked of a script, or out of memory.
-fn tell_plan(alloc: Global, form: DivideForm, script: &Script) -> Performed<()>
-    ensures { (bytes : List ℕ) → meaning bytes ≡ Ok script.now → Performs RefusesScript (reports_plan form) bytes result }
+fn tell_plan(alloc: Global, form: PlanForm, script: &Script) -> Performed<()>
+    ensures { (bytes : List ℕ) → meaning bytes ≡ Ok script.now → Performs RefusesScript (reports_plan (Report form)) bytes result }
 {
     match played_text(alloc, form, script) {
         Ok(report) => Performed::Reported {
@@ -104,6 +107,16 @@ fn refuse(alloc: Global, refusal: Refusal) -> Performed<()>
     }
 }
 
+// What is asked of a script, of which the bytes are kept where its text is asked for, or out of memory.
+fn tell(alloc: Global, form: DivideForm, kept: &[u8], script: &Script) -> Performed<()>
+    ensures { (bytes : List ℕ) → meaning bytes ≡ Ok script.now → (form ≡ Apply → kept.now ≡ bytes) → Performs RefusesScript (reports_plan form) bytes result }
+{
+    match form {
+        DivideForm::Report(form) => tell_plan(alloc, form, script),
+        DivideForm::Apply => tell_applied(alloc, kept, script),
+    }
+}
+
 impl Program for DivideForm {
     type Outcome = ();
 
@@ -118,8 +131,11 @@ impl Program for DivideForm {
     }
 
     fn perform(&self, alloc: Global, bytes: Vec<u8>) -> Performed<()> {
+        let Ok(kept) = kept_bytes(alloc, *self, &bytes) else {
+            return Performed::NoMemory;
+        };
         match script_in(alloc, bytes) {
-            Ok(script) => tell_plan(alloc, *self, &script),
+            Ok(script) => tell(alloc, *self, &kept, &script),
             Err(InputError::Bad(refusal)) => refuse(alloc, refusal),
             Err(InputError::NoMemory) => Performed::NoMemory,
         }

@@ -13,7 +13,7 @@ use way_curve::{LevelShape, LevelShapes};
 pub enum Form {
     /// `curve SETS WAYS [--l1 SETSxWAYS] [--l2 SETSxWAYS] [--one-of N [--scaled]] [--first]`: the curves of a trace.
     Curve(CurveForm),
-    /// `divide [--compare] [--used]`: the plan of a script.
+    /// `divide [--compare] [--used]`: the plan of a script; `divide --apply`: the script with its plan.
     Divide(DivideForm),
 }
 

@@ -2,6 +2,7 @@
 //! for.
 #![tactic(auto)]
 
+mod apply;
 pub mod calls;
 mod curve_words;
 mod divide;
@@ -10,6 +11,7 @@ mod divide_words;
 pub mod form;
 pub mod limits;
 mod numbers;
+pub mod plan_form;
 mod program;
 pub mod theorems;
 mod words;
@@ -18,4 +20,5 @@ pub use calls::{run_plan, top_plan};
 pub use divide_form::DivideForm;
 pub use form::{CurveForm, Form};
 pub use limits::{MOST_SETS, MOST_WAYS};
+pub use plan_form::PlanForm;
 pub use words::{USAGE, form_of};

@@ -9,7 +9,7 @@ use rc_base::is_text;
 
 /// The line for a command line that is not valid.
 pub const USAGE: &str =
-    "usage: resctrl_plan curve SETS WAYS [--l1 SETSxWAYS] [--l2 SETSxWAYS] [--one-of N [--scaled]] [--first] | divide [--compare] [--used]\n";
+    "usage: resctrl_plan curve SETS WAYS [--l1 SETSxWAYS] [--l2 SETSxWAYS] [--one-of N [--scaled]] [--first] | divide [--compare] [--used] | divide --apply\n";
 
 // What a command line that is not of `divide` asks for.
 fn curve_form_of(words: &[String]) -> Option<Form>
@@ -26,7 +26,8 @@ fn curve_form_of(words: &[String]) -> Option<Form>
 /// What a command line asks for, and None where it is not valid: `curve`, a number of sets, a number of ways, after `--l1` and after
 /// `--l2` the sets and ways of a level before, after `--one-of` of how many lines a sample has one, with `--scaled` where its misses are
 /// scaled, and `--first`; or `divide`, where its plan is to be compared `--compare`, and where groups without uses are left out `--used`;
-/// and nothing else. Each word that begins with dashes may be left out, but their order is this. (This project's profile.)
+/// and nothing else. Each word that begins with dashes may be left out, but their order is this. After `divide` there may be `--apply`
+/// alone, too. (This project's profile.)
 pub fn form_of(words: &[String]) -> Option<Form>
     ensures { result ≡ form_in words.now }
 {

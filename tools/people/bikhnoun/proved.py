@@ -15,6 +15,7 @@ FLAG_HELPS = {
     "--quiet": "the report has no lines of commands",
     "--compare": "each division is compared with the script as it is and with a cache that all groups share",
     "--used": "the report leaves out the curves of groups without uses; after --compare",
+    "--apply": "the script is written with the plan's lines at its end, in place of the report; alone",
 }
 STATUSES = """exit status: 0 all is written; 1 the input is invalid; 2 the command line is wrong; 3 the input could not be read, or the
 program is missing; 4 the output could not be written; 5 out of memory{}.
@@ -79,7 +80,7 @@ PLANS = {
         explained_as("trace"),
     ),
     "divide": Proved(
-        programs.PLANNER, ("divide",), "SCRIPT", ("--compare", "--used"), "dividing", 60 * MB, "counts this for the groups of a script, and divides the ways among them", EXPLAINED
+        programs.PLANNER, ("divide",), "SCRIPT", ("--compare", "--used", "--apply"), "dividing", 60 * MB, "counts this for the groups of a script, and divides the ways among them", EXPLAINED
     ),
 }
 

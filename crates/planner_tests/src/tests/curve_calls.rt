@@ -75,7 +75,7 @@ fn what_is_no_trace_is_told(rt: HostRuntime) -> Result<(), Fail> {
     Ok(())
 }
 
-const NO_FORMS: [&[&str]; 51] = [
+const NO_FORMS: [&[&str]; 55] = [
     &["curve", "1048577", "1"],
     &["curve", "4294967297", "1"],
     &["curve", "0", "1"],
@@ -127,10 +127,14 @@ const NO_FORMS: [&[&str]; 51] = [
     &["divide", "--used", "--used"],
     &["divide", "--Used"],
     &["divide", "--compare", "--used", "1"],
+    &["divide", "--apply", "--used"],
+    &["divide", "--apply", "--apply"],
+    &["divide", "--compare", "--apply"],
+    &["curve", "--apply"],
 ];
 
 const USAGE_LINE: &[u8] =
-    b"usage: resctrl_plan curve SETS WAYS [--l1 SETSxWAYS] [--l2 SETSxWAYS] [--one-of N [--scaled]] [--first] | divide [--compare] [--used]\n";
+    b"usage: resctrl_plan curve SETS WAYS [--l1 SETSxWAYS] [--l2 SETSxWAYS] [--one-of N [--scaled]] [--first] | divide [--compare] [--used] | divide --apply\n";
 
 #[test]
 fn other_words_are_no_form(rt: HostRuntime) -> Result<(), Fail> {
