@@ -1,5 +1,6 @@
 //! Curves, traces and scripts with their reports and plans, worked out by hand.
 
+mod any_orders;
 mod applied;
 mod comparisons;
 mod curve_calls;

@@ -24,7 +24,7 @@ at-none way = by (leb_tells (way + 1) 33)
     by (inr past) = get_or-eq_default (replicate 33 None) None {n = way} (omega (arith, past.1))
 
 -- a way that is free is one of the ways
-within-free : (free : List Bool) (way : ℕ) → get_or free way false ≡ true → way < length free
+pub within-free : (free : List Bool) (way : ℕ) → get_or free way false ≡ true → way < length free
 within-free [] zero is = absurd cc
 within-free [] (suc way) is = absurd cc
 within-free (f ∷ free) zero is = omega arith

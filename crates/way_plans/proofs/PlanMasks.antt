@@ -22,7 +22,8 @@ use Rattle.machine.specs.declared.parameters.Parameters.{Parameters}
 use Rattle.way_plans.specs.Masks.{AreMasksOf, mask_of}
 use Rattle.pseudo_lock.specs.declared.region.Region.{Region}
 use Rattle.tree_law.specs.Space.{geometry_of}
-use Rattle.way_plans.specs.Divisions.{IsDivision, end}
+use Rattle.way_plans.specs.AnyOrder.{AreApart, IsDivisionInAnyOrder}
+use Rattle.way_plans.specs.Divisions.{IsDivision, IsSpan, end}
 use Rattle.way_plans.specs.declared.span.Span.{Span}
 use Rattle.way_plans.specs.Plans.{is_free, is_locked}
 
@@ -107,6 +108,28 @@ masks-of m free least from (group ∷ groups) (span ∷ spans) exist some enough
       valid = All-cons (λ (s : Span). checked (geometry_of m) (mask_of s) ≡ Ok (mask_of s)) span spans valid rest.valid;
       apart = AllPairs-cons (λ (a b : Span). overlaps (mask_of a) (mask_of b) ≡ false) span spans (λ k d within. overlaps-spans span (get_or spans k d) (later k d within)) rest.apart;
     }
+
+-- and so are those of a division in any order
+pub masks-in-any-order : (m : Parameters) (free : List Bool) (least : ℕ) (groups : List (List ℕ)) (spans : List Span) → ((way : ℕ) → get_or free way false ≡ true → way < m.ways) → 0 < least → m.min ≤ least
+    → m.ways ≤ 32 → IsDivisionInAnyOrder free least groups spans → AreMasksOf m spans
+masks-in-any-order m free least groups spans exist some enough few division = record {
+  valid = λ k d within. valid (get_or spans k d) (division.each k d within);
+  apart = λ i j d before within. apart (get_or spans i d) (get_or spans j d) (division.apart i j d before within);
+}
+  where
+    valid : (span : Span) → IsSpan free least 0 span → checked (geometry_of m) (mask_of span) ≡ Ok (mask_of span)
+    valid span is =
+        let counted : least ≤ span.count = is.enough in
+        let last : span.first + span.count - 1 < m.ways = exist (span.first + span.count - 1) (is.free_ways (span.first + span.count - 1) (omega (arith, some, counted)) (omega (arith, some, counted))) in
+        checked-span (geometry_of m) span (omega (arith, some, counted)) (omega (arith, last)) few (omega (arith, enough, counted))
+
+    apart : (a b : Span) → AreApart a b → overlaps (mask_of a) (mask_of b) ≡ false
+    apart a b (inl before) = overlaps-spans a b before
+    apart a b (inr behind) = overlaps-apart (mask_of a) (mask_of b) (λ way below has.
+        elim (cases_lt way a.first) [
+          | inl under ↦ absurd (true≢false (sym has ∙ has_way-zero (mask_of a) way (bit_at_mask_below a.first (a.first + a.count) way under)))
+          | inr past ↦ has_way-zero (mask_of b) way (bit_at_mask_above b.first (b.first + b.count) way (omega (arith, past, behind)))
+        ])
 
 -- ---- the ways of a machine
 

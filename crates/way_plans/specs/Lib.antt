@@ -1,3 +1,4 @@
+pub mod AnyOrder
 pub mod AppliedTexts
 pub mod ComparedTexts
 pub mod Comparisons
@@ -6,9 +7,12 @@ pub mod GroupLines
 pub mod Masks
 pub mod NoWays
 pub mod Noted
+pub mod Orders
 pub mod PlanCommands
 pub mod PlanTexts
+pub mod Placings
 pub mod Planned
 pub mod Plans
 pub mod Rows
+pub mod Runs
 pub mod Values

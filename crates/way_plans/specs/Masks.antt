@@ -7,7 +7,7 @@ use Rattle.machine.specs.declared.parameters.Parameters.{Parameters}
 use Rattle.run_law.specs.Journals.{JournalsValue}
 use Rattle.script_ops.specs.Values.{ScriptValue}
 use Rattle.tree_law.specs.Space.{geometry_of}
-use Rattle.way_plans.specs.Plans.{IsPlan}
+use Rattle.way_plans.specs.Plans.{IsPlan, IsPlanInAnyOrder}
 use Rattle.way_plans.specs.declared.span.Span.{Span}
 
 -- the mask that has just the ways of a span: bit w governs way w
@@ -29,3 +29,7 @@ pub record AreMasksOf (m : Parameters) (spans : List Span) : Type 0 where
 -- (For proofs.) So it is of every plan of a domain.
 abbrev pub PlansHaveMasks : Type 0
 PlansHaveMasks = (script : ScriptValue) (j : JournalsValue) (domain : ℕ) (spans : List Span) → InRange script.machine → IsPlan script j domain spans → AreMasksOf script.machine spans
+
+-- (For proofs.) And of every plan in any order.
+abbrev pub PlansInAnyOrderHaveMasks : Type 0
+PlansInAnyOrderHaveMasks = (script : ScriptValue) (j : JournalsValue) (domain : ℕ) (spans : List Span) → InRange script.machine → IsPlanInAnyOrder script j domain spans → AreMasksOf script.machine spans

@@ -18,13 +18,16 @@ use Rattle.schemata_text.specs.Printed.{printed}
 use Rattle.script_ops.specs.Canonical.{op_text}
 use Rattle.script_ops.specs.declared.op.Op.TheVariants.{Write}
 use Rattle.way_plans.specs.Divisions.{misses_of}
+use Rattle.way_plans.specs.declared.order.Order.{Order}
+use Rattle.way_plans.specs.declared.order.Order.TheVariants.{Any, Creation}
 use Rattle.way_plans.specs.declared.span.Span.{Span}
 
 -- What is planned for a domain: the misses of each group, in order, with each number of ways from 0 to 32, and the ways that each
--- gets, or None where the ways of the domain do not suffice.
+-- gets, or None where the ways of the domain do not suffice; and in which orders the groups were tried.
 pub record DomainPart : Type 0 where
   pub misses : List (List ℕ)
   pub spans : Option (List Span)
+  pub order : Order
 
 -- the directory of the control group of this name, or of the default group
 abbrev pub named_dir : Option NameId → DirRef
@@ -66,9 +69,14 @@ abbrev pub division_told : List (List ℕ) → Option (List Span) → List ℕ
 division_told misses None = codes ": no division\n"
 division_told misses (Some spans) = codes ": misses " ++ decimal (misses_of misses spans) ++ codes "\n"
 
--- `domain D: misses M` or `domain D: no division`
+-- the line that the groups were tried in order of creation only, where that is so
+abbrev pub order_line : ℕ → Order → List ℕ
+order_line domain Any = []
+order_line domain Creation = codes "domain " ++ decimal domain ++ codes ": the groups were tried in order of creation only\n"
+
+-- `domain D: misses M` or `domain D: no division`, and where not all orders were tried a line that says so
 abbrev pub division_line : ℕ → DomainPart → List ℕ
-division_line domain part = codes "domain " ++ decimal domain ++ division_told part.misses part.spans
+division_line domain part = codes "domain " ++ decimal domain ++ division_told part.misses part.spans ++ order_line domain part.order
 
 -- the curves of a domain's groups, and the line of its division
 abbrev pub domain_text : Bool → List (List ℕ) → ℕ → List Group → ℕ → DomainPart → List ℕ

@@ -1,24 +1,32 @@
 -- The plan of a script that was played, and the text that tells it.
-use Rattle.std.specs.Prelude.{◌≡◌, ℕ, ◌+◌, Bool, List, [], ◌∷◌, length, Option, Some, None}
+use Rattle.std.specs.Prelude.{◌≡◌, ℕ, ◌+◌, Bool, List, [], ◌∷◌, length, Option}
 use Rattle.way_plans.specs.ComparedTexts.{compared_text}
 use Rattle.way_plans.specs.Comparisons.{comparisons_in}
+use Rattle.way_plans.specs.Orders.{IsBestIfAnyIn, order_of}
 use Rattle.way_plans.specs.PlanTexts.{DomainPart, plan_text}
 use Rattle.run_law.specs.Journals.{JournalsValue}
 use Rattle.run_law.specs.TreeHistory.{tree_after}
 use Rattle.script_ops.specs.Values.{ScriptValue}
+use Rattle.way_plans.specs.declared.order.Order.{Order}
 use Rattle.way_plans.specs.declared.span.Span.{Span}
-use Rattle.way_plans.specs.Plans.{IsBestPlan, IsPlan, misses_in, planned}
+use Rattle.way_plans.specs.Plans.{free_ways, misses_in, planned}
 
--- The ways of a domain for the groups that a script leaves, such that no other division has fewer misses in all; None where there
--- is no division.
+-- in which orders the groups that a script leaves are tried in a domain
+abbrev pub order_in : ScriptValue → JournalsValue → ℕ → Order
+order_in script j domain = order_of (free_ways script.machine (tree_after script j.tree) domain)
+
+-- The ways of a domain for the groups that a script leaves, such that no other division has fewer misses in all, in whatever order the
+-- groups lie, or where not all orders are tried in order of creation; None where there is no division.
 abbrev pub IsBestIfAny : ScriptValue → JournalsValue → ℕ → Option (List Span) → Type 0
-IsBestIfAny script j domain None = (spans : List Span) → IsPlan script j domain spans → ⊥
-IsBestIfAny script j domain (Some spans) = IsBestPlan script j domain spans
+IsBestIfAny script j domain spans =
+    IsBestIfAnyIn (order_in script j domain) (free_ways script.machine (tree_after script j.tree) domain) script.machine.min
+    (misses_in script j domain (planned (tree_after script j.tree))) spans
 
 -- What is planned for a domain.
 pub record IsPart (script : ScriptValue) (j : JournalsValue) (domain : ℕ) (part : DomainPart) : Type 0 where
   pub misses : part.misses ≡ misses_in script j domain (planned (tree_after script j.tree))
   pub division : IsBestIfAny script j domain part.spans
+  pub order : part.order ≡ order_in script j domain
 
 -- the same of each of these domains, numbered from this one
 abbrev pub ArePartsFrom : ScriptValue → JournalsValue → ℕ → List DomainPart → Type 0

@@ -12,7 +12,8 @@ use Rattle.script_ops.specs.Values.{ScriptValue}
 use Rattle.tree_law.specs.Counted.{is_counted}
 use Rattle.tree_law.specs.State.{State}
 use Rattle.way_curve.specs.Curves.{set_hits_of}
-use Rattle.way_plans.specs.Divisions.{IsBestDivision, IsDivision}
+use Rattle.way_plans.specs.AnyOrder.{IsDivisionInAnyOrder}
+use Rattle.way_plans.specs.Divisions.{IsDivision}
 use Rattle.way_plans.specs.declared.span.Span.{Span}
 
 -- the groups that get ways: the control groups that are shareable or exclusive, in order of creation and so of their gids
@@ -44,13 +45,13 @@ misses_of sets lines = map (misses_with sets lines) (range_with_len 0 33)
 abbrev pub misses_in : ScriptValue → JournalsValue → ℕ → List Group → List (List ℕ)
 misses_in script j domain groups = map (λ (g : Group). misses_of script.machine.sets (lines_of script.machine j domain g.gid.0)) groups
 
--- The groups that a script leaves have these ways of a domain: in order of their gids, each at least as many side by side as a mask
--- must have, none of two groups, none of other hardware and none of a region.
+-- (For proofs.) The groups that a script leaves have these ways of a domain: in order of their gids, each at least as many side by side
+-- as a mask must have, none of two groups, none of other hardware and none of a region.
 abbrev pub IsPlan : ScriptValue → JournalsValue → ℕ → List Span → Type 0
 IsPlan script j domain spans =
     IsDivision (free_ways script.machine (tree_after script j.tree) domain) script.machine.min 0 (misses_in script j domain (planned (tree_after script j.tree))) spans
 
--- And no other such division has fewer misses in all.
-abbrev pub IsBestPlan : ScriptValue → JournalsValue → ℕ → List Span → Type 0
-IsBestPlan script j domain spans =
-    IsBestDivision (free_ways script.machine (tree_after script j.tree) domain) script.machine.min (misses_in script j domain (planned (tree_after script j.tree))) spans
+-- (For proofs.) The same in any order of the groups.
+abbrev pub IsPlanInAnyOrder : ScriptValue → JournalsValue → ℕ → List Span → Type 0
+IsPlanInAnyOrder script j domain spans =
+    IsDivisionInAnyOrder (free_ways script.machine (tree_after script j.tree) domain) script.machine.min (misses_in script j domain (planned (tree_after script j.tree))) spans

@@ -16,7 +16,7 @@ spans_of spans = spans.items
 
 -- what is planned for a domain
 abbrev pub part_of : DomainPlan → DomainPart
-part_of plan = record { misses = plan.misses.items; spans = option_map spans_of plan.spans }
+part_of plan = record { misses = plan.misses.items; spans = option_map spans_of plan.spans; order = plan.order }
 
 -- the same of several
 abbrev pub parts_of : List DomainPlan → List DomainPart

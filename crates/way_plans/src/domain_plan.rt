@@ -1,15 +1,16 @@
 //! The plan of a domain.
-ghost use Rattle.std.specs.Prelude.{◌≡◌, ◌<◌, ◌≤◌, All, IfOk, IfSome, List, None, length};
+ghost use Rattle.std.specs.Prelude.{◌≡◌, ◌<◌, ◌≤◌, All, IfOk, length, option_map};
 ghost use Rattle.run_law.specs.Runs.{IsRun};
 ghost use Rattle.run_law.specs.TreeHistory.{tree_after};
 ghost use Rattle.script_ops.specs.Values.{IsLawful};
 ghost use Rattle.way_plans.specs.declared.division_limits.TheConstants.{MOST_GROUPS, MOST_MISSES};
-ghost use Rattle.way_plans.specs.declared.span.Span.{Span};
-ghost use Rattle.way_plans.specs.Plans.{IsBestPlan, IsPlan, misses_in, planned};
+ghost use Rattle.way_plans.specs.Planned.{IsBestIfAny, order_in};
+ghost use Rattle.way_plans.specs.Plans.{misses_in, planned};
+ghost use Rattle.way_plans.specs.Values.{spans_of};
 
 use crate::free::free_ways;
 use crate::rows::misses_of;
-use crate::{MOST_WAYS, Span, divide, group_curve};
+use crate::{MOST_WAYS, Order, Span, best_division, group_curve};
 use group_tree::Group;
 use rc_base::NoMemory;
 use run_law::Journals;
@@ -24,6 +25,8 @@ pub struct DomainPlan {
     pub misses: Vec<[u64; MOST_WAYS + 1]>,
     /// The ways that each gets, in order, and None where the ways of the domain do not suffice.
     pub spans: Option<Vec<Span>>,
+    /// In which orders the groups were tried.
+    pub order: Order,
 }
 
 // The misses of each of these groups in a domain.
@@ -49,10 +52,10 @@ fn misses_in(
 }
 
 /// The best plan of a domain, from 0, for the groups that a script leaves: how many of its uses each would have missed with each
-/// number of ways, and the ways side by side that each gets, so that all have the fewest misses together. Each gets at least as
-/// many as a mask must have (kernel documentation, `min_cbm_bits`), and none that other hardware or a region uses. `tree` is the
-/// tree after all commands, `groups` those of it that get ways. NoMemory where the allocator gives no room for a curve, the rows
-/// or the spans.
+/// number of ways, and the ways side by side that each gets, so that all have the fewest misses together, in whatever order they lie,
+/// or where that would take too long in order of creation. Each gets at least as many as a mask must have (kernel documentation,
+/// `min_cbm_bits`), and none that other hardware or a region uses. `tree` is the tree after all commands, `groups` those of it that get
+/// ways. NoMemory where the allocator gives no room for a curve, the rows or the spans.
 pub fn plan_domain(
     alloc: Global,
     script: &Script,
@@ -68,8 +71,8 @@ pub fn plan_domain(
     requires state { tree.now.state ≡ tree_after script.now journals.now.tree }
     requires groups { groups.now ≡ planned tree.now.state }
     ensures misses { IfOk result (λ plan. plan.misses.items ≡ misses_in script.now journals.now domain groups.now) }
-    ensures best { IfOk result (λ plan. IfSome plan.spans (λ spans. IsBestPlan script.now journals.now domain spans.items)) }
-    ensures none { IfOk result (λ plan. plan.spans ≡ None → (spans : List Span) → IsPlan script.now journals.now domain spans → ⊥) }
+    ensures best { IfOk result (λ plan. IsBestIfAny script.now journals.now domain (option_map spans_of plan.spans)) }
+    ensures order { IfOk result (λ plan. plan.order ≡ order_in script.now journals.now domain) }
 
     // The groups are few, and so are the misses of each.
     ensures few_groups { IfOk result (λ plan. length plan.misses.items ≤ MOST_GROUPS) }
@@ -77,6 +80,10 @@ pub fn plan_domain(
 {
     let misses = misses_in(alloc, script, journals, groups, domain)?;
     let free = free_ways(tree, domain);
-    let spans = divide(alloc, misses.as_slice(), &free, script.machine().min)?;
-    Ok(DomainPlan { misses, spans })
+    let division = best_division(alloc, misses.as_slice(), &free, script.machine().min)?;
+    Ok(DomainPlan {
+        misses,
+        spans: division.spans,
+        order: division.order,
+    })
 }

@@ -4,7 +4,7 @@ use Rattle.std.proofs.lemmas.List.{length-append, length-map, map-append}
 use Rattle.std.proofs.lemmas.List.Elements.{All-push}
 use Rattle.way_plans.specs.Planned.{ArePartsFrom, IsPart}
 use Rattle.way_plans.specs.Values.{IsSmall, part_of, parts_of}
-use Rattle.way_plans.proofs.PartLists.{ArePartsFrom-push, IsBestIfAny-of, within-plan}
+use Rattle.way_plans.proofs.PartLists.{ArePartsFrom-push, within-plan}
 use Rattle.way_plans.specs.Plans.{misses_in, planned}
 use Rattle.way_plans.specs.declared.domain_plan.DomainPlan.{DomainPlan}
 use Rattle.way_plans.proofs.plan.plan_domains.Goals as goal
@@ -19,7 +19,8 @@ loop-domain-preserved c =
     let pushed : c.push.new.self.items ≡ old ++ plan ∷ [] = c.in_ok-push.ensures.items in
     let part : IsPart script j domain (part_of plan) = record {
       misses = c.in_ok-plan.ensures.misses ∙ ap (misses_in script j domain) (c.requires.groups ∙ ap planned c.requires.state);
-      division = IsBestIfAny-of script j domain plan.spans c.in_ok-plan.ensures.best c.in_ok-plan.ensures.none;
+      division = c.in_ok-plan.ensures.best;
+      order = c.in_ok-plan.ensures.order;
     } in
     let place : domain ≡ 0 + length (parts_of old) = let all = length-map old part_of in omega (arith, all, c.loop-domain.invariant.all) in
     let small : IsSmall plan = record {
