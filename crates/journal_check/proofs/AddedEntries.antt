@@ -8,17 +8,16 @@ use Rattle.cache_core.proofs.laws.Histories.{held-push, used-push}
 use Rattle.cache_core.proofs.laws.Places.{places_with-le}
 use Rattle.cache_core.specs.Fills.{IsOutcome, Resident}
 use Rattle.cache_core.specs.History.{EntryMayFollow, MayHappen, Shape, decides, held, is_of, is_own, left_by, sets_floor, used, uses, ways_below}
-use Rattle.cache_core.specs.Loads.{loaded}
 use Rattle.cache_core.specs.declared.entry.SliceEntry.{SliceEntry}
 use Rattle.cache_core.specs.declared.entry.What.{What}
 use Rattle.cache_core.specs.declared.entry.What.TheVariants.{Access, Drop, Flush, Lock}
-use Rattle.cache_core.specs.declared.place.Place.{Place}
+use Rattle.journal_check.specs.declared.place.Place.{Place}
 use Rattle.cbm.proofs.laws.Ways.{has_way-zero}
 use Rattle.cbm.specs.Masks.{has_way}
 use Rattle.journal_check.proofs.ChangedLines.{places_with-some}
 use Rattle.journal_check.specs.Replays.{IsAccessOf, IsPlace, IsRmidAfter, LeavesRegion, StandsFor}
 use Rattle.journal_check.specs.RmidCounts.{count_at}
-use Rattle.journal_check.specs.Slots.{left_place, place_at, resident_of, rmid_of}
+use Rattle.journal_check.specs.Slots.{left_place, loaded, place_at, resident_of, rmid_of}
 use Rattle.journal_check.specs.declared.replay.Replay.{Replay}
 
 -- a place is not another

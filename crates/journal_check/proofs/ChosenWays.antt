@@ -2,7 +2,7 @@
 use Rattle.std.proofs.Common.{◌≡◌, ◌↔◌, ℕ, ◌<◌, Option, Some, None, refl, arith}
 use Rattle.std.specs.Prelude.{IsSome, IsTrue, option_map}
 use Rattle.std.proofs.lemmas.Bool.{lt-ltb, ltb-true}
-use Rattle.cache_core.specs.declared.place.Place.{Place}
+use Rattle.journal_check.specs.declared.place.Place.{Place}
 use Rattle.cbm.specs.Masks.{has_way}
 use Rattle.journal_check.specs.Outcomes.{AreFull, AreNotOlder, IsVictimAt, ages_at, residents_at, used_at}
 use Rattle.journal_check.specs.Slots.{SlotsValue, age_of, place_at, resident_of}

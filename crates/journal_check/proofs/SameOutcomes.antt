@@ -4,7 +4,7 @@ use Rattle.std.specs.Prelude.{IsSome, option_map}
 use Rattle.cache_core.specs.Fills.{IsOutcome, IsPlaceOf, IsVictim, Resident}
 use Rattle.cache_core.specs.History.{held, used}
 use Rattle.cache_core.specs.declared.entry.SliceEntry.{SliceEntry}
-use Rattle.cache_core.specs.declared.place.Place.{Place}
+use Rattle.journal_check.specs.declared.place.Place.{Place}
 use Rattle.journal_check.specs.Outcomes.{ages_at, residents_at}
 use Rattle.journal_check.specs.Replays.{StandsFor}
 use Rattle.journal_check.specs.Slots.{age_of, place_at, resident_of}

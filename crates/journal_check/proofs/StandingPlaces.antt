@@ -7,18 +7,17 @@ use Rattle.cache_core.proofs.laws.Places.{places_with-same}
 use Rattle.cache_core.proofs.laws.Histories.{floor_of-push, held-push, used-push}
 use Rattle.cache_core.specs.Fills.{Resident}
 use Rattle.cache_core.specs.History.{Shape, decides, floor_of, held, is_of, is_own, left_by, lines_of, sets_floor, used, uses, ways_below}
-use Rattle.cache_core.specs.Loads.{loaded}
 use Rattle.cache_core.specs.RmidCounts.{is_rmid}
 use Rattle.cbm.specs.Masks.{has_way}
 use Rattle.cache_core.specs.declared.entry.SliceEntry.{SliceEntry}
-use Rattle.cache_core.specs.declared.place.Place.{Place}
+use Rattle.journal_check.specs.declared.place.Place.{Place}
 use Rattle.lists.specs.Sums.{one_if}
 use Rattle.journal_check.proofs.ChangedLines.{places_with-foreign, places_with-written}
 use Rattle.journal_check.proofs.EmptiedLines.{places_with-left}
 use Rattle.journal_check.proofs.WrittenPlaces.{place_at-other, place_at-own}
 use Rattle.journal_check.specs.Replays.{Empties, IsPlace, LeavesRegion, StandsFor, Writes}
 use Rattle.journal_check.specs.RmidCounts.{count_at}
-use Rattle.journal_check.specs.Slots.{left_place, place_at, resident_of, rmid_of}
+use Rattle.journal_check.specs.Slots.{left_place, loaded, place_at, resident_of, rmid_of}
 use Rattle.journal_check.specs.declared.region.Region.{Region}
 use Rattle.journal_check.specs.declared.replay.Replay.{Replay}
 

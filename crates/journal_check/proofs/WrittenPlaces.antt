@@ -4,7 +4,7 @@ use Rattle.std.specs.Prelude.{option_and_then, slice_get, unwrap_or}
 use Rattle.std.proofs.lemmas.Bool.{eq-eqb}
 use Rattle.std.proofs.lemmas.Nat.{div-mul-add}
 use Rattle.cache_core.specs.History.{Shape}
-use Rattle.cache_core.specs.declared.place.Place.{Place}
+use Rattle.journal_check.specs.declared.place.Place.{Place}
 use Rattle.lists.proofs.Updates.{slice_get-set_same, slice_get-set_other}
 use Rattle.journal_check.specs.Slots.{Puts, SlotsValue, left_place, of_generation, place_at}
 use Rattle.journal_check.specs.declared.region.Region.{Region}

@@ -2,7 +2,7 @@
 -- (For functions and proofs: no promise of the program stands on it.)
 use Rattle.std.specs.Prelude.{◌≡◌, ℕ, ◌%◌, ◌<◌, ◌≤◌, Bool, IsSome, IsTrue, Option, Some, nat_lt, option_map, true}
 use Rattle.cache_core.specs.Fills.{IsOutcome, IsPlaceOf, IsVictim, Resident}
-use Rattle.cache_core.specs.declared.place.Place.{Place}
+use Rattle.journal_check.specs.declared.place.Place.{Place}
 use Rattle.cbm.specs.Masks.{has_way}
 use Rattle.journal_check.specs.Slots.{HasLine, SlotsValue, age_of, place_at, resident_of}
 

@@ -5,7 +5,7 @@ use Rattle.cache_core.specs.History.{Shape, decides, floor_of, held, is_own, lef
 use Rattle.cache_core.specs.declared.entry.What.TheVariants.{Access}
 use Rattle.rc_base.specs.declared.names.Gid.{Gid}
 use Rattle.cache_core.specs.declared.entry.SliceEntry.{SliceEntry}
-use Rattle.cache_core.specs.declared.place.Place.{Place}
+use Rattle.journal_check.specs.declared.place.Place.{Place}
 use Rattle.journal_check.specs.RmidCounts.{Recounts, count_at}
 use Rattle.journal_check.specs.Slots.{Puts, left_place, place_at, resident_of, rmid_of}
 use Rattle.journal_check.specs.declared.region.Region.{Region}

@@ -3,9 +3,9 @@
 use Rattle.std.specs.Prelude.{◌≡◌, ℕ, ◌+◌, ◌*◌, ◌<◌, ◌≤◌, ◌==◌, if◌then◌else◌, List, length, Option, Some, None, option_and_then, option_map, slice_get, slice_set, unwrap_or}
 use Rattle.std.specs.Option.{option_map_or}
 use Rattle.cache_core.specs.Fills.{Resident}
-use Rattle.cache_core.specs.History.{Shape}
-use Rattle.cache_core.specs.Loads.{loaded_place}
-use Rattle.cache_core.specs.declared.place.Place.{Place}
+use Rattle.cache_core.specs.History.{Shape, ways_below}
+use Rattle.cbm.specs.Masks.{has_way}
+use Rattle.journal_check.specs.declared.place.Place.{Place}
 use Rattle.journal_check.specs.declared.region.Region.{Region}
 use Rattle.journal_check.specs.declared.slots.Slot.{Slot}
 
@@ -29,9 +29,13 @@ of_generation generation s = if s.generation == generation then Some s.place els
 abbrev pub written : SlotsValue → ℕ → Option (Option Place)
 written v i = option_and_then (of_generation v.generation) (slice_get v.slots i)
 
--- what the last emptying left in a place
+-- a line of the region has RMID 0 and its stamp
+abbrev pub loaded : ℕ → ℕ → Option Place
+loaded line stamp = Some (record { line = line; rmid = 0; used = stamp })
+
+-- what the last emptying left in a place: a line of the region in each way of its mask
 abbrev pub left_place : Shape → Region → ℕ → ℕ → Option Place
-left_place m region set way = loaded_place m region.mask region.first_line region.stamp set way
+left_place m region set way = if has_way region.mask way then loaded (region.first_line + set + ways_below region.mask way * m.sets) region.stamp else None
 
 -- what a place holds
 abbrev pub place_at : SlotsValue → ℕ → ℕ → Option Place

@@ -26,6 +26,7 @@ mod other_entries;
 mod owed;
 mod payments;
 mod phases;
+pub mod place;
 mod places;
 pub mod region;
 pub mod replay;

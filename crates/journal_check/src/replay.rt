@@ -8,11 +8,12 @@ ghost use Rattle.journal_check.specs.Replays.{Empties, IsAccessOf, IsQuiet, IsRm
 ghost use Rattle.journal_check.specs.RmidCounts.{count_at};
 ghost use Rattle.journal_check.specs.Slots.{place_at, rmid_of};
 
+use crate::place::Place;
 use crate::region::Region;
 use crate::rmid_counts::RmidCounts;
 use crate::slots::Slots;
 use crate::victims::{is_outcome, is_place};
-use cache_core::{Place, SliceEntry, What};
+use cache_core::{SliceEntry, What};
 use machine::Machine;
 use rc_base::NoMemory;
 use std::alloc::Global;

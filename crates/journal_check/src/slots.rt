@@ -4,8 +4,8 @@ ghost use Rattle.cache_core.specs.History.{is_own, shape_of, ways_below};
 ghost use Rattle.machine.specs.Maps.{parameters_of};
 ghost use Rattle.journal_check.specs.Slots.{HasLine, Puts, left_place, place_at, written};
 
+use crate::place::Place;
 use crate::region::{Region, ways_below};
-use cache_core::Place;
 use cbm::has_way;
 use machine::Machine;
 use rc_base::NoMemory;
