@@ -10,20 +10,21 @@ use Rattle.way_curve.specs.Samples.{sample_sets, sampled, scale_of}
 use Rattle.way_curve.specs.declared.first_level.LevelShape.{LevelShape}
 use Rattle.way_curve.specs.declared.first_levels.LevelShapes.{LevelShapes}
 
--- the line of one number of ways with this last part, by how many uses there are and how many of them hit
-abbrev pub line_with : List ℕ → ℕ → ℕ → ℕ → List ℕ
-line_with last ways uses hits =
-    (codes "ways " ++ decimal ways) ++ (codes ": accesses " ++ decimal uses) ++ (codes " hits " ++ decimal hits) ++ (codes " misses " ++ decimal (uses - hits)) ++ last ++ 10 ∷ []
-
--- without a last part: `ways W: accesses A hits H misses M`
+-- the line of one number of ways, by how many uses there are and how many of them hit: `ways W: accesses A hits H misses M`
 unfoldable pub ways_line : ℕ → ℕ → ℕ → List ℕ
-ways_line ways uses hits = line_with [] ways uses hits
+ways_line ways uses hits =
+    (codes "ways " ++ decimal ways) ++ (codes ": accesses " ++ decimal uses) ++ (codes " hits " ++ decimal hits) ++ (codes " misses " ++ decimal (uses - hits)) ++ 10 ∷ []
 
 -- The estimate of the misses of all lines by those of a sample of one line of so many, that many times as many: ` estimate E`. Nothing
 -- where none is asked for.
 abbrev pub estimate_text : Option ℕ → ℕ → List ℕ
 estimate_text None misses = []
 estimate_text (Some one_of) misses = codes " estimate " ++ decimal (one_of * misses)
+
+-- the line of one number of ways with this last part
+abbrev pub line_with : List ℕ → ℕ → ℕ → ℕ → List ℕ
+line_with last ways uses hits =
+    (codes "ways " ++ decimal ways) ++ (codes ": accesses " ++ decimal uses) ++ (codes " hits " ++ decimal hits) ++ (codes " misses " ++ decimal (uses - hits)) ++ last ++ 10 ∷ []
 
 -- the line of one number of ways with the estimate, if one is asked for: `ways W: accesses A hits H misses M estimate E`
 unfoldable pub counts_line : Option ℕ → ℕ → ℕ → ℕ → List ℕ
