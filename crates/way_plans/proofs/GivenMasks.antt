@@ -1,10 +1,9 @@
 -- The masks that a plan gives, by domain and place.
-use Rattle.std.proofs.Common.{◌≡◌, ℕ, suc, ◌+◌, ◌-◌, ◌^◌, ◌<◌, ◌≤◌, Bool, true, false, not, ◌&&◌, List, [], ◌∷◌, length, get_or, Option, None, Some, refl, sym, ap, ◌∙◌, arith, true≢false, zero-add, inl, inr}
+use Rattle.std.proofs.Common.{◌≡◌, ℕ, ◌+◌, ◌-◌, ◌^◌, ◌<◌, ◌≤◌, Bool, true, false, not, ◌&&◌, List, get_or, Option, None, Some, refl, sym, ◌∙◌, arith, true≢false, zero-add, inl, inr}
 use Rattle.std.specs.Prelude.{All, nat_lt, slice_index_or}
 use Rattle.std.specs.Option.{option_map_or}
 use Rattle.std.proofs.lemmas.Bool.{cases_lt}
 use Rattle.std.proofs.lemmas.List.{get_or_past}
-use Rattle.std.proofs.lemmas.List.Elements.{All-cons}
 use Rattle.std.proofs.lemmas.List.FromFn.{get_or-map-range_with_len}
 use Rattle.std.proofs.lemmas.Nat.Bits.{bit_at-zero, bit_at_mask_above, bit_at_mask_below}
 use Rattle.cbm.proofs.laws.Overlaps.{overlaps-apart}
@@ -16,7 +15,8 @@ use Rattle.tree_law.specs.Space.{region_mask}
 use Rattle.tree_law.specs.State.{State}
 use Rattle.way_plans.proofs.PlanMasks.{free-exists}
 use Rattle.way_plans.proofs.Powers.{pow-le}
-use Rattle.way_plans.specs.Divisions.{AreFree, IsDivision, end}
+use Rattle.way_plans.specs.AnyOrder.{IsDivisionInAnyOrder}
+use Rattle.way_plans.specs.Divisions.{AreFree}
 use Rattle.way_plans.specs.Masks.{mask_of}
 use Rattle.way_plans.specs.Plans.{free_ways, is_free, is_locked}
 use Rattle.way_plans.specs.declared.span.Span.{Span}
@@ -27,19 +27,8 @@ pub record IsUsable (free : List Bool) (span : Span) : Type 0 where
   pub free_ways : AreFree free span.first span.count
 
 -- the spans of a division are such
-pub All-usable : (free : List Bool) (least from : ℕ) (groups : List (List ℕ)) (spans : List Span) → 0 < least → IsDivision free least from groups spans → All (IsUsable free) spans
-All-usable free least from [] [] some division = λ k d within. absurd (omega (arith, within))
-All-usable free least from [] (span ∷ spans) some division = absurd division
-All-usable free least from (group ∷ groups) [] some division = absurd division
-All-usable free least from (group ∷ groups) (span ∷ spans) some division =
-    All-cons (IsUsable free) span spans (record { some = omega (arith, some, division.0.enough); free_ways = division.0.free_ways }) (All-usable free least (end span) groups spans some division.1)
-
--- and there is one for each group
-pub length-spans : (free : List Bool) (least from : ℕ) (groups : List (List ℕ)) (spans : List Span) → IsDivision free least from groups spans → length spans ≡ length groups
-length-spans free least from [] [] division = refl
-length-spans free least from [] (span ∷ spans) division = absurd division
-length-spans free least from (group ∷ groups) [] division = absurd division
-length-spans free least from (group ∷ groups) (span ∷ spans) division = ap suc (length-spans free least (end span) groups spans division.1)
+pub All-usable : (free : List Bool) (least : ℕ) (groups : List (List ℕ)) (spans : List Span) → 0 < least → IsDivisionInAnyOrder free least groups spans → All (IsUsable free) spans
+All-usable free least groups spans some division = λ k d within. let is = division.each k d within in record { some = omega (arith, some, is.enough); free_ways = is.free_ways }
 
 module _ (m : Parameters) (s : State) (domain : ℕ) (few : m.ways ≤ 32) (span : Span) (usable : IsUsable (free_ways m s domain) span) where
   -- a way of the mask is one of the span, and so it is free

@@ -16,21 +16,26 @@ use Rattle.script_ops.specs.declared.op.Op.{Op}
 use Rattle.tree_law.specs.Sound.{IsSound}
 use Rattle.tree_law.specs.Space.{geometry_of, region_mask}
 use Rattle.tree_law.specs.State.{State}
-use Rattle.way_plans.proofs.GivenMasks.{All-usable, IsUsable, length-spans, mask-small, overlaps-region, overlaps-shareable}
+use Rattle.way_plans.proofs.GivenMasks.{All-usable, IsUsable, mask-small, overlaps-region, overlaps-shareable}
 use Rattle.way_plans.proofs.GivenWays.{ways_op, ways_ops}
-use Rattle.way_plans.proofs.PlanMasks.{free-exists, masks-of}
+use Rattle.way_plans.proofs.PlanMasks.{free-exists, masks-in-any-order}
+use Rattle.way_plans.proofs.InOrder.{IsDivision-in_any_order}
 use Rattle.way_plans.proofs.PlannedEntries.{AreGiven, entries, masks_at-entries}
 use Rattle.way_plans.specs.GroupLines.{lines_of}
 use Rattle.way_plans.specs.Masks.{AreMasksOf, mask_of, span_at}
 use Rattle.way_plans.specs.PlanCommands.{schemata_ops, write_op}
 use Rattle.way_plans.specs.PlanTexts.{DomainPart, is_whole, masks_at}
 use Rattle.way_plans.specs.Planned.{AreParts, ArePartsFrom, IsBestIfAny, IsPart}
-use Rattle.way_plans.specs.Plans.{IsPlan, free_ways, misses_in, misses_of, planned}
+use Rattle.way_plans.specs.Plans.{IsPlanInAnyOrder, free_ways, misses_in, misses_of, planned}
+use Rattle.way_plans.specs.AnyOrder.{IsDivisionInAnyOrder}
+use Rattle.way_plans.specs.Orders.{IsBestIfAnyIn, order_of}
+use Rattle.way_plans.specs.declared.order.Order.{Order}
+use Rattle.way_plans.specs.declared.order.Order.TheVariants.{Any, Creation}
 use Rattle.way_plans.specs.declared.span.Span.{Span}
 
 -- no part
 abbrev pub nothing : DomainPart
-nothing = record { misses = []; spans = None }
+nothing = record { misses = []; spans = None; order = Creation }
 
 -- the mask that a plan gives a place in a domain
 abbrev pub planned_mask : List DomainPart → ℕ → ℕ → ℕ
@@ -62,11 +67,18 @@ is_some-whole (part ∷ parts) whole (suc k) d within = is_some-whole parts (bot
 pub record IsDivided (script : ScriptValue) (j : JournalsValue) (domain : ℕ) (o : Option (List Span)) : Type 0 where
   pub spans : List Span
   pub are : o ≡ Some spans
-  pub plan : IsPlan script j domain spans
+  pub plan : IsPlanInAnyOrder script j domain spans
+
+-- the best division in the orders that are tried is one in any order
+division-in : (order : Order) (free : List Bool) (least : ℕ) (groups : List (List ℕ)) (spans : List Span) → IsBestIfAnyIn order free least groups (Some spans) → IsDivisionInAnyOrder free least groups spans
+division-in Any free least groups spans best = best.division
+division-in Creation free least groups spans best = IsDivision-in_any_order free least 0 groups spans best.division
 
 IsDivided-some : (script : ScriptValue) (j : JournalsValue) (domain : ℕ) (o : Option (List Span)) → is_some o ≡ true → IsBestIfAny script j domain o → IsDivided script j domain o
 IsDivided-some script j domain None some best = absurd (true≢false (sym some))
-IsDivided-some script j domain (Some spans) some best = record { spans = spans; are = refl; plan = best.division }
+IsDivided-some script j domain (Some spans) some best =
+    let free = free_ways script.machine (tree_after script j.tree) domain in
+    record { spans = spans; are = refl; plan = division-in (order_of free) free script.machine.min (misses_in script j domain (planned (tree_after script j.tree))) spans best }
 
 module _ (script : ScriptValue) (j : JournalsValue) (parts : List DomainPart) (are : AreParts script j parts) (whole : is_whole parts ≡ true) where
   abbrev m : Parameters
@@ -87,7 +99,7 @@ module _ (script : ScriptValue) (j : JournalsValue) (parts : List DomainPart) (a
 
   -- one span for each group
   length-divided : (domain : ℕ) → (d : IsDivided script j domain (get_or parts domain nothing).spans) → length d.spans ≡ length groups
-  length-divided domain d = length-spans (free_ways m left domain) m.min 0 (misses_in script j domain groups) d.spans d.plan ∙ length-map groups (λ (g : Group). misses_of m.sets (lines_of m j domain g.gid.0))
+  length-divided domain d = d.plan.all ∙ length-map groups (λ (g : Group). misses_of m.sets (lines_of m j domain g.gid.0))
 
   -- a fact of the mask of a span
   of-span : (P : ℕ → Type 0) (domain place : ℕ) → (d : IsDivided script j domain (get_or parts domain nothing).spans) → P (mask_of (get_or d.spans place (record { first = 0; count = 0 }))) → P (planned_mask parts domain place)
@@ -107,10 +119,10 @@ module _ (script : ScriptValue) (j : JournalsValue) (parts : List DomainPart) (a
   }
     where
       masks : (domain : ℕ) → (d : IsDivided script j domain (get_or parts domain nothing).spans) → AreMasksOf m d.spans
-      masks domain d = masks-of m (free_ways m left domain) m.min 0 (misses_in script j domain groups) d.spans (free-exists m (slice_index_or left.regions domain None)) some (omega arith) few d.plan
+      masks domain d = masks-in-any-order m (free_ways m left domain) m.min (misses_in script j domain groups) d.spans (free-exists m (slice_index_or left.regions domain None)) some (omega arith) few d.plan
 
       usable : (domain : ℕ) → (d : IsDivided script j domain (get_or parts domain nothing).spans) → (place : ℕ) → place < length groups → IsUsable (free_ways m left domain) (get_or d.spans place (record { first = 0; count = 0 }))
-      usable domain d place within = All-usable (free_ways m left domain) m.min 0 (misses_in script j domain groups) d.spans some d.plan place (record { first = 0; count = 0 }) (omega (arith, within, length-divided domain d))
+      usable domain d place within = All-usable (free_ways m left domain) m.min (misses_in script j domain groups) d.spans some d.plan place (record { first = 0; count = 0 }) (omega (arith, within, length-divided domain d))
 
   -- the commands that give them
   pub schemata_ops-planned : (place : ℕ) (rest : List Group) → schemata_ops m.ways parts place rest ≡ ways_ops m (planned_mask parts) place rest
