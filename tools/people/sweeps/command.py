@@ -1,11 +1,10 @@
 """Tries how many ways of the cache a group needs: plays a script once for each number of ways, side by side on all processors that it
 may use or on a cluster, and prints the misses of every group by the ways of this one."""
 import argparse
-from concurrent.futures import ThreadPoolExecutor
-from contextlib import contextmanager
 import os
 import sys
 
+from bikhnoun.players import players
 from bikhnoun.progress import Progress
 from curves.picture import draw
 from resctrl_sim.names import old_word, tool_name
@@ -24,34 +23,10 @@ threads' steps. An overlap with a group that was removed before the end is not t
 The workers of a cluster get scripts and answer reports; they need the program and Dask, and nothing of this repository."""
 
 
-@contextmanager
-def players(scheduler):
-    """What plays, and what makes a text known to all of it: the processors that this may use, or the workers of a cluster."""
-    if scheduler is None:
-        with ThreadPoolExecutor(len(os.sched_getaffinity(0))) as pool:
-            try:
-                yield pool, lambda text: text
-            except BaseException:
-                # Nothing else is begun.
-                pool.shutdown(wait=False, cancel_futures=True)
-                raise
-        return
-    try:
-        from distributed import Client
-    except ImportError:
-        sys.exit(f"{tool_name('ways')}: --scheduler wants Dask, which {sys.executable} does not have (Debian: python3-distributed, for /usr/bin/python3)")
-    try:
-        client = Client(scheduler, timeout=10)
-    except (OSError, ValueError) as error:
-        sys.exit(f"{tool_name('ways')}: no Dask scheduler answers at {scheduler}: {error}")
-    with client, client.get_executor(pure=False) as pool:
-        yield pool, lambda text: client.scatter(text, broadcast=True)
-
-
 def rows_by_ways(program, sweep, masks, scheduler):
     """The rows of all masks, each played by a process of its own."""
     rows, progress = [], Progress("playing")
-    with players(scheduler) as (pool, shared):
+    with players(scheduler, play) as (pool, shared):
         before, after = shared(sweep.before), shared(sweep.after)
         plays = [pool.submit(play, program, before, sweep.write(mask), after, sweep.reads) for _, mask in masks]
         for count, ((ways, mask), played) in enumerate(zip(masks, plays), 1):
