@@ -11,7 +11,7 @@ from resctrl_sim.names import old_word, tool_name
 from resctrl_sim.program import Broken
 from resctrl_sim.programs import NO_MEMORY, UNREAD, UNWRITTEN, Missing
 
-from . import mounting, proved, versions
+from . import mounting, planning, proved, versions
 from .telling import Stopped, say
 
 INTERRUPTED = 130
@@ -36,7 +36,7 @@ WORDS = {
     "order": (proved.one("order"), proved.WORDS["order"].purpose),
     "report": (proved.one("report"), proved.WORDS["report"].purpose),
     "export": (proved.export, "plays a script, and writes it with the journals of this play"),
-    "plan": (proved.plan, "counts how often programs hit with each number of ways, divides ways, and draws the curves"),
+    "plan": (planning.plan, "counts how often programs hit with each number of ways, divides ways, and draws the curves"),
     "cdp": (proved.one("cdp"), proved.WORDS["cdp"].purpose),
     "levels": (proved.one("levels"), proved.WORDS["levels"].purpose),
     "translate": (tool("translated.command"), "makes plain scripts of one for `cdp` or `levels`, for journals, the checker, JSON and occupancy"),

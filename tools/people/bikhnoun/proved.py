@@ -5,7 +5,6 @@ from typing import NamedTuple
 from resctrl_sim import programs
 
 from .calling import call
-from .telling import Stopped, say
 
 REPORT_FLAGS = ("--journal", "--json", "--windows", "--quiet")
 FLAG_HELPS = {
@@ -123,63 +122,3 @@ def export(arguments, name):
     add_input(words, EXPORTS["step"])
     given = words.parse_args(arguments)
     return run(EXPORTS[given.how], given)
-
-
-def add_cache(part, is_named):
-    """Adds the words that say which cache a curve is for. Where its machine is named, they are not its sets and ways."""
-    part.usage = "bikhnoun plan curve [-h] (SETS WAYS | --machine NAME) [--l1 SETSxWAYS] [--l2 SETSxWAYS] [--one-of N [--scaled]] [--first] [TRACE]"
-    if not is_named:
-        part.add_argument("sets", metavar="SETS", help="the sets of the cache, from 1 to 1048576")
-        part.add_argument("ways", metavar="WAYS", help="its ways, up to 32")
-    part.add_argument(
-        "--machine", metavar="NAME",
-        help="the L3 cache of a machine, in place of SETS and WAYS: `here` is this one, as Linux shows it; others are skylake_sp and so on, see docs/MACHINES.md",
-    )
-    part.add_argument("--l1", metavar="SETSxWAYS", help="count what misses in an L1 for data and one for code, each of so many sets and ways")
-    part.add_argument("--l2", metavar="SETSxWAYS", help="count what misses in an L2 for both, too, which is used where the L1 misses")
-    part.add_argument("--one-of", metavar="N", help="count a sample: the uses of one line of memory of N, in N times fewer sets")
-    part.add_argument("--scaled", action="store_true", help="print N times the misses of the sample, too, which estimate those of all lines")
-    part.add_argument("--first", action="store_true", help="count the first uses of lines, too, which takes memory for each line")
-
-
-def shape_of(given, name):
-    """The sets and ways of a curve. Those of a machine are told."""
-    if given.machine is None:
-        return given.sets, given.ways
-    from machines.named import UnknownMachine, cache_of
-
-    try:
-        cache = cache_of(given.machine)
-    except UnknownMachine as why:
-        raise Stopped(why, programs.USAGE) from None
-    say(name, f"{given.machine}: {cache.sets} sets of {cache.ways} ways")
-    return str(cache.sets), str(cache.ways)
-
-
-def curve_words(given, name):
-    """The words after `curve`."""
-    flags = (("--l1", given.l1), ("--l2", given.l2), ("--one-of", given.one_of))
-    values = [word for flag, value in flags if value is not None for word in (flag, value)]
-    switches = (("--scaled", given.scaled), ("--first", given.first))
-    return *shape_of(given, name), *values, *(flag for flag, is_given in switches if is_given)
-
-
-def plan(arguments, name):
-    """`plan curve`, `plan divide`, and `plan draw`, which is no proved program."""
-    words = parser_of(name, "counts how often programs hit with each number of ways, and divides ways among groups")
-    forms = words.add_subparsers(dest="form", metavar="FORM", required=True)
-    for form, proved in PLANS.items():
-        part = forms.add_parser(form, help=proved.purpose, description=proved.purpose[0].upper() + proved.purpose[1:] + ".", allow_abbrev=False)
-        if form == "curve":
-            add_cache(part, any(word.startswith("--machine") for word in arguments))
-        add_input(part, proved)
-    draw = forms.add_parser("draw", help="draws the curves that divide prints, with its plan", allow_abbrev=False)
-    draw.add_argument("svg", metavar="FILE.svg", help="the picture, drawn by gnuplot (Debian: gnuplot-nox)")
-    draw.add_argument("file", metavar="PLAN", nargs="?", default="-", help="what divide printed; - is standard input (default)")
-    draw.add_argument("--domain", type=int, default=0, metavar="D", help="the cache (default: 0)")
-    given = words.parse_args(arguments)
-    if given.form == "draw":
-        from curves.plans import draw_plan
-
-        return draw_plan(given.file, given.svg, given.domain)
-    return run(PLANS[given.form], given, curve_words(given, name) if given.form == "curve" else ())
