@@ -32,13 +32,13 @@ IsFed-kept has_taken good_so_far start left now fed kept =
     record { bytes = fed.bytes; read = Consumes-kept start left now fed.bytes fed.consumed kept; good = fed.good }
 
 -- at its end a source has nothing left
-LeavesNothing-at_end : (left now : Option (List ℕ)) (bytes : List ℕ) → Consumes left now bytes → IsAtEnd now → LeavesNothing left now
+pub LeavesNothing-at_end : (left now : Option (List ℕ)) (bytes : List ℕ) → Consumes left now bytes → IsAtEnd now → LeavesNothing left now
 LeavesNothing-at_end None now bytes consumed end = tt
 LeavesNothing-at_end (Some xs) None bytes consumed end = absurd consumed
 LeavesNothing-at_end (Some xs) (Some ys) bytes consumed end = ap Some end
 
 -- and what was taken is all that it had
-IsToTheEnd-at_end : (left now : Option (List ℕ)) (bytes : List ℕ) → Consumes left now bytes → IsAtEnd now → IsToTheEnd left bytes
+pub IsToTheEnd-at_end : (left now : Option (List ℕ)) (bytes : List ℕ) → Consumes left now bytes → IsAtEnd now → IsToTheEnd left bytes
 IsToTheEnd-at_end None now bytes consumed end = tt
 IsToTheEnd-at_end (Some xs) None bytes consumed end = absurd consumed
 IsToTheEnd-at_end (Some xs) (Some ys) bytes consumed end = sym (consumed ∙ (ap (λ rest. bytes ++ rest) end ∙ append-nil bytes))

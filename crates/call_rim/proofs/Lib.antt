@@ -1,3 +1,5 @@
 mod Fed
+mod Passed
+mod PassedOn
 mod WrittenBytes
 pub mod laws

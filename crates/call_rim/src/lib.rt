@@ -1,10 +1,12 @@
 //! The rim that the top calls share: input is read, a program makes its report of it, and the report is written. A call that runs
-//! out of memory answers NoMemory, and writes nothing.
+//! out of memory answers NoMemory, and writes nothing, unless its program passes its input on.
 #![tactic(auto)]
 
 pub mod calls;
 pub mod ended;
 mod feeding;
+pub mod pass_program;
+pub mod passing;
 pub mod performed;
 pub mod program;
 pub mod reading;
@@ -17,6 +19,8 @@ pub mod writing;
 
 pub use calls::{call, stream, usage};
 pub use ended::Ended;
+pub use pass_program::{MOST_DUE_BYTES, PassProgram, Passing};
+pub use passing::pass;
 pub use performed::Performed;
 pub use program::Program;
 pub use reading::{ReadError, read_all};
