@@ -1,0 +1,2 @@
+pub mod GroupWrites
+pub mod ReadBack
