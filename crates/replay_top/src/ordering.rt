@@ -81,29 +81,49 @@ fn makes(alloc: Global, text: &[u8], journals: &Journals, slices: u8) -> Result<
     }
 }
 
+// Whether a text with an order has the lines of another, and its play makes these journals, which have so many slices.
+fn is_confirmed(
+    alloc: Global,
+    text: Vec<u8>,
+    ordered: &[u8],
+    journals: &Journals,
+    slices: u8,
+) -> Result<bool, NoMemory>
+    requires few { length ordered.now ≤ MOST_SCRIPT_BYTES }
+    requires slices { length journals.now.slices ≡ slices }
+    ensures lines { IfOk result (λ same. IsTrue same → other_lines ordered.now ≡ other_lines text.items) }
+    ensures makes { IfOk result (λ same. IsTrue same → Makes ordered.now journals.now) }
+{
+    if !has_same_lines(ordered, &text) {
+        return Ok(false);
+    }
+    // Its play takes memory, and the text is not looked at again.
+    drop(text);
+    makes(alloc, ordered, journals, slices)
+}
+
 // The report of a text with an order, where its play makes the journals.
 fn confirm(
     alloc: Global,
-    text: &[u8],
+    text: Vec<u8>,
     ordered: Vec<u8>,
-    script: &Script,
+    script: Script,
     journals: Journals,
 ) -> Performed<Replayed>
     requires few { length ordered.items ≤ MOST_SCRIPT_BYTES }
-    requires lawful { IsLawful script.now }
-    requires run { IsRun script.now journals }
-    ensures { (bytes : List ℕ) → HoldsJournals bytes script.now journals → text.now ≡ script_bytes Check bytes → Performs Refuses Finds bytes result }
+    requires lawful { IsLawful script }
+    requires run { IsRun script journals }
+    ensures { (bytes : List ℕ) → HoldsJournals bytes script journals → text.items ≡ script_bytes Check bytes → Performs Refuses Finds bytes result }
 {
-    let machine = script.machine();
-    if !has_same_lines(&ordered, text) {
-        return without_order(alloc, &[], machine);
-    }
-    match makes(alloc, &ordered, &journals, machine.slice_count()) {
+    let machine = *script.machine();
+    // The text with the order is read as a script of its own.
+    drop(script);
+    match is_confirmed(alloc, text, &ordered, &journals, machine.slice_count()) {
         Ok(true) => Performed::Reported {
             outcome: Replayed::Ordered(journals),
             report: ordered,
         },
-        Ok(false) => without_order(alloc, &[], machine),
+        Ok(false) => without_order(alloc, &[], &machine),
         Err(NoMemory) => Performed::NoMemory,
     }
 }
@@ -111,19 +131,19 @@ fn confirm(
 // The report of an order that was found.
 fn write_order(
     alloc: Global,
-    text: &[u8],
-    orders: Vec<Vec<u32>>,
-    script: &Script,
+    text: Vec<u8>,
+    orders: &[Vec<u32>],
+    script: Script,
     journals: Journals,
 ) -> Performed<Replayed>
-    requires lawful { IsLawful script.now }
-    requires run { IsRun script.now journals }
-    ensures { (bytes : List ℕ) → HoldsJournals bytes script.now journals → text.now ≡ script_bytes Check bytes → Performs Refuses Finds bytes result }
+    requires lawful { IsLawful script }
+    requires run { IsRun script journals }
+    ensures { (bytes : List ℕ) → HoldsJournals bytes script journals → text.items ≡ script_bytes Check bytes → Performs Refuses Finds bytes result }
 {
     if orders.iter().any(|order| MOST_ORDER < order.len()) {
         return too_long(alloc);
     }
-    match with_orders(alloc, text, &orders) {
+    match with_orders(alloc, &text, orders) {
         Ok(ordered) => {
             if MOST_SCRIPT_BYTES < ordered.len() {
                 return too_long(alloc);
@@ -137,16 +157,16 @@ fn write_order(
 /// The script of a text with an order of all steps that makes these journals, which are a run of it, or why there is none.
 pub(crate) fn order(
     alloc: Global,
-    text: &[u8],
-    script: &Script,
+    text: Vec<u8>,
+    script: Script,
     journals: Journals,
 ) -> Performed<Replayed>
-    requires lawful { IsLawful script.now }
-    requires run { IsRun script.now journals }
-    ensures { (bytes : List ℕ) → HoldsJournals bytes script.now journals → text.now ≡ script_bytes Check bytes → Performs Refuses Finds bytes result }
+    requires lawful { IsLawful script }
+    requires run { IsRun script journals }
+    ensures { (bytes : List ℕ) → HoldsJournals bytes script journals → text.items ≡ script_bytes Check bytes → Performs Refuses Finds bytes result }
 {
-    match orders_of(alloc, script, &journals) {
-        Ok(Found::Orders(orders)) => write_order(alloc, text, orders, script, journals),
+    match orders_of(alloc, &script, &journals) {
+        Ok(Found::Orders(orders)) => write_order(alloc, text, &orders, script, journals),
         Ok(Found::Blocked(steps)) => without_order(alloc, &steps, script.machine()),
         Err(NoMemory) => Performed::NoMemory,
     }

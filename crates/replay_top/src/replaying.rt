@@ -54,15 +54,15 @@ pub(crate) fn tell_clause(
 }
 
 // What is made of a script, of its text, and of journals that have a list for each slice of its machine.
-fn judge(alloc: Global, text: &[u8], script: &Script, journals: Journals) -> Performed<Replayed>
-    requires { length journals.slices ≡ slice_count script.now.machine }
-    ensures { (bytes : List ℕ) → HoldsJournals bytes script.now journals → text.now ≡ script_bytes Check bytes → Performs Refuses Finds bytes result }
+fn judge(alloc: Global, text: Vec<u8>, script: Script, journals: Journals) -> Performed<Replayed>
+    requires { length journals.slices ≡ slice_count script.machine }
+    ensures { (bytes : List ℕ) → HoldsJournals bytes script journals → text.items ≡ script_bytes Check bytes → Performs Refuses Finds bytes result }
 {
     // A script that was read is lawful.
     let _threads = script.threads();
-    match check(alloc, script, &journals) {
+    match check(alloc, &script, &journals) {
         Ok(Verdict::Yes) => order(alloc, text, script, journals),
-        Ok(Verdict::No { clause }) => tell_clause(alloc, script, &journals, clause),
+        Ok(Verdict::No { clause }) => tell_clause(alloc, &script, &journals, clause),
         Err(NoMemory) => Performed::NoMemory,
     }
 }
@@ -86,7 +86,7 @@ fn replay_held(alloc: Global, text: Vec<u8>, bytes: Vec<u8>) -> Performed<Replay
     ensures { Performs Refuses Finds bytes.items result }
 {
     match held_in(alloc, bytes) {
-        Ok(Held { script, journals }) => judge(alloc, &text, &script, journals),
+        Ok(Held { script, journals }) => judge(alloc, text, script, journals),
         Err(InputError::Bad(bad)) => refuse(alloc, bad),
         Err(InputError::NoMemory) => Performed::NoMemory,
     }
