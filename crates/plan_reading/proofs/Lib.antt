@@ -1,0 +1,5 @@
+mod AppliedLines
+mod MadeGroups
+mod PlanWrites
+mod PrintedMasks
+mod ReadPlans
