@@ -44,7 +44,7 @@ among-without x y (z ∷ zs) =
     ]
 
 -- the line that is taken out is gone
-among-without_same : (x : ℕ) (l : List ℕ) → among x (without x l) ≡ false
+pub among-without_same : (x : ℕ) (l : List ℕ) → among x (without x l) ≡ false
 among-without_same x l = let e : (x == x) ≡ true = eq-eqb x x refl in rw (among-without x x l, e) refl
 
 -- another is where it was
@@ -115,7 +115,7 @@ is_used-uses x (y ∷ ys) = elim (cases_Bool (y == x)) [
 ]
 
 -- the uses since the last of a line
-since-uses : (x : ℕ) (l : List ℕ) → since x (uses l) ≡ uses (before_line x l)
+pub since-uses : (x : ℕ) (l : List ℕ) → since x (uses l) ≡ uses (before_line x l)
 since-uses x [] = refl
 since-uses x (y ∷ ys) = elim (cases_Bool (y == x)) [
   | inl k ↦ rw k refl
@@ -141,7 +141,7 @@ and-nat_lt a b n le = elim (cases_lt a n) [
 ]
 
 -- uses leave more and more lines alive, so that there were always fewer where there are fewer now
-always_fewer-uses : (ways : ℕ) (l : List ℕ) → always_fewer ways (uses l) ≡ nat_lt (length (alive (uses l))) ways
+pub always_fewer-uses : (ways : ℕ) (l : List ℕ) → always_fewer ways (uses l) ≡ nat_lt (length (alive (uses l))) ways
 always_fewer-uses ways [] = refl
 always_fewer-uses ways (x ∷ xs) =
     let now : ℕ = length (alive (uses (x ∷ xs))) in

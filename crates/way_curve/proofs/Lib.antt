@@ -8,7 +8,12 @@ pub mod FilteredSteps
 pub mod FirstCounts
 mod Fronts
 pub mod LevelSteps
+mod ModifiedLines
 mod Powers
+mod RepeatedRuns
+mod Repeats
+mod RunCounts
+mod RunTotals
 pub mod SampleLists
 mod SetHits
 mod Shifted

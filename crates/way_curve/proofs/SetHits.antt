@@ -24,6 +24,10 @@ add-le a b c d h k = omega arith
 zero-plus : (a b : ℕ) → a ≡ b → a + 0 ≡ 0 + b
 zero-plus a b e = omega arith
 
+-- and nothing after it
+nothing-plus : (a b : ℕ) → a ≡ b → a ≡ 0 + b
+nothing-plus a b e = omega arith
+
 -- a use more counts where it hits
 pub set_hits_after-push : (sets ways : ℕ) (earlier lines : List ℕ) (x : ℕ)
     → set_hits_after sets ways earlier (lines ++ x ∷ []) ≡ set_hits_after sets ways earlier lines + one_if (is_set_hit sets ways (earlier ++ lines) x)
@@ -32,6 +36,15 @@ set_hits_after-push sets ways earlier [] x =
 set_hits_after-push sets ways earlier (y ∷ lines) x =
     add-front (one_if (is_set_hit sets ways earlier y)) _ _ _ _ (set_hits_after-push sets ways (earlier ++ y ∷ []) lines x)
     (ap (λ (l : List ℕ). one_if (is_set_hit sets ways l x)) (append_assoc earlier (y ∷ []) lines))
+
+-- more uses count where they hit
+pub set_hits_after-append : (sets ways : ℕ) (earlier lines more : List ℕ)
+    → set_hits_after sets ways earlier (lines ++ more) ≡ set_hits_after sets ways earlier lines + set_hits_after sets ways (earlier ++ lines) more
+set_hits_after-append sets ways earlier [] more =
+    nothing-plus _ _ (ap (λ (l : List ℕ). set_hits_after sets ways l more) (sym (append-nil earlier)))
+set_hits_after-append sets ways earlier (y ∷ lines) more =
+    add-front (one_if (is_set_hit sets ways earlier y)) _ _ _ _ (set_hits_after-append sets ways (earlier ++ y ∷ []) lines more)
+    (ap (λ (l : List ℕ). set_hits_after sets ways l more) (append_assoc earlier (y ∷ []) lines))
 
 -- a test more that fails for fewer only
 one_if-and_le : (b : Bool) (place ways more : ℕ) → ways ≤ more → one_if (b && nat_lt place ways) ≤ one_if (b && nat_lt place more)

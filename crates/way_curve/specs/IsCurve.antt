@@ -1,6 +1,7 @@
 -- Which lists of uses a curve has counted, and what a use adds.
 -- (For functions and proofs: no promise of the program stands on it.)
 use Rattle.std.specs.Prelude.{◌≡◌, ℕ, ◌^◌, ◌<◌, ◌≤◌, List, [], ◌∷◌, ◌++◌, length, reverse, take, sum, slice_index_or}
+use Rattle.std.specs.List.{range_with_len}
 use Rattle.private_lru.specs.Private.{alive}
 use Rattle.way_curve.specs.Curves.{uses_of_set, set_hits_of}
 
@@ -21,6 +22,11 @@ pub record IsCurve (curve : CurveValue) (lines : List ℕ) : Type 0 where
 -- Whatever uses the curve was that of, it is now that of these and one more.
 abbrev pub AddsUse : CurveValue → CurveValue → ℕ → Type 0
 AddsUse old new line = (lines : List ℕ) → IsCurve old lines → IsCurve new (lines ++ line ∷ [])
+
+-- Whatever uses the curve was that of, if these end with so many lines one after the other, it is now that of these and of the same
+-- lines once more.
+abbrev pub RepeatsRun : CurveValue → CurveValue → ℕ → Type 0
+RepeatsRun old new lines = (earlier : List ℕ) (first : ℕ) → IsCurve old (earlier ++ range_with_len first lines) → IsCurve new ((earlier ++ range_with_len first lines) ++ range_with_len first lines)
 
 -- a curve's parts: there is a set, and no more uses came at some distance than there are
 pub record IsKept (sets uses : ℕ) (at_distance : List ℕ) : Type 0 where

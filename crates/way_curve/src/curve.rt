@@ -1,9 +1,9 @@
 //! The curve of the hits by ways.
 ghost use Rattle.std.specs.Prelude.{◌≡◌, ℕ, ◌+◌, ◌-◌, ◌^◌, ◌<◌, ◌≤◌, ◌%◌, List, [], replicate, IfOk};
 ghost use Rattle.way_curve.specs.Curves.{set_hits_of};
-ghost use Rattle.way_curve.specs.IsCurve.{AddsUse, IsCurve};
+ghost use Rattle.way_curve.specs.IsCurve.{AddsUse, IsCurve, RepeatsRun};
 
-use crate::distances::{count, total};
+use crate::distances::{count, count_run, total};
 use crate::recent_lines::{MOST_WAYS, RecentLines};
 use rc_base::NoMemory;
 use std::alloc::Global;
@@ -62,6 +62,19 @@ impl Curve {
         let distance = self.recent[set].note(line);
         count(&mut self.at_distance, distance);
         self.uses += 1;
+    }
+
+    /// Notes once more the uses of as many lines as were noted last, if these are lines one after the other, rising. The lists of the
+    /// last lines stay as they are: each line comes after the others of the run in its set. So this takes no more steps for a long
+    /// run than for a short one.
+    pub fn repeat_run(&mut self, lines: u64)
+        requires room { self.old.uses + lines < 2 ^ 64 }
+        ensures sets { self.new.sets ≡ self.old.sets }
+        ensures uses { self.new.uses ≡ self.old.uses + lines }
+        ensures again { RepeatsRun self.old self.new lines }
+    {
+        count_run(&mut self.at_distance, self.recent.len() as u64, lines);
+        self.uses += lines;
     }
 
     /// How many uses were noted.

@@ -1,13 +1,15 @@
 //! The curves of the uses of data, of code and of both.
 ghost use Rattle.std.specs.Prelude.{◌≡◌, ◌+◌, ◌-◌, ◌^◌, ◌<◌, [], ◌∷◌, length, IfOk};
 ghost use Rattle.lackey_text.specs.Lines.{IsInMemory};
-ghost use Rattle.lackey_text.specs.Uses.{uses_of};
+ghost use Rattle.lackey_text.specs.Uses.{uses_by, uses_of};
+ghost use Rattle.lackey_text.specs.declared.line.LackeyKind.TheVariants.{Modify};
+ghost use Rattle.lackey_text.specs.declared.line.LackeyLine.TheVariants.{Use};
 ghost use Rattle.way_curve.specs.Counting.{AddUses, HaveCounted};
 ghost use Rattle.way_curve.specs.Samples.{sample_of};
 
 use crate::Curve;
 use crate::sample::is_sampled;
-use lackey_text::{LackeyLine, LineUse};
+use lackey_text::{LackeyKind, LackeyLine, LineUse};
 use rc_base::NoMemory;
 use std::alloc::Global;
 use std::marker::Model;
@@ -64,6 +66,41 @@ impl UseCurves {
 
     /// Notes the uses of a line of a trace.
     pub fn note_line(&mut self, said: &LackeyLine)
+        requires memory { IsInMemory said.now }
+        requires room { self.old.uses + length (uses_of said.now) < 2 ^ 64 }
+        ensures uses { self.new.uses ≡ self.old.uses + length (uses_of said.now) }
+        ensures counted { AddUses self.old self.new (uses_of said.now) }
+    {
+        match *said {
+            LackeyLine::Use {
+                kind: LackeyKind::Modify,
+                addr,
+                size,
+            } => self.note_modified(addr, size),
+            _ => self.note_each(said),
+        }
+    }
+
+    // Notes the loads of data that is modified, and then the stores to the same lines, all at once.
+    fn note_modified(&mut self, addr: u64, size: u32)
+        requires memory { IsInMemory (Use Modify addr size) }
+        requires room { self.old.uses + length (uses_by Modify addr size) < 2 ^ 64 }
+        ensures uses { self.new.uses ≡ self.old.uses + length (uses_by Modify addr size) }
+        ensures counted { AddUses self.old self.new (uses_by Modify addr size) }
+    {
+        let before = self.of_all.uses();
+        self.note_each(&LackeyLine::Use {
+            kind: LackeyKind::Load,
+            addr,
+            size,
+        });
+        let lines = self.of_all.uses() - before;
+        self.of_all.repeat_run(lines);
+        self.of_data.repeat_run(lines);
+    }
+
+    // Notes the uses of a line of a trace one by one.
+    fn note_each(&mut self, said: &LackeyLine)
         requires memory { IsInMemory said.now }
         requires room { self.old.uses + length (uses_of said.now) < 2 ^ 64 }
         ensures uses { self.new.uses ≡ self.old.uses + length (uses_of said.now) }

@@ -1,7 +1,7 @@
 use Rattle.std.proofs.Common.{◌≡◌, ◌+◌, length}
 use Rattle.lackey_text.specs.Uses.{uses_left, uses_of}
 use Rattle.way_curve.specs.Counting.{AddUses, CurvesValue}
-use Rattle.way_curve.proofs.curves.UseCurves.note_line.Given as goal
+use Rattle.way_curve.proofs.curves.UseCurves.note_each.Given as goal
 
 abbrev pub invariant-loop-used : goal.invariant-loop-used
 invariant-loop-used l = record {
