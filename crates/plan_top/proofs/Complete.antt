@@ -8,7 +8,9 @@ use Rattle.call_rim.specs.declared.status.Status.TheVariants.{Done, Refused, Usa
 use Rattle.plan_top.specs.Endings.{HasInput, IsComplete, is_input}
 use Rattle.plan_top.specs.Plans.{refuses_by, reports_by}
 use Rattle.plan_top.specs.declared.form.Form.{Form}
-use Rattle.plan_top.specs.declared.form.Form.TheVariants.{Curve, Divide}
+use Rattle.plan_top.specs.declared.form.Form.TheVariants.{Curve, Divide, Share}
+use Rattle.plan_top.proofs.Programs.{length-programs_from}
+use Rattle.share_plans.specs.Streams.{stream_of}
 
 -- the bytes that a source had, where they are known
 IsToTheEnd-known : (left : Option (List ℕ)) (had bytes : List ℕ) → left ≡ Some had → IsToTheEnd left bytes → bytes ≡ had
@@ -19,12 +21,14 @@ is_input-reported : (form : Option Form) (bytes : List ℕ) (nothing : Unit {0})
 is_input-reported None bytes nothing text is = absurd is
 is_input-reported (Some (Curve form)) bytes nothing text is = ap is_ok is.trace
 is_input-reported (Some (Divide form)) bytes nothing text is = ap is_ok is.is_script
+is_input-reported (Some (Share form)) bytes nothing text is = ap (λ (n : ℕ). is_ok (stream_of n bytes)) (sym (length-programs_from 0 form.wishes)) ∙ ap is_ok is.stream
 
 -- and what is refused is not
 is_input-refused : (form : Option Form) (bytes text : List ℕ) → refuses_by form bytes text → is_input form bytes ≡ false
 is_input-refused None bytes text is = refl
 is_input-refused (Some (Curve form)) bytes text is = ap is_ok is.bad
 is_input-refused (Some (Divide form)) bytes text is = ap is_ok is.no_script
+is_input-refused (Some (Share form)) bytes text is = ap is_ok is.bad
 
 -- a condition holds or not
 never-both : (b : Bool) → b ≡ true → b ≡ false → ⊥

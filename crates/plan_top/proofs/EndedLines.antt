@@ -13,7 +13,7 @@ use Rattle.way_curve.specs.TraceTexts.{said_of, uses_from, uses_with}
 use Rattle.plan_top.specs.Beginnings.{HasNoBadLine}
 
 -- what follows a newline has lines of its own
-lines-ended : (rest ended more : List ℕ) → IsOpen rest → lines (rest ++ (ended ++ 10 ∷ more)) ≡ lines (rest ++ (ended ++ 10 ∷ [])) ++ lines more
+pub lines-ended : (rest ended more : List ℕ) → IsOpen rest → lines (rest ++ (ended ++ 10 ∷ more)) ≡ lines (rest ++ (ended ++ 10 ∷ [])) ++ lines more
 lines-ended rest [] more is_open = lines-newline rest more is_open ∙ sym (ap (λ (ls : List (List ℕ)). ls ++ lines more) (lines-newline rest [] is_open))
 lines-ended rest (b ∷ ended) more is_open = elim (cases_Bool (b == 10)) [
   | inl h ↦
@@ -27,7 +27,7 @@ lines-ended rest (b ∷ ended) more is_open = elim (cases_Bool (b == 10)) [
 ]
 
 -- a text that ends with a letter has a line
-lines-some : (rest text : List ℕ) → IsOpen rest → 0 < length (lines (rest ++ (text ++ 97 ∷ [])))
+pub lines-some : (rest text : List ℕ) → IsOpen rest → 0 < length (lines (rest ++ (text ++ 97 ∷ [])))
 lines-some rest [] is_open =
     rw (lines-last (rest ++ 97 ∷ []) (IsOpen-more rest 97 refl is_open) (omega (arith, length-append rest (97 ∷ [])))) (omega arith)
 lines-some rest (b ∷ text) is_open = elim (cases_Bool (b == 10)) [
@@ -50,7 +50,7 @@ uses_from-front n [] ys ok = refl
 uses_from-front n (x ∷ xs) ys ok = uses_with-front n (said_of x) (uses_from (n + 1) (xs ++ ys)) (uses_from (n + 1) xs) ok (uses_from-front (n + 1) xs ys)
 
 -- the first of two lists that are others, of which the last has one element
-front-of : (first later whole : List (List ℕ)) (last : List ℕ) → first ++ later ≡ whole ++ last ∷ [] → 0 < length later → whole ≡ first ++ drop (length first) whole
+pub front-of : (first later whole : List (List ℕ)) (last : List ℕ) → first ++ later ≡ whole ++ last ∷ [] → 0 < length later → whole ≡ first ++ drop (length first) whole
 front-of first later whole last same some =
     let n = length first in
     let counts = ap length same in

@@ -13,7 +13,9 @@ use Rattle.plan_top.specs.Forms.{usage_line}
 use Rattle.plan_top.specs.Plans.{RefusesScript, RefusesTrace, is_valid, refuses_by, reports_by, reports_of, reports_plan}
 use Rattle.plan_top.specs.declared.divide_form.DivideForm.{DivideForm}
 use Rattle.plan_top.specs.declared.form.Form.{Form}
-use Rattle.plan_top.specs.declared.form.Form.TheVariants.{Curve, Divide}
+use Rattle.plan_top.specs.declared.form.Form.TheVariants.{Curve, Divide, Share}
+use Rattle.plan_top.specs.ShareForms.{ShareWords}
+use Rattle.plan_top.specs.Shares.{HasNoBadTurn, RefusesStream, reports_shares}
 use Rattle.script_ops.specs.declared.limits.TheConstants.{MOST_SCRIPT_BYTES}
 
 module _ (source : Reading) (sink : Writing) (status : Status) (outcome : Option (Unit {0})) where
@@ -40,6 +42,11 @@ module _ (source : Reading) (sink : Writing) (status : Status) (outcome : Option
   pub promised-divide : (form : DivideForm) → Ends RefusesScript (reports_plan form) (call_of true usage_line source sink) status outcome → LeavesBy MOST_SCRIPT_BYTES source status
       → IsPromised (Some (Divide form))
   promised-divide form ends leaves = promised-by (Some (Divide form)) ends leaves tt
+
+  -- a call that read a stream of several programs
+  pub promised-share : (form : ShareWords) → Ends (RefusesStream form) (reports_shares form) (call_of true usage_line source sink) status outcome
+      → (status ≡ ReadFault → IsGoodSoFar (HasNoBadTurn form) source.left source.left_now) → IsPromised (Some (Share form))
+  promised-share form ends fails = promised-by (Some (Share form)) ends tt fails
 
   -- a call that wrote the usage line
   pub promised-usage : source.left_now ≡ source.left → source.faults_now ≡ source.faults → Says Usage None usage_line sink status outcome → IsPromised None

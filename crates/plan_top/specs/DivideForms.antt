@@ -1,19 +1,9 @@
 -- What the words after `divide` ask for: `--apply` alone, or flags of the report, each at most once, in this order.
-use Rattle.std.specs.Prelude.{ℕ, Bool, false, if◌then◌else◌, List, [], ◌∷◌, codes, string_bytes, String, Option, Some, None}
+use Rattle.std.specs.Prelude.{Bool, if◌then◌else◌, List, [], ◌∷◌, codes, String, Option, Some, None}
 use Rattle.std.specs.declared.alloc.Global.{Global}
-use Rattle.rc_base.specs.Texts.{is_text}
+use Rattle.plan_top.specs.Flags.{after_flag, begins_with}
 use Rattle.plan_top.specs.declared.divide_form.DivideForm.{DivideForm}
 use Rattle.plan_top.specs.declared.divide_form.DivideForm.TheVariants.{Apply, Report}
-
--- whether the first of these words is a flag
-abbrev pub begins_with : List ℕ → List (String Global) → Bool
-begins_with flag [] = false
-begins_with flag (word ∷ words) = is_text (string_bytes word) flag
-
--- the words after a flag, and all of them where the first is not the flag
-abbrev pub after_flag : List ℕ → List (String Global) → List (String Global)
-after_flag flag [] = []
-after_flag flag (word ∷ words) = if is_text (string_bytes word) flag then words else word ∷ words
 
 -- a form, where no words are left
 abbrev pub if_no_more : List (String Global) → DivideForm → Option DivideForm

@@ -1,4 +1,5 @@
--- What the words after the program's name ask for: `curve SETS WAYS [--l1 SETSxWAYS] [--l2 SETSxWAYS] [--one-of N [--scaled]] [--first]`, `divide [--compare] [--used]` or `divide --apply`.
+-- What the words after the program's name ask for: `curve SETS WAYS [--l1 SETSxWAYS] [--l2 SETSxWAYS] [--one-of N [--scaled]] [--first]`, `divide [--compare] [--used]`, `divide --apply` or
+-- `share SETS WAYS [--ratio] WEIGHT:LEAST ..`.
 use Rattle.std.specs.Prelude.{ℕ, ◌+◌, ◌==◌, false, if◌then◌else◌, List, [], ◌∷◌, ◌++◌, codes, string_bytes, String, Option, Some, None, option_map}
 use Rattle.std.specs.List.{after_first, before_first, list_any}
 use Rattle.std.specs.Option.{option_and_then}
@@ -10,16 +11,9 @@ use Rattle.way_curve.specs.declared.first_level.LevelShape.{LevelShape}
 use Rattle.plan_top.specs.CurveForms.{CurveWords, with_first, with_l1, with_l2, with_sample, with_scale}
 use Rattle.plan_top.specs.DivideForms.{divide_in}
 use Rattle.plan_top.specs.declared.form.Form.{Form}
-use Rattle.plan_top.specs.declared.form.Form.TheVariants.{Curve, Divide}
-use Rattle.plan_top.specs.declared.limits.TheConstants.{MOST_SETS, MOST_WAYS}
-
--- a number of sets: from 1 to the most, in decimal digits
-abbrev pub sets_in : List ℕ → Option ℕ
-sets_in text = option_and_then (λ n. if n == 0 then None else Some n) (below (MOST_SETS + 1) (dec_of text))
-
--- a number of ways: from 1 to the most, in decimal digits
-abbrev pub ways_in : List ℕ → Option ℕ
-ways_in text = option_and_then (λ n. if n == 0 then None else Some n) (below (MOST_WAYS + 1) (dec_of text))
+use Rattle.plan_top.specs.declared.form.Form.TheVariants.{Curve, Divide, Share}
+use Rattle.plan_top.specs.Numbers.{sets_in, ways_in}
+use Rattle.plan_top.specs.ShareForms.{share_in}
 
 -- of how many lines a sample has one, for caches of so many sets: from 1 to as many as there are sets, in decimal digits
 abbrev pub one_of_in : ℕ → List ℕ → Option ℕ
@@ -67,7 +61,7 @@ from_l1 form (flag ∷ level ∷ rest) =
     if is_text (string_bytes flag) (codes "--l1") then option_and_then (λ l. from_l2 (with_l1 form l) rest) (level_in (string_bytes level)) else from_l2 form (flag ∷ level ∷ rest)
 from_l1 form words = from_l2 form words
 
--- what a command line that is not of `divide` asks for
+-- what a command line that is of neither `divide` nor `share` asks for
 abbrev pub curve_form_of : List (String Global) → Option Form
 curve_form_of (command ∷ sets ∷ ways ∷ flags) =
     if is_text (string_bytes command) (codes "curve")
@@ -78,8 +72,10 @@ curve_form_of words = None
 -- what a command line asks for, and None where it is not valid
 abbrev pub form_of : List (String Global) → Option Form
 form_of [] = None
-form_of (command ∷ words) = if is_text (string_bytes command) (codes "divide") then option_map Divide (divide_in words) else curve_form_of (command ∷ words)
+form_of (command ∷ words) =
+    if is_text (string_bytes command) (codes "divide") then option_map Divide (divide_in words)
+    else (if is_text (string_bytes command) (codes "share") then option_map Share (share_in words) else curve_form_of (command ∷ words))
 
 -- the line for a command line that is not valid
 abbrev pub usage_line : List ℕ
-usage_line = codes "usage: resctrl_plan curve SETS WAYS [--l1 SETSxWAYS] [--l2 SETSxWAYS] [--one-of N [--scaled]] [--first] | divide [--compare] [--used] | divide --apply" ++ 10 ∷ []
+usage_line = codes "usage: resctrl_plan curve SETS WAYS [--l1 SETSxWAYS] [--l2 SETSxWAYS] [--one-of N [--scaled]] [--first] | divide [--compare] [--used] | divide --apply | share SETS WAYS [--ratio] WEIGHT:LEAST .." ++ 10 ∷ []

@@ -2,5 +2,9 @@ pub mod Beginnings
 pub mod CurveForms
 pub mod DivideForms
 pub mod Endings
+pub mod Flags
 pub mod Forms
+pub mod Numbers
 pub mod Plans
+pub mod ShareForms
+pub mod Shares

@@ -4,6 +4,7 @@ use Rattle.lackey_text.specs.declared.uses.LineUse.{LineUse}
 use Rattle.run_law.specs.Journals.{JournalsValue}
 use Rattle.run_law.specs.Runs.{IsRun}
 use Rattle.script_ops.specs.Values.{ScriptValue}
+use Rattle.share_plans.specs.Reports.{ReportsShares}
 use Rattle.step_world.specs.Play.{IsPlay}
 use Rattle.way_curve.specs.TraceTexts.{trace_of}
 use Rattle.way_curve.specs.CurveTexts.{bad_line_text, curves_text}
@@ -15,7 +16,9 @@ use Rattle.plan_top.specs.CurveForms.{CurveWords}
 use Rattle.plan_top.specs.declared.divide_form.DivideForm.{DivideForm}
 use Rattle.plan_top.specs.declared.divide_form.DivideForm.TheVariants.{Apply, Report}
 use Rattle.plan_top.specs.declared.form.Form.{Form}
-use Rattle.plan_top.specs.declared.form.Form.TheVariants.{Curve, Divide}
+use Rattle.plan_top.specs.declared.form.Form.TheVariants.{Curve, Divide, Share}
+use Rattle.plan_top.specs.ShareForms.{programs_of}
+use Rattle.plan_top.specs.Shares.{RefusesStream}
 
 -- ---- `curve`
 
@@ -73,12 +76,14 @@ abbrev pub refuses_by : Option Form → List ℕ → List ℕ → Type 0
 refuses_by None bytes text = ⊥
 refuses_by (Some (Curve form)) bytes text = RefusesTrace bytes text
 refuses_by (Some (Divide form)) bytes text = RefusesScript bytes text
+refuses_by (Some (Share form)) bytes text = RefusesStream form bytes text
 
 -- what it reports: nothing, where it is not valid
 abbrev pub reports_by : Option Form → List ℕ → Unit {0} → List ℕ → Type 0
 reports_by None bytes nothing text = ⊥
 reports_by (Some (Curve form)) bytes nothing text = ReportsCurves form bytes text
 reports_by (Some (Divide form)) bytes nothing text = ReportsPlan form bytes text
+reports_by (Some (Share form)) bytes nothing text = ReportsShares form.goal form.sets form.ways (programs_of form) bytes text
 
 -- whether a command line is valid
 abbrev pub is_valid : Option Form → Bool

@@ -18,10 +18,10 @@ use rc_stream::{Sink, Source};
 use std::alloc::Global;
 use std::process::ExitCode;
 
-/// Reads the trace or the script that the source holds, and writes to the sink what the words ask for, or the line that says why
-/// there is none. What each status says is in `Ends`, and which is due in `IsComplete`. A trace is read piece by piece, and the first
-/// bad line is told as soon as it has ended: `ReadFault` only where no line before the fault was bad. After the end of the source, and
-/// where the command line is not valid, the source is not called.
+/// Reads the trace, the script or the stream of programs that the source holds, and writes to the sink what the words ask for, or the
+/// line that says why there is none. What each status says is in `Ends`, and which is due in `IsComplete`. A trace or a stream is read
+/// piece by piece, and the first bad line is told as soon as it has ended: `ReadFault` only where no line before the fault was bad.
+/// After the end of the source, and where the command line is not valid, the source is not called.
 pub fn top_plan<S: Source, K: Sink>(
     alloc: Global,
     words: &[String],
@@ -44,6 +44,7 @@ pub fn top_plan<S: Source, K: Sink>(
     match form_of(words) {
         Some(Form::Curve(form)) => stream(alloc, &form, source, sink),
         Some(Form::Divide(form)) => divide(alloc, form, source, sink),
+        Some(Form::Share(form)) => stream(alloc, &form, source, sink),
         None => usage(sink, usage_bytes()),
     }
 }

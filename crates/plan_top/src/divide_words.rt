@@ -1,33 +1,10 @@
 //! The words after `divide`.
 ghost use Rattle.std.specs.Prelude.{◌≡◌};
-ghost use Rattle.plan_top.specs.DivideForms.{after_flag as after_flag_in, begins_with as begins_with_in, divide_in, if_no_more as if_no_more_in, report_in};
+ghost use Rattle.plan_top.specs.DivideForms.{divide_in, if_no_more as if_no_more_in, report_in};
 
 use crate::divide_form::DivideForm;
+use crate::flags::{after_flag, begins_with};
 use crate::plan_form::PlanForm;
-use rc_base::is_text;
-
-// Whether the first of these words is a flag.
-fn begins_with(words: &[String], flag: &[u8]) -> bool
-    ensures { result ≡ begins_with_in flag.now words.now }
-{
-    match words {
-        [word, ..] => is_text(word.as_bytes(), flag),
-        [] => false,
-    }
-}
-
-// The words after a flag, and all of them where the first is not the flag.
-fn after_flag<'a>(words: &'a [String], flag: &[u8]) -> &'a [String]
-    ensures { result.now ≡ after_flag_in flag.now words.now }
-{
-    let [word, later @ ..] = words else {
-        return words;
-    };
-    if !is_text(word.as_bytes(), flag) {
-        return words;
-    }
-    later
-}
 
 // What is asked for, where no words are left.
 fn if_no_more(words: &[String], form: DivideForm) -> Option<DivideForm>

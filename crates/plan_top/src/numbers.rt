@@ -1,14 +1,15 @@
 //! The numbers that words are.
 ghost use Rattle.std.specs.Prelude.{◌≡◌, ◌<◌, ◌≤◌, IfSome};
-ghost use Rattle.plan_top.specs.Forms.{curve_in, level_in, one_of_in, sets_in, shape_in, ways_in};
+ghost use Rattle.plan_top.specs.Forms.{curve_in, level_in, one_of_in, shape_in};
+ghost use Rattle.plan_top.specs.Numbers.{sets_in, ways_in};
 
-use crate::form::CurveForm;
+use crate::curve_form::CurveForm;
 use crate::limits::{MOST_SETS, MOST_WAYS};
 use num_text::{cut, read_dec};
 use way_curve::LevelShape;
 
-// The number of sets that a word is.
-fn sets_of(text: &[u8]) -> Option<u32>
+/// The number of sets that a word is.
+pub(crate) fn sets_of(text: &[u8]) -> Option<u32>
     ensures said { result ≡ sets_in text.now }
     ensures some { IfSome result (λ n. 0 < n) }
 {
@@ -18,8 +19,8 @@ fn sets_of(text: &[u8]) -> Option<u32>
     }
 }
 
-// The number of ways that a word is.
-fn ways_of(text: &[u8]) -> Option<u8>
+/// The number of ways that a word is.
+pub(crate) fn ways_of(text: &[u8]) -> Option<u8>
     ensures said { result ≡ ways_in text.now }
     ensures few { IfSome result (λ n. n ≤ 32) }
 {

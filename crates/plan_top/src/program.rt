@@ -14,7 +14,7 @@ ghost use Rattle.plan_top.specs.Beginnings.{HasNoBadLine};
 ghost use Rattle.plan_top.specs.CurveForms.{CurveWords, filtering_of};
 ghost use Rattle.plan_top.specs.Plans.{RefusesTrace, reports_of};
 
-use crate::form::CurveForm;
+use crate::curve_form::CurveForm;
 use call_rim::{Performed, StreamProgram, Taken};
 use rc_base::{NoMemory, TextBuf};
 use std::alloc::Global;

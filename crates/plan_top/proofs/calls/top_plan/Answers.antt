@@ -4,7 +4,7 @@ use Rattle.call_rim.specs.Outside.{reading_of, writing_of}
 use Rattle.call_rim.specs.declared.status.Status.TheVariants.{Usage}
 use Rattle.plan_top.specs.Forms.{usage_line}
 use Rattle.plan_top.specs.declared.form.Form.{Form}
-use Rattle.plan_top.proofs.Promises.{IsPromised, promised-curve, promised-divide, promised-usage}
+use Rattle.plan_top.proofs.Promises.{IsPromised, promised-curve, promised-divide, promised-share, promised-usage}
 use Rattle.plan_top.proofs.calls.top_plan.Goals as goal
 
 pub returns-in-Some-Curve-clause-ends : goal.returns-in-Some-Curve-clause-ends
@@ -85,6 +85,46 @@ returns-in-Some-Divide-clause-fails g c =
     let outcome = c.divide.result.outcome in
     let promised = subst (λ (form : Option Form). IsPromised source sink status outcome form) (rw c.in-Some-Divide.field-0-is at c.in-Some-Divide.ensures)
     (promised-divide source sink status outcome _ (c.divide.ensures.ends usage_line) c.divide.ensures.leaves) in
+    promised.fails
+
+pub returns-in-Some-Share-clause-ends : goal.returns-in-Some-Share-clause-ends
+returns-in-Some-Share-clause-ends g c =
+    let source = reading_of g.S.Source.left g.S.Source.faults c.args.source.now c.stream-in-Some-Share.new.source in
+    let sink = writing_of g.K.Sink.taken g.K.Sink.held g.K.Sink.faults c.args.sink.now c.stream-in-Some-Share.new.sink in
+    let status = c.stream-in-Some-Share.result.status in
+    let outcome = c.stream-in-Some-Share.result.outcome in
+    let promised = subst (λ (form : Option Form). IsPromised source sink status outcome form) (rw c.in-Some-Share.field-0-is at c.in-Some-Share.ensures)
+    (promised-share source sink status outcome _ (c.stream-in-Some-Share.ensures.ends usage_line) c.stream-in-Some-Share.ensures.so_far) in
+    promised.ends
+
+pub returns-in-Some-Share-clause-complete : goal.returns-in-Some-Share-clause-complete
+returns-in-Some-Share-clause-complete g c =
+    let source = reading_of g.S.Source.left g.S.Source.faults c.args.source.now c.stream-in-Some-Share.new.source in
+    let sink = writing_of g.K.Sink.taken g.K.Sink.held g.K.Sink.faults c.args.sink.now c.stream-in-Some-Share.new.sink in
+    let status = c.stream-in-Some-Share.result.status in
+    let outcome = c.stream-in-Some-Share.result.outcome in
+    let promised = subst (λ (form : Option Form). IsPromised source sink status outcome form) (rw c.in-Some-Share.field-0-is at c.in-Some-Share.ensures)
+    (promised-share source sink status outcome _ (c.stream-in-Some-Share.ensures.ends usage_line) c.stream-in-Some-Share.ensures.so_far) in
+    promised.complete
+
+pub returns-in-Some-Share-clause-leaves : goal.returns-in-Some-Share-clause-leaves
+returns-in-Some-Share-clause-leaves g c =
+    let source = reading_of g.S.Source.left g.S.Source.faults c.args.source.now c.stream-in-Some-Share.new.source in
+    let sink = writing_of g.K.Sink.taken g.K.Sink.held g.K.Sink.faults c.args.sink.now c.stream-in-Some-Share.new.sink in
+    let status = c.stream-in-Some-Share.result.status in
+    let outcome = c.stream-in-Some-Share.result.outcome in
+    let promised = subst (λ (form : Option Form). IsPromised source sink status outcome form) (rw c.in-Some-Share.field-0-is at c.in-Some-Share.ensures)
+    (promised-share source sink status outcome _ (c.stream-in-Some-Share.ensures.ends usage_line) c.stream-in-Some-Share.ensures.so_far) in
+    promised.leaves
+
+pub returns-in-Some-Share-clause-fails : goal.returns-in-Some-Share-clause-fails
+returns-in-Some-Share-clause-fails g c =
+    let source = reading_of g.S.Source.left g.S.Source.faults c.args.source.now c.stream-in-Some-Share.new.source in
+    let sink = writing_of g.K.Sink.taken g.K.Sink.held g.K.Sink.faults c.args.sink.now c.stream-in-Some-Share.new.sink in
+    let status = c.stream-in-Some-Share.result.status in
+    let outcome = c.stream-in-Some-Share.result.outcome in
+    let promised = subst (λ (form : Option Form). IsPromised source sink status outcome form) (rw c.in-Some-Share.field-0-is at c.in-Some-Share.ensures)
+    (promised-share source sink status outcome _ (c.stream-in-Some-Share.ensures.ends usage_line) c.stream-in-Some-Share.ensures.so_far) in
     promised.fails
 
 pub returns-in-None-clause-ends : goal.returns-in-None-clause-ends
