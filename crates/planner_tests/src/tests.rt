@@ -1,4 +1,4 @@
-//! Curves, traces and scripts with their reports and plans, worked out by hand.
+//! Curves, traces, streams and scripts with their reports and plans, worked out by hand.
 
 mod any_orders;
 mod applied;
@@ -9,6 +9,7 @@ mod first_levels;
 mod first_uses;
 mod plans;
 mod samples;
+mod share_calls;
 mod shares;
 mod traces;
 mod used_groups;
