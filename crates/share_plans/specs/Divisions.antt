@@ -1,5 +1,4 @@
 -- Divisions of the ways of a cache among programs.
--- (For functions and proofs: no promise of the program stands on it.)
 use Rattle.std.specs.Prelude.{ℕ, ◌-◌, ◌≤◌, List, [], ◌∷◌, get_or}
 use Rattle.share_plans.specs.declared.demand.Demand.{Demand}
 use Rattle.share_plans.specs.declared.goal.Goal.{Goal}

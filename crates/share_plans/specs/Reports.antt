@@ -1,5 +1,4 @@
 -- What is reported of a stream of several programs.
--- (For functions and proofs: no promise of the program stands on it.)
 use Rattle.std.specs.Prelude.{◌≡◌, ℕ, ◌+◌, ◌-◌, Bool, true, false, sum, List, [], ◌∷◌, ◌++◌, codes, decimal, get_or, length, Option, Some, None, IfSome, Ok}
 use Rattle.std.specs.List.{flat_map, range_with_len}
 use Rattle.way_curve.specs.CurveTexts.{ways_line}

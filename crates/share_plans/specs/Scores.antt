@@ -1,5 +1,4 @@
 -- What a division is judged by: all weighted misses together, or the worst weighted ratio of misses to uses of a program.
--- (For functions and proofs: no promise of the program stands on it.)
 use Rattle.std.specs.Prelude.{ℕ, ◌+◌, ◌*◌, ◌≤◌, ◌==◌, nat_lt, Bool, if◌then◌else◌, List, [], ◌∷◌, get_or}
 use Rattle.share_plans.specs.declared.demand.Demand.{Demand}
 use Rattle.share_plans.specs.declared.goal.Goal.{Goal}
