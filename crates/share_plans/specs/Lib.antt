@@ -1,5 +1,7 @@
 pub mod Divisions
+pub mod Filtering
 pub mod Laws
+pub mod LeftUses
 pub mod Played
 pub mod Reading
 pub mod Reports

@@ -3,55 +3,57 @@
 use Rattle.std.specs.Prelude.{◌≡◌, ℕ, ◌+◌, ◌*◌, ◌<◌, ◌≤◌, Bool, false, true, List, ◌++◌, length, Ok, Err, Option, None, IfSome}
 use Rattle.way_curve.specs.Reading.{BeginsWith, IsOpen}
 use Rattle.way_curve.specs.declared.limits.TheConstants.{MOST_LINE_BYTES}
-use Rattle.share_plans.specs.Played.{Asked, HavePlayed, PlayedValue}
+use Rattle.share_plans.specs.Filtering.{FilteredValue, Filtering, HaveFiltered}
+use Rattle.share_plans.specs.LeftUses.{left_uses}
+use Rattle.share_plans.specs.Played.{HavePlayed, PlayedValue}
 use Rattle.share_plans.specs.Streams.{stream_of, turn_behind, uses_from}
 use Rattle.share_plans.specs.declared.program_use.ProgramUse.{ProgramUse}
 use Rattle.share_plans.specs.declared.stream_limits.TheConstants.{MOST_STREAM_BYTES}
 
 -- what contracts see: how many bytes and whole lines there are, the bytes after them, whose turn it is, whether the next line is none
--- of a stream, and what was played of the whole lines
+-- of a stream, and what was played of the whole lines behind the levels
 pub record StreamValue : Type 0 where
   pub bytes : ℕ
   pub ended : ℕ
   pub rest : List ℕ
   pub turn : Option ℕ
   pub is_bad : Bool
-  pub played : PlayedValue
+  pub played : FilteredValue
 
--- Each whole line of the text is one of a stream, and what they say was played.
-pub record IsGood (asked : Asked) (s : StreamValue) (text : List ℕ) : Type 0 where
+-- Each whole line of the text is one of a stream, and what the levels leave of the uses that they say was played.
+pub record IsGood (filtering : Filtering) (s : StreamValue) (text : List ℕ) : Type 0 where
   pub whole : List (List ℕ)
   pub uses : List ProgramUse
   pub begins : BeginsWith text whole s.rest
   pub is_open : IsOpen s.rest
-  pub said : uses_from asked.programs 0 None whole ≡ Ok uses
-  pub turn : s.turn ≡ turn_behind asked.programs None whole
+  pub said : uses_from filtering.asked.programs 0 None whole ≡ Ok uses
+  pub turn : s.turn ≡ turn_behind filtering.asked.programs None whole
   pub count : s.ended ≡ length whole
-  pub programs : length s.played.programs ≡ asked.programs
-  pub played : HavePlayed asked s.played uses
+  pub programs : length s.played.played.programs ≡ filtering.asked.programs
+  pub played : HaveFiltered filtering s.played uses
 
 -- Whatever follows the text, the line after those that are played is none of a stream.
-abbrev pub IsBad : Asked → StreamValue → List ℕ → Type 0
-IsBad asked s text = (more : List ℕ) → stream_of asked.programs (text ++ more) ≡ Err (s.ended + 1)
+abbrev pub IsBad : Filtering → StreamValue → List ℕ → Type 0
+IsBad filtering s text = (more : List ℕ) → stream_of filtering.asked.programs (text ++ more) ≡ Err (s.ended + 1)
 
 -- the text is read, and all its whole lines are good, or one is bad
-abbrev pub ReadsAs : Bool → Asked → StreamValue → List ℕ → Type 0
-ReadsAs true asked s text = IsBad asked s text
-ReadsAs false asked s text = IsGood asked s text
+abbrev pub ReadsAs : Bool → Filtering → StreamValue → List ℕ → Type 0
+ReadsAs true filtering s text = IsBad filtering s text
+ReadsAs false filtering s text = IsGood filtering s text
 
--- the text is read, for so many programs and this cache
-abbrev pub HasRead : Asked → StreamValue → List ℕ → Type 0
-HasRead asked s text = ReadsAs s.is_bad asked s text
+-- the text is read, for so many programs, these levels of each, and this cache
+abbrev pub HasRead : Filtering → StreamValue → List ℕ → Type 0
+HasRead filtering s text = ReadsAs s.is_bad filtering s text
 
 -- Whatever text was read, it is now that and this one.
 abbrev pub ReadsOn : StreamValue → StreamValue → List ℕ → Type 0
-ReadsOn old new more = (asked : Asked) (text : List ℕ) → HasRead asked old text → HasRead asked new (text ++ more)
+ReadsOn old new more = (filtering : Filtering) (text : List ℕ) → HasRead filtering old text → HasRead filtering new (text ++ more)
 
--- the text is a stream, and its uses were played
-pub record AreOf (asked : Asked) (played : PlayedValue) (text : List ℕ) : Type 0 where
+-- The text is a stream, and what the levels leave of its uses was played.
+pub record AreOf (filtering : Filtering) (played : PlayedValue) (text : List ℕ) : Type 0 where
   pub uses : List ProgramUse
-  pub said : stream_of asked.programs text ≡ Ok uses
-  pub have : HavePlayed asked played uses
+  pub said : stream_of filtering.asked.programs text ≡ Ok uses
+  pub have : HavePlayed filtering.asked played (left_uses filtering.levels uses)
 
 -- a stream's parts: few bytes, no more whole lines than these, at most 65 uses a byte, room for the longest line and a carriage return,
 -- and a turn of one of the programs

@@ -8,7 +8,9 @@ use Rattle.share_plans.specs.declared.goal.Goal.TheVariants.{Misses, Ratio}
 use Rattle.share_plans.specs.declared.program.Program.{Program}
 use Rattle.share_plans.specs.declared.program_use.ProgramUse.{ProgramUse}
 use Rattle.share_plans.specs.declared.score.Score.{Score}
+use Rattle.way_curve.specs.declared.first_levels.LevelShapes.{LevelShapes}
 use Rattle.share_plans.specs.Divisions.{IsBestDivision, IsDivision, misses_with}
+use Rattle.share_plans.specs.LeftUses.{left_uses}
 use Rattle.share_plans.specs.Scores.{is_less, score_of}
 use Rattle.share_plans.specs.Sharing.{lines_of, misses_by, shared_misses_of}
 use Rattle.share_plans.specs.Streams.{stream_of}
@@ -86,15 +88,16 @@ share_text goal ways programs demands shared counts =
 -- ---- the promise
 
 -- The text is the report of these uses of programs for a cache of so many sets and ways: with a division than which no other is better,
--- or with none if there is none.
+-- or with none if there is none. Where levels stand before the curves, the uses are those that the levels leave.
 pub record IsShareReport (goal : Goal) (sets ways : ℕ) (programs : List Program) (uses : List ProgramUse) (text : List ℕ) : Type 0 where
   pub counts : Option (List ℕ)
   pub best : IfSome counts (IsBestDivision goal ways (demands_of sets 0 programs uses))
   pub none : counts ≡ None → (others : List ℕ) → IsDivision ways (demands_of sets 0 programs uses) others → ⊥
   pub report : text ≡ share_text goal ways programs (demands_of sets 0 programs uses) (shared_of sets ways 0 programs uses) counts
 
--- The bytes are a stream of so many programs, and the text is the report of its uses.
-pub record ReportsShares (goal : Goal) (sets ways : ℕ) (programs : List Program) (bytes text : List ℕ) : Type 0 where
+-- The bytes are a stream of so many programs, and the text is the report of what the levels of each program leave of the stream's uses.
+-- So its accesses, hits and misses are those of the uses that are left.
+pub record ReportsShares (goal : Goal) (levels : LevelShapes) (sets ways : ℕ) (programs : List Program) (bytes text : List ℕ) : Type 0 where
   pub uses : List ProgramUse
   pub stream : stream_of (length programs) bytes ≡ Ok uses
-  pub shares : IsShareReport goal sets ways programs uses text
+  pub shares : IsShareReport goal sets ways programs (left_uses levels uses) text

@@ -1,4 +1,5 @@
--- What programs miss in caches of their own, and in one that they share.
+-- What programs miss in caches of their own, and in one that they share. The uses are those that come to these caches: where levels
+-- stand before them, those that the levels leave.
 use Rattle.std.specs.Prelude.{ℕ, ◌+◌, ◌-◌, ◌*◌, ◌/◌, ◌^◌, ◌==◌, ◌&&◌, List, [], ◌∷◌, ◌++◌, length, map}
 use Rattle.std.specs.List.{filter, range_with_len}
 use Rattle.lists.specs.Sums.{one_if}

@@ -41,7 +41,7 @@ step_of programs turn line = if nat_lt MOST_LINE_BYTES (length line) then None e
 -- the uses of a program, in order
 abbrev pub uses_by : Option ℕ → List LineUse → List ProgramUse
 uses_by None uses = []
-uses_by (Some program) uses = map (λ (u : LineUse). record { program = program; line = u.line }) uses
+uses_by (Some program) uses = map (λ (u : LineUse). record { program = program; line = u.line; code = u.code }) uses
 
 -- the uses that a line says
 abbrev pub uses_in : Step → List ProgramUse

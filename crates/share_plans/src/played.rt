@@ -142,6 +142,7 @@ impl Played {
             self.note(ProgramUse {
                 program,
                 line: used.line,
+                code: used.code,
             });
         }
     }

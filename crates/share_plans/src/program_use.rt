@@ -7,4 +7,6 @@ pub struct ProgramUse {
     pub program: u8,
     /// The number of the line: the address of its first byte, divided by 64.
     pub line: u64,
+    /// Whether it is used as code, and not as data.
+    pub code: bool,
 }

@@ -1,17 +1,18 @@
 //! A stream whose text comes in pieces.
 ghost use Rattle.std.specs.Prelude.{◌≡◌, ◌+◌, ◌≤◌, ◌<◌, ℕ, List, [], ◌∷◌, ◌++◌, length, IfOk, IfSome, MatchResult, Err, None, false};
-ghost use Rattle.share_plans.specs.Played.{Asked};
+ghost use Rattle.share_plans.specs.Filtering.{Filtering};
 ghost use Rattle.share_plans.specs.Reading.{AreOf, HasRead, IsGood, ReadsOn};
 ghost use Rattle.share_plans.specs.Streams.{stream_of};
 ghost use Rattle.share_plans.specs.declared.division_limits.TheConstants.{MOST_USES};
 ghost use Rattle.share_plans.specs.declared.stream_limits.TheConstants.{MOST_STREAM_BYTES};
 
+use crate::filtered_played::FilteredPlayed;
 use crate::played::Played;
 use crate::step::{step_of, step_of_ended};
 use rc_base::NoMemory;
 use std::alloc::Global;
 use std::marker::Model;
-use way_curve::MOST_LINE_BYTES;
+use way_curve::{LevelShapes, MOST_LINE_BYTES};
 
 /// A line is none of a stream, or it is too long.
 #[derive(Clone, Copy, Debug, PartialEq, Eq)]
@@ -28,7 +29,7 @@ pub struct Stream {
     rest: Vec<u8>,
     turn: Option<u8>,
     is_bad: bool,
-    played: Played,
+    played: FilteredPlayed,
 }
 
 impl Model for Stream {
@@ -39,21 +40,31 @@ impl Model for Stream {
 
     ghost view = { λ s. record { bytes = s.bytes; ended = s.ended; rest = s.rest.items; turn = s.turn; is_bad = s.is_bad; played = s.played } };
 
-    ghost invariant = { λ s. IsRoomy s.bytes s.ended s.rest.items (vec_capacity s.rest) s.turn s.played };
+    ghost invariant = { λ s. IsRoomy s.bytes s.ended s.rest.items (vec_capacity s.rest) s.turn s.played.played };
 }
 
 impl Stream {
-    /// A stream of no text, of so many programs, 32 at most, for a cache of so many sets, 1 at least, and ways, 32 at most. NoMemory where
-    /// the allocator gives no room for the longest line and for the last lines of each set. No other call takes memory.
-    pub fn create(alloc: Global, sets: u32, ways: u8, programs: u8) -> Result<Stream, NoMemory>
+    /// A stream of no text, of so many programs, 32 at most, each behind levels of these shapes, each of 1 set at least and 32 ways at
+    /// most; for a cache of so many sets, 1 at least, and ways, 32 at most. NoMemory where the allocator gives no room for the longest
+    /// line and for the last lines of each set. No other call takes memory.
+    pub fn create(
+        alloc: Global,
+        levels: LevelShapes,
+        sets: u32,
+        ways: u8,
+        programs: u8,
+    ) -> Result<Stream, NoMemory>
+        requires first { IfSome levels.l1 (λ s. (0 < s.sets) × (s.ways ≤ 32)) }
+        requires second { IfSome levels.l2 (λ s. (0 < s.sets) × (s.ways ≤ 32)) }
         requires some { 0 < sets }
         requires ways { ways ≤ 32 }
         requires few { programs ≤ 32 }
         ensures bytes { IfOk result (λ s. s.bytes ≡ 0) }
-        ensures empty { IfOk result (λ s. HasRead (record { programs = programs; sets = sets; ways = ways }) s []) }
+        ensures empty { IfOk result (λ s. HasRead
+            (record { levels = levels; asked = record { programs = programs; sets = sets; ways = ways } }) s []) }
     {
         let rest = Vec::with_capacity(alloc, MOST_LINE_BYTES + 1)?;
-        let played = Played::create(alloc, sets, ways, programs)?;
+        let played = FilteredPlayed::create(alloc, levels, sets, ways, programs)?;
         Ok(Stream {
             bytes: 0,
             ended: 0,
@@ -123,8 +134,8 @@ impl Stream {
     /// The first line that is none of a stream, whatever follows. None where each line that has ended is one of a stream, and the next
     /// one is not too long so far.
     pub fn bad_line(&self) -> Option<BadStream>
-        ensures told { IfSome result (λ bad. (asked : Asked) (text more : List ℕ) → HasRead asked self.now text → stream_of asked.programs (text ++ more) ≡ Err bad.line) }
-        ensures none { result ≡ None → (asked : Asked) (text : List ℕ) → HasRead asked self.now text → IsGood asked self.now text }
+        ensures told { IfSome result (λ bad. (filtering : Filtering) (text more : List ℕ) → HasRead filtering self.now text → stream_of filtering.asked.programs (text ++ more) ≡ Err bad.line) }
+        ensures none { result ≡ None → (filtering : Filtering) (text : List ℕ) → HasRead filtering self.now text → IsGood filtering self.now text }
     {
         if !self.is_bad {
             return None;
@@ -134,10 +145,11 @@ impl Stream {
         })
     }
 
-    /// What was played of the whole text, whose last line may lack its newline; or the first line that is none of a stream.
+    /// What was played of the uses of the whole text that the levels leave; or the first line that is none of a stream. The last line of
+    /// the text may lack its newline.
     pub fn finish(self) -> Result<Played, BadStream>
         ensures few { IfOk result (λ played. played.shared.uses ≤ MOST_USES) }
-        ensures played { (asked : Asked) (text : List ℕ) → HasRead asked self text → MatchResult result (λ played. AreOf asked played text) (λ bad. stream_of asked.programs text ≡ Err bad.line) }
+        ensures played { (filtering : Filtering) (text : List ℕ) → HasRead filtering self text → MatchResult result (λ played. AreOf filtering played text) (λ bad. stream_of filtering.asked.programs text ≡ Err bad.line) }
     {
         let Stream {
             bytes: _,
@@ -151,12 +163,12 @@ impl Stream {
             return Err(BadStream { line: ended + 1 });
         }
         if rest.is_empty() {
-            return Ok(played);
+            return Ok(played.into_played());
         }
         match step_of(played.count(), turn, &rest) {
             Some(step) => {
                 played.note_step(&step);
-                Ok(played)
+                Ok(played.into_played())
             }
             None => Err(BadStream { line: ended + 1 }),
         }

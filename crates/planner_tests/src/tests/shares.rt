@@ -1,5 +1,5 @@
 //! Streams of two programs with their reports, as a plain count of lists of lines has them.
-ghost use Rattle.std.specs.Prelude.{◌≡◌, ◌<◌, ◌≤◌, All, IfOk, length};
+ghost use Rattle.std.specs.Prelude.{◌≡◌, ◌<◌, ◌≤◌, All, IfOk, IfSome, length};
 ghost use Rattle.share_plans.specs.declared.division_limits.TheConstants.{MOST_WEIGHT};
 ghost use Rattle.share_plans.specs.declared.program.Program.{Program as Wish};
 ghost use Rattle.share_plans.specs.declared.stream_limits.TheConstants.{MOST_STREAM_BYTES};
@@ -8,6 +8,7 @@ use script_ops::Bytes;
 use share_plans::{Goal, Program, Stream, share_report};
 use std::alloc::Global;
 use std::test::Fail;
+use way_curve::{LevelShape, LevelShapes};
 
 // Two lines of one program, and one of another, which has the same number as one of the first.
 const TWO_LINES: &[u8] =
@@ -91,6 +92,33 @@ shared: worst ratio 60 of 6
 divided: the ways do not suffice
 ";
 
+// Lines 0 0 1 0 of the first program, and 0 0 1 1 1 of the second, of which one use of 1 is code.
+const SAME_LINES: &[u8] =
+    b"turn 0\n L 0,4\nturn 1\n L 0,4\nturn 0\n L 0,4\n L 40,4\nturn 1\n L 0,4\n L 40,4\nturn 0\n L 0,4\nturn 1\nI  40,4\n L 40,4\n";
+
+// In an L1 of one line the second use of 0 hits in each program, since the other has an L1 of its own, and so does the last of 1, since
+// code has one too. Left are 0 1 0 of the first program and 0 1 1 of the second, in turn.
+const BEHIND_L1: &[u8] = b"program web:
+ways 1: accesses 3 hits 0 misses 3
+ways 2: accesses 3 hits 1 misses 2
+ways 3: accesses 3 hits 1 misses 2
+program batch:
+ways 1: accesses 3 hits 1 misses 2
+ways 2: accesses 3 hits 1 misses 2
+ways 3: accesses 3 hits 1 misses 2
+shared web: misses 3
+shared batch: misses 2
+shared: misses 5
+shared: weighted misses 5
+divided web: ways 2 misses 2
+divided batch: ways 1 misses 2
+divided: misses 4
+divided: weighted misses 4
+divide: sharing is worse
+";
+
+const NO_LEVELS: LevelShapes = LevelShapes { l1: None, l2: None };
+
 // A program with its name.
 fn program(alloc: Global, name: &[u8], weight: u32, least: u8) -> Result<Program, Fail>
     ensures { IfOk result (λ p. p.weight ≡ weight) }
@@ -119,18 +147,21 @@ fn programs(alloc: Global, weight: u32, least: u8) -> Result<Vec<Program>, Fail>
 fn report(
     alloc: Global,
     goal: Goal,
+    levels: LevelShapes,
     sets: u32,
     ways: u8,
     programs: &[Program],
     text: &[u8],
 ) -> Result<Result<Vec<u8>, u64>, Fail>
+    requires first { IfSome levels.l1 (λ s. (0 < s.sets) × (s.ways ≤ 32)) }
+    requires second { IfSome levels.l2 (λ s. (0 < s.sets) × (s.ways ≤ 32)) }
     requires sets { 0 < sets }
     requires ways { ways ≤ 32 }
     requires few { length programs.now ≤ 32 }
     requires weights { All (λ (p : Wish). p.weight ≤ MOST_WEIGHT) programs.now }
     requires text { length text.now ≤ MOST_STREAM_BYTES }
 {
-    let mut stream = Stream::create(alloc, sets, ways, programs.len() as u8)?;
+    let mut stream = Stream::create(alloc, levels, sets, ways, programs.len() as u8)?;
     stream.take(text);
     match stream.finish() {
         Ok(played) => Ok(Ok(share_report(alloc, goal, ways, programs, &played)?)),
@@ -141,19 +172,71 @@ fn report(
 #[test]
 fn ways_are_divided_or_shared(rt: HostRuntime) -> Result<(), Fail> {
     let programs = programs(rt.alloc(), 1, 1)?;
-    let two = report(rt.alloc(), Goal::Misses, 1, 2, &programs, TWO_LINES)?;
+    let two = report(
+        rt.alloc(),
+        Goal::Misses,
+        NO_LEVELS,
+        1,
+        2,
+        &programs,
+        TWO_LINES,
+    )?;
     assert!(rt; two.is_ok_and(|text| text.as_slice() == TWO_WAYS));
-    let three = report(rt.alloc(), Goal::Misses, 1, 3, &programs, TWO_LINES)?;
+    let three = report(
+        rt.alloc(),
+        Goal::Misses,
+        NO_LEVELS,
+        1,
+        3,
+        &programs,
+        TWO_LINES,
+    )?;
     assert!(rt; three.is_ok_and(|text| text.as_slice() == THREE_WAYS));
+    Ok(())
+}
+
+#[test]
+fn each_program_has_levels_of_its_own(rt: HostRuntime) -> Result<(), Fail> {
+    let programs = programs(rt.alloc(), 1, 1)?;
+    let levels = LevelShapes {
+        l1: Some(LevelShape { sets: 1, ways: 1 }),
+        l2: None,
+    };
+    let told = report(
+        rt.alloc(),
+        Goal::Misses,
+        levels,
+        1,
+        3,
+        &programs,
+        SAME_LINES,
+    )?;
+    assert!(rt; told.is_ok_and(|text| text.as_slice() == BEHIND_L1));
     Ok(())
 }
 
 #[test]
 fn weights_and_least_ways_count(rt: HostRuntime) -> Result<(), Fail> {
     let programs = programs(rt.alloc(), 10, 2)?;
-    let four = report(rt.alloc(), Goal::Ratio, 2, 4, &programs, THREE_LINES)?;
+    let four = report(
+        rt.alloc(),
+        Goal::Ratio,
+        NO_LEVELS,
+        2,
+        4,
+        &programs,
+        THREE_LINES,
+    )?;
     assert!(rt; four.is_ok_and(|text| text.as_slice() == WORST_RATIO));
-    let two = report(rt.alloc(), Goal::Ratio, 2, 2, &programs, THREE_LINES)?;
+    let two = report(
+        rt.alloc(),
+        Goal::Ratio,
+        NO_LEVELS,
+        2,
+        2,
+        &programs,
+        THREE_LINES,
+    )?;
     assert!(rt; two.is_ok_and(|text| text.as_slice() == TOO_FEW_WAYS));
     Ok(())
 }
@@ -169,7 +252,7 @@ const BAD_LINES: [(&[u8], u64); 3] = [
 fn first_bad_lines_are_told(rt: HostRuntime) -> Result<(), Fail> {
     let programs = programs(rt.alloc(), 1, 1)?;
     for (text, line) in BAD_LINES {
-        let told = report(rt.alloc(), Goal::Misses, 1, 2, &programs, text)?;
+        let told = report(rt.alloc(), Goal::Misses, NO_LEVELS, 1, 2, &programs, text)?;
         assert_eq!(rt; told.err(), Some(line));
     }
     Ok(())

@@ -39,7 +39,7 @@ loop-used-preserved c =
     let before = c.loop-used.invariant in
     let first : uses_left c.loop-used.used-iterator ≡ c.in-Some.used ∷ rest = c.in-Some.ensures.steps in
     let near = subst (λ (us : List LineUse). All (λ (u : LineUse). u.line < 2 ^ 42) us) first before.near in
-    let one : ProgramUse = record { program = c.args.program; line = c.in-Some.used.line } in
+    let one : ProgramUse = record { program = c.args.program; line = c.in-Some.used.line; code = c.in-Some.used.code } in
     record {
       next = tt;
       finite = tt;
