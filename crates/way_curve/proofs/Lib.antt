@@ -4,9 +4,11 @@ pub mod Counts
 pub mod CurveLines
 pub mod CurveSteps
 pub mod FewUses
+pub mod FilterSteps
 pub mod FilteredSteps
 pub mod FirstCounts
 mod Fronts
+pub mod JoinSteps
 pub mod LevelSteps
 mod ModifiedLines
 mod Powers
@@ -19,6 +21,9 @@ mod SetHits
 mod Shifted
 pub mod Steps
 mod Totals
+pub mod TraceUses
 pub mod UseLists
+pub mod UseRanges
+pub mod UseTexts
 pub mod UsesFrom
 pub mod laws

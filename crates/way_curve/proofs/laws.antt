@@ -1,2 +1,3 @@
 -- Lemmas that crates above cite.
+pub mod FilteredTexts
 pub mod FirstLines

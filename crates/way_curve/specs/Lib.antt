@@ -2,10 +2,13 @@ pub mod Counting
 pub mod CurveTexts
 pub mod Curves
 pub mod Distances
+pub mod FilterTexts
 pub mod Filtering
+pub mod Filters
 pub mod FirstLevels
 pub mod FirstUses
 pub mod IsCurve
+pub mod Joining
 pub mod Laws
 pub mod LevelSteps
 pub mod Noted
