@@ -2,6 +2,7 @@
 use Rattle.std.proofs.Common.{◌≡◌, ℕ, ◌+◌, ◌≤◌, List, [], ◌∷◌, length, sym, subst, ap, ◌∙◌, refl, arith}
 use Rattle.std.specs.Prelude.{All, Ok, decimal}
 use Rattle.std.proofs.lemmas.List.Elements.{All-cons, All-head, All-nil, All-tail}
+use Rattle.share_plans.specs.LeftUses.{left_uses}
 use Rattle.share_plans.specs.Played.{HavePlayed, PlayedValue}
 use Rattle.share_plans.specs.Reading.{AreOf}
 use Rattle.share_plans.specs.Reports.{IsShareReport, ReportsShares}
@@ -34,16 +35,17 @@ All-programs_from k (w ∷ wishes) light = All-cons IsLightOne (record { name = 
 pub ReportsShares-played : (form : ShareWords) (goal : Goal) (ways : ℕ) (programs : List Program) (played : PlayedValue) (bytes text : List ℕ)
     → goal ≡ form.goal → ways ≡ form.ways → programs ≡ programs_of form
     → ((sets : ℕ) (uses : List ProgramUse) → HavePlayed (record { programs = length programs; sets = sets; ways = ways }) played uses → IsShareReport goal sets ways programs uses text)
-    → AreOf (asked_by form) played bytes → ReportsShares form.goal form.sets form.ways (programs_of form) bytes text
+    → AreOf (asked_by form) played bytes → ReportsShares form.goal form.levels form.sets form.ways (programs_of form) bytes text
 ReportsShares-played form goal ways programs played bytes text same_goal same_ways same_programs made are =
     let count = length-programs_from 0 form.wishes in
-    let have = subst (λ (n : ℕ). HavePlayed (record { programs = n; sets = form.sets; ways = ways }) played are.uses) (sym (ap length same_programs ∙ count))
-    (subst (λ (w : ℕ). HavePlayed (record { programs = length form.wishes; sets = form.sets; ways = w }) played are.uses) (sym same_ways) are.have) in
-    let is = made form.sets are.uses have in
+    let left = left_uses form.levels are.uses in
+    let have = subst (λ (n : ℕ). HavePlayed (record { programs = n; sets = form.sets; ways = ways }) played left) (sym (ap length same_programs ∙ count))
+    (subst (λ (w : ℕ). HavePlayed (record { programs = length form.wishes; sets = form.sets; ways = w }) played left) (sym same_ways) are.have) in
+    let is = made form.sets left have in
     record {
       uses = are.uses;
       stream = subst (λ (n : ℕ). stream_of n bytes ≡ Ok are.uses) (sym count) are.said;
-      shares = subst (λ (ps : List Program). IsShareReport form.goal form.sets form.ways ps are.uses text) same_programs
-          (subst (λ (w : ℕ). IsShareReport form.goal form.sets w programs are.uses text) same_ways
-          (subst (λ (g : Goal). IsShareReport g form.sets ways programs are.uses text) same_goal is));
+      shares = subst (λ (ps : List Program). IsShareReport form.goal form.sets form.ways ps left text) same_programs
+          (subst (λ (w : ℕ). IsShareReport form.goal form.sets w programs left text) same_ways
+          (subst (λ (g : Goal). IsShareReport g form.sets ways programs left text) same_goal is));
     }

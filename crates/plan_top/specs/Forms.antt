@@ -1,31 +1,22 @@
 -- What the words after the program's name ask for: `curve SETS WAYS [--l1 SETSxWAYS] [--l2 SETSxWAYS] [--one-of N [--scaled]] [--first]`, `divide [--compare] [--used]`, `divide --apply` or
--- `share SETS WAYS [--ratio] WEIGHT:LEAST ..`.
+-- `share SETS WAYS [--l1 SETSxWAYS] [--l2 SETSxWAYS] [--ratio] WEIGHT:LEAST ..`.
 use Rattle.std.specs.Prelude.{ℕ, ◌+◌, ◌==◌, false, if◌then◌else◌, List, [], ◌∷◌, ◌++◌, codes, string_bytes, String, Option, Some, None, option_map}
-use Rattle.std.specs.List.{after_first, before_first, list_any}
 use Rattle.std.specs.Option.{option_and_then}
 use Rattle.std.specs.declared.alloc.Global.{Global}
 use Rattle.num_text.specs.Numbers.{below, dec_of}
 use Rattle.rc_base.specs.Texts.{is_text}
 use Rattle.way_curve.specs.FirstLevels.{no_levels}
-use Rattle.way_curve.specs.declared.first_level.LevelShape.{LevelShape}
 use Rattle.plan_top.specs.CurveForms.{CurveWords, with_first, with_l1, with_l2, with_sample, with_scale}
 use Rattle.plan_top.specs.DivideForms.{divide_in}
 use Rattle.plan_top.specs.declared.form.Form.{Form}
 use Rattle.plan_top.specs.declared.form.Form.TheVariants.{Curve, Divide, Share}
+use Rattle.plan_top.specs.Levels.{level_in}
 use Rattle.plan_top.specs.Numbers.{sets_in, ways_in}
 use Rattle.plan_top.specs.ShareForms.{share_in}
 
 -- of how many lines a sample has one, for caches of so many sets: from 1 to as many as there are sets, in decimal digits
 abbrev pub one_of_in : ℕ → List ℕ → Option ℕ
 one_of_in sets text = option_and_then (λ n. if n == 0 then None else Some n) (below (sets + 1) (dec_of text))
-
--- a level that has these sets and ways
-abbrev pub shape_in : List ℕ → List ℕ → Option LevelShape
-shape_in sets ways = option_and_then (λ s. option_map (λ w. record { sets = s; ways = w }) (ways_in ways)) (sets_in sets)
-
--- a level, SETSxWAYS: its sets stand before the first `x`, and its ways after that
-abbrev pub level_in : List ℕ → Option LevelShape
-level_in text = if list_any (λ b. b == 120) text then shape_in (before_first (λ b. b == 120) text) (after_first (λ b. b == 120) text) else None
 
 -- what two numbers after `curve` ask for
 abbrev pub curve_in : List ℕ → List ℕ → Option CurveWords
@@ -78,4 +69,4 @@ form_of (command ∷ words) =
 
 -- the line for a command line that is not valid
 abbrev pub usage_line : List ℕ
-usage_line = codes "usage: resctrl_plan curve SETS WAYS [--l1 SETSxWAYS] [--l2 SETSxWAYS] [--one-of N [--scaled]] [--first] | divide [--compare] [--used] | divide --apply | share SETS WAYS [--ratio] WEIGHT:LEAST .." ++ 10 ∷ []
+usage_line = codes "usage: resctrl_plan curve SETS WAYS [--l1 SETSxWAYS] [--l2 SETSxWAYS] [--one-of N [--scaled]] [--first] | divide [--compare] [--used] | divide --apply | share SETS WAYS [--l1 SETSxWAYS] [--l2 SETSxWAYS] [--ratio] WEIGHT:LEAST .." ++ 10 ∷ []

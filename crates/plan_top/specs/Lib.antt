@@ -4,6 +4,7 @@ pub mod DivideForms
 pub mod Endings
 pub mod Flags
 pub mod Forms
+pub mod Levels
 pub mod Numbers
 pub mod Plans
 pub mod ShareForms

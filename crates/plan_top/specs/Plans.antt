@@ -83,7 +83,7 @@ abbrev pub reports_by : Option Form → List ℕ → Unit {0} → List ℕ → T
 reports_by None bytes nothing text = ⊥
 reports_by (Some (Curve form)) bytes nothing text = ReportsCurves form bytes text
 reports_by (Some (Divide form)) bytes nothing text = ReportsPlan form bytes text
-reports_by (Some (Share form)) bytes nothing text = ReportsShares form.goal form.sets form.ways (programs_of form) bytes text
+reports_by (Some (Share form)) bytes nothing text = ReportsShares form.goal form.levels form.sets form.ways (programs_of form) bytes text
 
 -- whether a command line is valid
 abbrev pub is_valid : Option Form → Bool

@@ -2,7 +2,8 @@
 ghost use Rattle.std.specs.Prelude.{◌≡◌};
 ghost use Rattle.std.specs.Option.{option_and_then};
 ghost use Rattle.plan_top.specs.CurveForms.{CurveWords, with_l1 as l1_with, with_l2 as l2_with, with_sample as sample_with};
-ghost use Rattle.plan_top.specs.Forms.{curve_in, from_first as from_first_in, from_l1 as from_l1_in, from_l2 as from_l2_in, from_scaled as from_scaled_in, from_sample as from_sample_in, level_in, one_of_in};
+ghost use Rattle.plan_top.specs.Forms.{curve_in, from_first as from_first_in, from_l1 as from_l1_in, from_l2 as from_l2_in, from_scaled as from_scaled_in, from_sample as from_sample_in, one_of_in};
+ghost use Rattle.plan_top.specs.Levels.{level_in};
 
 use crate::curve_form::CurveForm;
 use crate::numbers::{curve_of, level_of, one_of_of};

@@ -1,6 +1,7 @@
 //! The numbers that words are.
 ghost use Rattle.std.specs.Prelude.{◌≡◌, ◌<◌, ◌≤◌, IfSome};
-ghost use Rattle.plan_top.specs.Forms.{curve_in, level_in, one_of_in, shape_in};
+ghost use Rattle.plan_top.specs.Forms.{curve_in, one_of_in};
+ghost use Rattle.plan_top.specs.Levels.{level_in, shape_in};
 ghost use Rattle.plan_top.specs.Numbers.{sets_in, ways_in};
 
 use crate::curve_form::CurveForm;

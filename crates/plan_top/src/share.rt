@@ -64,7 +64,7 @@ fn programs_of(alloc: Global, form: &ShareForm) -> Result<Vec<Program>, NoMemory
 fn report(alloc: Global, form: &ShareForm, played: &Played) -> Result<Vec<u8>, NoMemory>
     requires { played.now.shared.uses ≤ MOST_USES }
     ensures { IfOk result (λ text. (bytes : List ℕ) → AreOf (asked_by form.now) played.now bytes
-        → ReportsShares form.now.goal form.now.sets form.now.ways (programs_in form.now) bytes text.items) }
+        → ReportsShares form.now.goal form.now.levels form.now.sets form.now.ways (programs_in form.now) bytes text.items) }
 {
     let programs = programs_of(alloc, form)?;
     share_report(alloc, form.goal(), form.ways(), &programs, played)
@@ -121,7 +121,13 @@ impl StreamProgram for ShareForm {
     ghost reports = { reports_shares };
 
     fn begin(&self, alloc: Global) -> Result<Stream, NoMemory> {
-        Stream::create(alloc, self.sets(), self.ways(), self.wishes().len() as u8)
+        Stream::create(
+            alloc,
+            self.levels(),
+            self.sets(),
+            self.ways(),
+            self.wishes().len() as u8,
+        )
     }
 
     // A stream of more bytes than are counted ends as one that is out of memory.

@@ -10,7 +10,7 @@ use rc_base::is_text;
 
 /// The line for a command line that is not valid.
 pub const USAGE: &str =
-    "usage: resctrl_plan curve SETS WAYS [--l1 SETSxWAYS] [--l2 SETSxWAYS] [--one-of N [--scaled]] [--first] | divide [--compare] [--used] | divide --apply | share SETS WAYS [--ratio] WEIGHT:LEAST ..\n";
+    "usage: resctrl_plan curve SETS WAYS [--l1 SETSxWAYS] [--l2 SETSxWAYS] [--one-of N [--scaled]] [--first] | divide [--compare] [--used] | divide --apply | share SETS WAYS [--l1 SETSxWAYS] [--l2 SETSxWAYS] [--ratio] WEIGHT:LEAST ..\n";
 
 // What a command line that is of neither `divide` nor `share` asks for.
 fn curve_form_of(words: &[String]) -> Option<Form>

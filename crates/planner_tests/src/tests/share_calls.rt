@@ -79,8 +79,26 @@ shared: weighted misses 7
 divided: the ways do not suffice
 ";
 
+// With an L1 of one line the second program's uses of line 1 as data and of line 0 as code hit when they come again.
+const BEHIND_AN_L1: &[u8] = b"program 0:
+ways 1: accesses 4 hits 0 misses 4
+ways 2: accesses 4 hits 2 misses 2
+program 1:
+ways 1: accesses 2 hits 0 misses 2
+ways 2: accesses 2 hits 0 misses 2
+shared 0: misses 4
+shared 1: misses 2
+shared: misses 6
+shared: weighted misses 10
+divided 0: ways 1 misses 4
+divided 1: ways 1 misses 2
+divided: misses 6
+divided: weighted misses 10
+do not divide: sharing is no worse
+";
+
 // Words, and what they report of the stream.
-const REPORTS: [(&[&str], &[u8]); 4] = [
+const REPORTS: [(&[&str], &[u8]); 5] = [
     (&["share", "2", "2", "1:1", "3:1"], TWO_WAYS),
     (&["share", "2", "3", "1:1", "03:01"], THREE_WAYS),
     (
@@ -88,6 +106,10 @@ const REPORTS: [(&[&str], &[u8]); 4] = [
         TWO_WAYS_BY_RATIO,
     ),
     (&["share", "2", "2", "1:2", "1:1"], TOO_FEW_WAYS),
+    (
+        &["share", "2", "2", "--l1", "1x1", "1:1", "3:1"],
+        BEHIND_AN_L1,
+    ),
 ];
 
 #[test]
@@ -149,7 +171,7 @@ fn what_is_no_stream_is_told(rt: HostRuntime) -> Result<(), Fail> {
     Ok(())
 }
 
-const NO_FORMS: [&[&str]; 20] = [
+const NO_FORMS: [&[&str]; 21] = [
     &["share"],
     &["share", "2"],
     &["share", "2", "2"],
@@ -168,7 +190,8 @@ const NO_FORMS: [&[&str]; 20] = [
     &["share", "2", "2", "1:1:1"],
     &["share", "2", "2", "1:1", "--ratio"],
     &["share", "2", "2", "--ratio", "--ratio", "1:1"],
-    &["share", "2", "2", "--l1", "2x2", "1:1"],
+    &["share", "2", "2", "--l1", "2", "1:1"],
+    &["share", "2", "2", "--l2", "2x2", "--l1", "2x2", "1:1"],
     &["Share", "2", "2", "1:1"],
 ];
 

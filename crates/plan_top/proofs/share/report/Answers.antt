@@ -11,7 +11,7 @@ pub returns : goal.returns
 returns c =
     let form = c.args.form.now in
     let played = c.args.played.now in
-    IfOk-weaker c.share_report.result _ (λ text. (bytes : List ℕ) → AreOf (asked_by form) played bytes → ReportsShares form.goal form.sets form.ways (programs_of form) bytes text.items)
+    IfOk-weaker c.share_report.result _ (λ text. (bytes : List ℕ) → AreOf (asked_by form) played bytes → ReportsShares form.goal form.levels form.sets form.ways (programs_of form) bytes text.items)
     (λ text made bytes are. ReportsShares-played form c.goal.result c.ways.result c.deref.result.now played bytes text.items
     c.goal.ensures c.ways.ensures.ways (c.deref.ensures.value ∙ c.in_ok-programs.ensures.programs) made are)
     c.share_report.ensures
