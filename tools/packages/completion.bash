@@ -42,7 +42,7 @@ _bikhnoun() {
     elif [ "$COMP_CWORD" -eq 2 ] && [ "$word" = export ]; then
         _bikhnoun_offer "step run"
     elif [ "$COMP_CWORD" -eq 2 ] && [ "$word" = plan ]; then
-        _bikhnoun_offer "curve divide draw"
+        _bikhnoun_offer "curve divide share draw"
     elif [ "$COMP_CWORD" -eq 2 ] && [ "$word" = translate ]; then
         _bikhnoun_offer "cdp l2 l3"
     fi
@@ -64,10 +64,15 @@ _resctrl() {
     case $name:$COMP_CWORD in
         resctrl_sim:1) _bikhnoun_offer "step run gen" ;;
         resctrl_sim:*) _bikhnoun_offer "--journal --json --windows --quiet" ;;
-        resctrl_plan:1) _bikhnoun_offer "curve divide" ;;
+        resctrl_plan:1) _bikhnoun_offer "curve divide share" ;;
         resctrl_plan:2) [ "${COMP_WORDS[1]}" != divide ] || _bikhnoun_offer "--compare --used --apply" ;;
         resctrl_plan:3) [ "${COMP_WORDS[2]}" != --compare ] || _bikhnoun_offer "--used" ;;
-        resctrl_plan:4) [ "${COMP_WORDS[1]}" != curve ] || _bikhnoun_offer "--l1 --l2 --one-of --first" ;;
+        resctrl_plan:4)
+            case ${COMP_WORDS[1]} in
+                curve) _bikhnoun_offer "--l1 --l2 --one-of --first" ;;
+                share) _bikhnoun_offer "--l1 --l2 --ratio" ;;
+            esac
+            ;;
         resctrl_plan:*) _bikhnoun_offer "$(_plan_flags "${COMP_WORDS[COMP_CWORD - 2]}")" ;;
         resctrl_check:1) _bikhnoun_offer "export check" ;;
         resctrl_check:2) [ "${COMP_WORDS[1]}" != export ] || _bikhnoun_offer "step run" ;;

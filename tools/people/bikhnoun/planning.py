@@ -1,4 +1,4 @@
-"""`plan` and its forms: `curve` and `divide`, which the proved planner answers, and `draw`."""
+"""`plan` and its forms: `curve`, `divide` and `share`, which the proved planner answers, and `draw`."""
 from collections.abc import Callable
 from typing import NamedTuple
 
@@ -32,7 +32,7 @@ def add_divide(part, is_named):
 
 def add_curve(part, is_named):
     """Adds the words of `curve`."""
-    part.usage = "bikhnoun plan curve [-h] (SETS WAYS | --machine NAME) [--l1 SETSxWAYS] [--l2 SETSxWAYS] [--one-of N [--scaled]] [--first] [TRACE ..]"
+    part.usage = "bikhnoun plan curve [-h] (SETS WAYS | --machine NAME) [--l1 SETSxWAYS] [--l2 SETSxWAYS] [--one-of N [--scaled]] [--first] [--scheduler ADDRESS] [TRACE ..]"
     add_cache(part, is_named)
     add_levels(part, "count")
     part.add_argument("--one-of", metavar="N", help="count a sample: the uses of one line of memory of N, in N times fewer sets")
@@ -43,6 +43,19 @@ def add_curve(part, is_named):
         "--scheduler", metavar="ADDRESS",
         help="of a Dask scheduler, whose workers count the traces, each with the program and the traces at the same paths (Debian: python3-distributed)",
     )
+
+
+def add_share(part, is_named):
+    """Adds the words of `share`."""
+    from sharing.command import NOTES, add_words
+
+    part.usage = (
+        "bikhnoun plan share [-h] (SETS WAYS | --machine NAME) [--l1 SETSxWAYS] [--l2 SETSxWAYS] [--ratio A:B] [--rest] [--goal GOAL] "
+        "[--weights A:B] [--least A:B] TRACE .."
+    )
+    part.epilog = NOTES
+    add_cache(part, is_named)
+    add_words(part)
 
 
 def add_draw(part, is_named):
@@ -93,6 +106,12 @@ def divide(given, name):
     return run(PLANS["divide"], given)
 
 
+def share(given, name):
+    from sharing.command import share as shared
+
+    return shared(given, shape_of(given, name), name)
+
+
 def draw(given, name):
     from curves.plans import draw_plan
 
@@ -110,13 +129,14 @@ class Form(NamedTuple):
 FORMS = {
     "curve": Form(PLANS["curve"].purpose, add_curve, curve),
     "divide": Form(PLANS["divide"].purpose, add_divide, divide),
+    "share": Form("counts what several programs miss if they share a cache, and divides its ways among them", add_share, share),
     "draw": Form("draws the curves that divide prints, with its plan", add_draw, draw),
 }
 
 
 def plan(arguments, name):
     """`plan curve` and the other forms. Their flags may stand between their other words."""
-    words = parser_of(name, "counts how often programs hit with each number of ways, and divides ways among groups")
+    words = parser_of(name, "counts how often programs hit with each number of ways, and divides ways among groups or programs")
     forms = words.add_subparsers(dest="form", metavar="FORM", required=True)
     parts = {}
     for word, form in FORMS.items():

@@ -1,6 +1,5 @@
 """Makes a script of memory traces, or one trace: of what valgrind's tool lackey writes, or of samples of `perf mem`."""
 import argparse
-from itertools import chain
 import os
 import sys
 
@@ -9,10 +8,10 @@ from explained.kinds import CDP, LEVELS, SIM, TRACE
 from machines.named import UnknownMachine, keys_of
 from resctrl_sim.names import tool_name
 
-from . import LINE_BYTES, BadTrace, lackey, perf
+from . import LINE_BYTES, BadTrace
 from .levels import FirstLevels, Shape
 from .merging import Lane, accesses
-from .reading import named, share_read, stream_of
+from .reading import named, told_of, trace_of
 from .writing import COMMANDS_WEIGHT, WRITERS
 
 EXAMPLES = """examples:
@@ -90,27 +89,9 @@ def head_of(given, tasks):
     return f"machine {keys}\ntasks {' '.join(str(task) for task in tasks)}\n" + ("phase\nthread\n" if given.kind == SIM else "")
 
 
-def trace_of(file, with_code):
-    """The trace in a file, known by its first line that is not blank."""
-    lines = iter(stream_of(file))
-    first = next((line for line in lines if line.strip()), None)
-    if first is None:
-        raise BadTrace("is empty")
-    if lackey.is_trace(first):
-        return lackey.Lackey(chain([first], lines), with_code)
-    if perf.is_trace(first):
-        return perf.Samples(chain([first], lines), named(file))
-    raise BadTrace("begins neither as a trace of lackey nor as perf script -F addr,data_src prints samples")
-
-
 def write(script, lanes, takes_rest):
     """Writes accesses until there are no more, or no room."""
-
-    def told(spent):
-        uses = sum(lane.taken for lane in lanes)
-        return share_read(), f"{uses / 1e6:.1f} million uses, {uses / spent:,.0f} a second"
-
-    with shown("reading traces", told):
+    with shown("reading traces", told_of(lanes)):
         for task, line, is_code in accesses(lanes, takes_rest):
             if not script.access(task, line, is_code):
                 break

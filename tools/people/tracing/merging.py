@@ -59,17 +59,21 @@ class Regions:
         return place * REGION_LINES + rest
 
 
-def accesses(lanes, takes_rest):
-    """The tasks and lines of the lanes, and whether each is used as code, turn by turn, until the first one has ended, or else all. Only
-    several are shifted.
-    """
-    regions = Regions() if len(lanes) > 1 else None
+def turns(lanes, takes_rest):
+    """The tasks and lines of the lanes, and whether each is used as code, turn by turn, until the first one has ended, or else all."""
     going = list(lanes)
     while going:
         for lane in list(going):
             for line, is_code in lane.turn():
-                yield lane.task, regions.place(lane.task, line) if regions else line, is_code
+                yield lane.task, line, is_code
             if lane.has_ended:
                 if not takes_rest:
                     return
                 going.remove(lane)
+
+
+def accesses(lanes, takes_rest):
+    """What comes turn by turn, each trace in regions of its own. Only several are shifted."""
+    regions = Regions() if len(lanes) > 1 else None
+    for task, line, is_code in turns(lanes, takes_rest):
+        yield task, regions.place(task, line) if regions else line, is_code
