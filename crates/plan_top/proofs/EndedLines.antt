@@ -7,9 +7,11 @@ use Rattle.std.proofs.lemmas.List.{take_all, take-append-drop, take-append-le}
 use Rattle.lackey_text.specs.declared.line.LackeyLine.{LackeyLine}
 use Rattle.lackey_text.specs.declared.uses.LineUse.{LineUse}
 use Rattle.way_curve.proofs.laws.FirstLines.{IsOpen-more, IsOpen-nil, lines-last, lines-newline}
-use Rattle.way_curve.specs.Reading.{IsGood, IsOpen, TraceValue}
+use Rattle.way_curve.specs.FilterTexts.{IsFilteredSoFar}
+use Rattle.way_curve.specs.Reading.{BeginsWith, IsGood, IsOpen, TraceValue}
 use Rattle.way_curve.specs.Filtering.{Filtering}
 use Rattle.way_curve.specs.TraceTexts.{said_of, uses_from, uses_with}
+use Rattle.way_curve.specs.declared.first_levels.LevelShapes.{LevelShapes}
 use Rattle.plan_top.specs.Beginnings.{HasNoBadLine}
 
 -- what follows a newline has lines of its own
@@ -64,16 +66,24 @@ front-of first later whole last same some =
 pub HasNoBadLine-nil : HasNoBadLine []
 HasNoBadLine-nil = λ ended rest is. let counts = ap length is in absurd (omega (arith, counts, length-append ended (10 ∷ rest)))
 
--- bytes that are read well
-pub HasNoBadLine-good : (filtering : Filtering) (t : TraceValue) (bytes : List ℕ) → IsGood filtering t bytes → HasNoBadLine bytes
-HasNoBadLine-good filtering t bytes good = λ ended rest is.
-    let last = t.rest ++ 97 ∷ [] in
-    let one : lines last ≡ last ∷ [] = lines-last last (IsOpen-more t.rest 97 refl good.is_open) (omega (arith, length-append t.rest (97 ∷ []))) in
-    let by_trace : lines (bytes ++ 97 ∷ []) ≡ good.whole ++ last ∷ [] = good.begins (97 ∷ []) ∙ ap (λ (ls : List (List ℕ)). good.whole ++ ls) one in
+-- bytes whose whole lines are good
+HasNoBadLine-begins : (bytes : List ℕ) (whole : List (List ℕ)) (left : List ℕ) (uses : List LineUse) → BeginsWith bytes whole left → IsOpen left → uses_from 0 whole ≡ Ok uses → HasNoBadLine bytes
+HasNoBadLine-begins bytes whole left uses begins is_open said = λ ended rest is.
+    let last = left ++ 97 ∷ [] in
+    let one : lines last ≡ last ∷ [] = lines-last last (IsOpen-more left 97 refl is_open) (omega (arith, length-append left (97 ∷ []))) in
+    let by_trace : lines (bytes ++ 97 ∷ []) ≡ whole ++ last ∷ [] = begins (97 ∷ []) ∙ ap (λ (ls : List (List ℕ)). whole ++ ls) one in
     let first = lines (ended ++ 10 ∷ []) in
     let later = lines (rest ++ 97 ∷ []) in
     let by_text : lines (bytes ++ 97 ∷ []) ≡ first ++ later =
     ap (λ (text : List ℕ). lines (text ++ 97 ∷ [])) is ∙ (ap lines (append_assoc ended (10 ∷ rest) (97 ∷ [])) ∙ lines-ended [] ended (rest ++ 97 ∷ []) IsOpen-nil) in
-    let front = front-of first later good.whole last (sym by_text ∙ by_trace) (lines-some [] rest IsOpen-nil) in
-    let whole : IsOk (uses_from 0 good.whole) = subst (λ (said : Result (List LineUse) ℕ). IsOk said) (sym good.said) refl in
-    uses_from-front 0 first (drop (length first) good.whole) (subst (λ (ls : List (List ℕ)). IsOk (uses_from 0 ls)) front whole)
+    let front = front-of first later whole last (sym by_text ∙ by_trace) (lines-some [] rest IsOpen-nil) in
+    let good : IsOk (uses_from 0 whole) = subst (λ (said : Result (List LineUse) ℕ). IsOk said) (sym said) refl in
+    uses_from-front 0 first (drop (length first) whole) (subst (λ (ls : List (List ℕ)). IsOk (uses_from 0 ls)) front good)
+
+-- bytes that are read well
+pub HasNoBadLine-good : (filtering : Filtering) (t : TraceValue) (bytes : List ℕ) → IsGood filtering t bytes → HasNoBadLine bytes
+HasNoBadLine-good filtering t bytes good = HasNoBadLine-begins bytes good.whole t.rest good.uses good.begins good.is_open good.said
+
+-- bytes that are filtered so far
+pub HasNoBadLine-filtered : (levels : LevelShapes) (bytes text : List ℕ) → IsFilteredSoFar levels bytes text → HasNoBadLine bytes
+HasNoBadLine-filtered levels bytes text is = HasNoBadLine-begins bytes is.whole is.rest is.uses is.begins is.is_open is.said

@@ -1,6 +1,7 @@
 pub mod Complete
 pub mod EndedLines
 pub mod EndedTurns
+pub mod PassedTraces
 pub mod Programs
 pub mod Promises
 pub mod SampleSets

@@ -1,5 +1,5 @@
--- What the words after the program's name ask for: `curve SETS WAYS [--l1 SETSxWAYS] [--l2 SETSxWAYS] [--one-of N [--scaled]] [--first]`, `divide [--compare] [--used]`, `divide --apply` or
--- `share SETS WAYS [--l1 SETSxWAYS] [--l2 SETSxWAYS] [--ratio] WEIGHT:LEAST ..`.
+-- What the words after the program's name ask for: `curve SETS WAYS [--l1 SETSxWAYS] [--l2 SETSxWAYS] [--one-of N [--scaled]] [--first]`,
+-- `filter [--l1 SETSxWAYS] [--l2 SETSxWAYS]`, `divide [--compare] [--used]`, `divide --apply` or `share SETS WAYS [--l1 SETSxWAYS] [--l2 SETSxWAYS] [--ratio] WEIGHT:LEAST ..`.
 use Rattle.std.specs.Prelude.{ℕ, ◌+◌, ◌==◌, false, if◌then◌else◌, List, [], ◌∷◌, ◌++◌, codes, string_bytes, String, Option, Some, None, option_map}
 use Rattle.std.specs.Option.{option_and_then}
 use Rattle.std.specs.declared.alloc.Global.{Global}
@@ -8,9 +8,10 @@ use Rattle.rc_base.specs.Texts.{is_text}
 use Rattle.way_curve.specs.FirstLevels.{no_levels}
 use Rattle.plan_top.specs.CurveForms.{CurveWords, with_first, with_l1, with_l2, with_sample, with_scale}
 use Rattle.plan_top.specs.DivideForms.{divide_in}
-use Rattle.plan_top.specs.declared.form.Form.{Form}
-use Rattle.plan_top.specs.declared.form.Form.TheVariants.{Curve, Divide, Share}
+use Rattle.plan_top.specs.FilterForms.{filter_in}
 use Rattle.plan_top.specs.Levels.{level_in}
+use Rattle.plan_top.specs.declared.form.Form.{Form}
+use Rattle.plan_top.specs.declared.form.Form.TheVariants.{Curve, Divide, Filter, Share}
 use Rattle.plan_top.specs.Numbers.{sets_in, ways_in}
 use Rattle.plan_top.specs.ShareForms.{share_in}
 
@@ -52,7 +53,7 @@ from_l1 form (flag ∷ level ∷ rest) =
     if is_text (string_bytes flag) (codes "--l1") then option_and_then (λ l. from_l2 (with_l1 form l) rest) (level_in (string_bytes level)) else from_l2 form (flag ∷ level ∷ rest)
 from_l1 form words = from_l2 form words
 
--- what a command line that is of neither `divide` nor `share` asks for
+-- what a command line that is of none of `divide`, `filter` and `share` asks for
 abbrev pub curve_form_of : List (String Global) → Option Form
 curve_form_of (command ∷ sets ∷ ways ∷ flags) =
     if is_text (string_bytes command) (codes "curve")
@@ -65,8 +66,9 @@ abbrev pub form_of : List (String Global) → Option Form
 form_of [] = None
 form_of (command ∷ words) =
     if is_text (string_bytes command) (codes "divide") then option_map Divide (divide_in words)
-    else (if is_text (string_bytes command) (codes "share") then option_map Share (share_in words) else curve_form_of (command ∷ words))
+    else (if is_text (string_bytes command) (codes "filter") then option_map Filter (filter_in words)
+    else (if is_text (string_bytes command) (codes "share") then option_map Share (share_in words) else curve_form_of (command ∷ words)))
 
 -- the line for a command line that is not valid
 abbrev pub usage_line : List ℕ
-usage_line = codes "usage: resctrl_plan curve SETS WAYS [--l1 SETSxWAYS] [--l2 SETSxWAYS] [--one-of N [--scaled]] [--first] | divide [--compare] [--used] | divide --apply | share SETS WAYS [--l1 SETSxWAYS] [--l2 SETSxWAYS] [--ratio] WEIGHT:LEAST .." ++ 10 ∷ []
+usage_line = codes "usage: resctrl_plan curve SETS WAYS [--l1 SETSxWAYS] [--l2 SETSxWAYS] [--one-of N [--scaled]] [--first] | filter [--l1 SETSxWAYS] [--l2 SETSxWAYS] | divide [--compare] [--used] | divide --apply | share SETS WAYS [--l1 SETSxWAYS] [--l2 SETSxWAYS] [--ratio] WEIGHT:LEAST .." ++ 10 ∷ []

@@ -2,6 +2,7 @@ pub mod Beginnings
 pub mod CurveForms
 pub mod DivideForms
 pub mod Endings
+pub mod FilterForms
 pub mod Flags
 pub mod Forms
 pub mod Levels

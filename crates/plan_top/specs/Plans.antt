@@ -8,6 +8,7 @@ use Rattle.share_plans.specs.Reports.{ReportsShares}
 use Rattle.step_world.specs.Play.{IsPlay}
 use Rattle.way_curve.specs.TraceTexts.{trace_of}
 use Rattle.way_curve.specs.CurveTexts.{bad_line_text, curves_text}
+use Rattle.way_curve.specs.FilterTexts.{IsFiltered, IsFilteredToBad}
 use Rattle.way_plans.specs.AppliedTexts.{TellsAppliedPlan}
 use Rattle.way_plans.specs.Planned.{TellsComparedPlan, TellsPlan}
 use Rattle.top_parts.specs.Meaning.{meaning, refusal_line}
@@ -16,7 +17,7 @@ use Rattle.plan_top.specs.CurveForms.{CurveWords}
 use Rattle.plan_top.specs.declared.divide_form.DivideForm.{DivideForm}
 use Rattle.plan_top.specs.declared.divide_form.DivideForm.TheVariants.{Apply, Report}
 use Rattle.plan_top.specs.declared.form.Form.{Form}
-use Rattle.plan_top.specs.declared.form.Form.TheVariants.{Curve, Divide, Share}
+use Rattle.plan_top.specs.declared.form.Form.TheVariants.{Curve, Divide, Filter, Share}
 use Rattle.plan_top.specs.ShareForms.{programs_of}
 use Rattle.plan_top.specs.Shares.{RefusesStream}
 
@@ -77,6 +78,7 @@ refuses_by None bytes text = ⊥
 refuses_by (Some (Curve form)) bytes text = RefusesTrace bytes text
 refuses_by (Some (Divide form)) bytes text = RefusesScript bytes text
 refuses_by (Some (Share form)) bytes text = RefusesStream form bytes text
+refuses_by (Some (Filter levels)) bytes text = IsFilteredToBad levels bytes text
 
 -- what it reports: nothing, where it is not valid
 abbrev pub reports_by : Option Form → List ℕ → Unit {0} → List ℕ → Type 0
@@ -84,6 +86,7 @@ reports_by None bytes nothing text = ⊥
 reports_by (Some (Curve form)) bytes nothing text = ReportsCurves form bytes text
 reports_by (Some (Divide form)) bytes nothing text = ReportsPlan form bytes text
 reports_by (Some (Share form)) bytes nothing text = ReportsShares form.goal form.levels form.sets form.ways (programs_of form) bytes text
+reports_by (Some (Filter levels)) bytes nothing text = IsFiltered levels bytes text
 
 -- whether a command line is valid
 abbrev pub is_valid : Option Form → Bool

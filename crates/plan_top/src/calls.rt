@@ -2,24 +2,24 @@
 ghost use Rattle.std.specs.Prelude.{◌≡◌, ◌+◌, ◌-◌, ◌<◌, ◌≤◌, ◌^◌, IfOk, None, OnErr};
 ghost use Rattle.std.specs.Process.{exit_status};
 ghost use Rattle.call_rim.specs.Codes.{code_of};
-ghost use Rattle.call_rim.specs.Endings.{Ends, call_of};
+ghost use Rattle.call_rim.specs.Endings.{call_of};
 ghost use Rattle.call_rim.specs.Outside.{reading_of, writing_of};
 ghost use Rattle.call_rim.specs.declared.status.Status.TheVariants.{NoMemory as OutOfMemory};
 ghost use Rattle.plan_top.specs.Forms.{form_of as form_in, usage_line};
-ghost use Rattle.plan_top.specs.Endings.{EndsWith, FailsBy, IsComplete, Leaves};
-ghost use Rattle.plan_top.specs.Plans.{is_valid, refuses_by, reports_by};
+ghost use Rattle.plan_top.specs.Endings.{EndsBy, EndsWith, FailsBy, IsComplete, Leaves};
+ghost use Rattle.plan_top.specs.Plans.{is_valid};
 
 use crate::divide::divide;
 use crate::form::Form;
 use crate::words::{form_of, usage_bytes};
-use call_rim::{Ended, Status, stream, usage};
+use call_rim::{Ended, Status, pass, stream, usage};
 use rc_base::NoMemory;
 use rc_stream::{Sink, Source};
 use std::alloc::Global;
 use std::process::ExitCode;
 
 /// Reads the trace, the script or the stream of programs that the source holds, and writes to the sink what the words ask for, or the
-/// line that says why there is none. What each status says is in `Ends`, and which is due in `IsComplete`. A trace or a stream is read
+/// line that says why there is none. What each status says is in `EndsBy`, and which is due in `IsComplete`. A trace or a stream is read
 /// piece by piece, and the first bad line is told as soon as it has ended: `ReadFault` only where no line before the fault was bad.
 /// After the end of the source, and where the command line is not valid, the source is not called.
 pub fn top_plan<S: Source, K: Sink>(
@@ -30,9 +30,9 @@ pub fn top_plan<S: Source, K: Sink>(
 ) -> Ended<()>
     requires source { S.faults source.old < 2 ^ 64 - 1 }
     requires sink { K.faults sink.old < 2 ^ 64 - 1 }
-    ensures ends { Ends (refuses_by (form_in words.now)) (reports_by (form_in words.now)) (call_of (is_valid (form_in words.now)) usage_line
+    ensures ends { EndsBy (form_in words.now)
         (reading_of S.left S.faults source.old source.new)
-        (writing_of K.taken K.held K.faults sink.old sink.new)) result.status result.outcome }
+        (writing_of K.taken K.held K.faults sink.old sink.new) result.status result.outcome }
     ensures complete { IsComplete (form_in words.now) (call_of (is_valid (form_in words.now)) usage_line
         (reading_of S.left S.faults source.old source.new)
         (writing_of K.taken K.held K.faults sink.old sink.new)) result.status }
@@ -44,6 +44,7 @@ pub fn top_plan<S: Source, K: Sink>(
     match form_of(words) {
         Some(Form::Curve(form)) => stream(alloc, &form, source, sink),
         Some(Form::Divide(form)) => divide(alloc, form, source, sink),
+        Some(Form::Filter(form)) => pass(alloc, &form, source, sink),
         Some(Form::Share(form)) => stream(alloc, &form, source, sink),
         None => usage(sink, usage_bytes()),
     }

@@ -5,6 +5,7 @@ mod applied;
 mod comparisons;
 mod curve_calls;
 mod curves;
+mod filters;
 mod first_levels;
 mod first_uses;
 mod plans;

@@ -134,7 +134,7 @@ const NO_FORMS: [&[&str]; 55] = [
 ];
 
 pub(crate) const USAGE_LINE: &[u8] =
-    b"usage: resctrl_plan curve SETS WAYS [--l1 SETSxWAYS] [--l2 SETSxWAYS] [--one-of N [--scaled]] [--first] | divide [--compare] [--used] | divide --apply | share SETS WAYS [--l1 SETSxWAYS] [--l2 SETSxWAYS] [--ratio] WEIGHT:LEAST ..\n";
+    b"usage: resctrl_plan curve SETS WAYS [--l1 SETSxWAYS] [--l2 SETSxWAYS] [--one-of N [--scaled]] [--first] | filter [--l1 SETSxWAYS] [--l2 SETSxWAYS] | divide [--compare] [--used] | divide --apply | share SETS WAYS [--l1 SETSxWAYS] [--l2 SETSxWAYS] [--ratio] WEIGHT:LEAST ..\n";
 
 #[test]
 fn other_words_are_no_form(rt: HostRuntime) -> Result<(), Fail> {

@@ -4,7 +4,7 @@ use Rattle.call_rim.specs.Outside.{reading_of, writing_of}
 use Rattle.call_rim.specs.declared.status.Status.TheVariants.{Usage}
 use Rattle.plan_top.specs.Forms.{usage_line}
 use Rattle.plan_top.specs.declared.form.Form.{Form}
-use Rattle.plan_top.proofs.Promises.{IsPromised, promised-curve, promised-divide, promised-share, promised-usage}
+use Rattle.plan_top.proofs.Promises.{IsPromised, promised-curve, promised-divide, promised-filter, promised-share, promised-usage}
 use Rattle.plan_top.proofs.calls.top_plan.Goals as goal
 
 pub returns-in-Some-Curve-clause-ends : goal.returns-in-Some-Curve-clause-ends
@@ -125,6 +125,46 @@ returns-in-Some-Share-clause-fails g c =
     let outcome = c.stream-in-Some-Share.result.outcome in
     let promised = subst (λ (form : Option Form). IsPromised source sink status outcome form) (rw c.in-Some-Share.field-0-is at c.in-Some-Share.ensures)
     (promised-share source sink status outcome _ (c.stream-in-Some-Share.ensures.ends usage_line) c.stream-in-Some-Share.ensures.so_far) in
+    promised.fails
+
+pub returns-in-Some-Filter-clause-ends : goal.returns-in-Some-Filter-clause-ends
+returns-in-Some-Filter-clause-ends g c =
+    let source = reading_of g.S.Source.left g.S.Source.faults c.args.source.now c.pass.new.source in
+    let sink = writing_of g.K.Sink.taken g.K.Sink.held g.K.Sink.faults c.args.sink.now c.pass.new.sink in
+    let status = c.pass.result.status in
+    let outcome = c.pass.result.outcome in
+    let promised = subst (λ (form : Option Form). IsPromised source sink status outcome form) (rw c.in-Some-Filter.field-0-is at c.in-Some-Filter.ensures)
+    (promised-filter source sink status outcome _ c.pass.ensures.ends c.pass.ensures.none) in
+    promised.ends
+
+pub returns-in-Some-Filter-clause-complete : goal.returns-in-Some-Filter-clause-complete
+returns-in-Some-Filter-clause-complete g c =
+    let source = reading_of g.S.Source.left g.S.Source.faults c.args.source.now c.pass.new.source in
+    let sink = writing_of g.K.Sink.taken g.K.Sink.held g.K.Sink.faults c.args.sink.now c.pass.new.sink in
+    let status = c.pass.result.status in
+    let outcome = c.pass.result.outcome in
+    let promised = subst (λ (form : Option Form). IsPromised source sink status outcome form) (rw c.in-Some-Filter.field-0-is at c.in-Some-Filter.ensures)
+    (promised-filter source sink status outcome _ c.pass.ensures.ends c.pass.ensures.none) in
+    promised.complete
+
+pub returns-in-Some-Filter-clause-leaves : goal.returns-in-Some-Filter-clause-leaves
+returns-in-Some-Filter-clause-leaves g c =
+    let source = reading_of g.S.Source.left g.S.Source.faults c.args.source.now c.pass.new.source in
+    let sink = writing_of g.K.Sink.taken g.K.Sink.held g.K.Sink.faults c.args.sink.now c.pass.new.sink in
+    let status = c.pass.result.status in
+    let outcome = c.pass.result.outcome in
+    let promised = subst (λ (form : Option Form). IsPromised source sink status outcome form) (rw c.in-Some-Filter.field-0-is at c.in-Some-Filter.ensures)
+    (promised-filter source sink status outcome _ c.pass.ensures.ends c.pass.ensures.none) in
+    promised.leaves
+
+pub returns-in-Some-Filter-clause-fails : goal.returns-in-Some-Filter-clause-fails
+returns-in-Some-Filter-clause-fails g c =
+    let source = reading_of g.S.Source.left g.S.Source.faults c.args.source.now c.pass.new.source in
+    let sink = writing_of g.K.Sink.taken g.K.Sink.held g.K.Sink.faults c.args.sink.now c.pass.new.sink in
+    let status = c.pass.result.status in
+    let outcome = c.pass.result.outcome in
+    let promised = subst (λ (form : Option Form). IsPromised source sink status outcome form) (rw c.in-Some-Filter.field-0-is at c.in-Some-Filter.ensures)
+    (promised-filter source sink status outcome _ c.pass.ensures.ends c.pass.ensures.none) in
     promised.fails
 
 pub returns-in-None-clause-ends : goal.returns-in-None-clause-ends
