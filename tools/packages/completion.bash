@@ -10,7 +10,7 @@ _bikhnoun_flags() {
         explain) echo "--help --version --machine --for --program" ;;
         check | statement) echo "--help --version --program" ;;
         mount) echo "--help --version --machine --tasks --pids --strict --program --record --force --resume --run" ;;
-        traces) echo "--help --version --for --machine --tasks --head --l1 --l2 --ratio --rest --code --most" ;;
+        traces) echo "--help --version --for --machine --tasks --head --l1 --l2 --proved --ratio --rest --code --most" ;;
         ways) echo "--help --version --program --lowest --curve --scheduler" ;;
         timeline) echo "--help --version --program --domain --rows --svg" ;;
         page) echo "--help --version --run --export --open --port --program" ;;
@@ -42,7 +42,7 @@ _bikhnoun() {
     elif [ "$COMP_CWORD" -eq 2 ] && [ "$word" = export ]; then
         _bikhnoun_offer "step run"
     elif [ "$COMP_CWORD" -eq 2 ] && [ "$word" = plan ]; then
-        _bikhnoun_offer "curve divide share draw"
+        _bikhnoun_offer "curve divide share filter draw"
     elif [ "$COMP_CWORD" -eq 2 ] && [ "$word" = translate ]; then
         _bikhnoun_offer "cdp l2 l3"
     fi
@@ -64,8 +64,13 @@ _resctrl() {
     case $name:$COMP_CWORD in
         resctrl_sim:1) _bikhnoun_offer "step run gen" ;;
         resctrl_sim:*) _bikhnoun_offer "--journal --json --windows --quiet" ;;
-        resctrl_plan:1) _bikhnoun_offer "curve divide share" ;;
-        resctrl_plan:2) [ "${COMP_WORDS[1]}" != divide ] || _bikhnoun_offer "--compare --used --apply" ;;
+        resctrl_plan:1) _bikhnoun_offer "curve divide share filter" ;;
+        resctrl_plan:2)
+            case ${COMP_WORDS[1]} in
+                divide) _bikhnoun_offer "--compare --used --apply" ;;
+                filter) _bikhnoun_offer "--l1 --l2" ;;
+            esac
+            ;;
         resctrl_plan:3) [ "${COMP_WORDS[2]}" != --compare ] || _bikhnoun_offer "--used" ;;
         resctrl_plan:4)
             case ${COMP_WORDS[1]} in

@@ -46,6 +46,7 @@ class Completion(unittest.TestCase):
         for place, flag in enumerate(flags[:-2], 1):
             self.assertEqual(completed("resctrl_plan", "curve", "4", "2", flag, "4", ""), set(flags[place:]))
         self.assertEqual(completed("resctrl_plan", "curve", "4", "2", "--one-of", "4", ""), {"--scaled", "--first"})
+        self.assertEqual(completed("resctrl_plan", "filter", ""), {"--l1", "--l2"})
         self.assertEqual(completed("resctrl_plan", "share", "4", "2", ""), {"--l1", "--l2", "--ratio"})
 
     def test_flags_are_those_of_the_help(self):

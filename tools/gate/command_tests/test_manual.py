@@ -28,7 +28,7 @@ class Manual(unittest.TestCase):
         page = parts()
         page["play"] = page["run"]
         for word in WORDS:
-            wanted = options_of(word) if word != "plan" else set().union(*(options_of("plan", kind) for kind in ("draw", "curve", "divide", "share")))
+            wanted = options_of(word) if word != "plan" else set().union(*(options_of("plan", kind) for kind in ("draw", "curve", "filter", "divide", "share")))
             if word == "mount":
                 wanted = set()
             has = set(FLAG.findall(page[word])) | ({"--program"} if "--program" in wanted else set())

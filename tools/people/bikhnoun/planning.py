@@ -1,4 +1,4 @@
-"""`plan` and its forms: `curve`, `divide` and `share`, which the proved planner answers, and `draw`."""
+"""`plan` and its forms: `curve`, `filter`, `divide` and `share`, which the proved planner answers, and `draw`."""
 from collections.abc import Callable
 from typing import NamedTuple
 
@@ -28,6 +28,12 @@ def add_levels(part, doing):
 def add_divide(part, is_named):
     """Adds the words of `divide`."""
     add_input(part, PLANS["divide"])
+
+
+def add_filter(part, is_named):
+    """Adds the words of `filter`."""
+    add_levels(part, "write")
+    add_input(part, PLANS["filter"])
 
 
 def add_curve(part, is_named):
@@ -102,6 +108,10 @@ def curve(given, name):
     return curves(PLANS["curve"], words, given.traces, given.scheduler, name)
 
 
+def filtered(given, name):
+    return run(PLANS["filter"], given, level_words(given))
+
+
 def divide(given, name):
     return run(PLANS["divide"], given)
 
@@ -128,6 +138,7 @@ class Form(NamedTuple):
 
 FORMS = {
     "curve": Form(PLANS["curve"].purpose, add_curve, curve),
+    "filter": Form(PLANS["filter"].purpose, add_filter, filtered),
     "divide": Form(PLANS["divide"].purpose, add_divide, divide),
     "share": Form("counts what several programs miss if they share a cache, and divides its ways among them", add_share, share),
     "draw": Form("draws the curves that divide prints, with its plan", add_draw, draw),

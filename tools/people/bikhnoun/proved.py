@@ -78,6 +78,9 @@ PLANS = {
         programs.PLANNER, ("curve",), "TRACE", (), "counting", None, "counts how often the program of a trace hits with each number of ways",
         explained_as("trace"),
     ),
+    "filter": Proved(
+        programs.PLANNER, ("filter",), "TRACE", (), "filtering", None, "writes what first levels leave of a trace, as a trace", explained_as("trace")
+    ),
     "divide": Proved(
         programs.PLANNER, ("divide",), "SCRIPT", ("--compare", "--used", "--apply"), "dividing", 60 * MB, "counts this for the groups of a script, and divides the ways among them", EXPLAINED
     ),

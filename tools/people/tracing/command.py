@@ -11,6 +11,7 @@ from resctrl_sim.names import tool_name
 from . import LINE_BYTES, BadTrace
 from .levels import FirstLevels, Shape
 from .merging import Lane, accesses
+from .proving import Behind
 from .reading import named, told_of, trace_of
 from .writing import COMMANDS_WEIGHT, WRITERS
 
@@ -18,9 +19,9 @@ EXAMPLES = """examples:
   valgrind --tool=lackey --trace-mem=yes ls 2>&1 >/dev/null | bikhnoun traces > ls.script
   bikhnoun traces --l1 32K:8 --l2 1M:16 --ratio 3:1 web.trace batch.trace > both.script
   perf script -F addr,data_src | bikhnoun traces > samples.script
-  valgrind --tool=lackey --trace-mem=yes --log-fd=9 ls 9>&1 >/dev/null 2>/dev/null | bikhnoun traces --for trace --l1 32K:8 --code > ls.trace
+  valgrind --tool=lackey --trace-mem=yes --log-fd=9 ls 9>&1 >/dev/null 2>/dev/null | bikhnoun traces --proved --for trace --l1 32K:8 --code > ls.trace
 
-Some 300,000 uses a second are read and go through first levels; on a terminal a line says how many have, how fast, and how long the rest
+Some 300,000 uses a second are read and go through first levels, and some millions with --proved; on a terminal a line says how many have, how fast, and how long the rest
 of the files will take."""
 
 
@@ -51,6 +52,10 @@ def words(arguments):
     parser.add_argument("--head", metavar="FILE", help="all lines before the accesses, machine and groups among them")
     parser.add_argument("--l1", type=shape, metavar="SIZE:WAYS", help="leave out what hits in an L1, as 32K:8")
     parser.add_argument("--l2", type=shape, metavar="SIZE:WAYS", help="leave out what hits in an L2, as 1M:16")
+    parser.add_argument(
+        "--proved", action="store_true",
+        help="have the proved planner play the first levels, some ten times as fast: of one trace of lackey, with --code, whose lines are all of a trace",
+    )
     parser.add_argument("--ratio", metavar="A:B", help="how many uses of each trace come in turn (1:1)")
     parser.add_argument("--rest", action="store_true", help="go on with the other traces where one has ended")
     parser.add_argument("--code", action="store_true", help=f"instructions that lackey tells are uses too; with --for {CDP} they always are")
@@ -102,7 +107,8 @@ def write(script, lanes, takes_rest):
 def tell(script, lanes, traces, names, what):
     """Says on standard error what was made of what."""
     for name, lane, trace in zip(names, lanes, traces):
-        print(f"{tool_name('traces')}: task {lane.task}: {lane.taken} uses of {name}, of which {lane.passed} go on to the {what}", file=sys.stderr)
+        gone = f"{lane.passed} uses of {name} go" if trace.is_behind_levels else f"{lane.taken} uses of {name}, of which {lane.passed} go"
+        print(f"{tool_name('traces')}: task {lane.task}: {gone} on to the {what}", file=sys.stderr)
         for warning in trace.warnings():
             print(f"{tool_name('traces')}: {name} {warning}", file=sys.stderr)
     print(f"{tool_name('traces')}: the {what} has {script.accesses} accesses in {script.bytes} bytes", file=sys.stderr)
@@ -120,13 +126,17 @@ def reading(given, names):
     shares = numbers(given.ratio, ":", count, "--ratio") if given.ratio else [1 if count > 1 else sys.maxsize] * count
     if len(set(tasks)) < count:
         stop("--tasks must not name a task twice")
+    has_code = given.code or given.kind == CDP
+    if given.proved and not (count == 1 and has_code and (given.l1 or given.l2)):
+        stop("--proved is for one trace, with --code and a first level")
     traces = []
     for file, name in zip(given.traces, names):
         try:
-            traces.append(trace_of(file, given.code or given.kind == CDP))
+            traces.append(Behind(file, given.l1, given.l2) if given.proved else trace_of(file, has_code))
         except BadTrace as bad:
             stop(f"{name} {bad}")
-    lanes = [Lane(task, share, trace, FirstLevels(given.l1, given.l2)) for task, share, trace in zip(tasks, shares, traces)]
+    levels = (None, None) if given.proved else (given.l1, given.l2)
+    lanes = [Lane(task, share, trace, FirstLevels(*levels)) for task, share, trace in zip(tasks, shares, traces)]
     return traces, lanes
 
 

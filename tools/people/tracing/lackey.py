@@ -56,6 +56,9 @@ def is_script(path):
 class Lackey:
     """A trace of lackey, and what valgrind said in it."""
 
+    # Whether its uses are those that first levels have left.
+    is_behind_levels = False
+
     def __init__(self, lines, with_code):
         self.lines = lines
         self.with_code = with_code

@@ -27,6 +27,8 @@ def is_answered(source):
 class Samples:
     """Samples of a program's loads and stores."""
 
+    is_behind_levels = False
+
     def __init__(self, lines, name):
         self.lines = lines
         self.name = name
