@@ -11,6 +11,8 @@ mod first_uses;
 mod plans;
 mod samples;
 mod share_calls;
+mod share_texts;
+mod share_words;
 mod shares;
 mod traces;
 mod used_groups;
