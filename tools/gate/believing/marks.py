@@ -9,13 +9,17 @@ STALE = {
     "path_names": "owner_ids holder_ids dir_ids path_ids AreKnown component_ids IsShortName AreShort",
     "script_ops": "op_ids op_component_ids IsShort AreAllShort IsNamed AreNamed Fits AreFit AreFew IsLawful",
     "pair_runs": "counts_use count_uses",
+    "way_curve": "BeginsWith IsOpen",
 }
+# Definitions that proofs alone reach, and whose mark is still to come, for the same reason.
+MISSING = {"call_rim": "PassSays"}
 
 
 def is_marked(part):
     """Whether a definition, or the head of its file, says that the top calls do not reach it."""
     lines = part.file.text.splitlines()
-    return not is_stale(part) and (FILE_MARK in lines or lines[0].startswith(f"-- {MARK}") or part.comment.startswith(MARK))
+    has_mark = FILE_MARK in lines or lines[0].startswith(f"-- {MARK}") or part.comment.startswith(MARK)
+    return not is_stale(part) and (has_mark or part.name in MISSING.get(part.file.crate(), "").split())
 
 
 def is_stale(part):
