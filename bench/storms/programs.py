@@ -14,6 +14,17 @@ def most_uses(script, count):
     script.writelines(f" M {at % 64:x}3f,4096\n" for at in range(count))
 
 
+def turn_of_most_uses(script, count):
+    """The same in one turn of a program."""
+    script.write("turn 0\n")
+    most_uses(script, count)
+
+
+def turns(script, count):
+    """A turn of another one of 32 programs for each use."""
+    script.writelines(f"turn {at % 32}\n L {64 * (at // 32):x},4\n" for at in range(count))
+
+
 def one_set(script, count):
     """Uses of 33 lines in turn, of one set."""
     script.writelines(f" L {64 * 65_536 * (at % 33):x},1\n" for at in range(count))
@@ -128,7 +139,10 @@ SLOW_TREES = named(trees.ROWS, "setup_refused", "mkdir_rmids_8", "rmdir_tasks", 
 SLOW_WINDOWS = named(windows.ROWS, "win_scatter", "win_toggle8")
 
 ROWS = (
-    Row("curve_most_uses", "resctrl_plan", ["curve", "1", "32"], 16 * MEGABYTE // 12, most_uses, "its trace: 0.6 s a MB"),
+    Row("curve_most_uses", "resctrl_plan", ["curve", "1", "32"], 16 * MEGABYTE // 12, most_uses, "its trace: 0.3 s a MB"),
+    Row("filter_most_uses", "resctrl_plan", ["filter", "--l1", "1x32"], 4 * MEGABYTE // 12, most_uses, "its trace, 170 times as long"),
+    Row("share_most_uses", "resctrl_plan", ["share", "1", "32", "1:1"], 16 * MEGABYTE // 12, turn_of_most_uses, "its stream: 0.6 s a MB"),
+    Row("share_turns", "resctrl_plan", ["share", "65536", "32", *["1:1"] * 32], MOST_WEIGHT, turns),
     Row("curve_one_set", "resctrl_plan", ["curve", "65536", "32"], MOST_WEIGHT, one_set),
     Row("curve_junk", "resctrl_plan", ["curve", "1", "1"], 10_000_000, junk),
     Row("div_sets", "resctrl_plan", ["divide"], MOST_WEIGHT - 1_000, div_sets),
