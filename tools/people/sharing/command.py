@@ -18,7 +18,7 @@ from .streams import stream_lines
 GOALS = {"misses": (), "ratio": ("--ratio",)}
 NOTES = """Each TRACE is one of valgrind's tool lackey or of `perf mem`, a file or a pipe; - is standard input. It is read once, and nothing of it
 is kept. The programs take turns of as many uses as --ratio says, until one of them has ended; its instructions are uses too. First levels
-are each program's own. The report names the programs by their numbers, from 0; which is which is told on standard error. Some 300,000 uses
+are each program's own. The report names the programs by their numbers, from 0; which is which is told on standard error. Some 200,000 uses
 a second are read."""
 
 

@@ -54,7 +54,7 @@ def words(arguments):
     parser.add_argument("--l2", type=shape, metavar="SIZE:WAYS", help="leave out what hits in an L2, as 1M:16")
     parser.add_argument(
         "--proved", action="store_true",
-        help="have the proved planner play the first levels, some ten times as fast: of one trace of lackey, with --code, whose lines are all of a trace",
+        help="have the proved planner play the first levels, some seven times as fast: of one trace of lackey, with --code, whose lines are all of a trace",
     )
     parser.add_argument("--ratio", metavar="A:B", help="how many uses of each trace come in turn (1:1)")
     parser.add_argument("--rest", action="store_true", help="go on with the other traces where one has ended")

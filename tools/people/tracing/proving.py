@@ -1,4 +1,4 @@
-"""A trace of lackey behind first levels that the proved planner plays, some ten times as fast as `levels`."""
+"""A trace of lackey behind first levels that the proved planner plays, some seven times as fast as `levels`."""
 from itertools import chain
 import re
 import subprocess
