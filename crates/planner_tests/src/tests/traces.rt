@@ -1,11 +1,11 @@
 //! A trace in pieces.
 
-ghost use Rattle.std.specs.Prelude.{◌≡◌, ◌≤◌, length, IfOk};
+ghost use Rattle.std.specs.Prelude.{◌≡◌, IfOk};
 
 use rc_base::NoMemory;
 use std::alloc::Global;
 use std::test::Fail;
-use way_curve::{BadTrace, FilteredCurves, LevelShapes, Trace};
+use way_curve::{BadTrace, LevelShapes, Trace};
 
 // A trace for caches of so many sets, 1 at least.
 fn trace_of(alloc: Global, sets: u32) -> Result<Trace, NoMemory>
@@ -37,39 +37,37 @@ fn pieces_end_anywhere(rt: HostRuntime) -> Result<(), Fail> {
     Ok(())
 }
 
-// The curves of a short trace.
-fn curves_of(alloc: Global, text: &[u8], sets: u32) -> Result<FilteredCurves, Fail>
-    requires { length text.now ≤ 64 }
-{
+// How many uses the first 64 bytes of a trace have, and how many of them hit with so many ways, 32 at most.
+fn hits_of(alloc: Global, text: &[u8], sets: u32, ways: u8) -> Result<(u64, u64), Fail> {
     let mut trace = trace_of(alloc, sets)?;
-    trace.take(text);
+    trace.take(&text[..text.len().min(64)]);
     let filtered = trace.finish()?;
-    Ok(filtered)
+    let all = filtered.counted().of_all();
+    Ok((all.uses(), all.hits(ways.min(32))))
 }
+
+// In two sets the stores to lines 0, 2 and 4 come after two other lines of their set, and those to lines 1 and 3 after one.
+const TWO_SETS: &[u8] = b" M 0,320\n L 100,1\n L 0,1\n";
+
+// Traces, how many sets and ways there are, and the uses and hits. After its stores line 4 is still the last of its set, and line 0 comes
+// after 2 and 4. With more sets than lines each line is the last of its set. Of 65 lines in two sets 33 come after 32 others, which is too
+// far for 32 ways, and 32 after 31 others.
+const MODIFIED: [(&[u8], u32, u8, u64, u64); 6] = [
+    (TWO_SETS, 2, 1, 12, 1),
+    (TWO_SETS, 2, 2, 12, 3),
+    (TWO_SETS, 2, 3, 12, 7),
+    (b" M 0,320\n", 8, 1, 10, 5),
+    (b" M 3f,4096\n", 2, 31, 130, 0),
+    (b" M 3f,4096\n", 2, 32, 130, 32),
+];
 
 #[test]
 fn modified_lines_are_loaded_and_then_stored(rt: HostRuntime) -> Result<(), Fail> {
-    // In two sets the stores to lines 0, 2 and 4 come after two other lines of their set, and those to lines 1 and 3 after one. Then
-    // line 4 is still the last of its set, and line 0 comes after 2 and 4.
-    let filtered = curves_of(rt.alloc(), b" M 0,320\n L 100,1\n L 0,1\n", 2)?;
-    let curves = filtered.counted();
-    assert_eq!(rt; curves.of_all().uses(), 12);
-    assert_eq!(rt; curves.of_all().hits(1), 1);
-    assert_eq!(rt; curves.of_all().hits(2), 3);
-    assert_eq!(rt; curves.of_all().hits(3), 7);
-    assert_eq!(rt; curves.of_data().uses(), 12);
-    assert_eq!(rt; curves.of_data().hits(2), 3);
-    assert_eq!(rt; curves.of_code().uses(), 0);
-
-    // With more sets than lines, each line is the last of its set.
-    let filtered = curves_of(rt.alloc(), b" M 0,320\n", 8)?;
-    assert_eq!(rt; filtered.counted().of_all().hits(1), 5);
-
-    // Of 65 lines in two sets, 33 come after 32 others, which is too far for 32 ways, and 32 after 31 others.
-    let filtered = curves_of(rt.alloc(), b" M 3f,4096\n", 2)?;
-    assert_eq!(rt; filtered.counted().of_all().uses(), 130);
-    assert_eq!(rt; filtered.counted().of_all().hits(31), 0);
-    assert_eq!(rt; filtered.counted().of_all().hits(32), 32);
+    for (text, sets, ways, uses, hits) in MODIFIED {
+        let (found, hit) = hits_of(rt.alloc(), text, sets, ways)?;
+        assert_eq!(rt; found, uses);
+        assert_eq!(rt; hit, hits);
+    }
     Ok(())
 }
 
