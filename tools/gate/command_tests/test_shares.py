@@ -1,27 +1,9 @@
 """Several traces: what the planner is asked. The streams of turns were worked out by hand."""
-from pathlib import Path
-import tempfile
-import unittest
-
-from installed import bikhnoun, program, stand_in
-
-LONG = b" L 0,4\n M 7f,2\nI  400,4\n"
-SHORT = b" S 40,4\n L 80,4\n"
-# A planner that prints its words and what it reads.
-SHOWN = 'echo "$@"; cat'
+from installed import program, stand_in
+from traced import SHOWN, Traced
 
 
-class Shares(unittest.TestCase):
-    def setUp(self):
-        folder = tempfile.TemporaryDirectory()
-        self.addCleanup(folder.cleanup)
-        self.folder = folder.name
-        for name, trace in (("long", LONG), ("short", SHORT), ("bad", b"no trace\n")):
-            Path(folder.name, name).write_bytes(trace)
-
-    def plan(self, *words, programs=None):
-        return bikhnoun("plan", *words, programs=programs, cwd=self.folder)
-
+class Shares(Traced):
     def asked(self, *words):
         """What the planner is asked and given, and what is said on standard error."""
         done = self.plan("share", *words, programs=stand_in(self.folder, SHOWN, "resctrl_plan"))

@@ -1,27 +1,9 @@
 """Curves of several traces, and flags that stand before them."""
-from pathlib import Path
-import tempfile
-import unittest
-
-from installed import bikhnoun, program, stand_in
-
-LONG = b" L 0,4\n M 7f,2\nI  400,4\n"
-SHORT = b" S 40,4\n L 80,4\n"
-# A planner that prints its words and what it reads.
-SHOWN = 'echo "$@"; cat'
+from installed import program, stand_in
+from traced import LONG, SHORT, SHOWN, Traced
 
 
-class Traces(unittest.TestCase):
-    def setUp(self):
-        folder = tempfile.TemporaryDirectory()
-        self.addCleanup(folder.cleanup)
-        self.folder = folder.name
-        for name, trace in (("long", LONG), ("short", SHORT), ("bad", b"no trace\n")):
-            Path(folder.name, name).write_bytes(trace)
-
-    def plan(self, *words, programs=None):
-        return bikhnoun("plan", *words, programs=programs, cwd=self.folder)
-
+class Traces(Traced):
     def test_curves_of_several_traces(self):
         done = self.plan("curve", "4", "2", "long", "short")
         parts = (b"trace %s:\n%s" % (name, program("resctrl_plan", "curve", "4", "2", data=trace).stdout) for name, trace in ((b"long", LONG), (b"short", SHORT)))
