@@ -1,4 +1,4 @@
-//! Places for slices are filled and emptied.
+//! Slots for slices are filled and emptied.
 ghost use Rattle.std.specs.Prelude.{◌≡◌, ℕ, ◌+◌, ◌≤◌, vec_capacity};
 ghost use Rattle.live_run.specs.Cells.{AreOfThreads, taken_from};
 ghost use Rattle.live_run.specs.Openings.{AreParts, AreSettled};
@@ -9,7 +9,7 @@ use crate::parts::Part;
 use run_law::TreeEntry;
 use seen_journal::Journal;
 
-/// Places for slices, by their numbers over all domains, before and after a run.
+/// Slots for slices, by their numbers over all domains, before and after a run.
 pub trait Fill<N: Named, T: NamedTable> {
     /// The number of the first.
     ghost first: { ℕ };

@@ -10,12 +10,12 @@ ghost use Rattle.live_run.specs.Steps.{HasTaken};
 ghost use Rattle.run_law.specs.Ops.{ByKind, is_command};
 ghost use Rattle.script_ops.specs.Values.{op_at};
 
-use crate::closing::Closing;
-use crate::holding::SliceGate;
+use crate::access::SliceGate;
+use crate::closing_room::Closing;
 use crate::named::{Named, NamedTable, StepShare};
 use crate::passes::Passes;
+use crate::seen::hand;
 use crate::slices::Slices;
-use crate::taking::hand;
 use crate::tree::TreeCell;
 use cache_steps::Reached;
 use machine::Machine;

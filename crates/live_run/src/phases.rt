@@ -1,8 +1,8 @@
-//! The phases of a script.
+//! The phases of a script, and what their threads hand on.
 ghost use Rattle.std.specs.Prelude.{◌≡◌, ℕ, ◌+◌, ◌<◌, length, true};
 ghost use Rattle.live_law.specs.SeenJournals.{HasGrown};
 ghost use Rattle.live_run.specs.Names.{seen_by};
-ghost use Rattle.live_run.specs.Phases.{AreBefore, AreBegun, AreEndedIn, AreOfPhase, HasWorked, HaveEnded, HaveWorked, IsEndedIn, IsOfPhase, MayAllWork, MayWork, passes_at};
+ghost use Rattle.live_run.specs.Phases.{AreBefore, AreBegun, AreEndedIn, AreOfPhase, HasWorked, HaveEnded, HaveWorked, IsEndedIn, IsOfPhase, MayAllWork, MayWork, passes_at, HasMetEach, HaveHandedOn};
 ghost use Rattle.live_run.specs.Sharing.{IsAtPhase};
 
 use crate::live::Live;
@@ -108,5 +108,26 @@ fn end_all<N: Named, T: NamedTable>(turn: &mut StepShare<N>, own: &mut [Passes<N
 {
     for k in 0..own.len() {
         end(turn, &mut own[k]);
+    }
+}
+
+impl<N: Named, T: NamedTable> Live<N, T> {
+    // Each of the later threads has seen what any of these has.
+    fn hand_all(&self, own: &mut [Passes<N, T>], later: &mut [Passes<N, T>])
+        requires some { 0 < length own.old }
+        ensures { HaveHandedOn N.script own.old own.new later.old later.new }
+    {
+        let (one, others) = own.split_at_mut(1);
+        self.hand_each(&mut one[0], others);
+        self.hand_each(&mut one[0], later);
+    }
+
+    // One meets each of the others, in order.
+    fn hand_each(&self, one: &mut Passes<N, T>, others: &mut [Passes<N, T>])
+        ensures { HasMetEach N.script (length others.old) one.old one.new others.old others.new }
+    {
+        for k in 0..others.len() {
+            self.hand_on(one, &mut others[k]);
+        }
     }
 }

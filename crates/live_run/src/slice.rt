@@ -9,11 +9,10 @@ ghost use Rattle.live_run.specs.Steps.{HasAdded, HasFollowed, HasTouched};
 ghost use Rattle.live_run.specs.Visits.{MayFollow, MayLook, MayTouch};
 ghost use Rattle.schedule_law.specs.declared.part.Happening.TheVariants as happenings;
 
-use crate::holding::Hold;
+use crate::access::Hold;
 use crate::named::{Named, NamedTable, StepShare};
-use crate::noting::note;
 use crate::parts::Part;
-use crate::seen::{Seen, meet};
+use crate::seen::{Seen, meet, note};
 use cache_core::{Cache, SliceEntry, What};
 use cache_steps::{Reached, access_of, enact, entry, reach};
 use rc_base::Tag;

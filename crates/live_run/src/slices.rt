@@ -10,14 +10,14 @@ ghost use Rattle.live_run.specs.Visits.{MayFollow, MayLook, MayTouch};
 ghost use Rattle.machine.specs.Slices.{slice_count};
 ghost use Rattle.schedule_law.specs.declared.part.Happening.TheVariants as happenings;
 
+use crate::access::Hold;
 use crate::fill::Fill;
-use crate::four_places::FourPlaces;
-use crate::holding::Hold;
+use crate::four_slots::FourSlots;
 use crate::named::{Named, NamedTable, StepShare};
 use crate::parts::Part;
-use crate::places::Places;
-use crate::row::Row;
 use crate::seen::Seen;
+use crate::slice_slots::SliceSlots;
+use crate::slot_pair::SlotPair;
 use cache_steps::Reached;
 use rc_base::Tag;
 use run_law::TreeEntry;
@@ -26,22 +26,22 @@ use std::marker::Model;
 use std::sync::Wait;
 use tree_law::Follow;
 
-// The places of slices 0 to 15, and of 16 to 31.
-type Lower<N, T> = Row<
-    Row<FourPlaces<N, T, 0, 1, 2, 3>, FourPlaces<N, T, 4, 5, 6, 7>>,
-    Row<FourPlaces<N, T, 8, 9, 10, 11>, FourPlaces<N, T, 12, 13, 14, 15>>,
+// The slots of slices 0 to 15, and of 16 to 31.
+type LowerSlots<N, T> = SlotPair<
+    SlotPair<FourSlots<N, T, 0, 1, 2, 3>, FourSlots<N, T, 4, 5, 6, 7>>,
+    SlotPair<FourSlots<N, T, 8, 9, 10, 11>, FourSlots<N, T, 12, 13, 14, 15>>,
 >;
 
-type Upper<N, T> = Row<
-    Row<FourPlaces<N, T, 16, 17, 18, 19>, FourPlaces<N, T, 20, 21, 22, 23>>,
-    Row<FourPlaces<N, T, 24, 25, 26, 27>, FourPlaces<N, T, 28, 29, 30, 31>>,
+type UpperSlots<N, T> = SlotPair<
+    SlotPair<FourSlots<N, T, 16, 17, 18, 19>, FourSlots<N, T, 20, 21, 22, 23>>,
+    SlotPair<FourSlots<N, T, 24, 25, 26, 27>, FourSlots<N, T, 28, 29, 30, 31>>,
 >;
 
 /// The slices of all domains, each under a lock of its own. A machine has at most 32.
 /// Contracts see how many the machine has.
 #[derive(Drop)]
 pub struct Slices<N: Named, T: NamedTable> {
-    places: Row<Lower<N, T>, Upper<N, T>>,
+    slots: SlotPair<LowerSlots<N, T>, UpperSlots<N, T>>,
 }
 
 impl<N: Named, T: NamedTable> Model for Slices<N, T> {
@@ -61,21 +61,24 @@ impl<N: Named, T: NamedTable> Slices<N, T> {
         requires few { slice_count N.script.machine ≤ 32 }
         requires parts { AreParts N.script T.table N.tree N.slices 0 parts.old.items }
     {
-        // One after the other: what is known of a call on all places at once is too large to be checked.
-        let places_0 = FourPlaces::<N, T, 0, 1, 2, 3>::open(parts);
-        let places_4 = FourPlaces::<N, T, 4, 5, 6, 7>::open(parts);
-        let places_8 = FourPlaces::<N, T, 8, 9, 10, 11>::open(parts);
-        let places_12 = FourPlaces::<N, T, 12, 13, 14, 15>::open(parts);
-        let places_16 = FourPlaces::<N, T, 16, 17, 18, 19>::open(parts);
-        let places_20 = FourPlaces::<N, T, 20, 21, 22, 23>::open(parts);
-        let places_24 = FourPlaces::<N, T, 24, 25, 26, 27>::open(parts);
-        let places_28 = FourPlaces::<N, T, 28, 29, 30, 31>::open(parts);
+        // One after the other: what is known of a call on all slots at once is too large to be checked.
+        let slots_0 = FourSlots::<N, T, 0, 1, 2, 3>::open(parts);
+        let slots_4 = FourSlots::<N, T, 4, 5, 6, 7>::open(parts);
+        let slots_8 = FourSlots::<N, T, 8, 9, 10, 11>::open(parts);
+        let slots_12 = FourSlots::<N, T, 12, 13, 14, 15>::open(parts);
+        let slots_16 = FourSlots::<N, T, 16, 17, 18, 19>::open(parts);
+        let slots_20 = FourSlots::<N, T, 20, 21, 22, 23>::open(parts);
+        let slots_24 = FourSlots::<N, T, 24, 25, 26, 27>::open(parts);
+        let slots_28 = FourSlots::<N, T, 28, 29, 30, 31>::open(parts);
         Slices {
-            places: Row::new(
-                Row::new(Row::new(places_0, places_4), Row::new(places_8, places_12)),
-                Row::new(
-                    Row::new(places_16, places_20),
-                    Row::new(places_24, places_28),
+            slots: SlotPair::new(
+                SlotPair::new(
+                    SlotPair::new(slots_0, slots_4),
+                    SlotPair::new(slots_8, slots_12),
+                ),
+                SlotPair::new(
+                    SlotPair::new(slots_16, slots_20),
+                    SlotPair::new(slots_24, slots_28),
                 ),
             ),
         }
@@ -90,8 +93,8 @@ impl<N: Named, T: NamedTable> Slices<N, T> {
         ensures history { history.new ≡ history.old }
         ensures after { AreSettled N.script T.table N.tree N.slices history.old.entries (slice_count N.script.machine) into.new.items }
     {
-        let Slices { places } = self;
-        let (lower, upper) = places.parted();
+        let Slices { slots } = self;
+        let (lower, upper) = slots.parted();
         let (first, second) = lower.parted();
         let (third, fourth) = upper.parted();
         let (front, back) = first.parted();
@@ -129,7 +132,7 @@ impl<N: Named, T: NamedTable> Slices<N, T> {
         ensures added { HasAdded i (entry_of s.old.thread op epoch (Look rmid result)) s.old s.new }
         ensures worker { HasStepped (happenings.Look (entry_of s.old.thread op epoch (Look rmid result))) worker.old worker.new }
     {
-        self.places.look(rt, i, history, s, worker, op, epoch, rmid)
+        self.slots.look(rt, i, history, s, worker, op, epoch, rmid)
     }
 
     /// Does what follows the command that holds the tree, in the slice of a number.
@@ -153,7 +156,7 @@ impl<N: Named, T: NamedTable> Slices<N, T> {
         ensures followed { HasFollowed i op epoch follow s.old s.new }
         ensures worker { HasFollowedOn is_last worker.old worker.new }
     {
-        self.places
+        self.slots
             .follow(rt, i, history, s, worker, op, epoch, follow, is_last);
     }
 
@@ -175,6 +178,6 @@ impl<N: Named, T: NamedTable> Slices<N, T> {
         ensures touched { HasTouched i op tag.now line s.old s.new result }
         ensures worker { HasReached s.old.thread op tag.now line result worker.old worker.new }
     {
-        self.places.touch(rt, hold, i, s, worker, op, tag, line)
+        self.slots.touch(rt, hold, i, s, worker, op, tag, line)
     }
 }

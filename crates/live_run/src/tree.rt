@@ -15,13 +15,10 @@ ghost use Rattle.schedule_law.specs.LiveParts.{live_tree};
 ghost use Rattle.schedule_law.specs.declared.part.Happening.TheVariants as happenings;
 ghost use Rattle.script_ops.specs.Values.{IsLawful, op_at, threads_of};
 
-use crate::following::follow_all;
-use crate::looking::look_all;
+use crate::command::{follow_all, look_all, show};
 use crate::named::{Named, NamedTable, StepShare, TREE_LOCK};
-use crate::seen::Seen;
-use crate::showing::show;
+use crate::seen::{Seen, decide, release, take};
 use crate::slices::Slices;
-use crate::taking::{decide, release, take};
 use cache_core::SliceEntry;
 use rc_base::{LookList, NoMemory, Reply, Tag, TextBuf};
 use run_law::TreeEntry;

@@ -1,0 +1,24 @@
+use Rattle.std.proofs.Common.{◌≡◌, ◌+◌, ◌≤◌, length}
+use Rattle.live_run.proofs.command.look_all.Given as goal
+use Rattle.live_law.specs.SeenJournals.{HasGrown}
+use Rattle.live_run.specs.Commands.{LooksAt}
+use Rattle.live_run.specs.Names.{seen_by}
+
+abbrev pub invariant-loop-q : goal.invariant-loop-q
+invariant-loop-q g l = record {
+  history : l.history ≡ l.fn.history;
+  tree : l.s.tree ≡ l.fn.s.tree;
+  thread : l.s.thread ≡ l.fn.s.thread;
+  grown : HasGrown (seen_by l.fn.s) (seen_by l.s);
+  room : length l.counts ≤ l.looks.spare + l.q;
+  at : LooksAt g.N.Named.script g.T.NamedTable.table l.number l.op l.q 0 0 l.looks.numbers l.s l.worker;
+}
+
+abbrev pub invariant-loop-x : goal.invariant-loop-x
+invariant-loop-x g l = record {
+  history : l.history ≡ l.fn.history;
+  tree : l.s.tree ≡ l.fn.s.tree;
+  thread : l.s.thread ≡ l.fn.s.thread;
+  grown : HasGrown (seen_by l.fn.s) (seen_by l.s);
+  at : LooksAt g.N.Named.script g.T.NamedTable.table l.number l.op l.q l.x l.lines l.looks.numbers l.s l.worker;
+}

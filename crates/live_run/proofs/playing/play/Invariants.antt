@@ -1,4 +1,0 @@
-use Rattle.live_run.proofs.playing.play.Given as goal
-
-abbrev pub ghosts-play_shared : goal.ghosts-play_shared
-ghosts-play_shared g a = record { script = a.script.now; tree = a.logs.tree; slices = a.logs.slices }

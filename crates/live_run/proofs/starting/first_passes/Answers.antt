@@ -1,8 +1,0 @@
-use Rattle.std.proofs.Common.{length}
-use Rattle.live_run.proofs.Starts.{AreNew-given}
-use Rattle.live_run.proofs.starting.first_passes.Goals as goal
-use Rattle.script_ops.specs.Values.{threads_of}
-
-pub returns-clause-own : goal.returns-clause-own
-returns-clause-own g c =
-    AreNew-given g.N.Named.script g.N.Named.tree g.N.Named.slices c.requires.quotas (length (threads_of g.N.Named.script)) c.all_first.new.tree c.all_first.new.slices.items c.take_each.new.logs.items c.in_ok-own.own.items c.in_ok-passes.ensures.given c.in_ok-own.ensures

@@ -1,0 +1,94 @@
+//! An access: its turns, and where its thread can be held in a slice.
+ghost use Rattle.std.specs.Prelude.{◌≡◌, ◌+◌, Some, true};
+ghost use Rattle.live_law.specs.Stages.{slice_reached};
+ghost use Rattle.live_run.specs.Accesses.{HasAccessed, HasTurned};
+ghost use Rattle.live_run.specs.Sharing.{IsResting, op_after};
+ghost use Rattle.live_run.specs.Visits.{HasRoomIn};
+ghost use Rattle.machine.specs.Maps.{domain_of, line_of};
+ghost use Rattle.machine.specs.Slices.{slice_of_line};
+ghost use Rattle.script_ops.specs.Values.{op_at};
+ghost use Rattle.script_ops.specs.declared.op.Op.TheVariants.{Access};
+
+use crate::live::Live;
+use crate::named::{Named, NamedTable, StepShare};
+use crate::seen::Seen;
+use cache_steps::Reached;
+use rc_stream::{Gate, Point};
+use std::sync::Wait;
+
+/// Is called with the lock of a slice held, just before an access touches.
+pub(crate) trait Hold {
+    /// The worker of this thread has come there.
+    fn hold(&self, thread: u32);
+}
+
+/// The point of a gate in a slice.
+#[derive(Drop)]
+pub(crate) struct SliceGate<'a, G: Gate> {
+    pub(crate) gate: &'a G,
+}
+
+impl<G: Gate> Hold for SliceGate<'_, G> {
+    fn hold(&self, thread: u32) {
+        self.gate.at(Point::InSlice, thread);
+    }
+}
+
+impl<N: Named, T: NamedTable> Live<N, T> {
+    // One turn: it tags and touches. The epoch of its tag, where that was stale.
+    fn turn(
+        &self,
+        rt: &impl Wait,
+        hold: &impl Hold,
+        s: &mut Seen<N>,
+        worker: &mut StepShare<N>,
+        op: u32,
+        task: u32,
+        cpu: u8,
+        addr: u64,
+    ) -> Result<Reached, u64>
+        requires op { op_at N.script s.old.thread op ≡ Some (Access task cpu addr) }
+        requires room { HasRoomIn N.script (slice_reached N.script.machine cpu addr) s.old }
+        requires worker { IsResting T.table s.old.thread op true worker.old }
+        ensures turned { HasTurned N.script op task cpu addr s.old s.new result }
+        ensures worker { IsResting T.table s.old.thread (op_after op result) true worker.new }
+    {
+        let tag = self.tree.lock(rt).tag(s, worker, task, cpu);
+        let line = addr / 64;
+        let slice = self.machine.line_slice(tag.domain, line);
+        match self
+            .slices
+            .touch(rt, hold, slice, s, worker, op, &tag, line)
+        {
+            Some(reached) => Ok(reached),
+            None => Err(tag.epoch),
+        }
+    }
+
+    /// Turns until the tag is not stale. Each has a greater epoch than the last.
+    pub(crate) fn reach(
+        &self,
+        rt: &impl Wait,
+        hold: &impl Hold,
+        s: &mut Seen<N>,
+        worker: &mut StepShare<N>,
+        op: u32,
+        task: u32,
+        cpu: u8,
+        addr: u64,
+    ) -> Reached
+        requires op { op_at N.script s.old.thread op ≡ Some (Access task cpu addr) }
+        requires room { HasRoomIn N.script (slice_reached N.script.machine cpu addr) s.old }
+        requires worker { IsResting T.table s.old.thread op true worker.old }
+        ensures accessed { HasAccessed N.script op task cpu addr result s.old s.new }
+        ensures worker { IsResting T.table s.old.thread (op + 1) true worker.new }
+    {
+        let mut turn = self.turn(rt, hold, s, worker, op, task, cpu, addr);
+        loop {
+            match turn {
+                Ok(reached) => return reached,
+                Err(_) => turn = self.turn(rt, hold, s, worker, op, task, cpu, addr),
+            }
+        }
+    }
+}

@@ -1,0 +1,138 @@
+//! The steps of a command that holds the tree: the counts that it needs, what follows it in the slices, and the text that it shows.
+ghost use Rattle.std.specs.Prelude.{◌≡◌, ◌≤◌, All, length, ◌-◌, ◌<◌, take, ◌+◌, ◌^◌, IsTrue, None};
+ghost use Rattle.file_view.specs.Texts.{is_reading};
+ghost use Rattle.live_law.specs.SeenJournals.{HasGrown};
+ghost use Rattle.live_run.specs.Commands.{LooksAt, FollowsAt, shown_where};
+ghost use Rattle.live_run.specs.Names.{history_of, seen_by};
+ghost use Rattle.machine.specs.Maps.{parameters_of};
+ghost use Rattle.machine.specs.Ranges.{InRange};
+ghost use Rattle.rc_base.specs.declared.replies.Reply.TheVariants.{Ok};
+ghost use Rattle.rc_base.specs.declared.text_buf.TheConstants.{TEXT_MAX};
+ghost use Rattle.run_law.specs.FoundLooks.{AreDistinct};
+ghost use Rattle.run_law.specs.Jobs.{jobs_of, looks_of};
+ghost use Rattle.run_law.specs.TreeHistory.{tree_after};
+ghost use Rattle.tree_core.specs.Follows.{IsReady};
+ghost use Rattle.tree_core.specs.Named.{AreNamed};
+ghost use Rattle.tree_law.specs.LawsCounts.{CanLook};
+ghost use Rattle.tree_law.specs.Steps.{needs, after, follow_domain, refusal};
+
+use crate::named::{Named, NamedTable, StepShare};
+use crate::seen::Seen;
+use crate::slices::Slices;
+use file_view::{is_reading, text};
+use machine::Machine;
+use rc_base::{LookList, Reply, TextBuf};
+use run_law::{TreeEntry, slice_for, slices_for};
+use script_ops::{Op, Script};
+use seen_journal::Journal;
+use std::sync::Wait;
+use tree_core::{Counts, Tree};
+use tree_law::Follow;
+
+/// All looks of a command that holds the tree, in order: for each count one in each slice of its domain.
+pub(crate) fn look_all<N: Named, T: NamedTable>(
+    slices: &Slices<N, T>,
+    rt: &impl Wait,
+    m: &Machine,
+    history: &mut Journal<TreeEntry>,
+    s: &mut Seen<N>,
+    worker: &mut StepShare<N>,
+    number: u32,
+    epoch: u64,
+    op: &Op,
+    counts: &Counts,
+    looks: &mut LookList,
+)
+    requires machine { parameters_of m.now ≡ N.script.machine }
+    requires range { InRange N.script.machine }
+    requires name { history.old.name ≡ N.tree }
+    requires whole { s.old.tree.seen ≡ history.old.entries }
+    requires epoch { epoch ≡ length history.old.entries }
+    requires counts { counts.now ≡ needs N.script.machine (tree_after N.script (history_of s.old.tree.seen)) op.now }
+    requires distinct { AreDistinct counts.now }
+    requires exist { All (CanLook N.script.machine) counts.now }
+    requires room { length counts.now ≤ looks.old.spare }
+    requires at { LooksAt N.script T.table number op.now 0 0 0 looks.old.numbers s.old worker.old }
+    ensures history { history.new ≡ history.old }
+    ensures tree { s.new.tree ≡ s.old.tree }
+    ensures thread { s.new.thread ≡ s.old.thread }
+    ensures seen { HasGrown (seen_by s.old) (seen_by s.new) }
+    ensures done { LooksAt N.script T.table number op.now (length counts.now) 0 0 looks.new.numbers s.new worker.new }
+{
+    for q in 0..counts.len() {
+        let (domain, rmid) = counts.at(q);
+        let mut lines = 0;
+        for x in 0..m.slices {
+            let i = m.slice_number(domain, x);
+            lines += slices.look(rt, i, history, s, worker, number, epoch, rmid);
+        }
+        looks.push(lines);
+    }
+}
+
+/// All follow-ups of the command that was decided last, in order.
+pub(crate) fn follow_all<N: Named, T: NamedTable>(
+    slices: &Slices<N, T>,
+    rt: &impl Wait,
+    m: &Machine,
+    history: &mut Journal<TreeEntry>,
+    s: &mut Seen<N>,
+    worker: &mut StepShare<N>,
+    number: u32,
+    epoch: u64,
+    op: &Op,
+    all: &[Follow],
+)
+    requires machine { parameters_of m.now ≡ N.script.machine }
+    requires range { InRange N.script.machine }
+    requires name { history.old.name ≡ N.tree }
+    requires whole { s.old.tree.seen ≡ history.old.entries }
+    requires epoch { (0 < epoch) × (epoch ≡ length history.old.entries) }
+    requires follows { all.now ≡ after N.script.machine (tree_after N.script (take (epoch - 1) (history_of s.old.tree.seen))) (epoch - 1) op.now }
+    requires domains { All (λ f. follow_domain f < N.script.machine.domains) all.now }
+    requires ready { All (IsReady N.script.machine) all.now }
+    requires at { FollowsAt N.script T.table number (epoch - 1) op.now (length (looks_of N.script (history_of s.old.tree.seen) (epoch - 1) op.now)) s.old worker.old }
+    ensures history { history.new ≡ history.old }
+    ensures tree { s.new.tree ≡ s.old.tree }
+    ensures thread { s.new.thread ≡ s.old.thread }
+    ensures seen { HasGrown (seen_by s.old) (seen_by s.new) }
+    ensures done { FollowsAt N.script T.table number (epoch - 1) op.now (length (jobs_of N.script (history_of s.old.tree.seen) (epoch - 1) op.now)) s.new worker.new }
+{
+    for q in 0..all.len() {
+        let follow = all[q];
+        let count = slices_for(m, follow);
+        for x in 0..count {
+            let i = slice_for(m, follow, x);
+            let last = q + 1 == all.len() && x + 1 == count;
+            slices.follow(rt, i, history, s, worker, number, epoch, follow, last);
+        }
+    }
+}
+
+/// Where a text is asked for, that of an accepted read or list takes the place of what was shown. Another command leaves it.
+pub(crate) fn show(
+    tree: &Tree,
+    script: &Script,
+    op: &Op,
+    looks: &[u64],
+    reply: Reply,
+    asked: bool,
+    shown: &mut TextBuf,
+)
+    requires machine { tree.now.machine ≡ script.now.machine }
+    requires accepted { IsTrue (is_reading op.now) → reply ≡ Ok → refusal script.now.machine tree.now.state op.now ≡ None }
+    requires looks { IsTrue (is_reading op.now) → length looks.now ≡ length (needs script.now.machine tree.now.state op.now) }
+    requires counts { All (λ n. n ≤ 2 ^ 32) looks.now }
+    requires named { AreNamed script.now.names tree.now.state.groups }
+    requires room { TEXT_MAX ≤ shown.old.spare + length shown.old.bytes }
+    ensures bytes { shown.new.bytes ≡ shown_where asked script.now tree.now.state op.now looks.now reply shown.old.bytes }
+    ensures room { shown.new.spare + length shown.new.bytes ≡ shown.old.spare + length shown.old.bytes }
+{
+    match reply {
+        Reply::Ok if asked && is_reading(op) => {
+            shown.clear();
+            text(tree, script.names(), op, looks, shown);
+        }
+        _ => {}
+    }
+}

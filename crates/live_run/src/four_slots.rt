@@ -1,0 +1,121 @@
+//! Four slots.
+ghost use Rattle.std.specs.Prelude.{◌≡◌, ◌+◌};
+
+use crate::access::Hold;
+use crate::fill::Fill;
+use crate::named::{Named, NamedTable, StepShare};
+use crate::parts::Part;
+use crate::seen::Seen;
+use crate::slice_slot::SliceSlot;
+use crate::slice_slots::SliceSlots;
+use crate::slot_pair::SlotPair;
+use cache_steps::Reached;
+use rc_base::Tag;
+use run_law::TreeEntry;
+use seen_journal::Journal;
+use std::sync::Wait;
+use tree_law::Follow;
+
+/// The slots of four slices. A type of its own, since what stands on a pair of pairs ties the impls of them all.
+#[derive(Drop)]
+pub struct FourSlots<
+    N: Named,
+    T: NamedTable,
+    const A: usize,
+    const B: usize,
+    const C: usize,
+    const D: usize,
+> {
+    slots: SlotPair<
+        SlotPair<SliceSlot<N, T, A>, SliceSlot<N, T, B>>,
+        SlotPair<SliceSlot<N, T, C>, SliceSlot<N, T, D>>,
+    >,
+}
+
+impl<
+    N: Named,
+    T: NamedTable,
+    const A: usize,
+    const B: usize,
+    const C: usize,
+    const D: usize,
+> SliceSlots<N, T> for FourSlots<N, T, A, B, C, D> {
+    ghost first = { A };
+
+    ghost last = { D };
+
+    ghost joined = { (A + 1 ≡ B) × (B + 1 ≡ C) × (C + 1 ≡ D) };
+
+    fn look<R: Wait>(
+        &self,
+        rt: &R,
+        i: usize,
+        history: &mut Journal<TreeEntry>,
+        s: &mut Seen<N>,
+        worker: &mut StepShare<N>,
+        op: u32,
+        epoch: u64,
+        rmid: u16,
+    ) -> u64 {
+        self.slots.look(rt, i, history, s, worker, op, epoch, rmid)
+    }
+
+    fn follow<R: Wait>(
+        &self,
+        rt: &R,
+        i: usize,
+        history: &mut Journal<TreeEntry>,
+        s: &mut Seen<N>,
+        worker: &mut StepShare<N>,
+        op: u32,
+        epoch: u64,
+        follow: Follow,
+        is_last: bool,
+    ) {
+        self.slots
+            .follow(rt, i, history, s, worker, op, epoch, follow, is_last);
+    }
+
+    fn touch<R: Wait, H: Hold>(
+        &self,
+        rt: &R,
+        hold: &H,
+        i: usize,
+        s: &mut Seen<N>,
+        worker: &mut StepShare<N>,
+        op: u32,
+        tag: &Tag,
+        line: u64,
+    ) -> Option<Reached> {
+        self.slots.touch(rt, hold, i, s, worker, op, tag, line)
+    }
+
+    fn last() -> usize {
+        D
+    }
+}
+
+impl<N: Named, T: NamedTable, const A: usize, const B: usize, const C: usize, const D: usize> Fill<
+    N,
+    T,
+> for FourSlots<N, T, A, B, C, D> {
+    ghost first = { A };
+
+    ghost last = { D };
+
+    ghost joined = { (A + 1 ≡ B) × (B + 1 ≡ C) × (C + 1 ≡ D) };
+
+    fn open(parts: &mut Vec<Part<N>>) -> Self {
+        FourSlots {
+            slots: SlotPair::<
+                SlotPair<SliceSlot<N, T, A>, SliceSlot<N, T, B>>,
+                SlotPair<SliceSlot<N, T, C>, SliceSlot<N, T, D>>,
+            >::open(parts),
+        }
+    }
+
+    fn settle(self, history: &mut Journal<TreeEntry>, into: &mut Vec<Part<N>>) {
+        let FourSlots { slots } = self;
+        slots.settle(history, into);
+    }
+}

@@ -1,0 +1,121 @@
+//! The slot of one slice.
+
+use crate::access::Hold;
+use crate::fill::Fill;
+use crate::named::{Named, NamedTable, StepShare};
+use crate::parts::Part;
+use crate::seen::Seen;
+use crate::slice::SliceCell;
+use crate::slice_slots::SliceSlots;
+use cache_steps::Reached;
+use rc_base::Tag;
+use run_law::TreeEntry;
+use seen_journal::Journal;
+use std::marker::Model;
+use std::sync::{Mutex, Wait};
+use tree_law::Follow;
+
+/// The slot of slice I, whose cell is there where the machine has the slice. Contracts see its number.
+#[derive(Drop)]
+pub struct SliceSlot<N: Named, T: NamedTable, const I: usize> {
+    cell: Option<Mutex<SliceCell<N, T, I>>>,
+}
+
+impl<N: Named, T: NamedTable, const I: usize> Model for SliceSlot<N, T, I> {
+    ghost use Rattle.std.specs.Prelude.{ℕ, ◌<◌, IsSome};
+    ghost use Rattle.machine.specs.Slices.{slice_count};
+
+    ghost Value = { ℕ };
+
+    ghost view = { λ p. I };
+
+    ghost invariant = { λ p. I < slice_count N.script.machine → IsSome p.cell };
+}
+
+impl<N: Named, T: NamedTable, const I: usize> SliceSlots<N, T> for SliceSlot<N, T, I> {
+    ghost first = { I };
+
+    ghost last = { I };
+
+    ghost joined = { Unit {0} };
+
+    fn look<R: Wait>(
+        &self,
+        rt: &R,
+        _i: usize,
+        history: &mut Journal<TreeEntry>,
+        s: &mut Seen<N>,
+        worker: &mut StepShare<N>,
+        op: u32,
+        epoch: u64,
+        rmid: u16,
+    ) -> u64 {
+        let Some(cell) = &self.cell else {
+            unreachable!()
+        };
+        cell.lock(rt).look(history, s, worker, op, epoch, rmid)
+    }
+
+    fn follow<R: Wait>(
+        &self,
+        rt: &R,
+        _i: usize,
+        history: &mut Journal<TreeEntry>,
+        s: &mut Seen<N>,
+        worker: &mut StepShare<N>,
+        op: u32,
+        epoch: u64,
+        follow: Follow,
+        is_last: bool,
+    ) {
+        let Some(cell) = &self.cell else {
+            unreachable!()
+        };
+        cell.lock(rt)
+            .follow(history, s, worker, op, epoch, follow, is_last);
+    }
+
+    fn touch<R: Wait, H: Hold>(
+        &self,
+        rt: &R,
+        hold: &H,
+        _i: usize,
+        s: &mut Seen<N>,
+        worker: &mut StepShare<N>,
+        op: u32,
+        tag: &Tag,
+        line: u64,
+    ) -> Option<Reached> {
+        let Some(cell) = &self.cell else {
+            unreachable!()
+        };
+        cell.lock(rt).touch(hold, s, worker, op, tag, line)
+    }
+
+    fn last() -> usize {
+        I
+    }
+}
+
+impl<N: Named, T: NamedTable, const I: usize> Fill<N, T> for SliceSlot<N, T, I> {
+    ghost first = { I };
+
+    ghost last = { I };
+
+    ghost joined = { Unit {0} };
+
+    fn open(parts: &mut Vec<Part<N>>) -> Self {
+        let cell = match parts.pop() {
+            Some(part) => Some(Mutex::new(SliceCell::open(part))),
+            None => None,
+        };
+        SliceSlot { cell }
+    }
+
+    fn settle(self, history: &mut Journal<TreeEntry>, into: &mut Vec<Part<N>>) {
+        let SliceSlot { cell } = self;
+        if let Some(cell) = cell {
+            into.push_reserved(cell.into_inner().settle(history));
+        }
+    }
+}
