@@ -1,2 +1,3 @@
+pub mod BadInputs
 pub mod Divisions
 pub mod WholeLines

@@ -3,4 +3,5 @@ pub mod Division
 pub mod Exports
 pub mod Forms
 pub mod Inputs
+pub mod Laws
 pub mod VerdictLines
