@@ -14,7 +14,7 @@ use Rattle.run_law.specs.declared.journals.TreeEntry.{TreeEntry}
 use Rattle.script_ops.specs.Values.{ScriptValue, op_at}
 
 -- a filter of one element more
-length-filter_push : (p : TreeEntryValue → Bool) (xs : List TreeEntryValue) (x : TreeEntryValue) → length (filter p (xs ++ x ∷ [])) ≡ length (filter p xs) + one_if (p x)
+pub length-filter_push : (p : TreeEntryValue → Bool) (xs : List TreeEntryValue) (x : TreeEntryValue) → length (filter p (xs ++ x ∷ [])) ≡ length (filter p xs) + one_if (p x)
 length-filter_push p [] x = elim (cases_Bool (p x)) [ inl passes ↦ rw passes (omega arith) | inr fails ↦ rw fails (omega arith) ]
 length-filter_push p (y ∷ xs) x =
     let rest = length-filter_push p xs x in

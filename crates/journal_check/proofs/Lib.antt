@@ -5,6 +5,7 @@ mod ChangedLines
 mod ChosenWays
 mod Counts
 mod EmptiedLines
+mod ExpectedCommands
 mod FirstFalse
 mod FoundSums
 mod HomeMarks

@@ -2,6 +2,7 @@ pub mod AfterCommands
 pub mod Asks
 pub mod Begun
 pub mod CheckReplays
+pub mod ExpectedCommands
 pub mod FirstLooks
 pub mod Homes
 pub mod Marks

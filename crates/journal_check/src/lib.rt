@@ -34,6 +34,7 @@ mod replies;
 pub mod rmid_counts;
 pub mod slots;
 mod tags;
+pub mod theorems;
 pub mod trace;
 pub mod verdict;
 pub mod victims;
