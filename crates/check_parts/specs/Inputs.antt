@@ -6,7 +6,7 @@ use Rattle.check_parts.specs.declared.bad_input.BadInput.TheVariants.{BadJournal
 use Rattle.check_parts.specs.declared.division.Division.{Division}
 use Rattle.check_parts.specs.declared.form.Form.{Form}
 use Rattle.check_parts.specs.declared.form.Form.TheVariants.{Check}
-use Rattle.check_parts.specs.declared.input.Held.{Held}
+use Rattle.check_parts.specs.declared.input.CheckInput.{CheckInput}
 use Rattle.check_parts.specs.declared.input.InputError.{InputError}
 use Rattle.check_parts.specs.declared.input.InputError.TheVariants as errors
 use Rattle.journal_text.specs.Readings.{IsTextOf}
@@ -39,7 +39,7 @@ ReadsScript form bytes (Err (errors.Bad bad)) = IsBad form bytes bad
 ReadsScript form bytes (Err errors.NoMemory) = Unit {0}
 
 -- (For proofs.) the script and the journals of an input of a check, or what is wrong with it
-abbrev pub ReadsHeld : List ℕ → Result Held InputError → Type 0
-ReadsHeld bytes (Ok held) = HoldsJournals bytes held.script held.journals
-ReadsHeld bytes (Err (errors.Bad bad)) = IsBad Check bytes bad
-ReadsHeld bytes (Err errors.NoMemory) = Unit {0}
+abbrev pub ReadsInput : List ℕ → Result CheckInput InputError → Type 0
+ReadsInput bytes (Ok held) = HoldsJournals bytes held.script held.journals
+ReadsInput bytes (Err (errors.Bad bad)) = IsBad Check bytes bad
+ReadsInput bytes (Err errors.NoMemory) = Unit {0}

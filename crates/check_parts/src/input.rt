@@ -2,7 +2,7 @@
 ghost use Rattle.std.specs.Prelude.{◌≡◌, ◌≤◌, ◌^◌, IfSome, Some, length};
 ghost use Rattle.check_parts.specs.BadInputs.{HasScript};
 ghost use Rattle.check_parts.specs.Division.{division_of};
-ghost use Rattle.check_parts.specs.Inputs.{IsScriptIn, ReadsHeld, ReadsScript};
+ghost use Rattle.check_parts.specs.Inputs.{IsScriptIn, ReadsInput, ReadsScript};
 ghost use Rattle.check_parts.specs.declared.form.Form.TheVariants.{Check, Export};
 ghost use Rattle.check_parts.specs.declared.form.Play.{Play};
 ghost use Rattle.check_parts.specs.declared.limits.TheConstants.{MOST_CHECK_BYTES};
@@ -28,7 +28,7 @@ pub enum InputError {
 
 /// A script, and the journals that are held out as those of a run of it.
 #[derive(Drop)]
-pub struct Held {
+pub struct CheckInput {
     /// The script.
     pub script: Script,
     /// The journals.
@@ -75,16 +75,16 @@ fn with_journals(
     bytes: &[u8],
     division: Division,
     script: Script,
-) -> Result<Held, InputError>
+) -> Result<CheckInput, InputError>
     requires few { length bytes.now ≤ MOST_CHECK_BYTES }
     requires divides { division_of bytes.now ≡ Some division }
     requires within { division.bytes ≤ length bytes.now }
     requires lines { division.lines ≤ division.bytes }
     requires script { HasScript Check bytes.now script }
-    ensures { ReadsHeld bytes.now result }
+    ensures { ReadsInput bytes.now result }
 {
     match journal_text::read(alloc, journal_part(bytes, division), &script) {
-        Ok(journals) => Ok(Held { script, journals }),
+        Ok(journals) => Ok(CheckInput { script, journals }),
         Err(ReadError::Bad { line }) => Err(InputError::Bad(BadInput::BadJournal {
             line: division.lines + line,
         })),
@@ -93,9 +93,9 @@ fn with_journals(
 }
 
 /// The script and the journals of an input of a check, or what is wrong with it. The bytes are let go of.
-pub fn held_in(alloc: Global, bytes: Vec<u8>) -> Result<Held, InputError>
+pub fn held_in(alloc: Global, bytes: Vec<u8>) -> Result<CheckInput, InputError>
     requires { length bytes.items ≤ MOST_CHECK_BYTES }
-    ensures { ReadsHeld bytes.items result }
+    ensures { ReadsInput bytes.items result }
 {
     let division = divide(&bytes);
     match script_before(alloc, &bytes, division) {

@@ -16,7 +16,7 @@ pub use bad_input::{BadInput, bad_line_of};
 pub use division::{Division, divide};
 pub use exports::export_text;
 pub use form::{Form, Play};
-pub use input::{Held, InputError, held_in, script_in};
+pub use input::{CheckInput, InputError, held_in, script_in};
 pub use limits::MOST_CHECK_BYTES;
 pub use verdicts::verdict_line;
 pub use words::{USAGE, form_of, usage_bytes};

@@ -12,7 +12,7 @@ use crate::checked::Checked;
 use crate::exporting::refuse;
 use crate::theorems::runs_isolate;
 use call_rim::Performed;
-use check_parts::{Held, InputError, held_in, verdict_line};
+use check_parts::{CheckInput, InputError, held_in, verdict_line};
 use journal_check::{Verdict, check};
 use rc_base::NoMemory;
 use run_law::Journals;
@@ -58,7 +58,7 @@ pub(crate) fn check_bytes(alloc: Global, bytes: Vec<u8>) -> Performed<Checked>
     ensures { Performs (Refuses Check) Checks bytes.items result }
 {
     match held_in(alloc, bytes) {
-        Ok(Held { script, journals }) => judge(alloc, &script, journals),
+        Ok(CheckInput { script, journals }) => judge(alloc, &script, journals),
         Err(InputError::Bad(bad)) => refuse(alloc, bad),
         Err(InputError::NoMemory) => Performed::NoMemory,
     }

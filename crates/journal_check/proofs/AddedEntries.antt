@@ -11,7 +11,7 @@ use Rattle.cache_core.specs.History.{EntryMayFollow, MayHappen, Shape, decides, 
 use Rattle.cache_core.specs.declared.entry.SliceEntry.{SliceEntry}
 use Rattle.cache_core.specs.declared.entry.What.{What}
 use Rattle.cache_core.specs.declared.entry.What.TheVariants.{Access, Drop, Flush, Lock}
-use Rattle.journal_check.specs.declared.place.Place.{Place}
+use Rattle.journal_check.specs.declared.cached_line.CachedLine.{CachedLine}
 use Rattle.cbm.proofs.laws.Ways.{has_way-zero}
 use Rattle.cbm.specs.Masks.{has_way}
 use Rattle.journal_check.proofs.ChangedLines.{places_with-some}
@@ -35,7 +35,7 @@ is-here : (a b : ℕ) → ((a == a) && (b == b)) ≡ true
 is-here a b = rw (eq-eqb a a refl, eq-eqb b b refl) refl
 
 -- a line that hit keeps its RMID
-hit-resident : (o : Option Resident) (p : Option Place) (line after : ℕ) → o ≡ resident_of p → option_map (λ (r : Resident). r.line) o ≡ Some line → IfSome (rmid_of p) (λ r. after ≡ r) → o ≡ Some (record { line = line; rmid = after })
+hit-resident : (o : Option Resident) (p : Option CachedLine) (line after : ℕ) → o ≡ resident_of p → option_map (λ (r : Resident). r.line) o ≡ Some line → IfSome (rmid_of p) (λ r. after ≡ r) → o ≡ Some (record { line = line; rmid = after })
 hit-resident o None line after is holds kept = absurd (let none : option_map (λ (r : Resident). r.line) o ≡ None = ap (option_map (λ (r : Resident). r.line)) is in let wrong : None ≡ Some line = sym none ∙ holds in cc)
 hit-resident o (Some p) line after is holds kept =
     let its : Some p.line ≡ Some line = sym (ap (option_map (λ (r : Resident). r.line)) is) ∙ holds in
@@ -52,7 +52,7 @@ module _ (m : Shape) (es : List SliceEntry) (e : SliceEntry) (old : Replay) (sta
   pub left-some : (set way : ℕ) → set < m.sets → way < m.ways → is_own m set ≡ true → IfSome (rmid_of (place_at old.slots set way)) (λ r. 0 < count_at old.counts r)
   left-some set way inside below own = of (place_at old.slots set way) refl
     where
-      of : (p : Option Place) → place_at old.slots set way ≡ p → IfSome (rmid_of p) (λ r. 0 < count_at old.counts r)
+      of : (p : Option CachedLine) → place_at old.slots set way ≡ p → IfSome (rmid_of p) (λ r. 0 < count_at old.counts r)
       of None is = tt
       of (Some p) is =
           let it = stands.places set way inside below in
@@ -170,6 +170,6 @@ module _ (m : Shape) (es : List SliceEntry) (e : SliceEntry) (old : Replay) (sta
       same s w true = refl
       same s w false = refl
 
-      aged : (s w : ℕ) (b : Bool) (p : Place) → cond b (loaded (first_line + s + ways_below mask w * m.sets) (length es + 1)) None ≡ Some p → (b ≡ true) × (p.used ≡ length es + 1)
+      aged : (s w : ℕ) (b : Bool) (p : CachedLine) → cond b (loaded (first_line + s + ways_below mask w * m.sets) (length es + 1)) None ≡ Some p → (b ≡ true) × (p.used ≡ length es + 1)
       aged s w true p is = (refl, cc)
       aged s w false p is = absurd cc

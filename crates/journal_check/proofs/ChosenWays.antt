@@ -2,31 +2,31 @@
 use Rattle.std.proofs.Common.{◌≡◌, ◌↔◌, ℕ, ◌<◌, Option, Some, None, refl, arith}
 use Rattle.std.specs.Prelude.{IsSome, IsTrue, option_map}
 use Rattle.std.proofs.lemmas.Bool.{lt-ltb, ltb-true}
-use Rattle.journal_check.specs.declared.place.Place.{Place}
+use Rattle.journal_check.specs.declared.cached_line.CachedLine.{CachedLine}
 use Rattle.cbm.specs.Masks.{has_way}
 use Rattle.journal_check.specs.Outcomes.{AreFull, AreNotOlder, IsVictimAt, ages_at, residents_at, used_at}
 use Rattle.journal_check.specs.Slots.{SlotsValue, age_of, place_at, resident_of}
 
 -- when the line of a place was used
-abbrev used_of : Option Place → Option ℕ
-used_of place = option_map (λ (p : Place). p.used) place
+abbrev used_of : Option CachedLine → Option ℕ
+used_of place = option_map (λ (p : CachedLine). p.used) place
 
 -- a place with a line has a time
-some-used : (place : Option Place) → IsSome (resident_of place) → IsSome (used_of place)
+some-used : (place : Option CachedLine) → IsSome (resident_of place) → IsSome (used_of place)
 some-used None is = absurd cc
 some-used (Some p) is = refl
 
-used-some : (place : Option Place) → IsSome (used_of place) → IsSome (resident_of place)
+used-some : (place : Option CachedLine) → IsSome (used_of place) → IsSome (resident_of place)
 used-some None is = absurd cc
 used-some (Some p) is = refl
 
 -- a place without a time is empty
-none-used : (place : Option Place) → used_of place ≡ None → resident_of place ≡ None
+none-used : (place : Option CachedLine) → used_of place ≡ None → resident_of place ≡ None
 none-used None is = refl
 none-used (Some p) is = absurd cc
 
 -- the time of a place is its age
-age-used : (place : Option Place) (used : ℕ) → used_of place ≡ Some used → age_of place ≡ used
+age-used : (place : Option CachedLine) (used : ℕ) → used_of place ≡ Some used → age_of place ≡ used
 age-used None used is = absurd cc
 age-used (Some p) used is = cc
 

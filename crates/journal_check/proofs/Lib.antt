@@ -9,7 +9,7 @@ mod ExpectedCommands
 mod FirstFalse
 mod FoundSums
 mod HomeMarks
-mod Latest
+mod LatestEpochs
 mod LegalLists
 mod LegalTrees
 mod MatchedCounts

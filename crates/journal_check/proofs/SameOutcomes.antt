@@ -4,7 +4,7 @@ use Rattle.std.specs.Prelude.{IsSome, option_map}
 use Rattle.cache_core.specs.Fills.{IsOutcome, IsPlaceOf, IsVictim, Resident}
 use Rattle.cache_core.specs.History.{held, used}
 use Rattle.cache_core.specs.declared.entry.SliceEntry.{SliceEntry}
-use Rattle.journal_check.specs.declared.place.Place.{Place}
+use Rattle.journal_check.specs.declared.cached_line.CachedLine.{CachedLine}
 use Rattle.journal_check.specs.Outcomes.{ages_at, residents_at}
 use Rattle.journal_check.specs.Replays.{StandsFor}
 use Rattle.journal_check.specs.Slots.{age_of, place_at, resident_of}
@@ -54,7 +54,7 @@ module _ (es : List SliceEntry) (r : Replay) (stands : StandsFor r.slots.shape e
   same-used : (w : ℕ) → w < r.slots.shape.ways → IsSome (residents_at r.slots set w) → used r.slots.shape es set w ≡ ages_at r.slots set w
   same-used w less some = of (place_at r.slots set w) refl some
     where
-      of : (p : Option Place) → place_at r.slots set w ≡ p → IsSome (resident_of p) → used r.slots.shape es set w ≡ age_of (place_at r.slots set w)
+      of : (p : Option CachedLine) → place_at r.slots set w ≡ p → IsSome (resident_of p) → used r.slots.shape es set w ≡ age_of (place_at r.slots set w)
       of None is some = absurd cc
       of (Some p) is some = (stands.places set w inside less).age p is ∙ sym (ap age_of is)
 

@@ -10,7 +10,7 @@ use Rattle.cache_core.specs.History.{Shape, decides, floor_of, held, is_of, is_o
 use Rattle.cache_core.specs.RmidCounts.{is_rmid}
 use Rattle.cbm.specs.Masks.{has_way}
 use Rattle.cache_core.specs.declared.entry.SliceEntry.{SliceEntry}
-use Rattle.journal_check.specs.declared.place.Place.{Place}
+use Rattle.journal_check.specs.declared.cached_line.CachedLine.{CachedLine}
 use Rattle.lists.specs.Sums.{one_if}
 use Rattle.journal_check.proofs.ChangedLines.{places_with-foreign, places_with-written}
 use Rattle.journal_check.proofs.EmptiedLines.{places_with-left}
@@ -22,12 +22,12 @@ use Rattle.journal_check.specs.declared.region.Region.{Region}
 use Rattle.journal_check.specs.declared.replay.Replay.{Replay}
 
 -- whether a place has a line of an RMID
-is_of-rmid : (r : ℕ) (p : Option Place) → is_of r (resident_of p) ≡ is_rmid (rmid_of p) r
+is_of-rmid : (r : ℕ) (p : Option CachedLine) → is_of r (resident_of p) ≡ is_rmid (rmid_of p) r
 is_of-rmid r None = refl
 is_of-rmid r (Some p) = refl
 
 -- the lines of a region have RMID 0
-left-rmid : (m : Shape) (region : Region) (s w : ℕ) (p : Place) → left_place m region s w ≡ Some p → p.rmid ≡ 0
+left-rmid : (m : Shape) (region : Region) (s w : ℕ) (p : CachedLine) → left_place m region s w ≡ Some p → p.rmid ≡ 0
 left-rmid m region s w p is = of (has_way region.mask w) (region.first_line + s + ways_below region.mask w * m.sets) is
   where
     of : (b : Bool) (line : ℕ) → cond b (loaded line region.stamp) None ≡ Some p → p.rmid ≡ 0
@@ -47,7 +47,7 @@ module _ (m : Shape) (es : List SliceEntry) (e : SliceEntry) (old new : Replay) 
   floor-kept other = floor_of-push es e ∙ (ap (λ b. max (floor_of es) (cond b e.epoch 0)) other ∙ (let z : max (floor_of es) 0 ≡ floor_of es = omega arith in z))
 
   -- one place is written
-  pub StandsFor-writes : (set way : ℕ) (place : Option Place) → Writes old new set way place → set < m.sets → way < m.ways
+  pub StandsFor-writes : (set way : ℕ) (place : Option CachedLine) → Writes old new set way place → set < m.sets → way < m.ways
       → ((s w : ℕ) → ((s ≡ set) × (w ≡ way) → ⊥) → decides m s w e.what ≡ false) → ((s w : ℕ) → ((s ≡ set) × (w ≡ way) → ⊥) → uses m s w e.what ≡ false)
       → IsPlace m (es ++ e ∷ []) set way place → sets_floor e.what ≡ false → StandsFor m (es ++ e ∷ []) new
   StandsFor-writes set way place writes inside below decides_other uses_other own floor_kept = record {
@@ -64,7 +64,7 @@ module _ (m : Shape) (es : List SliceEntry) (e : SliceEntry) (old new : Replay) 
       next = es ++ e ∷ []
 
       own_now : IsPlace m next set way (place_at new.slots set way)
-      own_now = subst (λ (p : Option Place). IsPlace m next set way p) (sym (place_at-own old.slots new.slots set way place writes.slots)) own
+      own_now = subst (λ (p : Option CachedLine). IsPlace m next set way p) (sym (place_at-own old.slots new.slots set way place writes.slots)) own
 
       other : (s w : ℕ) → s < m.sets → w < m.ways → ((s ≡ set) × (w ≡ way) → ⊥) → IsPlace m next s w (place_at new.slots s w)
       other s w s_in w_in apart =

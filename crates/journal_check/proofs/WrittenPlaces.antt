@@ -4,7 +4,7 @@ use Rattle.std.specs.Prelude.{option_and_then, slice_get, unwrap_or}
 use Rattle.std.proofs.lemmas.Bool.{eq-eqb}
 use Rattle.std.proofs.lemmas.Nat.{div-mul-add}
 use Rattle.cache_core.specs.History.{Shape}
-use Rattle.journal_check.specs.declared.place.Place.{Place}
+use Rattle.journal_check.specs.declared.cached_line.CachedLine.{CachedLine}
 use Rattle.lists.proofs.Updates.{slice_get-set_same, slice_get-set_other}
 use Rattle.journal_check.specs.Slots.{Puts, SlotsValue, left_place, of_generation, place_at}
 use Rattle.journal_check.specs.declared.region.Region.{Region}
@@ -18,10 +18,10 @@ same-place ways s w t u less below same =
     (set_is, omega arith)
 
 -- what a place holds, by its parts
-abbrev by_parts : Shape → List Slot → ℕ → Region → ℕ → ℕ → Option Place
+abbrev by_parts : Shape → List Slot → ℕ → Region → ℕ → ℕ → Option CachedLine
 by_parts m slots generation region s w = unwrap_or (option_and_then (of_generation generation) (slice_get slots (s * m.ways + w))) (left_place m region s w)
 
-module _ (old new : SlotsValue) (s w : ℕ) (place : Option Place) (puts : Puts old new s w place) where
+module _ (old new : SlotsValue) (s w : ℕ) (place : Option CachedLine) (puts : Puts old new s w place) where
   abbrev changed : List Slot
   changed = set old.slots (s * old.shape.ways + w) (record { generation = old.generation; place = place })
 

@@ -2,7 +2,7 @@
 -- (For functions and proofs: no promise of the program stands on it.)
 use Rattle.std.specs.Prelude.{◌≡◌, ℕ, ◌<◌, ◌≤◌, ◌⊎◌, IsSome, IsTrue, List, None, Option, Some, if◌then◌else◌, nat_lt, max}
 use Rattle.cache_core.specs.declared.entry.SliceEntry.{SliceEntry}
-use Rattle.journal_check.specs.declared.after_commands.Latest.{Latest}
+use Rattle.journal_check.specs.declared.after_commands.TwoLatestEpochs.{TwoLatestEpochs}
 use Rattle.run_law.specs.Journals.{At}
 use Rattle.run_law.specs.Truth.{is_made_by}
 use Rattle.run_law.specs.TreeHistory.{TreeEntryValue}
@@ -28,7 +28,7 @@ pub record IsPassed (script : ScriptValue) (entries : List SliceEntry) (n p : �
   pub of_op : IsSome (op_at script e.thread e.op)
 
 -- these are the greatest epochs of the first n entries
-pub record IsLatest (script : ScriptValue) (entries : List SliceEntry) (n : ℕ) (l : Latest) : Type 0 where
+pub record IsLatest (script : ScriptValue) (entries : List SliceEntry) (n : ℕ) (l : TwoLatestEpochs) : Type 0 where
   pub epochs : (p : ℕ) (e : SliceEntry) → IsPassed script entries n p e → e.epoch ≤ l.epoch
   pub others : (p : ℕ) (e : SliceEntry) → IsPassed script entries n p e → IsOther l.thread l.op e → e.epoch ≤ l.other
   pub epoch_there : (l.epoch ≡ 0) ⊎ ((p : ℕ) × (e : SliceEntry) × IsPassed script entries n p e × IsTrue (is_made_by l.thread l.op e) × (e.epoch ≡ l.epoch))
@@ -43,11 +43,11 @@ AreAfterUpTo script tree entries n =
     → q < p
 
 -- the greatest epoch of an entry of another op than this entry's
-abbrev pub other_epoch : Latest → SliceEntry → ℕ
+abbrev pub other_epoch : TwoLatestEpochs → SliceEntry → ℕ
 other_epoch l e = if is_made_by l.thread l.op e then l.other else l.epoch
 
 -- with one entry more
-abbrev pub noted : Latest → SliceEntry → Latest
+abbrev pub noted : TwoLatestEpochs → SliceEntry → TwoLatestEpochs
 noted l e =
     if is_made_by l.thread l.op e
     then record l { epoch = max l.epoch e.epoch }
@@ -55,15 +55,15 @@ noted l e =
 
 -- an entry of a command at this place, counted from 1, or of no command where that is 0, stands after one of another op of a
 -- later epoch
-abbrev pub IsLate : Latest → ℕ → SliceEntry → Type 0
+abbrev pub IsLate : TwoLatestEpochs → ℕ → SliceEntry → Type 0
 IsLate l place e = (0 < place) × (place ≤ other_epoch l e)
 
 -- an entry of an op at this place, if it is of one, is late
-abbrev pub IsRefused : Latest → Option ℕ → SliceEntry → Type 0
+abbrev pub IsRefused : TwoLatestEpochs → Option ℕ → SliceEntry → Type 0
 IsRefused l None e = ⊥
 IsRefused l (Some place) e = IsLate l place e
 
 -- it is not, and these are the epochs with it; one of no op is passed over
-abbrev pub IsAccepted : Latest → Option ℕ → SliceEntry → Latest → Type 0
+abbrev pub IsAccepted : TwoLatestEpochs → Option ℕ → SliceEntry → TwoLatestEpochs → Type 0
 IsAccepted l None e next = next ≡ l
 IsAccepted l (Some place) e next = (IsLate l place e → ⊥) × (next ≡ noted l e)

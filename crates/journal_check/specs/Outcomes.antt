@@ -2,13 +2,13 @@
 -- (For functions and proofs: no promise of the program stands on it.)
 use Rattle.std.specs.Prelude.{◌≡◌, ℕ, ◌%◌, ◌<◌, ◌≤◌, Bool, IsSome, IsTrue, Option, Some, nat_lt, option_map, true}
 use Rattle.cache_core.specs.Fills.{IsOutcome, IsPlaceOf, IsVictim, Resident}
-use Rattle.journal_check.specs.declared.place.Place.{Place}
+use Rattle.journal_check.specs.declared.cached_line.CachedLine.{CachedLine}
 use Rattle.cbm.specs.Masks.{has_way}
 use Rattle.journal_check.specs.Slots.{HasLine, SlotsValue, age_of, place_at, resident_of}
 
 -- when a place was used, and none where it is empty
 abbrev pub used_at : SlotsValue → ℕ → ℕ → Option ℕ
-used_at v set way = option_map (λ (p : Place). p.used) (place_at v set way)
+used_at v set way = option_map (λ (p : CachedLine). p.used) (place_at v set way)
 
 -- no way of a set holds a line
 abbrev pub IsMissing : SlotsValue → ℕ → ℕ → Type 0

@@ -5,7 +5,7 @@ use Rattle.cache_core.specs.History.{Shape, decides, floor_of, held, is_own, lef
 use Rattle.cache_core.specs.declared.entry.What.TheVariants.{Access}
 use Rattle.rc_base.specs.declared.names.Gid.{Gid}
 use Rattle.cache_core.specs.declared.entry.SliceEntry.{SliceEntry}
-use Rattle.journal_check.specs.declared.place.Place.{Place}
+use Rattle.journal_check.specs.declared.cached_line.CachedLine.{CachedLine}
 use Rattle.journal_check.specs.RmidCounts.{Recounts, count_at}
 use Rattle.journal_check.specs.Slots.{Puts, left_place, place_at, resident_of, rmid_of}
 use Rattle.journal_check.specs.declared.region.Region.{Region}
@@ -20,10 +20,10 @@ pub record IsWhole (m : Shape) : Type 0 where
   pub whole : m.sets % m.slices ≡ 0
 
 -- a place is what the entries leave there
-pub record IsPlace (m : Shape) (es : List SliceEntry) (set way : ℕ) (place : Option Place) : Type 0 where
+pub record IsPlace (m : Shape) (es : List SliceEntry) (set way : ℕ) (place : Option CachedLine) : Type 0 where
   pub resident : held m es set way ≡ resident_of place
-  pub age : (p : Place) → place ≡ Some p → used m es set way ≡ p.used
-  pub named : (p : Place) → place ≡ Some p → p.rmid < 65536
+  pub age : (p : CachedLine) → place ≡ Some p → used m es set way ≡ p.used
+  pub named : (p : CachedLine) → place ≡ Some p → p.rmid < 65536
 
 -- what is kept of a slice is what these entries leave
 pub record StandsFor (m : Shape) (es : List SliceEntry) (r : Replay) : Type 0 where
@@ -36,7 +36,7 @@ pub record StandsFor (m : Shape) (es : List SliceEntry) (r : Replay) : Type 0 wh
   pub counts_generation : r.counts.generation ≤ length es
 
 -- one place is written, and its line is counted where the set is the slice's own
-pub record Writes (old new : Replay) (set way : ℕ) (place : Option Place) : Type 0 where
+pub record Writes (old new : Replay) (set way : ℕ) (place : Option CachedLine) : Type 0 where
   pub slots : Puts old.slots new.slots set way place
   pub floor : new.floor ≡ old.floor
   pub generation : new.counts.generation ≡ old.counts.generation
@@ -53,7 +53,7 @@ pub record Empties (old new : Replay) (epoch : ℕ) (region : Region) : Type 0 w
   pub counts_generation : new.counts.generation ≡ old.counts.generation + 1
 
 -- the RMID of a line after an access: that of a hit stays
-pub record IsRmidAfter (place : Option Place) (hit : Bool) (rmid after : ℕ) : Type 0 where
+pub record IsRmidAfter (place : Option CachedLine) (hit : Bool) (rmid after : ℕ) : Type 0 where
   pub filled : hit ≡ false → after ≡ rmid
   pub kept : hit ≡ true → IfSome (rmid_of place) (λ r. after ≡ r)
 
@@ -67,7 +67,7 @@ pub record IsAccessOf (e : SliceEntry) (hit : Bool) (way rmid line : ℕ) : Type
 pub record LeavesRegion (m : Shape) (es : List SliceEntry) (e : SliceEntry) (region : Region) : Type 0 where
   pub decides_all : (set way : ℕ) → decides m set way e.what ≡ true
   pub leaves : (set way : ℕ) → left_by m set way e.what ≡ resident_of (left_place m region set way)
-  pub ages : (set way : ℕ) (p : Place) → left_place m region set way ≡ Some p → (uses m set way e.what ≡ true) × (p.used ≡ length es + 1)
+  pub ages : (set way : ℕ) (p : CachedLine) → left_place m region set way ≡ Some p → (uses m set way e.what ≡ true) × (p.used ≡ length es + 1)
   pub sets : sets_floor e.what ≡ true
 
 -- an entry leaves every place and the floor as they are

@@ -14,7 +14,7 @@ use script_ops::Script;
 
 /// The greatest epoch of an entry and the op that it is of, and the greatest epoch of an entry of another op; 0 where there is none.
 #[derive(Clone, Copy, Debug, PartialEq, Eq)]
-pub struct Latest {
+pub struct TwoLatestEpochs {
     pub thread: u32,
     pub op: u32,
     pub epoch: u64,
@@ -22,7 +22,7 @@ pub struct Latest {
 }
 
 // The greatest epoch of an entry of another op than this entry's.
-fn other_epoch(latest: &Latest, entry: &SliceEntry) -> u64
+fn other_epoch(latest: &TwoLatestEpochs, entry: &SliceEntry) -> u64
     ensures { result ≡ other_epoch latest.now entry.now }
 {
     if entry.thread == latest.thread && entry.op == latest.op {
@@ -33,23 +33,23 @@ fn other_epoch(latest: &Latest, entry: &SliceEntry) -> u64
 }
 
 // With one entry more.
-fn noted(latest: &Latest, entry: &SliceEntry) -> Latest
+fn noted(latest: &TwoLatestEpochs, entry: &SliceEntry) -> TwoLatestEpochs
     ensures { result ≡ noted latest.now entry.now }
 {
     if entry.thread == latest.thread && entry.op == latest.op {
-        Latest {
+        TwoLatestEpochs {
             epoch: latest.epoch.max(entry.epoch),
             ..*latest
         }
     } else if latest.epoch < entry.epoch {
-        Latest {
+        TwoLatestEpochs {
             thread: entry.thread,
             op: entry.op,
             epoch: entry.epoch,
             other: latest.epoch,
         }
     } else {
-        Latest {
+        TwoLatestEpochs {
             other: latest.other.max(entry.epoch),
             ..*latest
         }
@@ -58,14 +58,14 @@ fn noted(latest: &Latest, entry: &SliceEntry) -> Latest
 
 // Whether an entry of a command that the tree took at this place, counted from 1, or of no command where that is 0, stands
 // behind one of another op of a later epoch.
-fn is_late(latest: &Latest, place: u64, entry: &SliceEntry) -> bool
+fn is_late(latest: &TwoLatestEpochs, place: u64, entry: &SliceEntry) -> bool
     ensures { IsTrue result ↔ IsLate latest.now place entry.now }
 {
     0 < place && place <= other_epoch(latest, entry)
 }
 
 // The epochs with one entry more, and None where it is late. `place` is None for an entry of no op, which is passed over.
-fn pass(latest: &Latest, place: Option<u64>, entry: &SliceEntry) -> Option<Latest>
+fn pass(latest: &TwoLatestEpochs, place: Option<u64>, entry: &SliceEntry) -> Option<TwoLatestEpochs>
     ensures { MatchOption result (IsRefused latest.now place entry.now) (λ next. IsAccepted latest.now place entry.now next) }
 {
     match place {
@@ -89,7 +89,7 @@ fn is_after_commands(script: &Script, places: &OpTable, j: &Journals, i: u32) ->
     ensures { IsTrue result ↔ IsAfterCommands script.now j.now.tree (slice_at j.now i) }
 {
     let entries = j.slice(i);
-    let mut latest = Latest {
+    let mut latest = TwoLatestEpochs {
         thread: 0,
         op: 0,
         epoch: 0,

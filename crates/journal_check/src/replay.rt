@@ -8,7 +8,7 @@ ghost use Rattle.journal_check.specs.Replays.{Empties, IsAccessOf, IsQuiet, IsRm
 ghost use Rattle.journal_check.specs.RmidCounts.{count_at};
 ghost use Rattle.journal_check.specs.Slots.{place_at, rmid_of};
 
-use crate::place::Place;
+use crate::cached_line::CachedLine;
 use crate::region::Region;
 use crate::rmid_counts::RmidCounts;
 use crate::slots::Slots;
@@ -27,7 +27,7 @@ pub struct Replay {
 }
 
 // The RMID of a place.
-fn rmid_of(place: Option<Place>) -> Option<u16>
+fn rmid_of(place: Option<CachedLine>) -> Option<u16>
     ensures { result ≡ rmid_of place }
 {
     match place {
@@ -110,7 +110,7 @@ impl Replay {
     }
 
     // Writes a place, and counts its line where the set is the slice's own.
-    fn write(&mut self, set: u32, way: u8, place: Option<Place>)
+    fn write(&mut self, set: u32, way: u8, place: Option<CachedLine>)
         requires set { set < self.old.slots.shape.sets }
         requires way { way < self.old.slots.shape.ways }
         requires left { is_own self.old.slots.shape set ≡ true → IfSome (rmid_of (place_at self.old.slots set way)) (λ r. 0 < count_at self.old.counts r) }
@@ -169,7 +169,7 @@ impl Replay {
     {
         let _entry = entry;
         let set = self.slots.set_of(line);
-        let place = Place {
+        let place = CachedLine {
             line,
             rmid: self.rmid_after(set, way, hit, rmid),
             used: before.len() as u64 + 1,

@@ -4,7 +4,7 @@ ghost use Rattle.cache_core.specs.History.{is_own, shape_of, ways_below};
 ghost use Rattle.machine.specs.Maps.{parameters_of};
 ghost use Rattle.journal_check.specs.Slots.{HasLine, Puts, left_place, place_at, written};
 
-use crate::place::Place;
+use crate::cached_line::CachedLine;
 use crate::region::{Region, ways_below};
 use cbm::has_way;
 use machine::Machine;
@@ -16,7 +16,7 @@ use std::marker::Model;
 #[derive(Clone, Copy, Debug, PartialEq, Eq)]
 pub struct Slot {
     pub generation: u64,
-    pub place: Option<Place>,
+    pub place: Option<CachedLine>,
 }
 
 /// The places of every set of a domain. An emptying touches none of them: it begins a generation, and `region` says what it leaves
@@ -110,7 +110,7 @@ impl Slots {
     }
 
     // What was written of a place since the last emptying.
-    fn written(&self, set: u32, way: u8) -> Option<Option<Place>>
+    fn written(&self, set: u32, way: u8) -> Option<Option<CachedLine>>
         requires set { set < self.now.shape.sets }
         requires way { way < self.now.shape.ways }
         ensures { result ≡ written self.now (set * self.now.shape.ways + way) }
@@ -178,7 +178,7 @@ impl Slots {
     }
 
     /// Writes what a place holds.
-    pub fn put(&mut self, set: u32, way: u8, place: Option<Place>)
+    pub fn put(&mut self, set: u32, way: u8, place: Option<CachedLine>)
         requires set { set < self.old.shape.sets }
         requires way { way < self.old.shape.ways }
         ensures { Puts self.old self.new set way place }

@@ -4,11 +4,11 @@ use Rattle.std.proofs.lemmas.List.{append-nil}
 use Rattle.rc_base.specs.Texts.{is_text}
 use Rattle.rc_base.specs.declared.replies.Reply.{Reply}
 use Rattle.run_law.specs.TreeHistory.{TreeEntryValue}
-use Rattle.journal_text.specs.Heads.{IsHead, numbers_in}
+use Rattle.journal_text.specs.Heads.{IsCommandHead, numbers_in}
 use Rattle.journal_text.specs.Lines.{argument_in, command_line, fields, reason_in}
 use Rattle.journal_text.specs.Taken.{IsSplit, Takes, TakesNone}
 use Rattle.journal_text.specs.Writable.{IsWritableCommand, IsWritableReply}
-use Rattle.journal_text.specs.declared.commands.Head.{Head}
+use Rattle.journal_text.specs.declared.commands.CommandHead.{CommandHead}
 use Rattle.journal_text.proofs.KindWords.{is_no_word}
 use Rattle.journal_text.proofs.laws.CommandLines.{CommandIs-line, numbers_of}
 use Rattle.journal_text.proofs.laws.Fields.{fields-append, length-fields}
@@ -55,9 +55,9 @@ module _ (weight : ℕ) (word after line : List ℕ) (light : weight < 2 ^ 64) (
         omega (arith, count, room, length-fields e.looks parts.1.fit)
 
     -- what was read
-    pub IsHead-read : (t o : ℕ) (reply : Reply) → codes "tree" ≡ word → looks ≤ weight → t ≡ thread → o ≡ op → IsWritableReply reply × (reason_in reply ≡ reason) × (argument_in reply ≡ arg)
-        → IsHead weight (record { thread = t; op = o; reply = reply; looks = looks }) rest line
-    IsHead-read t o reply named few t_is o_is r = record {
+    pub IsCommandHead-read : (t o : ℕ) (reply : Reply) → codes "tree" ≡ word → looks ≤ weight → t ≡ thread → o ≡ op → IsWritableReply reply × (reason_in reply ≡ reason) × (argument_in reply ≡ arg)
+        → IsCommandHead weight (record { thread = t; op = o; reply = reply; looks = looks }) rest line
+    IsCommandHead-read t o reply named few t_is o_is r = record {
       after = after;
       split = subst (λ (w : List ℕ). IsSplit w after line) (sym named) split;
       takes = rw (t_is, o_is, r.1, r.2) takes;
@@ -66,14 +66,14 @@ module _ (weight : ℕ) (word after line : List ℕ) (light : weight < 2 ^ 64) (
     }
 
 -- where the rest of a line that begins like a command's is not its counts, the line is no command's
-pub other_looks : (weight : ℕ) (head : Head) (rest line : List ℕ) → weight < 2 ^ 64 → IsHead weight head rest line → ((looks : List ℕ) → length looks ≡ head.looks → Takes looks [] rest → ⊥)
+pub other_looks : (weight : ℕ) (head : CommandHead) (rest line : List ℕ) → weight < 2 ^ 64 → IsCommandHead weight head rest line → ((looks : List ℕ) → length looks ≡ head.looks → Takes looks [] rest → ⊥)
     → (e : TreeEntryValue) → IsWritableCommand weight e → command_line e ≡ line → ⊥
 other_looks weight head rest line light is none e w same =
     let parts = Takes-after (numbers_in head) (numbers_of e) rest [] is.after (omega arith) is.takes (CommandIs-line weight (codes "tree") is.after line light is.split e w same).takes in
     none e.looks (sym (ap (λ (xs : List ℕ). get_or xs 4 0) parts.0)) parts.1
 
 -- where it is, the line is that of the command
-pub command_line-read : (weight : ℕ) (head : Head) (rest line looks : List ℕ) → IsHead weight head rest line → length looks ≡ head.looks → Takes looks [] rest
+pub command_line-read : (weight : ℕ) (head : CommandHead) (rest line looks : List ℕ) → IsCommandHead weight head rest line → length looks ≡ head.looks → Takes looks [] rest
     → command_line (record { thread = head.thread; op = head.op; reply = head.reply; looks = looks }) ≡ line
 command_line-read weight head rest line looks is count takes =
     ap (λ (n : ℕ). codes "tree" ++ fields (head.thread ∷ head.op ∷ reason_in head.reply ∷ argument_in head.reply ∷ n ∷ looks)) count

@@ -10,8 +10,8 @@ use Rattle.journal_text.specs.Writable.{IsWritable, IsWritableCommand, IsWritabl
 use Rattle.journal_text.proofs.SliceLines.{lines_from-append}
 use Rattle.journal_text.specs.Readings.{Begins}
 use Rattle.journal_text.specs.States.{Holds, HoldsJournals, HoldsSlices, HoldsTree, IsBefore, PartsRead, journals_in, tree_lines}
-use Rattle.journal_text.specs.declared.place.Place.{Place}
-use Rattle.journal_text.specs.declared.place.Place.TheVariants.{Start, InTree, InSlice, Over}
+use Rattle.journal_text.specs.declared.line_position.LinePosition.{LinePosition}
+use Rattle.journal_text.specs.declared.line_position.LinePosition.TheVariants.{Start, InTree, InSlice, Over}
 use Rattle.machine.specs.Slices.{slice_count}
 use Rattle.machine.specs.declared.parameters.Parameters.{Parameters}
 use Rattle.run_law.specs.Journals.{At, JournalsValue}
@@ -114,11 +114,11 @@ module _ (script : ScriptValue) where
       }
     where
       at : (i k : ℕ) (es : List SliceEntry) → length s.slices + k ≡ i → At (filled_entries left s.entries ∷ no_entries (slice_count script.machine - length s.slices - 1)) k es → IsWritableSlice script.machine (total_weight script) i es
-      at i zero es place h =
+      at i zero es position h =
           let same : filled_entries left s.entries ≡ es = cc in
-          let number : slice ≡ i = omega (arith, held.count, place) in
+          let number : slice ≡ i = omega (arith, held.count, position) in
           subst (IsWritableSlice script.machine (total_weight script) i) same (subst (λ (n : ℕ). IsWritableSlice script.machine (total_weight script) n (filled_entries left s.entries)) number (filled_entries-writable slice left lines s held))
-      at i (suc k) es place h = no_entries-writable script.machine (total_weight script) (slice_count script.machine - length s.slices - 1) k i es h
+      at i (suc k) es position h = no_entries-writable script.machine (total_weight script) (slice_count script.machine - length s.slices - 1) k i es h
 
   Begins-slices : (slice left : ℕ) (lines : List (List ℕ)) (s : PartsRead) → HoldsSlices script slice left lines s → Begins script lines
   unfolding journal_lines lines_from filled_slices filled_entries
@@ -152,8 +152,8 @@ module _ (script : ScriptValue) where
     whole = sym held.same ∙ sym (append-nil lines);
   }
 
-  -- what was read can be gone on with, whatever the place
-  pub Begins-held : (place : Place) (lines : List (List ℕ)) (s : PartsRead) → Holds script place lines s → Begins script lines
+  -- what was read can be gone on with, whatever the position
+  pub Begins-held : (position : LinePosition) (lines : List (List ℕ)) (s : PartsRead) → Holds script position lines s → Begins script lines
   Begins-held Start lines s held = Begins-nothing lines s held
   Begins-held InTree lines s held = Begins-tree lines s held
   Begins-held (InSlice slice left) lines s held = Begins-slices slice left lines s held

@@ -8,10 +8,10 @@ use Rattle.journal_text.specs.Lines.{command_line, entry_line, first_line, journ
 use Rattle.journal_text.specs.Writable.{IsWritableCommand, IsWritableEntry, IsWritableSlice}
 use Rattle.journal_text.proofs.Order.{LeadOn-push}
 use Rattle.journal_text.proofs.laws.Texts.{lines_from-push}
-use Rattle.journal_text.specs.Places.{LeadOn, Leads, LeadsFromSlices}
+use Rattle.journal_text.specs.LinePositions.{LeadOn, Leads, LeadsFromSlices}
 use Rattle.journal_text.specs.States.{HasTaken, Holds, HoldsSlices, HoldsTree, IsBefore, PartsRead, ReaderState, tree_lines, whole_slices}
-use Rattle.journal_text.specs.declared.place.Place.{Place}
-use Rattle.journal_text.specs.declared.place.Place.TheVariants.{Start, InTree, InSlice, Over}
+use Rattle.journal_text.specs.declared.line_position.LinePosition.{LinePosition}
+use Rattle.journal_text.specs.declared.line_position.LinePosition.TheVariants.{Start, InTree, InSlice, Over}
 use Rattle.run_law.specs.Journals.{At}
 use Rattle.run_law.specs.TreeHistory.{TreeEntryValue}
 use Rattle.run_law.proofs.laws.Positions.{At-append, At-one}
@@ -63,7 +63,7 @@ module _ (script : ScriptValue) where
       }
 
   -- the line after whole slices
-  Holds-after_slices : (count : ℕ) (lines : List (List ℕ)) (line : List ℕ) (next : Place) (s : PartsRead) → HoldsWhole script count lines s → LeadsFromSlices script count line next → Holds script next (lines ++ line ∷ []) s
+  Holds-after_slices : (count : ℕ) (lines : List (List ℕ)) (line : List ℕ) (next : LinePosition) (s : PartsRead) → HoldsWhole script count lines s → LeadsFromSlices script count line next → Holds script next (lines ++ line ∷ []) s
   unfolding journal_lines
   Holds-after_slices count lines line Start s held led = absurd led
   Holds-after_slices count lines line InTree s held led = absurd led
@@ -128,41 +128,41 @@ module _ (script : ScriptValue) where
 -- ---- what a reader tells of a line
 
 -- a line that leads on was read
-HasTaken-led : (script : ScriptValue) (line : List ℕ) (old new : ReaderState) (from to : Place) → old.place ≡ from → new.place ≡ to → Leads script from line to → ((lines : List (List ℕ)) → Holds script from lines old.parts → Holds script to (lines ++ line ∷ []) new.parts) → HasTaken script line old new true
+HasTaken-led : (script : ScriptValue) (line : List ℕ) (old new : ReaderState) (from to : LinePosition) → old.position ≡ from → new.position ≡ to → Leads script from line to → ((lines : List (List ℕ)) → Holds script from lines old.parts → Holds script to (lines ++ line ∷ []) new.parts) → HasTaken script line old new true
 HasTaken-led script line old new from to at_old at_new led step = λ lines read. record {
-  led = LeadOn-push script Start lines line from new.place (subst (λ (p : Place). LeadOn script Start lines p) at_old read.led) (subst (λ (p : Place). Leads script from line p) (sym at_new) led);
-  held = subst (λ (p : Place). Holds script p (lines ++ line ∷ []) new.parts) (sym at_new) (step lines (subst (λ (p : Place). Holds script p lines old.parts) at_old read.held));
+  led = LeadOn-push script Start lines line from new.position (subst (λ (p : LinePosition). LeadOn script Start lines p) at_old read.led) (subst (λ (p : LinePosition). Leads script from line p) (sym at_new) led);
+  held = subst (λ (p : LinePosition). Holds script p (lines ++ line ∷ []) new.parts) (sym at_new) (step lines (subst (λ (p : LinePosition). Holds script p lines old.parts) at_old read.held));
 }
 
 -- a line that leads nowhere was not
-pub HasTaken-not_led : (script : ScriptValue) (line : List ℕ) (old new : ReaderState) (from : Place) → old.place ≡ from → ((next : Place) → Leads script from line next → ⊥) → HasTaken script line old new false
-HasTaken-not_led script line old new from at never = λ next led. never next (subst (λ (p : Place). Leads script p line next) at led)
+pub HasTaken-not_led : (script : ScriptValue) (line : List ℕ) (old new : ReaderState) (from : LinePosition) → old.position ≡ from → ((next : LinePosition) → Leads script from line next → ⊥) → HasTaken script line old new false
+HasTaken-not_led script line old new from at never = λ next led. never next (subst (λ (p : LinePosition). Leads script p line next) at led)
 
 module _ (script : ScriptValue) (line : List ℕ) (old new : ReaderState) where
-  pub HasTaken-first : old.place ≡ Start → first_line ≡ line → new.place ≡ InTree → new.parts ≡ old.parts → HasTaken script line old new true
-  HasTaken-first at same place is =
-      HasTaken-led script line old new Start InTree at place (refl, same)
+  pub HasTaken-first : old.position ≡ Start → first_line ≡ line → new.position ≡ InTree → new.parts ≡ old.parts → HasTaken script line old new true
+  HasTaken-first at same position is =
+      HasTaken-led script line old new Start InTree at position (refl, same)
       (λ lines held. subst (HoldsTree script (lines ++ line ∷ [])) (sym is) (subst (λ (l : List ℕ). HoldsTree script (lines ++ l ∷ []) old.parts) same (Holds-first script lines old.parts held)))
 
-  pub HasTaken-command : (e : TreeEntryValue) → old.place ≡ InTree → IsWritableCommand (total_weight script) e → command_line e ≡ line → new.place ≡ InTree → new.parts ≡ record old.parts { tree = old.parts.tree ++ e ∷ [] } → HasTaken script line old new true
-  HasTaken-command e at writable same place is =
+  pub HasTaken-command : (e : TreeEntryValue) → old.position ≡ InTree → IsWritableCommand (total_weight script) e → command_line e ≡ line → new.position ≡ InTree → new.parts ≡ record old.parts { tree = old.parts.tree ++ e ∷ [] } → HasTaken script line old new true
+  HasTaken-command e at writable same position is =
       let after = record old.parts { tree = old.parts.tree ++ e ∷ [] } in
-      HasTaken-led script line old new InTree InTree at place (inl (refl, record { entry = e; writable = writable; same = same }))
+      HasTaken-led script line old new InTree InTree at position (inl (refl, record { entry = e; writable = writable; same = same }))
       (λ lines held. subst (HoldsTree script (lines ++ line ∷ [])) (sym is) (subst (λ (l : List ℕ). HoldsTree script (lines ++ l ∷ []) after) same (Holds-command script lines e old.parts writable held)))
 
-  pub HasTaken-tree_left : old.place ≡ InTree → LeadsFromSlices script 0 line new.place → new.parts ≡ old.parts → HasTaken script line old new true
+  pub HasTaken-tree_left : old.position ≡ InTree → LeadsFromSlices script 0 line new.position → new.parts ≡ old.parts → HasTaken script line old new true
   HasTaken-tree_left at led is =
-      HasTaken-led script line old new InTree new.place at refl (inr led)
-      (λ lines held. subst (Holds script new.place (lines ++ line ∷ [])) (sym is) (Holds-after_slices script 0 lines line new.place old.parts (HoldsWhole-tree script lines old.parts held) led))
+      HasTaken-led script line old new InTree new.position at refl (inr led)
+      (λ lines held. subst (Holds script new.position (lines ++ line ∷ [])) (sym is) (Holds-after_slices script 0 lines line new.position old.parts (HoldsWhole-tree script lines old.parts held) led))
 
-  pub HasTaken-entry : (slice left more : ℕ) (e : SliceEntry) → old.place ≡ InSlice slice left → left ≡ more + 1 → IsWritableEntry script.machine slice e → entry_line e ≡ line → new.place ≡ InSlice slice more → new.parts ≡ record old.parts { entries = old.parts.entries ++ e ∷ [] } → HasTaken script line old new true
-  HasTaken-entry slice left more e at one writable same place is =
+  pub HasTaken-entry : (slice left more : ℕ) (e : SliceEntry) → old.position ≡ InSlice slice left → left ≡ more + 1 → IsWritableEntry script.machine slice e → entry_line e ≡ line → new.position ≡ InSlice slice more → new.parts ≡ record old.parts { entries = old.parts.entries ++ e ∷ [] } → HasTaken script line old new true
+  HasTaken-entry slice left more e at one writable same position is =
       let after = record old.parts { entries = old.parts.entries ++ e ∷ [] } in
-      HasTaken-led script line old new (InSlice slice left) (InSlice slice more) at place (inr (more, one, refl, record { entry = e; writable = writable; same = same }))
+      HasTaken-led script line old new (InSlice slice left) (InSlice slice more) at position (inr (more, one, refl, record { entry = e; writable = writable; same = same }))
       (λ lines held. subst (HoldsSlices script slice more (lines ++ line ∷ [])) (sym is) (subst (λ (l : List ℕ). HoldsSlices script slice more (lines ++ l ∷ []) after) same (Holds-entry script slice left more lines e old.parts one writable held)))
 
-  pub HasTaken-slice_left : (slice : ℕ) → old.place ≡ InSlice slice 0 → LeadsFromSlices script (slice + 1) line new.place → new.parts ≡ record old.parts { slices = old.parts.slices ++ old.parts.entries ∷ []; entries = [] } → HasTaken script line old new true
+  pub HasTaken-slice_left : (slice : ℕ) → old.position ≡ InSlice slice 0 → LeadsFromSlices script (slice + 1) line new.position → new.parts ≡ record old.parts { slices = old.parts.slices ++ old.parts.entries ∷ []; entries = [] } → HasTaken script line old new true
   HasTaken-slice_left slice at led is =
       let closed = record old.parts { slices = old.parts.slices ++ old.parts.entries ∷ []; entries = [] } in
-      HasTaken-led script line old new (InSlice slice 0) new.place at refl (inl (refl, led))
-      (λ lines held. subst (Holds script new.place (lines ++ line ∷ [])) (sym is) (Holds-after_slices script (slice + 1) lines line new.place closed (HoldsWhole-closed script slice lines old.parts held) led))
+      HasTaken-led script line old new (InSlice slice 0) new.position at refl (inl (refl, led))
+      (λ lines held. subst (Holds script new.position (lines ++ line ∷ [])) (sym is) (Holds-after_slices script (slice + 1) lines line new.position closed (HoldsWhole-closed script slice lines old.parts held) led))

@@ -1,4 +1,4 @@
--- The lines of whole journals lead from the first place to the last.
+-- The lines of whole journals lead from the first position to the last.
 use Rattle.std.proofs.Common.{◌≡◌, ℕ, suc, ◌+◌, ◌<◌, List, [], ◌∷◌, ◌++◌, length, map, refl, sym, ap, subst, arith, inl, inr, append_assoc}
 use Rattle.std.specs.List.{All}
 use Rattle.std.proofs.lemmas.List.Elements.{All-head, All-tail}
@@ -6,9 +6,9 @@ use Rattle.cache_core.specs.declared.entry.SliceEntry.{SliceEntry}
 use Rattle.journal_text.specs.Lines.{command_line, entry_line, first_line, journal_lines, last_line, lines_from, slice_line}
 use Rattle.journal_text.specs.Writable.{IsWritable, IsWritableCommand, IsWritableEntry, IsWritableSlice}
 use Rattle.journal_text.proofs.Order.{LeadOn-append}
-use Rattle.journal_text.specs.Places.{LeadOn, Leads, LeadsFromSlices}
-use Rattle.journal_text.specs.declared.place.Place.{Place}
-use Rattle.journal_text.specs.declared.place.Place.TheVariants.{Start, InTree, InSlice, Over}
+use Rattle.journal_text.specs.LinePositions.{LeadOn, Leads, LeadsFromSlices}
+use Rattle.journal_text.specs.declared.line_position.LinePosition.{LinePosition}
+use Rattle.journal_text.specs.declared.line_position.LinePosition.TheVariants.{Start, InTree, InSlice, Over}
 use Rattle.machine.specs.Slices.{slice_count}
 use Rattle.run_law.specs.Journals.{At, JournalsValue}
 use Rattle.run_law.specs.TreeHistory.{TreeEntryValue}
@@ -30,15 +30,15 @@ module _ (script : ScriptValue) where
       let one : length (e ∷ entries) ≡ length entries + 1 = omega arith in
       (InSlice slice (length entries), inr (length entries, one, refl, record { entry = e; writable = All-head W e entries all; same = refl }), LeadOn-entries slice entries (All-tail W e entries all))
 
-  -- the lines of slices from this number on, and the last line, from a place that is left by the line of that slice
-  LeadOn-slices : (place : Place) (i : ℕ) (slices : List (List SliceEntry))
-      → ((line : List ℕ) (next : Place) → LeadsFromSlices script i line next → Leads script place line next)
+  -- the lines of slices from this number on, and the last line, from a position that is left by the line of that slice
+  LeadOn-slices : (position : LinePosition) (i : ℕ) (slices : List (List SliceEntry))
+      → ((line : List ℕ) (next : LinePosition) → LeadsFromSlices script i line next → Leads script position line next)
       → i + length slices ≡ slice_count script.machine
       → ((k : ℕ) (entries : List SliceEntry) → At slices k entries → IsWritableSlice script.machine (total_weight script) (i + k) entries)
-      → LeadOn script place (lines_from script.machine i slices ++ last_line ∷ []) Over
+      → LeadOn script position (lines_from script.machine i slices ++ last_line ∷ []) Over
   unfolding lines_from
-  LeadOn-slices place i [] leaves all writable = let count : i ≡ slice_count script.machine = omega (arith, all) in (Over, leaves last_line Over (record { all = count; same = refl }), refl)
-  LeadOn-slices place i (entries ∷ slices) leaves all writable =
+  LeadOn-slices position i [] leaves all writable = let count : i ≡ slice_count script.machine = omega (arith, all) in (Over, leaves last_line Over (record { all = count; same = refl }), refl)
+  LeadOn-slices position i (entries ∷ slices) leaves all writable =
       let n = length entries in
       let here = subst (λ (k : ℕ). IsWritableSlice script.machine (total_weight script) k entries) (let e : i + 0 ≡ i = omega arith in e) (writable 0 entries refl) in
       let line = slice_line script.machine i n in
@@ -46,8 +46,8 @@ module _ (script : ScriptValue) where
       let rest = lines_from script.machine (i + 1) slices ++ last_line ∷ [] in
       let later = LeadOn-slices (InSlice i 0) (i + 1) slices (λ l next after. inl (refl, after)) (omega (arith, all)) (λ k es at. subst (λ (j : ℕ). IsWritableSlice script.machine (total_weight script) j es) (let e : i + suc k ≡ i + 1 + k = omega arith in e) (writable (suc k) es at)) in
       let after = LeadOn-append script (InSlice i n) (map entry_line entries) rest (InSlice i 0) Over (LeadOn-entries i entries here.each) later in
-      let led : LeadOn script place (line ∷ (map entry_line entries ++ rest)) Over = (InSlice i n, leaves line (InSlice i n) (refl, record { there = there; few = here.few; same = refl }), after) in
-      subst (λ (lines : List (List ℕ)). LeadOn script place lines Over) (ap (λ (back : List (List ℕ)). line ∷ back) (sym (append_assoc (map entry_line entries) (lines_from script.machine (i + 1) slices) (last_line ∷ [])))) led
+      let led : LeadOn script position (line ∷ (map entry_line entries ++ rest)) Over = (InSlice i n, leaves line (InSlice i n) (refl, record { there = there; few = here.few; same = refl }), after) in
+      subst (λ (lines : List (List ℕ)). LeadOn script position lines Over) (ap (λ (back : List (List ℕ)). line ∷ back) (sym (append_assoc (map entry_line entries) (lines_from script.machine (i + 1) slices) (last_line ∷ [])))) led
 
   -- the lines of journals
   pub LeadOn-journals : (j : JournalsValue) → IsWritable script j → LeadOn script Start (journal_lines script.machine j) Over

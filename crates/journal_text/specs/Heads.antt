@@ -4,14 +4,14 @@ use Rattle.std.specs.Prelude.{ℕ, ◌≤◌, List, [], ◌∷◌, codes}
 use Rattle.journal_text.specs.Lines.{argument_in, reason_in}
 use Rattle.journal_text.specs.Taken.{IsSplit, Takes}
 use Rattle.journal_text.specs.Writable.{IsWritableReply}
-use Rattle.journal_text.specs.declared.commands.Head.{Head}
+use Rattle.journal_text.specs.declared.commands.CommandHead.{CommandHead}
 
 -- the numbers of a command's line before its counts
-abbrev pub numbers_in : Head → List ℕ
+abbrev pub numbers_in : CommandHead → List ℕ
 numbers_in head = head.thread ∷ head.op ∷ reason_in head.reply ∷ argument_in head.reply ∷ head.looks ∷ []
 
 -- a line begins like that of a command, and this text stands where its counts are
-pub record IsHead (weight : ℕ) (head : Head) (rest line : List ℕ) : Type 0 where
+pub record IsCommandHead (weight : ℕ) (head : CommandHead) (rest line : List ℕ) : Type 0 where
   pub after : List ℕ
   pub split : IsSplit (codes "tree") after line
   pub takes : Takes (numbers_in head) rest after

@@ -2,8 +2,8 @@ pub mod Endings
 pub mod Heads
 pub mod Kinds
 pub mod Laws
+pub mod LinePositions
 pub mod Lines
-pub mod Places
 pub mod Readings
 pub mod States
 pub mod Taken

@@ -4,9 +4,9 @@ use Rattle.std.specs.Prelude.{◌≡◌, ℕ, ◌+◌, ◌<◌, ◌≤◌, Bool,
 use Rattle.cache_core.specs.declared.entry.SliceEntry.{SliceEntry}
 use Rattle.journal_text.specs.Lines.{command_line, entry_line, first_line, journal_lines, lines_from, slice_line}
 use Rattle.journal_text.specs.Writable.{IsWritable, IsWritableCommand, IsWritableEntry, IsWritableSlice}
-use Rattle.journal_text.specs.Places.{LeadOn, Leads, LeadsFromSlices}
-use Rattle.journal_text.specs.declared.place.Place.{Place}
-use Rattle.journal_text.specs.declared.place.Place.TheVariants.{Start, InTree, InSlice, Over}
+use Rattle.journal_text.specs.LinePositions.{LeadOn, Leads, LeadsFromSlices}
+use Rattle.journal_text.specs.declared.line_position.LinePosition.{LinePosition}
+use Rattle.journal_text.specs.declared.line_position.LinePosition.TheVariants.{Start, InTree, InSlice, Over}
 use Rattle.journal_text.specs.declared.reader.Reader.{Reader}
 use Rattle.machine.specs.Slices.{slice_count}
 use Rattle.run_law.specs.Entries.{entries_of, entry_value}
@@ -20,14 +20,14 @@ pub record PartsRead : Type 0 where
   pub slices : List (List SliceEntry)
   pub entries : List SliceEntry
 
--- the place, and what was read before it
+-- the position, and what was read before it
 pub record ReaderState : Type 0 where
-  pub place : Place
+  pub position : LinePosition
   pub parts : PartsRead
 
 -- the state of a reader
 abbrev pub state_of : Reader → ReaderState
-state_of r = record { place = r.place; parts = record { tree = map entry_value r.tree.items; slices = map entries_of r.slices.items; entries = r.entries.items } }
+state_of r = record { position = r.position; parts = record { tree = map entry_value r.tree.items; slices = map entries_of r.slices.items; entries = r.entries.items } }
 
 -- the journals that were read, where the text is over
 abbrev pub journals_in : PartsRead → JournalsValue
@@ -70,29 +70,29 @@ pub record HoldsJournals (script : ScriptValue) (lines : List (List ℕ)) (s : P
   pub same : lines ≡ journal_lines script.machine (journals_in s)
   pub writable : IsWritable script (journals_in s)
 
--- at this place, these are the lines of what was read
-abbrev pub Holds : ScriptValue → Place → List (List ℕ) → PartsRead → Type 0
+-- at this position, these are the lines of what was read
+abbrev pub Holds : ScriptValue → LinePosition → List (List ℕ) → PartsRead → Type 0
 Holds script Start lines s = IsBefore lines s
 Holds script InTree lines s = HoldsTree script lines s
 Holds script (InSlice slice left) lines s = HoldsSlices script slice left lines s
 Holds script Over lines s = HoldsJournals script lines s
 
--- these lines lead to the place of the reader, and it holds what they say
+-- these lines lead to the position of the reader, and it holds what they say
 pub record HasRead (script : ScriptValue) (lines : List (List ℕ)) (s : ReaderState) : Type 0 where
-  pub led : LeadOn script Start lines s.place
-  pub held : Holds script s.place lines s.parts
+  pub led : LeadOn script Start lines s.position
+  pub held : Holds script s.position lines s.parts
 
 -- the slice that is being read is one of the machine
-abbrev pub IsThere : ScriptValue → Place → Type 0
+abbrev pub IsThere : ScriptValue → LinePosition → Type 0
 IsThere script (InSlice slice left) = slice < slice_count script.machine
-IsThere script place = Unit {0}
+IsThere script position = Unit {0}
 
 -- after a line that may stand, the reader has read it too; another leads nowhere
 abbrev pub HasTaken : ScriptValue → List ℕ → ReaderState → ReaderState → Bool → Type 0
 HasTaken script line old new true = (lines : List (List ℕ)) → HasRead script lines old → HasRead script (lines ++ line ∷ []) new
-HasTaken script line old new false = (next : Place) → Leads script old.place line next → ⊥
+HasTaken script line old new false = (next : LinePosition) → Leads script old.position line next → ⊥
 
 -- the line after the commands was read; or there is none such
 abbrev pub HasLeftTree : ScriptValue → List ℕ → ReaderState → ReaderState → Bool → Type 0
 HasLeftTree script line old new true = HasTaken script line old new true
-HasLeftTree script line old new false = (next : Place) → LeadsFromSlices script 0 line next → ⊥
+HasLeftTree script line old new false = (next : LinePosition) → LeadsFromSlices script 0 line next → ⊥

@@ -1,6 +1,6 @@
 //! The command that a line is.
 ghost use Rattle.std.specs.Prelude.{◌≡◌, ℕ, [], List, length, IfOk, MatchOption};
-ghost use Rattle.journal_text.specs.Heads.{IsHead};
+ghost use Rattle.journal_text.specs.Heads.{IsCommandHead};
 ghost use Rattle.journal_text.specs.Lines.{argument_in, command_line, reason_in};
 ghost use Rattle.journal_text.specs.Taken.{EndsWord, Takes};
 ghost use Rattle.journal_text.specs.Writable.{IsWritableCommand, IsWritableReply};
@@ -18,7 +18,7 @@ use std::alloc::Global;
 
 // What a line says before the looks, and how many they are.
 #[derive(Clone, Copy)]
-struct Head {
+struct CommandHead {
     thread: u32,
     op: u32,
     reply: Reply,
@@ -46,10 +46,10 @@ fn accepted(arg: u64) -> Option<Reply>
 }
 
 // The front of a command's line, and the text of its looks. There is room in the text for so many.
-fn head_of(line: &[u8], weight: u64) -> Option<(Head, &[u8])>
+fn head_of(line: &[u8], weight: u64) -> Option<(CommandHead, &[u8])>
     ensures { MatchOption result
         ((e : TreeEntryValue) → IsWritableCommand weight e → command_line e ≡ line.now → ⊥)
-        (λ p. IsHead weight p.0 p.1.now line.now) }
+        (λ p. IsCommandHead weight p.0 p.1.now line.now) }
 {
     let (word, rest) = first_word(line);
     if !is_text(word, b"tree") {
@@ -66,7 +66,7 @@ fn head_of(line: &[u8], weight: u64) -> Option<(Head, &[u8])>
     let thread = narrow(thread)?;
     let op = narrow(op)?;
     let reply = reply_of(reason, arg)?;
-    let head = Head {
+    let head = CommandHead {
         thread,
         op,
         reply,

@@ -9,7 +9,7 @@ mod entries;
 pub mod fault;
 mod fields;
 mod kind;
-mod place;
+mod line_position;
 mod printing;
 mod pushing;
 mod reader;

@@ -5,15 +5,15 @@ ghost use Rattle.journal_text.specs.States.{HasRead, state_of};
 ghost use Rattle.script_ops.specs.Values.{ScriptValue};
 
 use crate::fault::ReadError;
-use crate::place::Place;
+use crate::line_position::LinePosition;
 use cache_core::SliceEntry;
 use run_law::{Journals, TreeEntry};
 use std::alloc::Global;
 
-/// What was read so far: the place, the commands, the entries of the whole slices, and those of the slice that is being read.
+/// What was read so far: the position, the commands, the entries of the whole slices, and those of the slice that is being read.
 #[derive(Drop)]
 pub struct Reader {
-    pub(crate) place: Place,
+    pub(crate) position: LinePosition,
     pub(crate) tree: Vec<TreeEntry>,
     pub(crate) slices: Vec<Vec<SliceEntry>>,
     pub(crate) entries: Vec<SliceEntry>,
@@ -25,7 +25,7 @@ impl Reader {
         ensures { (script : ScriptValue) → HasRead script [] (state_of result) }
     {
         Reader {
-            place: Place::Start,
+            position: LinePosition::Start,
             tree: Vec::new(alloc),
             slices: Vec::new(alloc),
             entries: Vec::new(alloc),
@@ -38,12 +38,12 @@ impl Reader {
         ensures { Finishes (state_of self) lines left.now result }
     {
         let Reader {
-            place,
+            position,
             tree,
             slices,
             entries: _,
         } = self;
-        if place == Place::Over && left.is_empty() {
+        if position == LinePosition::Over && left.is_empty() {
             Ok(Journals::of(tree, slices))
         } else {
             Err(ReadError::Bad { line: lines + 1 })

@@ -1,12 +1,12 @@
 //! Taking the next line of a text of journals.
 ghost use Rattle.std.specs.Prelude.{◌≡◌, ◌+◌, ◌<◌, ◌≤◌, IfOk};
-ghost use Rattle.journal_text.specs.Places.{LeadsFromSlices};
+ghost use Rattle.journal_text.specs.LinePositions.{LeadsFromSlices};
 ghost use Rattle.journal_text.specs.States.{HasLeftTree, HasTaken, IsThere, state_of};
-ghost use Rattle.journal_text.specs.declared.place.Place.TheVariants.{Start, InTree, InSlice};
+ghost use Rattle.journal_text.specs.declared.line_position.LinePosition.TheVariants.{Start, InTree, InSlice};
 ghost use Rattle.machine.specs.Slices.{slice_count};
 ghost use Rattle.script_ops.specs.Values.{total_weight};
 
-use crate::place::Place;
+use crate::line_position::LinePosition;
 use crate::reader::Reader;
 use crate::slices::after_slices;
 use crate::{command_of_line, entry_of_line};
@@ -18,11 +18,11 @@ use std::mem;
 impl Reader {
     // Takes a line and says true, if it is the first of every text.
     fn take_first(&mut self, script: &Script, line: &[u8]) -> bool
-        requires { (state_of self.old).place ≡ Start }
+        requires { (state_of self.old).position ≡ Start }
         ensures { HasTaken script.now line.now (state_of self.old) (state_of self.new) result }
     {
         if is_text(line, b"journal 1") {
-            self.place = Place::InTree;
+            self.position = LinePosition::InTree;
             true
         } else {
             false
@@ -32,12 +32,12 @@ impl Reader {
     // Takes a line and says true, if it may stand after the commands.
     fn leave_tree(&mut self, script: &Script, weight: u64, line: &[u8]) -> bool
         requires weight { weight ≡ total_weight script.now }
-        requires place { (state_of self.old).place ≡ InTree }
+        requires position { (state_of self.old).position ≡ InTree }
         ensures { HasLeftTree script.now line.now (state_of self.old) (state_of self.new) result }
     {
         match after_slices(script, weight, 0, line) {
             Some(next) => {
-                self.place = next;
+                self.position = next;
                 true
             }
             None => false,
@@ -53,7 +53,7 @@ impl Reader {
         line: &[u8],
     ) -> Result<bool, NoMemory>
         requires weight { weight ≡ total_weight script.now }
-        requires place { (state_of self.old).place ≡ InTree }
+        requires position { (state_of self.old).position ≡ InTree }
         ensures { IfOk result (HasTaken script.now line.now (state_of self.old) (state_of self.new)) }
     {
         match command_of_line(alloc, line, weight)? {
@@ -73,7 +73,7 @@ impl Reader {
         left: u64,
         line: &[u8],
     ) -> Result<bool, NoMemory>
-        requires place { (state_of self.old).place ≡ InSlice slice left }
+        requires position { (state_of self.old).position ≡ InSlice slice left }
         requires there { slice < slice_count script.now.machine }
         requires more { 0 < left }
         ensures { IfOk result (HasTaken script.now line.now (state_of self.old) (state_of self.new)) }
@@ -81,7 +81,7 @@ impl Reader {
         match entry_of_line(line, script.machine(), u32::from(slice)) {
             Some(entry) => {
                 self.entries.push(entry)?;
-                self.place = Place::InSlice {
+                self.position = LinePosition::InSlice {
                     slice,
                     left: left - 1,
                 };
@@ -101,7 +101,7 @@ impl Reader {
         line: &[u8],
     ) -> Result<bool, NoMemory>
         requires weight { weight ≡ total_weight script.now }
-        requires place { (state_of self.old).place ≡ InSlice slice 0 }
+        requires position { (state_of self.old).position ≡ InSlice slice 0 }
         requires there { slice < slice_count script.now.machine }
         ensures { IfOk result (HasTaken script.now line.now (state_of self.old) (state_of self.new)) }
     {
@@ -109,7 +109,7 @@ impl Reader {
             Some(next) => {
                 let entries = mem::replace(&mut self.entries, Vec::new(alloc));
                 self.slices.push(entries)?;
-                self.place = next;
+                self.position = next;
                 Ok(true)
             }
             None => Ok(false),
@@ -126,17 +126,17 @@ impl Reader {
         line: &[u8],
     ) -> Result<bool, NoMemory>
         requires weight { weight ≡ total_weight script.now }
-        requires there { IsThere script.now (state_of self.old).place }
+        requires there { IsThere script.now (state_of self.old).position }
         ensures { IfOk result (HasTaken script.now line.now (state_of self.old) (state_of self.new)) }
     {
-        match self.place {
-            Place::Start => Ok(self.take_first(script, line)),
-            Place::InTree => self.take_command(alloc, script, weight, line),
-            Place::InSlice { slice, left: 0 } => {
+        match self.position {
+            LinePosition::Start => Ok(self.take_first(script, line)),
+            LinePosition::InTree => self.take_command(alloc, script, weight, line),
+            LinePosition::InSlice { slice, left: 0 } => {
                 self.leave_slice(alloc, script, weight, slice, line)
             }
-            Place::InSlice { slice, left } => self.take_entry(script, slice, left, line),
-            Place::Over => Ok(false),
+            LinePosition::InSlice { slice, left } => self.take_entry(script, slice, left, line),
+            LinePosition::Over => Ok(false),
         }
     }
 }

@@ -14,7 +14,7 @@ use crate::ordering::order;
 use crate::outcome::Replayed;
 use call_rim::{Performed, Program};
 use check_parts::{
-    BadInput, Held, InputError, MOST_CHECK_BYTES, bad_line_of, divide, held_in, verdict_line,
+    BadInput, CheckInput, InputError, MOST_CHECK_BYTES, bad_line_of, divide, held_in, verdict_line,
 };
 use journal_check::{Clause, Verdict, check};
 use rc_base::NoMemory;
@@ -86,7 +86,7 @@ fn replay_held(alloc: Global, text: Vec<u8>, bytes: Vec<u8>) -> Performed<Replay
     ensures { Performs Refuses Finds bytes.items result }
 {
     match held_in(alloc, bytes) {
-        Ok(Held { script, journals }) => judge(alloc, text, script, journals),
+        Ok(CheckInput { script, journals }) => judge(alloc, text, script, journals),
         Err(InputError::Bad(bad)) => refuse(alloc, bad),
         Err(InputError::NoMemory) => Performed::NoMemory,
     }

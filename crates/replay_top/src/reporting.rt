@@ -11,7 +11,7 @@ ghost use Rattle.script_ops.specs.Values.{IsLawful};
 use crate::outcome::Replayed;
 use crate::replaying::{refuse, tell_clause};
 use call_rim::{Performed, Program};
-use check_parts::{Held, InputError, MOST_CHECK_BYTES, held_in};
+use check_parts::{CheckInput, InputError, MOST_CHECK_BYTES, held_in};
 use journal_check::{Verdict, check};
 use rc_base::NoMemory;
 use resctrl_top::report::report;
@@ -64,7 +64,7 @@ fn report_bytes(alloc: Global, bytes: Vec<u8>, flags: Flags) -> Performed<Replay
     ensures { Performs Refuses (FindsReport flags) bytes.items result }
 {
     match held_in(alloc, bytes) {
-        Ok(Held { script, journals }) => judge(alloc, &script, journals, flags),
+        Ok(CheckInput { script, journals }) => judge(alloc, &script, journals, flags),
         Err(InputError::Bad(bad)) => refuse(alloc, bad),
         Err(InputError::NoMemory) => Performed::NoMemory,
     }

@@ -1,5 +1,5 @@
 use Rattle.std.proofs.Common.{◌∷◌, [], arith, codes, refl, rules}
-use Rattle.journal_text.proofs.CommandParts.{IsHead-read, no_head, no_op, no_reply, no_thread, no_tree_word, too_long, too_many}
+use Rattle.journal_text.proofs.CommandParts.{IsCommandHead-read, no_head, no_op, no_reply, no_thread, no_tree_word, too_long, too_many}
 use Rattle.journal_text.proofs.KindWords.{is_word}
 use Rattle.journal_text.proofs.laws.Taken.{Takes-append, TakesNone-after, TakesNone-more}
 use Rattle.journal_text.proofs.commands.head_of.Goals as goal
@@ -57,4 +57,4 @@ returns c =
     let a = c.in_ok-thread in
     let b = c.in_ok-arg in
     let takes = Takes-append (a.thread ∷ a.op ∷ a.reason ∷ []) (b.arg ∷ b.looks ∷ []) a.rest.now b.rest.now c.first_word.result.1.now a.ensures b.ensures in
-    IsHead-read c.args.weight c.first_word.result.0.now c.first_word.result.1.now c.args.line.now (search rules) c.first_word.ensures a.thread a.op a.reason b.arg b.looks b.rest.now takes c.in_ok-thread-2.thread c.in_ok-op.op c.in_ok-reply.reply (is_word (codes "tree") c.first_word.result.0.now c.if-not-is_text.ensures) c.if-looks-weight.false c.in_ok-thread-2.ensures c.in_ok-op.ensures c.in_ok-reply.ensures
+    IsCommandHead-read c.args.weight c.first_word.result.0.now c.first_word.result.1.now c.args.line.now (search rules) c.first_word.ensures a.thread a.op a.reason b.arg b.looks b.rest.now takes c.in_ok-thread-2.thread c.in_ok-op.op c.in_ok-reply.reply (is_word (codes "tree") c.first_word.result.0.now c.if-not-is_text.ensures) c.if-looks-weight.false c.in_ok-thread-2.ensures c.in_ok-op.ensures c.in_ok-reply.ensures

@@ -13,8 +13,8 @@ pub returns-in_ok-push-in-Some : goal.returns-in_ok-push-in-Some
 returns-in_ok-push-in-Some c =
     let old = state_of c.args.self.now in
     let e = entry_value c.in-Some.entry in
-    let new : ReaderState = record { place = c.args.self.now.place; parts = record old.parts { tree = map entry_value c.push.new.self.items } } in
+    let new : ReaderState = record { position = c.args.self.now.position; parts = record old.parts { tree = map entry_value c.push.new.self.items } } in
     let found : IsWritableCommand c.args.weight e × (command_line e ≡ c.args.line.now) = rw c.in-Some.is at c.in_ok-entry.ensures in
     let writable : IsWritableCommand (total_weight c.args.script.now) e = subst (λ (w : ℕ). IsWritableCommand w e) c.requires.weight found.0 in
     let tree : map entry_value c.push.new.self.items ≡ old.parts.tree ++ e ∷ [] = ap (λ es. map entry_value es) c.in_ok-push-in-Some.ensures.items ∙ map-append entry_value c.args.self.now.tree.items (c.in-Some.entry ∷ []) in
-    HasTaken-command c.args.script.now c.args.line.now old new e c.requires.place writable found.1 c.requires.place (ap (λ (t : List TreeEntryValue). record old.parts { tree = t }) tree)
+    HasTaken-command c.args.script.now c.args.line.now old new e c.requires.position writable found.1 c.requires.position (ap (λ (t : List TreeEntryValue). record old.parts { tree = t }) tree)

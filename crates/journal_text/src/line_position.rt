@@ -2,7 +2,7 @@
 
 /// What the next line of a text of journals may be.
 #[derive(Clone, Copy, Debug, PartialEq, Eq)]
-pub enum Place {
+pub enum LinePosition {
     /// The first line.
     Start,
     /// A command that the tree took, or the line before the entries of the first slice.

@@ -7,7 +7,7 @@ use Rattle.cache_core.specs.declared.entry.SliceEntry.{SliceEntry}
 use Rattle.journal_check.specs.AfterCommands.{AreAfterUpTo, IsAfterCommands, IsLatest, IsOther, IsPassed, noted, other_epoch}
 use Rattle.journal_check.specs.Places.{ArePlaces}
 use Rattle.journal_check.specs.Tables.{number_at}
-use Rattle.journal_check.specs.declared.after_commands.Latest.{Latest}
+use Rattle.journal_check.specs.declared.after_commands.TwoLatestEpochs.{TwoLatestEpochs}
 use Rattle.run_law.proofs.laws.Pairs.{both_eqb-same, both_eqb-true}
 use Rattle.run_law.specs.Journals.{At}
 use Rattle.run_law.specs.Truth.{is_made_by, is_taken_from}
@@ -36,7 +36,7 @@ made_by-same t o x e a b =
     both_eqb-same x.thread e.thread x.op e.op (first.0 ∙ sym second.0) (first.1 ∙ sym second.1)
 
 -- an entry of no op of the script
-pub IsLatest-skip : (script : ScriptValue) (entries : List SliceEntry) (n : ℕ) (l : Latest) (e : SliceEntry) → At entries n e → (IsSome (op_at script e.thread e.op) → ⊥) → IsLatest script entries n l → IsLatest script entries (n + 1) l
+pub IsLatest-skip : (script : ScriptValue) (entries : List SliceEntry) (n : ℕ) (l : TwoLatestEpochs) (e : SliceEntry) → At entries n e → (IsSome (op_at script e.thread e.op) → ⊥) → IsLatest script entries n l → IsLatest script entries (n + 1) l
 IsLatest-skip script entries n l e at none latest = record {
   epochs = λ p x passed. latest.epochs p x (old p x passed);
   others = λ p x passed other. latest.others p x (old p x passed) other;
@@ -50,7 +50,7 @@ IsLatest-skip script entries n l e at none latest = record {
       | inr here ↦ absurd (none (subst (λ (y : SliceEntry). IsSome (op_at script y.thread y.op)) here.1 passed.of_op))
     ]
 
-module _ (script : ScriptValue) (entries : List SliceEntry) (n : ℕ) (l : Latest) (e : SliceEntry) (at : At entries n e) (of_op : IsSome (op_at script e.thread e.op)) (latest : IsLatest script entries n l) where
+module _ (script : ScriptValue) (entries : List SliceEntry) (n : ℕ) (l : TwoLatestEpochs) (e : SliceEntry) (at : At entries n e) (of_op : IsSome (op_at script e.thread e.op)) (latest : IsLatest script entries n l) where
   -- the entry passes
   here_passes : IsPassed script entries (n + 1) n e
   here_passes = record { within = omega arith; there = at; of_op = of_op }
@@ -141,7 +141,7 @@ module _ (script : ScriptValue) (entries : List SliceEntry) (n : ℕ) (l : Lates
 pub AreAfterUpTo-zero : (script : ScriptValue) (tree : List TreeEntryValue) (entries : List SliceEntry) → AreAfterUpTo script tree entries 0
 AreAfterUpTo-zero script tree entries = λ p q k e earlier command passed within there taken made before apart. absurd (omega arith)
 
-pub IsLatest-zero : (script : ScriptValue) (entries : List SliceEntry) (l : Latest) → l.epoch ≡ 0 → l.other ≡ 0 → IsLatest script entries 0 l
+pub IsLatest-zero : (script : ScriptValue) (entries : List SliceEntry) (l : TwoLatestEpochs) → l.epoch ≡ 0 → l.other ≡ 0 → IsLatest script entries 0 l
 IsLatest-zero script entries l none also = record {
   epochs = λ p e passed. absurd (let within = passed.within in omega arith);
   others = λ p e passed apart. absurd (let within = passed.within in omega arith);
@@ -150,14 +150,14 @@ IsLatest-zero script entries l none also = record {
 }
 
 -- the greatest epoch of another op is at most this, where each is
-other_epoch-le : (script : ScriptValue) (entries : List SliceEntry) (n p : ℕ) (l : Latest) (e x : SliceEntry) → IsLatest script entries n l → IsPassed script entries n p x → IsOther e.thread e.op x → x.epoch ≤ other_epoch l e
+other_epoch-le : (script : ScriptValue) (entries : List SliceEntry) (n p : ℕ) (l : TwoLatestEpochs) (e x : SliceEntry) → IsLatest script entries n l → IsPassed script entries n p x → IsOther e.thread e.op x → x.epoch ≤ other_epoch l e
 other_epoch-le script entries n p l e x latest passed apart = elim (cases_Bool (is_made_by l.thread l.op e)) [
   | inl own ↦ rw own (latest.others p x passed (λ mine. apart (made_by-same l.thread l.op x e mine own)))
   | inr other ↦ rw other (latest.epochs p x passed)
 ]
 
 -- and it is there
-other_epoch-there : (script : ScriptValue) (entries : List SliceEntry) (n : ℕ) (l : Latest) (e : SliceEntry) → IsLatest script entries n l → 0 < other_epoch l e
+other_epoch-there : (script : ScriptValue) (entries : List SliceEntry) (n : ℕ) (l : TwoLatestEpochs) (e : SliceEntry) → IsLatest script entries n l → 0 < other_epoch l e
     → (p : ℕ) × (x : SliceEntry) × IsPassed script entries n p x × IsOther e.thread e.op x × (x.epoch ≡ other_epoch l e)
 other_epoch-there script entries n l e latest some = elim (cases_Bool (is_made_by l.thread l.op e)) [
   | inl own ↦
@@ -192,7 +192,7 @@ other_epoch-there script entries n l e latest some = elim (cases_Bool (is_made_b
       ]
 ]
 
-module _ (script : ScriptValue) (tree : List TreeEntryValue) (entries : List SliceEntry) (table : List (List ℕ)) (n : ℕ) (l : Latest) (e : SliceEntry) (at : At entries n e) (places : ArePlaces script table tree) where
+module _ (script : ScriptValue) (tree : List TreeEntryValue) (entries : List SliceEntry) (table : List (List ℕ)) (n : ℕ) (l : TwoLatestEpochs) (e : SliceEntry) (at : At entries n e) (places : ArePlaces script table tree) where
   -- an entry that is not behind one of a later epoch
   pub AreAfterUpTo-suc : (place : ℕ) → number_at table e.thread e.op ≡ Some place → IsLatest script entries n l → ((0 < place) × (place ≤ other_epoch l e) → ⊥) → AreAfterUpTo script tree entries n → AreAfterUpTo script tree entries (n + 1)
   AreAfterUpTo-suc place is latest fine behind = λ p q k x earlier command passed within there taken made before apart.
