@@ -9,7 +9,7 @@ use Rattle.journal_text.specs.Writable.{IsWritableCommand, IsWritableEntry, IsWr
 use Rattle.journal_text.proofs.Order.{LeadOn-push}
 use Rattle.journal_text.proofs.laws.Texts.{lines_from-push}
 use Rattle.journal_text.specs.LinePositions.{LeadOn, Leads, LeadsFromSlices}
-use Rattle.journal_text.specs.States.{HasTaken, Holds, HoldsSlices, HoldsTree, IsBefore, PartsRead, ReaderState, tree_lines, whole_slices}
+use Rattle.journal_text.specs.States.{HasTaken, Holds, HoldsSlices, HoldsTree, IsBefore, PartsRead, ReaderState, TakesLine, state_at, tree_lines, whole_slices}
 use Rattle.journal_text.specs.declared.line_position.LinePosition.{LinePosition}
 use Rattle.journal_text.specs.declared.line_position.LinePosition.TheVariants.{Start, InTree, InSlice, Over}
 use Rattle.run_law.specs.Journals.{At}
@@ -166,3 +166,9 @@ module _ (script : ScriptValue) (line : List ℕ) (old new : ReaderState) where
       let closed = record old.parts { slices = old.parts.slices ++ old.parts.entries ∷ []; entries = [] } in
       HasTaken-led script line old new (InSlice slice 0) new.position at refl (inl (refl, led))
       (λ lines held. subst (Holds script new.position (lines ++ line ∷ [])) (sym is) (Holds-after_slices script (slice + 1) lines line new.position closed (HoldsWhole-closed script slice lines old.parts held) led))
+
+-- what is kept of one line more
+pub TakesLine-step : (script : ScriptValue) (line : List ℕ) (from : LinePosition) (Old : PartsRead → Type 0) (to : LinePosition) (New : PartsRead → Type 0) (step : PartsRead → PartsRead)
+    → ((parts : PartsRead) → Old parts → New (step parts)) → ((parts : PartsRead) → HasTaken script line (state_at from parts) (state_at to (step parts)) true)
+    → TakesLine script line from Old to New true
+TakesLine-step script line from Old to New step keeps taken = λ lines parts old read. (step parts, keeps parts old, taken parts lines read)

@@ -1,5 +1,6 @@
 pub mod Endings
 pub mod Heads
+pub mod Kept
 pub mod Kinds
 pub mod Laws
 pub mod LinePositions

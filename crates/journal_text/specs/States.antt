@@ -1,4 +1,4 @@
--- What a reader of a text of journals knows after some of its lines.
+-- What a reader of a text of journals knows after some of its lines, and what was given to its keeper.
 -- (For functions and proofs: no promise of the program stands on it.)
 use Rattle.std.specs.Prelude.{◌≡◌, ℕ, ◌+◌, ◌<◌, ◌≤◌, Bool, true, false, List, [], ◌∷◌, ◌++◌, length, map, All}
 use Rattle.cache_core.specs.declared.entry.SliceEntry.{SliceEntry}
@@ -7,9 +7,7 @@ use Rattle.journal_text.specs.Writable.{IsWritable, IsWritableCommand, IsWritabl
 use Rattle.journal_text.specs.LinePositions.{LeadOn, Leads, LeadsFromSlices}
 use Rattle.journal_text.specs.declared.line_position.LinePosition.{LinePosition}
 use Rattle.journal_text.specs.declared.line_position.LinePosition.TheVariants.{Start, InTree, InSlice, Over}
-use Rattle.journal_text.specs.declared.reader.Reader.{Reader}
 use Rattle.machine.specs.Slices.{slice_count}
-use Rattle.run_law.specs.Entries.{entries_of, entry_value}
 use Rattle.run_law.specs.Journals.{At, JournalsValue}
 use Rattle.run_law.specs.TreeHistory.{TreeEntryValue}
 use Rattle.script_ops.specs.Values.{ScriptValue, total_weight}
@@ -25,9 +23,25 @@ pub record ReaderState : Type 0 where
   pub position : LinePosition
   pub parts : PartsRead
 
--- the state of a reader
-abbrev pub state_of : Reader → ReaderState
-state_of r = record { position = r.position; parts = record { tree = map entry_value r.tree.items; slices = map entries_of r.slices.items; entries = r.entries.items } }
+-- the state at a position, after these parts
+abbrev pub state_at : LinePosition → PartsRead → ReaderState
+state_at position parts = record { position = position; parts = parts }
+
+-- nothing
+abbrev pub nothing_read : PartsRead
+nothing_read = record { tree = []; slices = []; entries = [] }
+
+-- one command more
+abbrev pub with_command : PartsRead → TreeEntryValue → PartsRead
+with_command parts e = record parts { tree = parts.tree ++ e ∷ [] }
+
+-- one entry more of the slice that is being read
+abbrev pub with_entry : PartsRead → SliceEntry → PartsRead
+with_entry parts e = record parts { entries = parts.entries ++ e ∷ [] }
+
+-- the slice that was being read is whole
+abbrev pub with_slice : PartsRead → PartsRead
+with_slice parts = record parts { slices = parts.slices ++ parts.entries ∷ []; entries = [] }
 
 -- the journals that were read, where the text is over
 abbrev pub journals_in : PartsRead → JournalsValue
@@ -92,7 +106,14 @@ abbrev pub HasTaken : ScriptValue → List ℕ → ReaderState → ReaderState �
 HasTaken script line old new true = (lines : List (List ℕ)) → HasRead script lines old → HasRead script (lines ++ line ∷ []) new
 HasTaken script line old new false = (next : LinePosition) → Leads script old.position line next → ⊥
 
--- the line after the commands was read; or there is none such
-abbrev pub HasLeftTree : ScriptValue → List ℕ → ReaderState → ReaderState → Bool → Type 0
-HasLeftTree script line old new true = HasTaken script line old new true
-HasLeftTree script line old new false = (next : LinePosition) → LeadsFromSlices script 0 line next → ⊥
+-- What is kept is of parts that were read. After a line that may stand it is of one line more; another leads nowhere.
+abbrev pub TakesLine : ScriptValue → List ℕ → LinePosition → (PartsRead → Type 0) → LinePosition → (PartsRead → Type 0) → Bool → Type 0
+TakesLine script line from Old to New true =
+    (lines : List (List ℕ)) (parts : PartsRead) → Old parts → HasRead script lines (state_at from parts)
+    → (more : PartsRead) × New more × HasRead script (lines ++ line ∷ []) (state_at to more)
+TakesLine script line from Old to New false = (next : LinePosition) → Leads script from line next → ⊥
+
+-- the same of a line that may stand after the commands; or there is none such
+abbrev pub LeavesTree : ScriptValue → List ℕ → LinePosition → (PartsRead → Type 0) → LinePosition → (PartsRead → Type 0) → Bool → Type 0
+LeavesTree script line from Old to New true = TakesLine script line from Old to New true
+LeavesTree script line from Old to New false = (next : LinePosition) → LeadsFromSlices script 0 line next → ⊥

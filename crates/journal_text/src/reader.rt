@@ -1,50 +1,39 @@
-//! What was read of a text of journals so far.
-ghost use Rattle.std.specs.Prelude.{◌≡◌, ◌+◌, ◌<◌, ◌^◌, ℕ, [], MatchResult};
+//! A reader of the lines of journals.
+ghost use Rattle.std.specs.Prelude.{◌≡◌, ◌+◌, ◌<◌, ◌^◌};
 ghost use Rattle.journal_text.specs.Endings.{Finishes};
-ghost use Rattle.journal_text.specs.States.{HasRead, state_of};
-ghost use Rattle.script_ops.specs.Values.{ScriptValue};
+ghost use Rattle.journal_text.specs.declared.line_position.LinePosition.TheVariants.{Start};
 
 use crate::fault::ReadError;
+use crate::keeper::Keeper;
 use crate::line_position::LinePosition;
-use cache_core::SliceEntry;
-use run_law::{Journals, TreeEntry};
-use std::alloc::Global;
 
-/// What was read so far: the position, the commands, the entries of the whole slices, and those of the slice that is being read.
+/// Where a text of journals stands, and what was kept of its lines.
 #[derive(Drop)]
-pub struct Reader {
+pub(crate) struct Reader<K: Drop> {
     pub(crate) position: LinePosition,
-    pub(crate) tree: Vec<TreeEntry>,
-    pub(crate) slices: Vec<Vec<SliceEntry>>,
-    pub(crate) entries: Vec<SliceEntry>,
+    pub(crate) keeper: K,
 }
 
-impl Reader {
-    /// Nothing was read. It takes no memory.
-    pub fn create(alloc: Global) -> Reader
-        ensures { (script : ScriptValue) → HasRead script [] (state_of result) }
+impl<K: Keeper + Drop> Reader<K> {
+    /// Before the first line. It takes no memory.
+    pub(crate) fn create(keeper: K) -> Reader<K>
+        ensures position { result.position ≡ Start }
+        ensures keeper { result.keeper ≡ keeper }
     {
         Reader {
             position: LinePosition::Start,
-            tree: Vec::new(alloc),
-            slices: Vec::new(alloc),
-            entries: Vec::new(alloc),
+            keeper,
         }
     }
 
-    /// The journals, where so many lines were the whole text; or the line after these, where the text is unfinished or goes on.
-    pub fn finish(self, lines: u32, left: &[u8]) -> Result<Journals, ReadError>
+    /// What was kept, where so many lines were the whole text; or the line after these, where the text is unfinished or goes on.
+    pub(crate) fn finish(self, lines: u32, left: &[u8]) -> Result<K, ReadError>
         requires { lines + 1 < 2 ^ 32 }
-        ensures { Finishes (state_of self) lines left.now result }
+        ensures { Finishes self.keeper self.position lines left.now result }
     {
-        let Reader {
-            position,
-            tree,
-            slices,
-            entries: _,
-        } = self;
+        let Reader { position, keeper } = self;
         if position == LinePosition::Over && left.is_empty() {
-            Ok(Journals::of(tree, slices))
+            Ok(keeper)
         } else {
             Err(ReadError::Bad { line: lines + 1 })
         }

@@ -1,11 +1,15 @@
 //! Reading the text of journals.
 ghost use Rattle.std.specs.Prelude.{◌≡◌, ◌≤◌, ◌<◌, ◌^◌, ◌==◌, length, false, true, MatchOption};
 ghost use Rattle.std.specs.List.{after_first, before_first, list_any};
+ghost use Rattle.journal_text.specs.Endings.{ReadsWith};
 ghost use Rattle.journal_text.specs.Readings.{Reads};
+ghost use Rattle.journal_text.specs.States.{nothing_read};
 
 use crate::fault::ReadError;
+use crate::keeper::Keeper;
 use crate::reader::Reader;
 use crate::weight::script_weight;
+use crate::kept_journals::KeptJournals;
 use num_text::cut;
 use rc_base::NoMemory;
 use run_law::Journals;
@@ -28,14 +32,20 @@ fn whole_line(text: &[u8]) -> Option<(&[u8], &[u8])>
     }
 }
 
-/// The journals of the script that a text of at most 2^31 bytes holds, or its first bad line (this project's profile). Room is taken
-/// as lines are read, and none for entries that a line only announces.
-pub fn read(alloc: Global, text: &[u8], script: &Script) -> Result<Journals, ReadError>
-    requires { length text.now ≤ 2 ^ 31 }
-    ensures { Reads script.now text.now result }
+/// What a keeper keeps of the journals of the script that a text of at most 2^31 bytes holds, or its first bad line (this project's
+/// profile). The keeper was given nothing before. Room is taken as lines are read, and none for entries that a line only announces.
+pub fn read_with<K: Keeper + Drop>(
+    alloc: Global,
+    text: &[u8],
+    script: &Script,
+    keeper: K,
+) -> Result<K, ReadError>
+    requires short { length text.now ≤ 2 ^ 31 }
+    requires nothing { K.keeps keeper nothing_read }
+    ensures { ReadsWith K.keeps script.now text.now result }
 {
     let weight = script_weight(script);
-    let mut reader = Reader::create(alloc);
+    let mut reader = Reader::create(keeper);
     let mut left = text;
     let mut number: u32 = 0;
     'lines: while let Some((line, rest)) = whole_line(left) {
@@ -47,4 +57,15 @@ pub fn read(alloc: Global, text: &[u8], script: &Script) -> Result<Journals, Rea
         }
     }
     reader.finish(number, left)
+}
+
+/// The journals of the script that a text of at most 2^31 bytes holds, or its first bad line (this project's profile).
+pub fn read(alloc: Global, text: &[u8], script: &Script) -> Result<Journals, ReadError>
+    requires { length text.now ≤ 2 ^ 31 }
+    ensures { Reads script.now text.now result }
+{
+    match read_with(alloc, text, script, KeptJournals::create(alloc)) {
+        Ok(kept) => Ok(kept.into_journals()),
+        Err(error) => Err(error),
+    }
 }

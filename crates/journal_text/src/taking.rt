@@ -1,11 +1,11 @@
 //! Taking the next line of a text of journals.
 ghost use Rattle.std.specs.Prelude.{◌≡◌, ◌+◌, ◌<◌, ◌≤◌, IfOk};
-ghost use Rattle.journal_text.specs.LinePositions.{LeadsFromSlices};
-ghost use Rattle.journal_text.specs.States.{HasLeftTree, HasTaken, IsThere, state_of};
+ghost use Rattle.journal_text.specs.States.{IsThere, LeavesTree, TakesLine};
 ghost use Rattle.journal_text.specs.declared.line_position.LinePosition.TheVariants.{Start, InTree, InSlice};
 ghost use Rattle.machine.specs.Slices.{slice_count};
 ghost use Rattle.script_ops.specs.Values.{total_weight};
 
+use crate::keeper::Keeper;
 use crate::line_position::LinePosition;
 use crate::reader::Reader;
 use crate::slices::after_slices;
@@ -13,13 +13,12 @@ use crate::{command_of_line, entry_of_line};
 use rc_base::{NoMemory, is_text};
 use script_ops::Script;
 use std::alloc::Global;
-use std::mem;
 
-impl Reader {
+impl<K: Keeper + Drop> Reader<K> {
     // Takes a line and says true, if it is the first of every text.
     fn take_first(&mut self, script: &Script, line: &[u8]) -> bool
-        requires { (state_of self.old).position ≡ Start }
-        ensures { HasTaken script.now line.now (state_of self.old) (state_of self.new) result }
+        requires { self.old.position ≡ Start }
+        ensures { TakesLine script.now line.now self.old.position (K.keeps self.old.keeper) self.new.position (K.keeps self.new.keeper) result }
     {
         if is_text(line, b"journal 1") {
             self.position = LinePosition::InTree;
@@ -32,8 +31,8 @@ impl Reader {
     // Takes a line and says true, if it may stand after the commands.
     fn leave_tree(&mut self, script: &Script, weight: u64, line: &[u8]) -> bool
         requires weight { weight ≡ total_weight script.now }
-        requires position { (state_of self.old).position ≡ InTree }
-        ensures { HasLeftTree script.now line.now (state_of self.old) (state_of self.new) result }
+        requires position { self.old.position ≡ InTree }
+        ensures { LeavesTree script.now line.now self.old.position (K.keeps self.old.keeper) self.new.position (K.keeps self.new.keeper) result }
     {
         match after_slices(script, weight, 0, line) {
             Some(next) => {
@@ -53,12 +52,12 @@ impl Reader {
         line: &[u8],
     ) -> Result<bool, NoMemory>
         requires weight { weight ≡ total_weight script.now }
-        requires position { (state_of self.old).position ≡ InTree }
-        ensures { IfOk result (HasTaken script.now line.now (state_of self.old) (state_of self.new)) }
+        requires position { self.old.position ≡ InTree }
+        ensures { IfOk result (TakesLine script.now line.now self.old.position (K.keeps self.old.keeper) self.new.position (K.keeps self.new.keeper)) }
     {
         match command_of_line(alloc, line, weight)? {
             Some(entry) => {
-                self.tree.push(entry)?;
+                self.keeper.add_command(entry)?;
                 Ok(true)
             }
             None => Ok(self.leave_tree(script, weight, line)),
@@ -73,14 +72,14 @@ impl Reader {
         left: u64,
         line: &[u8],
     ) -> Result<bool, NoMemory>
-        requires position { (state_of self.old).position ≡ InSlice slice left }
+        requires position { self.old.position ≡ InSlice slice left }
         requires there { slice < slice_count script.now.machine }
         requires more { 0 < left }
-        ensures { IfOk result (HasTaken script.now line.now (state_of self.old) (state_of self.new)) }
+        ensures { IfOk result (TakesLine script.now line.now self.old.position (K.keeps self.old.keeper) self.new.position (K.keeps self.new.keeper)) }
     {
         match entry_of_line(line, script.machine(), u32::from(slice)) {
             Some(entry) => {
-                self.entries.push(entry)?;
+                self.keeper.add_entry(entry)?;
                 self.position = LinePosition::InSlice {
                     slice,
                     left: left - 1,
@@ -101,14 +100,13 @@ impl Reader {
         line: &[u8],
     ) -> Result<bool, NoMemory>
         requires weight { weight ≡ total_weight script.now }
-        requires position { (state_of self.old).position ≡ InSlice slice 0 }
+        requires position { self.old.position ≡ InSlice slice 0 }
         requires there { slice < slice_count script.now.machine }
-        ensures { IfOk result (HasTaken script.now line.now (state_of self.old) (state_of self.new)) }
+        ensures { IfOk result (TakesLine script.now line.now self.old.position (K.keeps self.old.keeper) self.new.position (K.keeps self.new.keeper)) }
     {
         match after_slices(script, weight, u32::from(slice) + 1, line) {
             Some(next) => {
-                let entries = mem::replace(&mut self.entries, Vec::new(alloc));
-                self.slices.push(entries)?;
+                self.keeper.end_slice(alloc)?;
                 self.position = next;
                 Ok(true)
             }
@@ -118,7 +116,7 @@ impl Reader {
 
     /// Takes a line and says true, if it may stand after those that were taken. Nothing is promised of the reader after another
     /// answer. `weight` is what the script weighs.
-    pub fn take(
+    pub(crate) fn take(
         &mut self,
         alloc: Global,
         script: &Script,
@@ -126,8 +124,8 @@ impl Reader {
         line: &[u8],
     ) -> Result<bool, NoMemory>
         requires weight { weight ≡ total_weight script.now }
-        requires there { IsThere script.now (state_of self.old).position }
-        ensures { IfOk result (HasTaken script.now line.now (state_of self.old) (state_of self.new)) }
+        requires there { IsThere script.now self.old.position }
+        ensures { IfOk result (TakesLine script.now line.now self.old.position (K.keeps self.old.keeper) self.new.position (K.keeps self.new.keeper)) }
     {
         match self.position {
             LinePosition::Start => Ok(self.take_first(script, line)),

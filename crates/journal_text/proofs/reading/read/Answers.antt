@@ -1,36 +1,17 @@
-use Rattle.std.proofs.Common.{Bool, [], refl, subst, arith}
-use Rattle.journal_text.proofs.Progress.{HasComeTo-line, IsBadLine-not_taken, IsThere-come, Reads-finished}
-use Rattle.journal_text.proofs.TextLines.{HasPassed-start}
-use Rattle.journal_text.specs.States.{HasTaken, state_of}
+use Rattle.std.proofs.Common.{◌≡◌, sym, ap, subst, ◌∙◌}
+use Rattle.journal_text.proofs.Progress.{Reads-error}
+use Rattle.journal_text.specs.Kept.{parts_in}
+use Rattle.journal_text.specs.Readings.{IsTextOf}
+use Rattle.journal_text.specs.States.{PartsRead, journals_in}
+use Rattle.journal_text.specs.declared.kept_journals.KeptJournals.{KeptJournals}
 use Rattle.journal_text.proofs.reading.read.Goals as goal
 
-pub lines-init : goal.lines-init
-lines-init c = record {
-  lines = [];
-  counted = refl;
-  few = omega arith;
-  passed = HasPassed-start c.args.text.now;
-  read = c.create-reader.ensures c.args.script.now;
-}
+pub returns-in-Ok : goal.returns-in-Ok
+returns-in-Ok c =
+    let found = c.in-Ok.ensures in
+    subst (IsTextOf c.args.script.now c.args.text.now) (ap journals_in found.1 ∙ sym c.into_journals.ensures) found.2
 
-pub take-requires-clause-there : goal.take-requires-clause-there
-take-requires-clause-there c = IsThere-come c.args.script.now c.args.text.now c.lines.number c.lines.left.now (state_of c.lines.reader) c.lines.invariant
-
-pub lines-preserved : goal.lines-preserved
-lines-preserved c =
-    let line = c.in-Some.ensures in
-    HasComeTo-line c.args.script.now c.args.text.now c.lines.number c.lines.left.now (state_of c.lines.reader) c.lines.invariant
-    c.in-Some.line.now c.in-Some.rest.now (state_of c.take.new.self) line.0 line.1 line.2 line.3
-    (subst (λ (b : Bool). HasTaken c.args.script.now c.in-Some.line.now (state_of c.lines.reader) (state_of c.take.new.self) b) c.in-Ok-true.field-0-test c.in-Ok-true.ensures)
-
-pub returns-in-Ok-false : goal.returns-in-Ok-false
-returns-in-Ok-false c =
-    let line = c.in-Some.ensures in
-    IsBadLine-not_taken c.args.script.now c.args.text.now c.lines.number c.lines.left.now (state_of c.lines.reader) c.lines.invariant c.script_weight-weight.ensures.lawful
-    c.in-Some.line.now (state_of c.take.new.self) line.0 line.1
-    (subst (λ (b : Bool). HasTaken c.args.script.now c.in-Some.line.now (state_of c.lines.reader) (state_of c.take.new.self) b) c.in-Ok-false.field-0-test c.in-Ok-false.ensures)
-
-pub returns : goal.returns
-returns c =
-    Reads-finished c.args.script.now c.args.text.now c.lines.number c.lines.left.now (state_of c.lines.reader) c.lines.invariant
-    c.script_weight-weight.ensures.lawful c.finish.result c.in_default.ensures c.finish.ensures
+pub returns-in-Err : goal.returns-in-Err
+returns-in-Err c =
+    let keeps : KeptJournals → PartsRead → Type 0 = λ kept parts. parts ≡ parts_in kept in
+    Reads-error keeps c.args.script.now c.args.text.now c.in-Err.error c.in-Err.ensures

@@ -1,20 +1,19 @@
-use Rattle.std.proofs.Common.{◌≡◌, ℕ, ◌∷◌, [], ◌++◌, List, map, ap, subst, ◌∙◌}
-use Rattle.std.proofs.lemmas.List.{map-append}
+use Rattle.std.proofs.Common.{◌≡◌, ℕ, refl, subst}
 use Rattle.journal_text.specs.Lines.{command_line}
 use Rattle.journal_text.specs.Writable.{IsWritableCommand}
 use Rattle.script_ops.specs.Values.{total_weight}
-use Rattle.journal_text.proofs.Steps.{HasTaken-command}
-use Rattle.journal_text.specs.States.{ReaderState, state_of}
+use Rattle.journal_text.proofs.Steps.{HasTaken-command, TakesLine-step}
+use Rattle.journal_text.specs.States.{state_at, with_command}
 use Rattle.run_law.specs.Entries.{entry_value}
-use Rattle.run_law.specs.TreeHistory.{TreeEntryValue}
 use Rattle.journal_text.proofs.reader.Reader.take_command.Goals as goal
 
-pub returns-in_ok-push-in-Some : goal.returns-in_ok-push-in-Some
-returns-in_ok-push-in-Some c =
-    let old = state_of c.args.self.now in
+pub returns-in_ok-add_command-in-Some : goal.returns-in_ok-add_command-in-Some
+returns-in_ok-add_command-in-Some g c =
+    let script = c.args.script.now in
+    let line = c.args.line.now in
+    let from = c.args.self.now.position in
     let e = entry_value c.in-Some.entry in
-    let new : ReaderState = record { position = c.args.self.now.position; parts = record old.parts { tree = map entry_value c.push.new.self.items } } in
-    let found : IsWritableCommand c.args.weight e × (command_line e ≡ c.args.line.now) = rw c.in-Some.is at c.in_ok-entry.ensures in
-    let writable : IsWritableCommand (total_weight c.args.script.now) e = subst (λ (w : ℕ). IsWritableCommand w e) c.requires.weight found.0 in
-    let tree : map entry_value c.push.new.self.items ≡ old.parts.tree ++ e ∷ [] = ap (λ es. map entry_value es) c.in_ok-push-in-Some.ensures.items ∙ map-append entry_value c.args.self.now.tree.items (c.in-Some.entry ∷ []) in
-    HasTaken-command c.args.script.now c.args.line.now old new e c.requires.position writable found.1 c.requires.position (ap (λ (t : List TreeEntryValue). record old.parts { tree = t }) tree)
+    let found : IsWritableCommand c.args.weight e × (command_line e ≡ line) = rw c.in-Some.is at c.in_ok-entry.ensures in
+    let writable : IsWritableCommand (total_weight script) e = subst (λ (w : ℕ). IsWritableCommand w e) c.requires.weight found.0 in
+    TakesLine-step script line from (g.K.Keeper.keeps c.args.self.now.keeper) from (g.K.Keeper.keeps c.add_command.new.self) (λ parts. with_command parts e) c.in_ok-add_command-in-Some.ensures
+    (λ parts. HasTaken-command script line (state_at from parts) (state_at from (with_command parts e)) e c.requires.position writable found.1 c.requires.position refl)

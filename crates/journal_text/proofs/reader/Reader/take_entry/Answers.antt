@@ -1,19 +1,20 @@
-use Rattle.std.proofs.Common.{ℕ, ◌-◌, List, refl, ap, subst, arith}
+use Rattle.std.proofs.Common.{ℕ, ◌-◌, refl, subst, arith}
 use Rattle.journal_text.specs.Writable.{IsWritableEntry}
 use Rattle.machine.specs.declared.parameters.Parameters.{Parameters}
-use Rattle.journal_text.proofs.Steps.{HasTaken-entry}
-use Rattle.journal_text.specs.States.{ReaderState, state_of}
+use Rattle.journal_text.proofs.Steps.{HasTaken-entry, TakesLine-step}
+use Rattle.journal_text.specs.States.{state_at, with_entry}
 use Rattle.journal_text.specs.declared.line_position.LinePosition.TheVariants.{InSlice}
-use Rattle.cache_core.specs.declared.entry.SliceEntry.{SliceEntry}
 use Rattle.journal_text.proofs.reader.Reader.take_entry.Goals as goal
 
-pub returns-in_ok-push-in-Some : goal.returns-in_ok-push-in-Some
-returns-in_ok-push-in-Some c =
-    let old = state_of c.args.self.now in
+pub returns-in_ok-add_entry-in-Some : goal.returns-in_ok-add_entry-in-Some
+returns-in_ok-add_entry-in-Some g c =
+    let script = c.args.script.now in
+    let line = c.args.line.now in
+    let from = c.args.self.now.position in
     let more = c.args.left - 1 in
-    let new : ReaderState = record { position = InSlice c.args.slice more; parts = record old.parts { entries = c.push.new.self.items } } in
-    let writable : IsWritableEntry c.args.script.now.machine c.args.slice c.in-Some.entry =
-    subst (λ (n : ℕ). IsWritableEntry c.args.script.now.machine n c.in-Some.entry) c.from.ensures
-    (subst (λ (m : Parameters). IsWritableEntry m c.from.result c.in-Some.entry) c.machine.ensures c.in-Some.ensures.0) in
-    HasTaken-entry c.args.script.now c.args.line.now old new c.args.slice c.args.left more c.in-Some.entry c.requires.position (omega (arith, c.requires.more)) writable c.in-Some.ensures.1 refl
-    (ap (λ (es : List SliceEntry). record old.parts { entries = es }) c.in_ok-push-in-Some.ensures.items)
+    let e = c.in-Some.entry in
+    let writable : IsWritableEntry script.machine c.args.slice e =
+    subst (λ (n : ℕ). IsWritableEntry script.machine n e) c.from.ensures
+    (subst (λ (m : Parameters). IsWritableEntry m c.from.result e) c.machine.ensures c.in-Some.ensures.0) in
+    TakesLine-step script line from (g.K.Keeper.keeps c.args.self.now.keeper) (InSlice c.args.slice more) (g.K.Keeper.keeps c.add_entry.new.self) (λ parts. with_entry parts e) c.in_ok-add_entry-in-Some.ensures
+    (λ parts. HasTaken-entry script line (state_at from parts) (state_at (InSlice c.args.slice more) (with_entry parts e)) c.args.slice c.args.left more e c.requires.position (omega (arith, c.requires.more)) writable c.in-Some.ensures.1 refl refl)
