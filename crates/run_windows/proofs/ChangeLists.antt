@@ -16,7 +16,7 @@ use Rattle.run_law.specs.declared.journals.TreeEntry.{TreeEntry}
 use Rattle.run_windows.specs.Changes.{AreChanges, IsReplayed, logged}
 use Rattle.run_windows.specs.Edits.{Change, changes_of, edited}
 use Rattle.run_windows.specs.Epochs.{state_at}
-use Rattle.run_windows.specs.Stays.{tenant_of, tenants_in}
+use Rattle.run_windows.specs.Stays.{exclusive_of, exclusive_in}
 use Rattle.run_windows.specs.declared.changes.Log.{Log}
 use Rattle.run_windows.specs.declared.changes.Past.{Past}
 use Rattle.script_ops.specs.Values.{ScriptValue}
@@ -28,7 +28,7 @@ use Rattle.run_windows.proofs.LongerLists.{At-push, slice_get-push, slice_get-pu
 module _ (script : ScriptValue) (j : JournalsValue) where
   -- the groups of an epoch
   abbrev AreAt : ℕ → Change → Type 0
-  AreAt epoch c = c.tenants ≡ tenants_in (state_at script j epoch).groups
+  AreAt epoch c = c.exclusive ≡ exclusive_in (state_at script j epoch).groups
 
   -- none at first
   pub AreChanges-none : AreChanges script j 0 []
@@ -78,8 +78,8 @@ module _ (script : ScriptValue) (j : JournalsValue) where
   })
 
   -- the groups of the latest change are those of the latest epoch
-  pub AreTenants-latest : (n : ℕ) (all : List Change) → AreChanges script j (n + 1) all → IsSomeAnd (slice_get all (length all - 1)) (AreAt n)
-  AreTenants-latest n all are =
+  pub AreExclusive-latest : (n : ℕ) (all : List Change) → AreChanges script j (n + 1) all → IsSomeAnd (slice_get all (length all - 1)) (AreAt n)
+  AreExclusive-latest n all are =
       let some = are.some (omega arith) in
       let d : Change = (change_of all (omega (arith, some))) in
       let c : Change = get_or all (length all - 1) d in
@@ -124,42 +124,51 @@ module _ (script : ScriptValue) (j : JournalsValue) where
   -- ---- by a tree that has taken the commands so far
 
   -- the groups of the tree are those of its epoch
-  AreAt-tree : (t : TreeValue) (c : Change) → IsReplayed script j t → c.tenants ≡ tenants_in t.state.groups → AreAt t.epoch c
-  AreAt-tree t c replayed are = subst (λ (s : State). c.tenants ≡ tenants_in s.groups) replayed.state are
+  AreAt-tree : (t : TreeValue) (c : Change) → IsReplayed script j t → c.exclusive ≡ exclusive_in t.state.groups → AreAt t.epoch c
+  AreAt-tree t c replayed are = subst (λ (s : State). c.exclusive ≡ exclusive_in s.groups) replayed.state are
 
   -- the first ones
-  pub AreChanges-first : (t : TreeValue) (log : Log) → IsReplayed script j t → t.epoch ≡ 0 → log.pasts.items ≡ [] → log.from ≡ 0 → log.latest.items ≡ tenants_in t.state.groups → AreChanges script j 1 (logged log)
+  pub AreChanges-first : (t : TreeValue) (log : Log) → IsReplayed script j t → t.epoch ≡ 0 → log.pasts.items ≡ [] → log.from ≡ 0 → log.latest.items ≡ exclusive_in t.state.groups → AreChanges script j 1 (logged log)
   AreChanges-first t log replayed first none from are =
-      let c : Change = record { from = log.from; tenants = log.latest.items } in
+      let c : Change = record { from = log.from; exclusive = log.latest.items } in
       AreChanges-push 0 [] (logged log) c AreChanges-none from (subst (λ n. AreAt n c) first (AreAt-tree t c replayed are))
       (ap (λ (ps : List Past). changes_of log.latest.items ps ++ c ∷ []) none)
 
   -- where the latest ones are still those of the tree
-  pub AreChanges-latest : (t : TreeValue) (log : Log) → IsReplayed script j t → log.latest.items ≡ tenants_in t.state.groups → AreChanges script j t.epoch (logged log) → AreChanges script j (t.epoch + 1) (logged log)
+  pub AreChanges-latest : (t : TreeValue) (log : Log) → IsReplayed script j t → log.latest.items ≡ exclusive_in t.state.groups → AreChanges script j t.epoch (logged log) → AreChanges script j (t.epoch + 1) (logged log)
   AreChanges-latest t log replayed are were =
-      let c : Change = record { from = log.from; tenants = log.latest.items } in
+      let c : Change = record { from = log.from; exclusive = log.latest.items } in
       let olds : List Change = changes_of log.latest.items log.pasts.items in
       let last : slice_get (logged log) (length (logged log) - 1) ≡ Some c = slice_get-pushed olds c (length (olds ++ c ∷ []) - 1) (omega (arith, length-append olds (c ∷ []))) in
       AreChanges-same t.epoch (logged log) were (subst (λ (o : Option Change). IsSomeAnd o (AreAt t.epoch)) (sym last) (AreAt-tree t c replayed are))
 
   -- where they are others
-  pub AreChanges-changed : (t : TreeValue) (old new : Log) (p : Past) → IsReplayed script j t → new.latest.items ≡ tenants_in t.state.groups → AreChanges script j t.epoch (logged old) → new.from ≡ t.epoch
+  pub AreChanges-changed : (t : TreeValue) (old new : Log) (p : Past) → IsReplayed script j t → new.latest.items ≡ exclusive_in t.state.groups → AreChanges script j t.epoch (logged old) → new.from ≡ t.epoch
       → p.from ≡ old.from → edited p.edit new.latest.items ≡ old.latest.items → new.pasts.items ≡ old.pasts.items ++ p ∷ [] → AreChanges script j (t.epoch + 1) (logged new)
   AreChanges-changed t old new p replayed are were from past before made =
-      let c : Change = record { from = new.from; tenants = new.latest.items } in
+      let c : Change = record { from = new.from; exclusive = new.latest.items } in
       AreChanges-push t.epoch (logged old) (logged new) c were from (AreAt-tree t c replayed are) (logged-changed old new p past before made)
+
+  -- the latest ones of a log are those of the tree
+  pub latest-exclusive : (t : TreeValue) (log : Log) → IsReplayed script j t → AreChanges script j (t.epoch + 1) (logged log) → log.latest.items ≡ exclusive_in t.state.groups
+  latest-exclusive t log replayed are =
+      let c : Change = record { from = log.from; exclusive = log.latest.items } in
+      let olds : List Change = changes_of log.latest.items log.pasts.items in
+      let last : slice_get (logged log) (length (logged log) - 1) ≡ Some c = slice_get-pushed olds c (length (olds ++ c ∷ []) - 1) (omega (arith, length-append olds (c ∷ []))) in
+      let here : AreAt t.epoch c = subst (λ (o : Option Change). IsSomeAnd o (AreAt t.epoch)) last (AreExclusive-latest t.epoch (logged log) are) in
+      subst (λ (s : State). log.latest.items ≡ exclusive_in s.groups) (sym replayed.state) here
 
   -- after a command that leaves the exclusive groups as they are
   pub AreChanges-kept : (t u : TreeValue) (all : List Change) → IsReplayed script j t → IsReplayed script j u → u.epoch ≡ t.epoch + 1 → filter (has_mode Exclusive) u.state.groups ≡ filter (has_mode Exclusive) t.state.groups
       → AreChanges script j (t.epoch + 1) all → AreChanges script j (u.epoch + 1) all
   AreChanges-kept t u all before after epoch kept were =
-      subst (λ n. AreChanges script j (n + 1) all) (sym epoch) (AreChanges-same (t.epoch + 1) all were (of (slice_get all (length all - 1)) (AreTenants-latest t.epoch all were)))
+      subst (λ n. AreChanges script j (n + 1) all) (sym epoch) (AreChanges-same (t.epoch + 1) all were (of (slice_get all (length all - 1)) (AreExclusive-latest t.epoch all were)))
     where
       of : (o : Option Change) → IsSomeAnd o (AreAt t.epoch) → IsSomeAnd o (AreAt (t.epoch + 1))
       of None none = absurd none
       of (Some c) are =
-          let old : c.tenants ≡ tenants_in t.state.groups = subst (λ (s : State). c.tenants ≡ tenants_in s.groups) (sym before.state) are in
-          let new : c.tenants ≡ tenants_in u.state.groups = old ∙ ap (map tenant_of) (sym kept) in
+          let old : c.exclusive ≡ exclusive_in t.state.groups = subst (λ (s : State). c.exclusive ≡ exclusive_in s.groups) (sym before.state) are in
+          let new : c.exclusive ≡ exclusive_in u.state.groups = old ∙ ap (map exclusive_of) (sym kept) in
           subst (λ n. AreAt n c) epoch (AreAt-tree u c after new)
 
 -- an entry of the tree's history by its position

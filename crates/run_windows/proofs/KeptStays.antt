@@ -25,10 +25,10 @@ use Rattle.run_windows.proofs.OneWindow.{mask-same}
 use Rattle.run_windows.proofs.Owners.{IsSomeAnd-parts}
 use Rattle.tree_law.proofs.laws.RisingGroups.{AreRisen, AreRisen-next, AreRisen-opening}
 use Rattle.run_windows.specs.Epochs.{state_at}
-use Rattle.run_windows.specs.Stays.{AreStays, is_same, mask_of, stay_of, tenant_of, tenants_in}
+use Rattle.run_windows.specs.Stays.{AreStays, is_same, mask_of, stay_of, exclusive_of, exclusive_in}
 use Rattle.run_windows.specs.Windows.{IsExclusive, StaysExclusive}
 use Rattle.private_lru.specs.declared.stay.Stay.{Stay}
-use Rattle.run_windows.specs.declared.tenant.Tenant.{Tenant}
+use Rattle.run_windows.specs.declared.exclusive_group.ExclusiveGroup.{ExclusiveGroup}
 use Rattle.script_ops.specs.Values.{IsLawful, ScriptValue}
 use Rattle.tree_law.specs.Existing.{group_of}
 use Rattle.tree_law.specs.State.{State}
@@ -39,11 +39,11 @@ abbrev pub gids : List Stay → List ℕ
 gids stays = map (λ (s : Stay). s.gid.0) stays
 
 -- and of these
-abbrev tenant_gids : List Tenant → List ℕ
-tenant_gids tenants = map (λ (t : Tenant). t.gid.0) tenants
+abbrev exclusive_gids : List ExclusiveGroup → List ℕ
+exclusive_gids exclusive = map (λ (t : ExclusiveGroup). t.gid.0) exclusive
 
 -- they are the same with their last epochs
-gids-stay_of : (domain last : ℕ) (next : List Stay) (tenants : List Tenant) → gids (map (stay_of domain last next) tenants) ≡ tenant_gids tenants
+gids-stay_of : (domain last : ℕ) (next : List Stay) (exclusive : List ExclusiveGroup) → gids (map (stay_of domain last next) exclusive) ≡ exclusive_gids exclusive
 gids-stay_of domain last next [] = refl
 gids-stay_of domain last next (t ∷ ts) = ap (λ (xs : List ℕ). t.gid.0 ∷ xs) (gids-stay_of domain last next ts)
 
@@ -76,59 +76,59 @@ find-risen (g ∷ gs) (suc k) d risen within =
     rw other (find-risen gs k d (λ i j x below inside. risen (suc i) (suc j) x (omega arith) (omega arith)) (omega arith))
 
 -- each exclusive one is listed
-tenants_in-all : (groups : List Group) (group : Gid) (g : Group) → find (has_gid group) groups ≡ Some g → has_mode Exclusive g ≡ true → Contains (tenant_gids (tenants_in groups)) group.0
-tenants_in-all [] group g found mode = absurd (let none : None ≡ Some g = found in cc)
-tenants_in-all (x ∷ xs) group g found mode = at (has_gid group x) (has_mode Exclusive x) refl refl found (λ e. tenants_in-all xs group g e mode)
+exclusive_in-all : (groups : List Group) (group : Gid) (g : Group) → find (has_gid group) groups ≡ Some g → has_mode Exclusive g ≡ true → Contains (exclusive_gids (exclusive_in groups)) group.0
+exclusive_in-all [] group g found mode = absurd (let none : None ≡ Some g = found in cc)
+exclusive_in-all (x ∷ xs) group g found mode = at (has_gid group x) (has_mode Exclusive x) refl refl found (λ e. exclusive_in-all xs group g e mode)
   where
-    at : (b c : Bool) → has_gid group x ≡ b → has_mode Exclusive x ≡ c → cond b (Some x) (find (has_gid group) xs) ≡ Some g → (find (has_gid group) xs ≡ Some g → Contains (tenant_gids (tenants_in xs)) group.0)
-        → Contains (tenant_gids (map tenant_of (cond c (x ∷ filter (has_mode Exclusive) xs) (filter (has_mode Exclusive) xs)))) group.0
+    at : (b c : Bool) → has_gid group x ≡ b → has_mode Exclusive x ≡ c → cond b (Some x) (find (has_gid group) xs) ≡ Some g → (find (has_gid group) xs ≡ Some g → Contains (exclusive_gids (exclusive_in xs)) group.0)
+        → Contains (exclusive_gids (map exclusive_of (cond c (x ∷ filter (has_mode Exclusive) xs) (filter (has_mode Exclusive) xs)))) group.0
     at true true own is e rest = (0, omega arith, sym (eqb-true group.0 x.gid.0 own))
     at true false own is e rest = absurd (true≢false (sym mode ∙ (ap (has_mode Exclusive) (same_Some g x (sym e)) ∙ is)))
     at false true other is e rest = let it = rest e in (suc it.0, omega (arith, it.1), it.2)
     at false false other is e rest = rest e
 
 -- each that is listed is exclusive, with its mask
-tenants_in-each : (domain : ℕ) (groups all : List Group) → ((k : ℕ) (d : Group) → k < length groups → find (has_gid (get_or groups k d).gid) all ≡ Some (get_or groups k d))
-    → All (λ (t : Tenant). IsSomeAnd (find (has_gid t.gid) all) (λ g. (has_mode Exclusive g ≡ true) × (mask_in domain g ≡ mask_of domain t))) (tenants_in groups)
-tenants_in-each domain [] all found = λ k d within. absurd (omega arith)
-tenants_in-each domain (x ∷ xs) all found = at (has_mode Exclusive x) refl (tenants_in-each domain xs all (λ k d within. found (suc k) d (omega arith)))
+exclusive_in-each : (domain : ℕ) (groups all : List Group) → ((k : ℕ) (d : Group) → k < length groups → find (has_gid (get_or groups k d).gid) all ≡ Some (get_or groups k d))
+    → All (λ (t : ExclusiveGroup). IsSomeAnd (find (has_gid t.gid) all) (λ g. (has_mode Exclusive g ≡ true) × (mask_in domain g ≡ mask_of domain t))) (exclusive_in groups)
+exclusive_in-each domain [] all found = λ k d within. absurd (omega arith)
+exclusive_in-each domain (x ∷ xs) all found = at (has_mode Exclusive x) refl (exclusive_in-each domain xs all (λ k d within. found (suc k) d (omega arith)))
   where
-    Is : Tenant → Type 0
+    Is : ExclusiveGroup → Type 0
     Is t = IsSomeAnd (find (has_gid t.gid) all) (λ g. (has_mode Exclusive g ≡ true) × (mask_in domain g ≡ mask_of domain t))
 
-    at : (b : Bool) → has_mode Exclusive x ≡ b → All Is (tenants_in xs) → All Is (map tenant_of (cond b (x ∷ filter (has_mode Exclusive) xs) (filter (has_mode Exclusive) xs)))
-    at true is rest = All-cons Is (tenant_of x) (tenants_in xs) (subst (λ (o : Option Group). IsSomeAnd o (λ g. (has_mode Exclusive g ≡ true) × (mask_in domain g ≡ mask_in domain x))) (sym (found 0 x (omega arith))) (is, refl)) rest
+    at : (b : Bool) → has_mode Exclusive x ≡ b → All Is (exclusive_in xs) → All Is (map exclusive_of (cond b (x ∷ filter (has_mode Exclusive) xs) (filter (has_mode Exclusive) xs)))
+    at true is rest = All-cons Is (exclusive_of x) (exclusive_in xs) (subst (λ (o : Option Group). IsSomeAnd o (λ g. (has_mode Exclusive g ≡ true) × (mask_in domain g ≡ mask_in domain x))) (sym (found 0 x (omega arith))) (is, refl)) rest
     at false is rest = rest
 
 -- their gids rise
-tenants_in-rising : (groups : List Group) → AreRisen groups → AllPairs (λ (a b : ℕ). a < b) (tenant_gids (tenants_in groups))
-tenants_in-rising groups risen =
-    AllPairs-map (λ (a b : ℕ). a < b) (λ (t : Tenant). t.gid.0) (tenants_in groups)
-    (AllPairs-map (λ (a b : Tenant). a.gid.0 < b.gid.0) tenant_of (filter (has_mode Exclusive) groups) (AllPairs-filter (λ (a b : Group). a.gid.0 < b.gid.0) (has_mode Exclusive) groups risen))
+exclusive_in-rising : (groups : List Group) → AreRisen groups → AllPairs (λ (a b : ℕ). a < b) (exclusive_gids (exclusive_in groups))
+exclusive_in-rising groups risen =
+    AllPairs-map (λ (a b : ℕ). a < b) (λ (t : ExclusiveGroup). t.gid.0) (exclusive_in groups)
+    (AllPairs-map (λ (a b : ExclusiveGroup). a.gid.0 < b.gid.0) exclusive_of (filter (has_mode Exclusive) groups) (AllPairs-filter (λ (a b : Group). a.gid.0 < b.gid.0) (has_mode Exclusive) groups risen))
 
 -- ---- how long they stay so
 
 module _ (script : ScriptValue) (j : JournalsValue) (lawful : IsLawful script) (run : IsRun script j) (domain : ℕ) where
   -- those of an epoch
-  abbrev pub tenants_at : ℕ → List Tenant
-  tenants_at k = tenants_in (state_at script j k).groups
+  abbrev pub exclusive_at : ℕ → List ExclusiveGroup
+  exclusive_at k = exclusive_in (state_at script j k).groups
 
   -- a group is exclusive on a mask at an epoch
-  abbrev IsAt : ℕ → Tenant → Type 0
+  abbrev IsAt : ℕ → ExclusiveGroup → Type 0
   IsAt k t = IsExclusive domain t.gid (mask_of domain t) (state_at script j k)
 
-  tenants_at-each : (k : ℕ) → k ≤ length j.tree → All (IsAt k) (tenants_at k)
-  tenants_at-each k known =
+  exclusive_at-each : (k : ℕ) → k ≤ length j.tree → All (IsAt k) (exclusive_at k)
+  exclusive_at-each k known =
       let groups : List Group = (state_at script j k).groups in
-      tenants_in-each domain groups groups (λ i d within. find-risen groups i d (AreRisen-state_at script j k lawful run known) within)
+      exclusive_in-each domain groups groups (λ i d within. find-risen groups i d (AreRisen-state_at script j k lawful run known) within)
 
-  tenants_at-all : (k : ℕ) (group : Gid) (mask : ℕ) → IsExclusive domain group mask (state_at script j k) → Contains (tenant_gids (tenants_at k)) group.0
-  tenants_at-all k group mask is =
+  exclusive_at-all : (k : ℕ) (group : Gid) (mask : ℕ) → IsExclusive domain group mask (state_at script j k) → Contains (exclusive_gids (exclusive_at k)) group.0
+  exclusive_at-all k group mask is =
       let x = IsSomeAnd-parts (λ (g : Group). (has_mode Exclusive g ≡ true) × (mask_in domain g ≡ mask)) (group_of (state_at script j k) group) is in
-      tenants_in-all (state_at script j k).groups group x.0 x.1 x.2.0
+      exclusive_in-all (state_at script j k).groups group x.0 x.1 x.2.0
 
   -- the group of a stay of the next change, where it has the same mask
-  StaysExclusive-same : (end : ℕ) (next : List Stay) (t : Tenant) (later : Stay) → AreStays script j domain end next → find (is_same domain t) next ≡ Some later → StaysExclusive script j domain t.gid (mask_of domain t) end later.last
+  StaysExclusive-same : (end : ℕ) (next : List Stay) (t : ExclusiveGroup) (later : Stay) → AreStays script j domain end next → find (is_same domain t) next ≡ Some later → StaysExclusive script j domain t.gid (mask_of domain t) end later.last
   StaysExclusive-same end next t later after found =
       let f = find-found (is_same domain t) next later found in
       let same = both_eqb-true later.gid.0 t.gid.0 later.mask (mask_of domain t) f.passes in
@@ -136,7 +136,7 @@ module _ (script : ScriptValue) (j : JournalsValue) (lawful : IsLawful script) (
       subst (λ n. StaysExclusive script j domain (record { 0 = n }) (mask_of domain t) end later.last) same.0 (subst (λ n. StaysExclusive script j domain later.gid n end later.last) same.1 its)
 
   -- a group that none of the next change's stays has with the same mask is not exclusive on it then
-  IsExclusive-other : (end : ℕ) (next : List Stay) (t : Tenant) → AreStays script j domain end next → find (is_same domain t) next ≡ None → IsAt end t → ⊥
+  IsExclusive-other : (end : ℕ) (next : List Stay) (t : ExclusiveGroup) → AreStays script j domain end next → find (is_same domain t) next ≡ None → IsAt end t → ⊥
   IsExclusive-other end next t after none here =
       let there = after.all t.gid (mask_of domain t) here in
       let d : Stay = record { last = 0; gid = t.gid; mask = mask_of domain t } in
@@ -152,10 +152,10 @@ module _ (script : ScriptValue) (j : JournalsValue) (lawful : IsLawful script) (
 
   -- The exclusive groups from a change up to the next one, or to the end of the run: each with the last epoch that those of the
   -- next one tell, or else with the last epoch before it.
-  module _ (from end last : ℕ) (tenants : List Tenant) (next : List Stay) (ends : last + 1 ≡ end) (known : end ≤ length j.tree + 1)
-      (same : (k : ℕ) → from ≤ k → k < end → tenants ≡ tenants_at k) (after : end ≤ length j.tree → AreStays script j domain end next) (past : end ≡ length j.tree + 1 → next ≡ []) where
+  module _ (from end last : ℕ) (exclusive : List ExclusiveGroup) (next : List Stay) (ends : last + 1 ≡ end) (known : end ≤ length j.tree + 1)
+      (same : (k : ℕ) → from ≤ k → k < end → exclusive ≡ exclusive_at k) (after : end ≤ length j.tree → AreStays script j domain end next) (past : end ≡ length j.tree + 1 → next ≡ []) where
     -- one of them
-    StaysExclusive-last : (t : Tenant) → ((k : ℕ) → from ≤ k → k < end → IsAt k t) → (k : ℕ) → from ≤ k → k < end → (o : Option Stay) → find (is_same domain t) next ≡ o
+    StaysExclusive-last : (t : ExclusiveGroup) → ((k : ℕ) → from ≤ k → k < end → IsAt k t) → (k : ℕ) → from ≤ k → k < end → (o : Option Stay) → find (is_same domain t) next ≡ o
         → StaysExclusive script j domain t.gid (mask_of domain t) k (option_map_or (λ (later : Stay). later.last) o last)
     StaysExclusive-last t always k low high (Some later) found =
         let more : end ≤ length j.tree = elim (cases_eq (length j.tree + 1) end) [
@@ -181,12 +181,12 @@ module _ (script : ScriptValue) (j : JournalsValue) (lawful : IsLawful script) (
     }
 
     -- all of them
-    pub AreStays-span : (k : ℕ) → from ≤ k → k < end → AreStays script j domain k (map (stay_of domain last next) tenants)
+    pub AreStays-span : (k : ℕ) → from ≤ k → k < end → AreStays script j domain k (map (stay_of domain last next) exclusive)
     AreStays-span k low high = record {
-      each = All-map (λ (s : Stay). StaysExclusive script j domain s.gid s.mask k s.last) (stay_of domain last next) tenants (λ i d within.
-          let t : Tenant = get_or tenants i d in
-          StaysExclusive-last t (λ e first lt. subst (λ (l : List Tenant). All (IsAt e) l) (sym (same e first lt)) (tenants_at-each e (omega (arith, lt, known))) i d within) k low high (find (is_same domain t) next) refl);
-      all = λ group mask is. subst (λ (l : List ℕ). Contains l group.0) (sym (gids-stay_of domain last next tenants ∙ ap tenant_gids (same k low high))) (tenants_at-all k group mask is);
-      rising = subst (λ (l : List ℕ). AllPairs (λ (a b : ℕ). a < b) l) (sym (gids-stay_of domain last next tenants ∙ ap tenant_gids (same k low high)))
-          (tenants_in-rising (state_at script j k).groups (AreRisen-state_at script j k lawful run (omega (arith, high, known))));
+      each = All-map (λ (s : Stay). StaysExclusive script j domain s.gid s.mask k s.last) (stay_of domain last next) exclusive (λ i d within.
+          let t : ExclusiveGroup = get_or exclusive i d in
+          StaysExclusive-last t (λ e first lt. subst (λ (l : List ExclusiveGroup). All (IsAt e) l) (sym (same e first lt)) (exclusive_at-each e (omega (arith, lt, known))) i d within) k low high (find (is_same domain t) next) refl);
+      all = λ group mask is. subst (λ (l : List ℕ). Contains l group.0) (sym (gids-stay_of domain last next exclusive ∙ ap exclusive_gids (same k low high))) (exclusive_at-all k group mask is);
+      rising = subst (λ (l : List ℕ). AllPairs (λ (a b : ℕ). a < b) l) (sym (gids-stay_of domain last next exclusive ∙ ap exclusive_gids (same k low high)))
+          (exclusive_in-rising (state_at script j k).groups (AreRisen-state_at script j k lawful run (omega (arith, high, known))));
     }

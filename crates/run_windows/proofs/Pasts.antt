@@ -11,7 +11,7 @@ use Rattle.run_windows.proofs.Logs.{length-changes_of, slice_get-changes_of}
 use Rattle.run_windows.specs.Changes.{AreChanges}
 use Rattle.run_windows.specs.Edits.{Change, changes_of, edited, undone}
 use Rattle.run_windows.specs.declared.changes.Past.{Past}
-use Rattle.run_windows.specs.declared.tenant.Tenant.{Tenant}
+use Rattle.run_windows.specs.declared.exclusive_group.ExclusiveGroup.{ExclusiveGroup}
 use Rattle.script_ops.specs.Values.{ScriptValue}
 
 -- the epoch from which a change holds, or the one past the run
@@ -20,12 +20,12 @@ end_at end ps i = option_map_or (λ (p : Past). p.from) (slice_get ps i) (end + 
 
 module _ (script : ScriptValue) (j : JournalsValue) (ps : List Past) (are : AreChanges script j (length j.tree + 1) (changes_of [] ps)) where
   -- the groups before a change
-  abbrev pub groups_at : ℕ → List Tenant
+  abbrev pub groups_at : ℕ → List ExclusiveGroup
   groups_at i = undone [] (drop i ps)
 
   -- a change as it is listed
   abbrev pub change_at : ℕ → Past → Change
-  change_at i p = record { from = p.from; tenants = edited p.edit (groups_at (suc i)) }
+  change_at i p = record { from = p.from; exclusive = edited p.edit (groups_at (suc i)) }
 
   listed : (i : ℕ) (p : Past) → At ps i p → (i < length (changes_of [] ps)) × (get_or (changes_of [] ps) i (change_at i p) ≡ change_at i p)
   listed i p there =

@@ -13,10 +13,10 @@ use Rattle.run_windows.specs.Stays.{is_same, mask_of, stay_of}
 use Rattle.run_windows.specs.Sweeps.{restored}
 use Rattle.run_windows.specs.declared.edit.Edit.TheVariants.{Whole, Put, Insert, Remove}
 use Rattle.run_windows.specs.declared.edit.Edit.{Edit}
-use Rattle.run_windows.specs.declared.tenant.Tenant.{Tenant}
+use Rattle.run_windows.specs.declared.exclusive_group.ExclusiveGroup.{ExclusiveGroup}
 
 -- where one of them is found: gids rise, so no other has the same
-find-own : (domain : ℕ) (t : Tenant) (s : List Stay) (k : ℕ) (d : Stay) → AreRising (gids s) → k < length s → (get_or s k d).gid.0 ≡ t.gid.0 → (get_or s k d).mask ≡ mask_of domain t
+find-own : (domain : ℕ) (t : ExclusiveGroup) (s : List Stay) (k : ℕ) (d : Stay) → AreRising (gids s) → k < length s → (get_or s k d).gid.0 ≡ t.gid.0 → (get_or s k d).mask ≡ mask_of domain t
     → find (is_same domain t) s ≡ Some (get_or s k d)
 find-own domain t [] k d rising within gid mask = absurd (omega arith)
 find-own domain t (x ∷ xs) zero d rising within gid mask = rw (eq-eqb x.gid.0 t.gid.0 gid, eq-eqb x.mask (mask_of domain t) mask) refl
@@ -32,29 +32,29 @@ find-own domain t (x ∷ xs) (suc k) d rising within gid mask =
     within_gids (y ∷ ys) (suc n) lt = let rest = within_gids ys n (omega arith) in omega (arith, rest)
 
 -- they are what they were, made anew of their groups
-pub map-stay_of : (domain l last : ℕ) (next : List Stay) (ts : List Tenant) → AreRising (gids (map (stay_of domain l next) ts))
+pub map-stay_of : (domain l last : ℕ) (next : List Stay) (ts : List ExclusiveGroup) → AreRising (gids (map (stay_of domain l next) ts))
     → map (stay_of domain last (map (stay_of domain l next) ts)) ts ≡ map (stay_of domain l next) ts
 map-stay_of domain l last next ts rising = at ts (λ k d within. find-own domain (get_or ts k d) whole k (f d) rising (within_map ts k within) (ap (λ (s : Stay). s.gid.0) (get_or-map f ts k d)) (ap (λ (s : Stay). s.mask) (get_or-map f ts k d)) ∙ ap (λ (s : Stay). Some s) (get_or-map f ts k d))
   where
-    f : Tenant → Stay
+    f : ExclusiveGroup → Stay
     f = stay_of domain l next
 
     whole : List Stay
     whole = map f ts
 
-    within_map : (us : List Tenant) (k : ℕ) → k < length us → k < length (map f us)
+    within_map : (us : List ExclusiveGroup) (k : ℕ) → k < length us → k < length (map f us)
     within_map [] k lt = absurd (omega arith)
     within_map (u ∷ us) zero lt = omega arith
     within_map (u ∷ us) (suc k) lt = let rest = within_map us k (omega arith) in omega (arith, rest)
 
-    at : (us : List Tenant) → ((k : ℕ) (d : Tenant) → k < length us → find (is_same domain (get_or us k d)) whole ≡ Some (f (get_or us k d))) → map (stay_of domain last whole) us ≡ map f us
+    at : (us : List ExclusiveGroup) → ((k : ℕ) (d : ExclusiveGroup) → k < length us → find (is_same domain (get_or us k d)) whole ≡ Some (f (get_or us k d))) → map (stay_of domain last whole) us ≡ map f us
     at [] found = refl
     at (u ∷ us) found =
         let own : stay_of domain last whole u ≡ f u = ap (λ (o : Option Stay). record { last = option_map_or (λ (s : Stay). s.last) o last; gid = u.gid; mask = mask_of domain u }) (found 0 u (omega arith)) in
         ap₂ (λ (s : Stay) (ss : List Stay). s ∷ ss) own (at us (λ k d within. found (suc k) d (omega arith)))
 
 -- an edit of groups is one of their stays
-pub map-edited : (domain last : ℕ) (after : List Stay) (e : Edit) (ts : List Tenant) → map (stay_of domain last after) ts ≡ after → map (stay_of domain last after) (edited e ts) ≡ restored domain last e after
+pub map-edited : (domain last : ℕ) (after : List Stay) (e : Edit) (ts : List ExclusiveGroup) → map (stay_of domain last after) ts ≡ after → map (stay_of domain last after) (edited e ts) ≡ restored domain last e after
 map-edited domain last after (Whole all) ts same = refl
 map-edited domain last after (Put at t) ts same =
     map-set (stay_of domain last after) ts at t ∙ ap (λ (l : List Stay). slice_set l at (stay_of domain last after t)) same

@@ -10,7 +10,7 @@ use Rattle.std.proofs.lemmas.Option.{get_or_from_slice_get, same_Some, slice_get
 use Rattle.private_lru.specs.declared.stay.Stay.{Stay}
 use Rattle.run_law.specs.Journals.{At, JournalsValue}
 use Rattle.run_law.specs.Runs.{IsRun}
-use Rattle.run_windows.proofs.KeptStays.{AreStays-span, gids, tenants_at}
+use Rattle.run_windows.proofs.KeptStays.{AreStays-span, gids, exclusive_at}
 use Rattle.run_windows.proofs.Logs.{length-changes_of, slice_get-changes_of}
 use Rattle.run_windows.proofs.Pasts.{begun-some, change_at, end-within, end_at, from-rises, from-within, groups_at}
 use Rattle.run_windows.proofs.Restored.{map-edited, map-stay_of}
@@ -21,12 +21,12 @@ use Rattle.run_windows.specs.Edits.{Change, changes_of, edited, undone}
 use Rattle.run_windows.specs.Stays.{AreStays, stay_of}
 use Rattle.run_windows.specs.Sweeps.{Swept, swept, swept_over}
 use Rattle.run_windows.specs.declared.changes.Past.{Past}
-use Rattle.run_windows.specs.declared.tenant.Tenant.{Tenant}
+use Rattle.run_windows.specs.declared.exclusive_group.ExclusiveGroup.{ExclusiveGroup}
 use Rattle.script_ops.specs.Values.{IsLawful, ScriptValue}
 
 module _ (script : ScriptValue) (j : JournalsValue) (ps : List Past) (are : AreChanges script j (length j.tree + 1) (changes_of [] ps)) (lawful : IsLawful script) (run : IsRun script j) (domain : ℕ) where
   -- its groups are those of its epochs
-  groups_at-epoch : (i : ℕ) (p : Past) → At ps i p → (e : ℕ) → p.from ≤ e → e < end_at (length j.tree) ps (suc i) → edited p.edit (groups_at script j ps are (suc i)) ≡ tenants_at script j lawful run domain e
+  groups_at-epoch : (i : ℕ) (p : Past) → At ps i p → (e : ℕ) → p.from ≤ e → e < end_at (length j.tree) ps (suc i) → edited p.edit (groups_at script j ps are (suc i)) ≡ exclusive_at script j lawful run domain e
   groups_at-epoch i p there e low high =
       let one : suc i ≡ i + 1 = omega arith in
       let most = end-within script j ps are (suc i) in
@@ -84,7 +84,7 @@ module _ (script : ScriptValue) (j : JournalsValue) (ps : List Past) (are : AreC
       s : Swept
       s = swept domain end ps k
 
-      f : Tenant → Stay
+      f : ExclusiveGroup → Stay
       f = stay_of domain s.last s.stays
 
       is : swept domain end ps (suc k) ≡ swept_over domain s p

@@ -3,6 +3,8 @@ pub mod Changes
 pub mod Edits
 pub mod Epochs
 pub mod Fronts
+pub mod OneGroup
+pub mod Quiet
 pub mod Regions
 pub mod Sites
 pub mod Stays

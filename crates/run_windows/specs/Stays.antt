@@ -10,31 +10,31 @@ use Rattle.run_law.specs.Journals.{JournalsValue}
 use Rattle.run_windows.specs.Epochs.{state_at}
 use Rattle.run_windows.specs.Windows.{IsExclusive, StaysExclusive}
 use Rattle.private_lru.specs.declared.stay.Stay.{Stay}
-use Rattle.run_windows.specs.declared.tenant.Tenant.{Tenant}
+use Rattle.run_windows.specs.declared.exclusive_group.ExclusiveGroup.{ExclusiveGroup}
 use Rattle.script_ops.specs.Values.{ScriptValue}
 
 -- a group with its masks
-abbrev pub tenant_of : Group → Tenant
-tenant_of g = record { gid = g.gid; masks = g.masks }
+abbrev pub exclusive_of : Group → ExclusiveGroup
+exclusive_of g = record { gid = g.gid; masks = g.masks }
 
 -- the exclusive ones of these groups
-abbrev pub tenants_in : List Group → List Tenant
-tenants_in groups = map tenant_of (filter (has_mode Exclusive) groups)
+abbrev pub exclusive_in : List Group → List ExclusiveGroup
+exclusive_in groups = map exclusive_of (filter (has_mode Exclusive) groups)
 
 -- its mask in a domain
-abbrev pub mask_of : ℕ → Tenant → ℕ
+abbrev pub mask_of : ℕ → ExclusiveGroup → ℕ
 mask_of domain t = slice_index t.masks domain
 
 -- whether a stay is of the same group with the same mask
-abbrev pub is_same : ℕ → Tenant → Stay → Bool
+abbrev pub is_same : ℕ → ExclusiveGroup → Stay → Bool
 is_same domain t later = (later.gid.0 == t.gid.0) && (later.mask == mask_of domain t)
 
 -- a group that is exclusive on the same mask from the next change on stays so as long as it does from there
-abbrev pub last_of : ℕ → ℕ → List Stay → Tenant → ℕ
+abbrev pub last_of : ℕ → ℕ → List Stay → ExclusiveGroup → ℕ
 last_of domain last next t = option_map_or (λ (later : Stay). later.last) (find (is_same domain t) next) last
 
 -- the group with its mask and that epoch
-abbrev pub stay_of : ℕ → ℕ → List Stay → Tenant → Stay
+abbrev pub stay_of : ℕ → ℕ → List Stay → ExclusiveGroup → Stay
 stay_of domain last next t = record { last = last_of domain last next t; gid = t.gid; mask = mask_of domain t }
 
 -- The exclusive groups of an epoch, rising, each with its mask in the domain and the last epoch at which it is still exclusive on

@@ -14,8 +14,8 @@ use Rattle.run_windows.specs.declared.sweep.Sweep.{Sweep}
 -- the stays before a change whose last epoch is this one, made of those after it
 abbrev pub restored : ℕ → ℕ → Edit → List Stay → List Stay
 restored domain last (Whole all) after = map (stay_of domain last after) all.items
-restored domain last (Put at tenant) after = slice_set after at (stay_of domain last after tenant)
-restored domain last (Insert at tenant) after = insert after at (stay_of domain last after tenant)
+restored domain last (Put at group) after = slice_set after at (stay_of domain last after group)
+restored domain last (Insert at group) after = insert after at (stay_of domain last after group)
 restored domain last (Remove at) after = remove after at
 
 -- the stays from a change on, and the last epoch before it

@@ -1,18 +1,18 @@
 //! The changes of the groups that are exclusive.
-ghost use Rattle.std.specs.Prelude.{◌≡◌, ◌+◌, [], IfOk, OnOk, filter, length, false};
-ghost use Rattle.group_tree.specs.Records.{has_mode};
-ghost use Rattle.rc_base.specs.declared.names.Mode.TheVariants.{Exclusive};
+ghost use Rattle.std.specs.Prelude.{◌≡◌, ◌+◌, ◌∷◌, [], ◌++◌, IfOk, OnOk, length};
 ghost use Rattle.run_law.specs.Entries.{entry_value};
 ghost use Rattle.run_law.specs.Journals.{At};
 ghost use Rattle.run_law.specs.Runs.{IsRun};
-ghost use Rattle.run_windows.specs.Changes.{AreChanges, IsReplayed, is_of_masks, logged, may_change};
+ghost use Rattle.run_windows.specs.Changes.{AreChanges, AreKeptBut, IsReplayed, changed_gid, logged, removed_gid, written_gid};
 ghost use Rattle.run_windows.specs.Edits.{changes_of};
+ghost use Rattle.run_windows.specs.OneGroup.{AreInOrder, others};
+ghost use Rattle.run_windows.specs.Stays.{exclusive_in};
 ghost use Rattle.script_ops.specs.Values.{IsLawful};
 
-use crate::edit::{Edit, edit_of};
-use crate::tenant::{Tenant, are_same, tenants};
+use crate::edit::{Edit, edit_one};
+use crate::exclusive_group::{ExclusiveGroup, exclusive_group};
 use path_names::{FileKind, PathRef};
-use rc_base::NoMemory;
+use rc_base::{Gid, NoMemory};
 use run_law::{Journals, TreeEntry};
 use script_ops::{Op, Script};
 use std::alloc::Global;
@@ -35,97 +35,103 @@ pub(crate) struct Log {
     /// The first epoch since the latest change.
     pub from: u64,
     /// The groups that are exclusive since then.
-    pub latest: Vec<Tenant>,
+    pub latest: Vec<ExclusiveGroup>,
 }
 
-// Whether a command may make a group exclusive or end that, or change the mask of one.
-fn may_change(op: &Op) -> bool
-    ensures { result ≡ may_change op.now }
-{
-    match op {
-        Op::Rmdir { .. } => true,
-        Op::Write { path, .. } => is_of_masks(*path),
-        _ => false,
-    }
-}
-
-// Whether a file tells the masks or the mode of a group.
-fn is_of_masks(path: PathRef) -> bool
-    ensures { result ≡ is_of_masks path }
+// The group whose mode or masks are written.
+fn written_gid(tree: &Tree, path: PathRef) -> Option<Gid>
+    ensures { result ≡ written_gid tree.now.state path }
 {
     match path {
-        PathRef::File(_, kind) => matches!(kind, FileKind::Schemata | FileKind::Mode),
-        _ => false,
+        PathRef::File(dir, FileKind::Schemata | FileKind::Mode) => tree.directory_gid(dir),
+        _ => None,
     }
 }
 
-// Takes the next command of a run, and answers whether it may have changed which groups are exclusive, or their masks.
-fn take(tree: &mut Tree, script: &Script, journals: &Journals, entry: &TreeEntry) -> bool
+// The group whose directory is removed.
+fn removed_gid(tree: &Tree, path: PathRef) -> Option<Gid>
+    ensures { result ≡ removed_gid tree.now.state path }
+{
+    match path {
+        PathRef::Dir(dir) => tree.directory_gid(dir),
+        _ => None,
+    }
+}
+
+// The group that a command may make exclusive, end to be so, or give other masks.
+fn changed_gid(tree: &Tree, op: &Op) -> Option<Gid>
+    ensures { result ≡ changed_gid tree.now.state op.now }
+{
+    match op {
+        Op::Rmdir { path } => removed_gid(tree, *path),
+        Op::Write { path, .. } => written_gid(tree, *path),
+        _ => None,
+    }
+}
+
+// Takes the next command of a run, and answers the one group that may now be exclusive or not, or on other masks.
+fn take(tree: &mut Tree, script: &Script, journals: &Journals, entry: &TreeEntry) -> Option<Gid>
     requires lawful { IsLawful script.now }
     requires run { IsRun script.now journals.now }
     requires replayed { IsReplayed script.now journals.now tree.old }
     requires next { At journals.now.tree tree.old.epoch (entry_value entry.now) }
     ensures replayed { IsReplayed script.now journals.now tree.new }
     ensures epoch { tree.new.epoch ≡ tree.old.epoch + 1 }
-    ensures kept { result ≡ false → filter (has_mode Exclusive) tree.new.state.groups ≡ filter (has_mode Exclusive) tree.old.state.groups }
+    ensures kept { AreKeptBut result tree.old.state tree.new.state }
 {
     match script.op(entry.thread, entry.op) {
         Some(op) => {
             let op = op.get();
+            let gid = changed_gid(tree, op);
             tree.apply(op, entry.looks.items());
-            may_change(op)
+            gid
         }
         None => unreachable!(),
     }
 }
 
-// The log of a tree that has taken no command yet.
-fn first_log(
-    alloc: Global,
-    script: &Script,
-    journals: &Journals,
-    tree: &Tree,
-) -> Result<Log, NoMemory>
-    requires replayed { IsReplayed script.now journals.now tree.now }
-    requires first { tree.now.epoch ≡ 0 }
-    ensures { IfOk result (λ log. AreChanges script.now journals.now 1 (logged log)) }
+// The log of a tree that has taken no command yet, in which no group is exclusive.
+fn first_log(alloc: Global) -> Log
+    ensures { (result.pasts.items ≡ []) × (result.from ≡ 0) × (result.latest.items ≡ []) }
 {
-    Ok(Log {
+    Log {
         pasts: Vec::new(alloc),
         from: 0,
-        latest: tenants(alloc, tree)?,
-    })
+        latest: Vec::new(alloc),
+    }
 }
 
-// Adds the groups that are exclusive in a tree, where they are not those of the latest change.
+// Adds what a command did to the one group that it may have changed, where it did.
 fn push_changed(
-    alloc: Global,
     script: &Script,
     journals: &Journals,
     tree: &Tree,
+    gid: Gid,
     log: &mut Log,
 ) -> Result<(), NoMemory>
+    requires lawful { IsLawful script.now }
+    requires run { IsRun script.now journals.now }
     requires replayed { IsReplayed script.now journals.now tree.now }
     requires changes { AreChanges script.now journals.now tree.now.epoch (logged log.old) }
+    requires order { AreInOrder log.old.latest.items }
+    requires others { others gid log.old.latest.items ≡ others gid (exclusive_in tree.now.state.groups) }
     ensures { OnOk result (AreChanges script.now journals.now (tree.now.epoch + 1) (logged log.new)) }
 {
-    let tenants = tenants(alloc, tree)?;
-    if are_same(&log.latest, &tenants) {
-        return Ok(());
+    match edit_one(&mut log.latest, gid, exclusive_group(tree, gid))? {
+        Some(edit) => {
+            log.pasts.push(Past {
+                from: log.from,
+                edit,
+            })?;
+            log.from = tree.epoch();
+            Ok(())
+        }
+        None => Ok(()),
     }
-    let edit = edit_of(alloc, &tenants, &log.latest)?;
-    log.pasts.push(Past {
-        from: log.from,
-        edit,
-    })?;
-    log.from = tree.epoch();
-    log.latest = tenants;
-    Ok(())
 }
 
-// Takes the next command of a run, and adds the groups that are exclusive after it, where they are others than before.
+// Takes the next command of a run, and adds what it did to the exclusive groups, where it changed one of them or its masks.
 fn step(
-    alloc: Global,
     script: &Script,
     journals: &Journals,
     entry: &TreeEntry,
@@ -141,10 +147,10 @@ fn step(
     ensures epoch { tree.new.epoch ≡ tree.old.epoch + 1 }
     ensures changes { OnOk result (AreChanges script.now journals.now (tree.new.epoch + 1) (logged log.new)) }
 {
-    if !take(tree, script, journals, entry) {
-        return Ok(());
+    match take(tree, script, journals, entry) {
+        Some(gid) => push_changed(script, journals, tree, gid, log),
+        None => Ok(()),
     }
-    push_changed(alloc, script, journals, tree, log)
 }
 
 // All changes of a log, the last of which makes the latest groups of none.
@@ -176,9 +182,9 @@ pub(crate) fn changes(
     ensures { IfOk result (λ pasts. AreChanges script.now journals.now (length journals.now.tree + 1) (changes_of [] pasts.items)) }
 {
     let mut tree = Tree::create(alloc, script.machine(), script.tasks())?;
-    let mut log = first_log(alloc, script, journals, &tree)?;
+    let mut log = first_log(alloc);
     for entry in journals.tree() {
-        step(alloc, script, journals, entry, &mut tree, &mut log)?;
+        step(script, journals, entry, &mut tree, &mut log)?;
     }
     closed(script, journals, log)
 }

@@ -4,11 +4,13 @@
 mod changes;
 mod counting;
 mod edit;
+mod exclusive_group;
 pub mod listing;
 mod opened;
+mod opening;
 mod places;
+mod quiet;
 mod sweep;
-mod tenant;
 pub mod theorems;
 mod timeline;
 

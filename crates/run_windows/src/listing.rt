@@ -13,7 +13,9 @@ ghost use Rattle.script_ops.specs.Values.{IsLawful};
 
 use crate::changes::{Past, changes};
 use crate::counting::empties;
-use crate::opened::{Opening, push_opened};
+use crate::opened::push_opened;
+use crate::opening::Opening;
+use crate::quiet::has_exclusive_write;
 use crate::sweep::Sweep;
 use crate::timeline::{marks, stays_at};
 use cache_core::SliceEntry;
@@ -122,8 +124,9 @@ fn push_domain(
 /// access of the group: by domain, by slice, by the position of the flush or lock, and by group in order of creation (this
 /// project's profile).
 ///
-/// The tree is played once more. Each command that changes the exclusive groups or a mask of theirs costs the record of the one
-/// group that it changes, some 60 bytes, and in one domain at a time 16 bytes of a stay at most. Then the accesses from a flush or
+/// Where no command asks for the mode `exclusive`, there is none. Else the tree is played once more. Each command that changes an
+/// exclusive group or a mask of one costs the record of that group, some 60 bytes, and in one domain at a time 16 bytes of a
+/// stay at most. Then the accesses from a flush or
 /// a lock up to the next one are sorted by line, for all groups that are exclusive at it, in 16 bytes for each and as many again
 /// for the sort, and walked for where the covered accesses of each group end. The entries are walked three times besides.
 pub fn windows(alloc: Global, script: &Script, journals: &Journals) -> Result<Vec<Window>, NoMemory>
@@ -131,8 +134,11 @@ pub fn windows(alloc: Global, script: &Script, journals: &Journals) -> Result<Ve
     requires run { IsRun script.now journals.now }
     ensures { IfOk result (λ windows. AreWindowsOf script.now journals.now windows.items) }
 {
-    let changes = changes(alloc, script, journals)?;
     let mut windows: Vec<Window> = Vec::new(alloc);
+    if !has_exclusive_write(script, journals) {
+        return Ok(windows);
+    }
+    let changes = changes(alloc, script, journals)?;
     for domain in 0..script.machine().domains {
         push_domain(alloc, script, journals, domain, &changes, &mut windows)?;
     }

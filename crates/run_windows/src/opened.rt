@@ -14,24 +14,14 @@ ghost use Rattle.private_lru.specs.Tallies.{AreCounted, IsCounted};
 ghost use Rattle.run_windows.specs.Windows.{StaysExclusive};
 ghost use Rattle.script_ops.specs.Values.{IsLawful};
 
-use crate::counting::{Place, empties, window_of};
+use crate::counting::{empties, window_of};
+use crate::opening::Opening;
 use cache_core::SliceEntry;
 use private_lru::{Stay, WindowCounts, counts_of};
 use rc_base::NoMemory;
 use run_law::{Journals, Window};
 use script_ops::Script;
 use std::alloc::Global;
-
-/// A flush or a lock: the domain, the slice in it, and the position there.
-#[derive(Clone, Copy, Debug, PartialEq, Eq)]
-pub(crate) struct Opening {
-    /// The domain, from 0.
-    pub domain: u8,
-    /// The slice in its domain, from 0.
-    pub slice: u8,
-    /// The position, from 0.
-    pub from: u32,
-}
 
 // Adds a window in which its group has an access.
 fn push_used(windows: &mut Vec<Window>, window: Window) -> Result<(), NoMemory>
@@ -112,15 +102,7 @@ fn push_window(
     requires before { AreWindowsBefore script.now journals.now (record { domain = opening.domain; slice = opening.slice; from = opening.from; gid = stay.gid.0 }) windows.old.items }
     ensures { OnOk result (AreWindowsBefore script.now journals.now (record { domain = opening.domain; slice = opening.slice; from = opening.from; gid = stay.gid.0 + 1 }) windows.new.items) }
 {
-    let place = Place {
-        domain: opening.domain,
-        slice: opening.slice,
-        from: opening.from,
-        gid: stay.gid,
-        mask: stay.mask,
-        last: stay.last,
-    };
-    push_used(windows, window_of(place, counts))
+    push_used(windows, window_of(opening, stay, counts))
 }
 
 /// Adds the windows that begin at a flush or a lock, of the groups that are exclusive then.

@@ -6,8 +6,8 @@ ghost use Rattle.run_windows.specs.Sweeps.{IsSwept, Swept, restored, swept_over}
 
 use crate::changes::Past;
 use crate::edit::Edit;
+use crate::exclusive_group::ExclusiveGroup;
 use crate::places::{copied, insert, put, remove};
-use crate::tenant::Tenant;
 use private_lru::Stay;
 use rc_base::NoMemory;
 use std::alloc::Global;
@@ -22,66 +22,66 @@ pub(crate) struct Sweep {
 }
 
 // The mask of a group in a domain.
-fn mask_of(tenant: &Tenant, domain: u8) -> u32
+fn mask_of(group: &ExclusiveGroup, domain: u8) -> u32
     requires { domain < 8 }
-    ensures { result ≡ mask_of domain tenant.now }
+    ensures { result ≡ mask_of domain group.now }
 {
-    tenant.masks[domain as usize]
+    group.masks[domain as usize]
 }
 
 // Whether it is the same group with the same mask.
-fn is_same(tenant: &Tenant, domain: u8, later: &Stay) -> bool
+fn is_same(group: &ExclusiveGroup, domain: u8, later: &Stay) -> bool
     requires { domain < 8 }
-    ensures { result ≡ is_same domain tenant.now later.now }
+    ensures { result ≡ is_same domain group.now later.now }
 {
-    later.gid.0 == tenant.gid.0 && later.mask == mask_of(tenant, domain)
+    later.gid.0 == group.gid.0 && later.mask == mask_of(group, domain)
 }
 
 // The same group with the same mask from a later epoch on.
-fn find_same<'a>(next: &'a [Stay], tenant: &Tenant, domain: u8) -> Option<&'a Stay>
+fn find_same<'a>(next: &'a [Stay], group: &ExclusiveGroup, domain: u8) -> Option<&'a Stay>
     requires { domain < 8 }
-    ensures { option_copied result ≡ find (is_same domain tenant.now) next.now }
+    ensures { option_copied result ≡ find (is_same domain group.now) next.now }
 {
-    next.iter().find(|later| is_same(tenant, domain, later))
+    next.iter().find(|later| is_same(group, domain, later))
 }
 
 // A group that is exclusive on the same mask from the next change on stays so as long as it does from there.
-fn last_of(tenant: &Tenant, domain: u8, next: &[Stay], last: u64) -> u64
+fn last_of(group: &ExclusiveGroup, domain: u8, next: &[Stay], last: u64) -> u64
     requires { domain < 8 }
-    ensures { result ≡ last_of domain last next.now tenant.now }
+    ensures { result ≡ last_of domain last next.now group.now }
 {
-    match find_same(next, tenant, domain) {
+    match find_same(next, group, domain) {
         Some(later) => later.last,
         None => last,
     }
 }
 
 // How long this group stays exclusive.
-fn stay_of(tenant: &Tenant, domain: u8, next: &[Stay], last: u64) -> Stay
+fn stay_of(group: &ExclusiveGroup, domain: u8, next: &[Stay], last: u64) -> Stay
     requires { domain < 8 }
-    ensures { result ≡ stay_of domain last next.now tenant.now }
+    ensures { result ≡ stay_of domain last next.now group.now }
 {
     Stay {
-        last: last_of(tenant, domain, next, last),
-        gid: tenant.gid,
-        mask: mask_of(tenant, domain),
+        last: last_of(group, domain, next, last),
+        gid: group.gid,
+        mask: mask_of(group, domain),
     }
 }
 
 // How long each of these groups stays exclusive.
 fn stays_of(
     alloc: Global,
-    tenants: &[Tenant],
+    groups: &[ExclusiveGroup],
     domain: u8,
     next: &[Stay],
     last: u64,
 ) -> Result<Vec<Stay>, NoMemory>
     requires { domain < 8 }
-    ensures { IfOk result (λ stays. stays.items ≡ map (stay_of domain last next.now) tenants.now) }
+    ensures { IfOk result (λ stays. stays.items ≡ map (stay_of domain last next.now) groups.now) }
 {
     let mut stays: Vec<Stay> = Vec::new(alloc);
-    for tenant in tenants {
-        stays.push(stay_of(tenant, domain, next, last))?;
+    for group in groups {
+        stays.push(stay_of(group, domain, next, last))?;
     }
     Ok(stays)
 }
@@ -102,13 +102,13 @@ fn restore(
             *stays = stays_of(alloc, all, domain, stays, last)?;
             Ok(())
         }
-        Edit::Put(at, tenant) => {
-            let stay = stay_of(tenant, domain, stays, last);
+        Edit::Put(at, group) => {
+            let stay = stay_of(group, domain, stays, last);
             put(stays, *at, stay);
             Ok(())
         }
-        Edit::Insert(at, tenant) => {
-            let stay = stay_of(tenant, domain, stays, last);
+        Edit::Insert(at, group) => {
+            let stay = stay_of(group, domain, stays, last);
             insert(stays, *at, stay)
         }
         Edit::Remove(at) => {

@@ -1,24 +1,23 @@
 use Rattle.std.proofs.Common.{length, sym, subst, ap, ap₂, ◌+◌, ◌∙◌, arith}
 use Rattle.std.proofs.lemmas.List.{length-map}
 use Rattle.run_law.specs.Entries.{entry_value}
-use Rattle.run_windows.proofs.ChangeLists.{At-entry_value}
+use Rattle.run_windows.proofs.ChangeLists.{AreChanges-first, At-entry_value}
 use Rattle.run_windows.proofs.Replays.{IsReplayed-opening}
 use Rattle.run_windows.specs.Changes.{AreChanges, logged}
-use Rattle.tree_law.specs.State.{opening}
+use Rattle.run_windows.specs.Stays.{exclusive_in}
+use Rattle.tree_law.specs.State.{State, opening}
 use Rattle.run_windows.proofs.changes.changes.Goals as goal
-
-pub first_log-requires-clause-replayed : goal.first_log-requires-clause-replayed
-first_log-requires-clause-replayed c =
-    let first = c.in_ok-tree.ensures in
-    IsReplayed-opening c.args.script.now c.args.journals.now c.in_ok-tree.tree (first.machine ∙ c.machine.ensures) (first.state ∙ ap₂ opening c.machine.ensures c.tasks.ensures.tasks) first.epoch
 
 pub loop-entry-init : goal.loop-entry-init
 loop-entry-init c =
     let first = c.in_ok-tree.ensures in
+    let log = c.first_log-log.ensures in
+    let replayed = IsReplayed-opening c.args.script.now c.args.journals.now c.in_ok-tree.tree (first.machine ∙ c.machine.ensures) (first.state ∙ ap₂ opening c.machine.ensures c.tasks.ensures.tasks) first.epoch in
     record {
-      replayed = IsReplayed-opening c.args.script.now c.args.journals.now c.in_ok-tree.tree (first.machine ∙ c.machine.ensures) (first.state ∙ ap₂ opening c.machine.ensures c.tasks.ensures.tasks) first.epoch;
+      replayed = replayed;
       epoch = first.epoch;
-      changes = subst (λ n. AreChanges c.args.script.now c.args.journals.now (n + 1) (logged c.in_ok-log.log)) (sym first.epoch) c.in_ok-log.ensures;
+      changes = subst (λ n. AreChanges c.args.script.now c.args.journals.now (n + 1) (logged c.first_log-log.result)) (sym first.epoch)
+          (AreChanges-first c.args.script.now c.args.journals.now c.in_ok-tree.tree c.first_log-log.result replayed first.epoch log.0 log.1 (log.2 ∙ sym (ap (λ (s : State). exclusive_in s.groups) first.state)));
     }
 
 pub step-requires-clause-next : goal.step-requires-clause-next

@@ -1,15 +1,41 @@
-use Rattle.std.proofs.Common.{refl, sym, ap, ◌∙◌}
+use Rattle.std.proofs.Common.{◌≡◌, List, [], ◌∷◌, ◌++◌, Option, refl, sym, subst, ap, ◌∙◌}
 use Rattle.run_windows.proofs.ChangeLists.{AreChanges-changed, AreChanges-latest}
-use Rattle.run_windows.specs.Edits.{edited}
+use Rattle.run_windows.proofs.ChangedGroups.{AreRisen-replayed}
+use Rattle.run_windows.proofs.OneGroup.{joined-exclusive}
+use Rattle.run_windows.specs.Changes.{AreChanges}
+use Rattle.run_windows.specs.Edits.{changes_of, edited}
+use Rattle.run_windows.specs.OneGroup.{before, joined, others}
+use Rattle.run_windows.specs.Stays.{exclusive_in}
+use Rattle.run_windows.specs.declared.changes.Log.{Log}
+use Rattle.run_windows.specs.declared.edit.Edit.{Edit}
+use Rattle.run_windows.specs.declared.exclusive_group.ExclusiveGroup.{ExclusiveGroup}
 use Rattle.run_windows.proofs.changes.push_changed.Goals as goal
 
-pub returns-then-are_same : goal.returns-then-are_same
-returns-then-are_same c =
-    AreChanges-latest c.args.script.now c.args.journals.now c.args.tree.now c.args.log.now c.requires.replayed
-    (sym c.deref.ensures.value ∙ (c.are_same.ensures c.if-are_same.true ∙ (c.deref-2.ensures.value ∙ c.in_ok-tenants.ensures))) c.requires.changes
+pub returns-in_ok-push-in-Some : goal.returns-in_ok-push-in-Some
+returns-in_ok-push-in-Some c =
+    let script = c.args.script.now in
+    let j = c.args.journals.now in
+    let tree = c.args.tree.now in
+    let log = c.args.log.now in
+    let gid = c.args.gid in
+    let new : Log = record { pasts = c.push.new.self; from = c.epoch-log.result; latest = c.edit_one.new.groups } in
+    let now : new.latest.items ≡ exclusive_in tree.state.groups =
+    c.in_ok-edit.ensures.now ∙ (ap (λ (o : Option ExclusiveGroup). joined gid o (others gid log.latest.items)) c.exclusive_group.ensures
+    ∙ joined-exclusive gid log.latest.items tree.state.groups (AreRisen-replayed script j c.requires.lawful c.requires.run tree c.requires.replayed) c.requires.others) in
+    let was : edited c.in-Some.edit new.latest.items ≡ log.latest.items = ap (λ (o : Option Edit). before o new.latest.items) (sym c.in-Some.is) ∙ c.in_ok-edit.ensures.before in
+    AreChanges-changed script j tree log new (record { from = log.from; edit = c.in-Some.edit }) c.requires.replayed now c.requires.changes c.epoch-log.ensures refl was c.in_ok-push-in-Some.ensures.items
 
-pub returns : goal.returns
-returns c =
-    AreChanges-changed c.args.script.now c.args.journals.now c.args.tree.now c.args.log.now (record { pasts = c.push.new.self; from = c.epoch-log.result; latest = c.in_ok-tenants.tenants })
-    (record { from = c.args.log.now.from; edit = c.in_ok-edit.edit }) c.requires.replayed c.in_ok-tenants.ensures c.requires.changes c.epoch-log.ensures refl
-    (ap (edited c.in_ok-edit.edit) (sym c.deref-3.ensures.value) ∙ (c.in_ok-edit.ensures ∙ c.deref-4.ensures.value)) c.in_ok-push.ensures.items
+pub returns-in-None : goal.returns-in-None
+returns-in-None c =
+    let script = c.args.script.now in
+    let j = c.args.journals.now in
+    let tree = c.args.tree.now in
+    let log = c.args.log.now in
+    let gid = c.args.gid in
+    let new : Log = record { pasts = log.pasts; from = log.from; latest = c.edit_one.new.groups } in
+    let now : new.latest.items ≡ exclusive_in tree.state.groups =
+    c.in_ok-edit.ensures.now ∙ (ap (λ (o : Option ExclusiveGroup). joined gid o (others gid log.latest.items)) c.exclusive_group.ensures
+    ∙ joined-exclusive gid log.latest.items tree.state.groups (AreRisen-replayed script j c.requires.lawful c.requires.run tree c.requires.replayed) c.requires.others) in
+    let same : new.latest.items ≡ log.latest.items = ap (λ (o : Option Edit). before o new.latest.items) (sym c.in-None.is) ∙ c.in_ok-edit.ensures.before in
+    AreChanges-latest script j tree new c.requires.replayed now
+    (subst (λ (l : List ExclusiveGroup). AreChanges script j tree.epoch (changes_of l log.pasts.items ++ record { from = log.from; exclusive = l } ∷ [])) (sym same) c.requires.changes)

@@ -1,13 +1,12 @@
-use Rattle.std.proofs.Common.{Some, filter, length, sym, ap, ◌∙◌, arith}
+use Rattle.std.proofs.Common.{Option, Some, length, sym, subst, ap, ◌∙◌, arith}
 use Rattle.std.proofs.lemmas.Option.{slice_get_within}
-use Rattle.group_tree.specs.Records.{has_mode}
-use Rattle.rc_base.specs.declared.names.Mode.TheVariants.{Exclusive}
+use Rattle.rc_base.specs.declared.names.Gid.{Gid}
 use Rattle.run_law.specs.Entries.{entry_value}
-use Rattle.run_windows.proofs.KeptGroups.{filter-next}
+use Rattle.run_windows.proofs.OtherGroups.{AreKeptBut-next}
 use Rattle.run_windows.proofs.Replays.{Fits-taken, IsReplayed-next, length-looks_taken, op_at-none}
 use Rattle.run_law.proofs.laws.RunSizes.{length-commands}
+use Rattle.run_windows.specs.Changes.{AreKeptBut, changed_gid}
 use Rattle.script_ops.specs.declared.op.Op.{Op}
-use Rattle.tree_law.specs.State.{State}
 use Rattle.tree_law.specs.Steps.{next}
 use Rattle.run_windows.proofs.changes.take.Goals as goal
 
@@ -35,6 +34,10 @@ returns-clause-replayed c =
     c.apply.new.self did.machine (did.state ∙ ap (λ looks. (next c.args.tree.now.machine c.args.tree.now.state c.get-op.result.now looks).state) c.items.ensures) did.epoch
 
 pub returns-clause-kept : goal.returns-clause-kept
-returns-clause-kept c = λ no.
-    let did = c.apply.ensures in
-    ap (λ (s : State). filter (has_mode Exclusive) s.groups) did.state ∙ filter-next c.args.tree.now.machine c.args.tree.now.state c.get-op.result.now c.items.result.now (sym c.may_change.ensures ∙ no)
+returns-clause-kept c =
+    let m = c.args.tree.now.machine in
+    let s = c.args.tree.now.state in
+    let op = c.get-op.result.now in
+    let looks = c.items.result.now in
+    subst (λ (gid : Option Gid). AreKeptBut gid s c.apply.new.self.state) (sym c.changed_gid-gid.ensures)
+    (subst (AreKeptBut (changed_gid s op) s) (sym c.apply.ensures.state) (AreKeptBut-next m s op looks))
