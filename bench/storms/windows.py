@@ -40,6 +40,12 @@ def win_toggle8(script, count):
     toggled(script, count, 8)
 
 
+def win_toggle8_flush(script, count):
+    """The same, before windows of all thirty groups in each cache."""
+    toggled(script, count, 8)
+    script.write("flush\n")
+
+
 def win_modes(script, count):
     """A mode that changes, and a flush, beside 30 exclusive groups."""
     tenants(script, "machine sets=64")
@@ -117,6 +123,7 @@ EXCLUSIVE = 20_000
 ROWS = (
     windows("toggle_full", 1_980_000, toggle_full),
     windows("win_toggle8", 440_000, win_toggle8),
+    windows("win_toggle8_flush", 440_000, win_toggle8_flush),
     windows("win_modes", 4 * ((MOST_WEIGHT - HEAD) // 10), win_modes),
     windows("reads_of_mode", MOST_WEIGHT - EXCLUSIVE, reads_of_mode),
     windows("masks_among_many", MOST_WEIGHT // 10, masks_among_many),
