@@ -9,6 +9,7 @@ ghost use Rattle.run_windows.specs.AllWindows.{AreWindowsBefore, AreWindowsOf};
 ghost use Rattle.run_windows.specs.Changes.{AreChanges};
 ghost use Rattle.run_windows.specs.Edits.{changes_of};
 ghost use Rattle.run_windows.specs.Sweeps.{AreMarks};
+ghost use Rattle.run_windows.specs.declared.timeline.TheConstants.{STEP};
 ghost use Rattle.script_ops.specs.Values.{IsLawful};
 
 use crate::changes::{Past, changes};
@@ -41,7 +42,7 @@ fn push_entry(
     requires slice { opening.slice < script.now.machine.slices }
     requires entry { At (slice_at journals.now (slice_number script.now.machine opening.domain opening.slice)) opening.from entry.now }
     requires changes { AreChanges script.now journals.now (length journals.now.tree + 1) (changes_of [] changes.now) }
-    requires marks { AreMarks opening.domain (length journals.now.tree) 32 changes.now marks.now }
+    requires marks { AreMarks opening.domain (length journals.now.tree) STEP changes.now marks.now }
     requires before { AreWindowsBefore script.now journals.now (record { domain = opening.domain; slice = opening.slice; from = opening.from; gid = 0 }) windows.old.items }
     ensures { OnOk result (AreWindowsBefore script.now journals.now (record { domain = opening.domain; slice = opening.slice; from = opening.from + 1; gid = 0 }) windows.new.items) }
 {
@@ -76,7 +77,7 @@ fn push_slice(
     requires domain { domain < script.now.machine.domains }
     requires slice { slice < script.now.machine.slices }
     requires changes { AreChanges script.now journals.now (length journals.now.tree + 1) (changes_of [] changes.now) }
-    requires marks { AreMarks domain (length journals.now.tree) 32 changes.now marks.now }
+    requires marks { AreMarks domain (length journals.now.tree) STEP changes.now marks.now }
     requires before { AreWindowsBefore script.now journals.now (record { domain = domain; slice = slice; from = 0; gid = 0 }) windows.old.items }
     ensures { OnOk result (AreWindowsBefore script.now journals.now (record { domain = domain; slice = slice + 1; from = 0; gid = 0 }) windows.new.items) }
 {

@@ -7,6 +7,7 @@ ghost use Rattle.run_windows.specs.Edits.{changes_of};
 ghost use Rattle.run_windows.specs.Stays.{AreStays};
 ghost use Rattle.run_windows.specs.Sweeps.{AreMarks, IsSwept, swept};
 ghost use Rattle.run_windows.specs.declared.changes.Past.{Past};
+ghost use Rattle.run_windows.specs.declared.timeline.TheConstants.{STEP};
 ghost use Rattle.script_ops.specs.Values.{IsLawful};
 
 use crate::changes::Past;
@@ -17,8 +18,8 @@ use run_law::Journals;
 use script_ops::Script;
 use std::alloc::Global;
 
-// After how many changes a sweep is kept: as many as there are ways at most, so that no domain has more exclusive groups.
-const STEP: usize = 32;
+/// After how many changes a sweep is kept: as many as there are ways at most, so that no domain has more exclusive groups.
+pub(crate) const STEP: usize = 32;
 
 /// Where a sweep over the changes of a run stands in a domain, after the last change and after each so many more.
 pub(crate) fn marks(
@@ -28,7 +29,7 @@ pub(crate) fn marks(
     pasts: &[Past],
 ) -> Result<Vec<Sweep>, NoMemory>
     requires { domain < 8 }
-    ensures { IfOk result (λ marks. AreMarks domain (length journals.now.tree) 32 pasts.now marks.items) }
+    ensures { IfOk result (λ marks. AreMarks domain (length journals.now.tree) STEP pasts.now marks.items) }
 {
     let mut marks: Vec<Sweep> = Vec::new(alloc);
     let mut sweep = Sweep {
@@ -56,7 +57,7 @@ fn sweep_at(
     requires domain { domain < 8 }
     requires within { count ≤ length pasts.now }
     requires some { 0 < count }
-    requires marks { AreMarks domain (length journals.now.tree) 32 pasts.now marks.now }
+    requires marks { AreMarks domain (length journals.now.tree) STEP pasts.now marks.now }
     ensures { IfOk result (λ sweep. IsSwept (swept domain (length journals.now.tree) pasts.now count) sweep) }
 {
     let mark = (count - 1) / STEP;
@@ -91,7 +92,7 @@ pub(crate) fn stays_at(
     requires run { IsRun script.now journals.now }
     requires domain { domain < script.now.machine.domains }
     requires changes { AreChanges script.now journals.now (length journals.now.tree + 1) (changes_of [] pasts.now) }
-    requires marks { AreMarks domain (length journals.now.tree) 32 pasts.now marks.now }
+    requires marks { AreMarks domain (length journals.now.tree) STEP pasts.now marks.now }
     requires known { epoch ≤ length journals.now.tree }
     ensures { IfOk result (λ stays. AreStays script.now journals.now domain epoch stays.items) }
 {
