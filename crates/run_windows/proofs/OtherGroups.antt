@@ -1,18 +1,17 @@
 -- A command leaves all exclusive groups as they are but one.
-use Rattle.std.proofs.Common.{◌≡◌, ℕ, Bool, true, false, not, cond, eqb, List, [], ◌∷◌, filter, map, refl, Option, Some, None, inl, inr, Ok, Err, sym, ap, ◌∙◌}
+use Rattle.std.proofs.Common.{◌≡◌, ℕ, Bool, true, false, not, cond, List, [], ◌∷◌, filter, refl, Option, Some, None, inl, inr, Ok, Err, sym, ap, ◌∙◌}
 use Rattle.std.specs.Prelude.{option_and_then}
 use Rattle.std.specs.Option.{option_map_or}
 use Rattle.std.proofs.lemmas.Bool.{and_parts, cases_Bool, eq-eqb, eqb-true, not-true}
 use Rattle.std.proofs.lemmas.List.{append-nil}
 use Rattle.std.proofs.lemmas.List.Elements.{filter-append}
 use Rattle.group_tree.proofs.laws.Records.{is_monitor_of-control}
-use Rattle.group_tree.specs.Lists.{exchanged, replaced, without}
+use Rattle.group_tree.specs.Lists.{replaced}
 use Rattle.group_tree.specs.Records.{has_gid, has_mode, is_control, is_mode, is_other_in}
 use Rattle.group_tree.specs.declared.group.Group.{Group}
 use Rattle.lists.proofs.Choices.{cond-both}
 use Rattle.lists.proofs.Tests.{find-found}
 use Rattle.machine.specs.declared.parameters.Parameters.{Parameters}
-use Rattle.path_names.specs.declared.dirs.DirRef.{DirRef}
 use Rattle.path_names.specs.declared.dirs.DirRef.TheVariants.{Ctrl, Mon}
 use Rattle.path_names.specs.declared.files.FileKind.TheVariants as kinds
 use Rattle.path_names.specs.declared.path_ref.PathRef.{PathRef}
@@ -28,7 +27,7 @@ use Rattle.script_ops.specs.declared.op.Op.{Op}
 use Rattle.script_ops.specs.declared.op.Op.TheVariants as ops
 use Rattle.std.specs.Prelude.{Result}
 use Rattle.tree_law.specs.Existing.{directory_gid, group_of, owner_gid}
-use Rattle.tree_law.specs.Places.{control_at, controlling, group_at, is_closed, only_control}
+use Rattle.tree_law.specs.Places.{controlling, group_at, is_closed, only_control}
 use Rattle.tree_law.specs.Refusals.{Refusal, reply_of}
 use Rattle.tree_law.specs.State.{State}
 use Rattle.tree_law.specs.Steps.{accepted, left, next, next_if, refusal, with_status}

@@ -1,9 +1,9 @@
 -- A run of which no command asks that a group be exclusive has no window.
-use Rattle.std.proofs.Common.{◌≡◌, ℕ, zero, suc, ◌+◌, ◌<◌, ◌≤◌, Bool, true, false, not, cond, List, [], ◌∷◌, ◌++◌, length, map, filter, get_or, Option, Some, None, Result, Ok, Err, inl, inr, refl, sym, subst, ap, ◌∙◌, arith}
+use Rattle.std.proofs.Common.{◌≡◌, ℕ, zero, suc, ◌+◌, ◌≤◌, Bool, true, false, not, cond, List, [], ◌∷◌, length, get_or, Option, Some, None, Result, Ok, Err, refl, sym, subst, ap, ◌∙◌, arith}
 use Rattle.std.specs.List.{All, list_any}
 use Rattle.std.specs.Prelude.{option_and_then}
 use Rattle.std.specs.Option.{option_map_or}
-use Rattle.std.proofs.lemmas.Bool.{cases_Bool, true≢false}
+use Rattle.std.proofs.lemmas.Bool.{true≢false}
 use Rattle.std.proofs.lemmas.List.Elements.{All-filter, All-map, All-push}
 use Rattle.std.proofs.lemmas.Option.{slice_get-get_or}
 use Rattle.group_tree.specs.Lists.{exchanged, replaced}
@@ -35,13 +35,13 @@ use Rattle.run_windows.specs.Quiet.{asks_exclusive, asks_in, is_exclusive_text}
 use Rattle.run_windows.specs.Windows.{IsExclusive}
 use Rattle.schemata_text.specs.declared.assignment.Assignment.{Assignment}
 use Rattle.schemata_text.specs.declared.fault.TextFault.{TextFault}
-use Rattle.script_ops.specs.Values.{IsLawful, ScriptValue}
+use Rattle.script_ops.specs.Values.{ScriptValue}
 use Rattle.script_ops.specs.declared.op.Op.{Op}
 use Rattle.script_ops.specs.declared.op.Op.TheVariants as ops
 use Rattle.tree_law.specs.Existing.{directory_gid, group_of, owner_gid}
-use Rattle.tree_law.specs.Places.{control_at, controlling, group_at, is_closed, only_control}
+use Rattle.tree_law.specs.Places.{controlling, group_at, is_closed, only_control}
 use Rattle.tree_law.specs.Refusals.{Refusal, reply_of}
-use Rattle.tree_law.specs.State.{State, opening}
+use Rattle.tree_law.specs.State.{State}
 use Rattle.tree_law.specs.Steps.{accepted, left, next, next_if, refusal, with_status}
 use Rattle.tree_law.specs.commands.Cpus as cpus
 use Rattle.tree_law.specs.commands.Mkdir as mkdir

@@ -1,4 +1,4 @@
-use Rattle.std.proofs.Common.{◌+◌, Option, None, Some, sym, subst}
+use Rattle.std.proofs.Common.{Option, None, Some, sym, subst}
 use Rattle.rc_base.specs.declared.names.Gid.{Gid}
 use Rattle.run_windows.proofs.ChangeLists.{AreChanges-kept}
 use Rattle.run_windows.proofs.ChangedGroups.{AreInOrder-latest, others-latest}

@@ -1,4 +1,4 @@
-use Rattle.std.proofs.Common.{◌≡◌, ℕ, List, None, Some, sym, subst, ap, ap₂, ◌∙◌}
+use Rattle.std.proofs.Common.{◌≡◌, ℕ, List, sym, subst, ap, ap₂, ◌∙◌}
 use Rattle.std.specs.Prelude.{OnOk, slice_get}
 use Rattle.run_windows.proofs.OneGroup.{with_new-joined, with_other-joined}
 use Rattle.run_windows.specs.OneGroup.{own_of, place_in, with_new, with_other}
