@@ -26,4 +26,5 @@ pub mod UseLists
 pub mod UseRanges
 pub mod UseTexts
 pub mod UsesFrom
+mod WholeLines
 pub mod laws

@@ -12,7 +12,7 @@ use Rattle.way_curve.proofs.laws.FirstLines.{BeginsWith-byte, BeginsWith-end, Be
 use Rattle.way_curve.proofs.UsesFrom.{uses_from-bad, uses_from-one, uses_from-same}
 
 -- a trace that is good
-HasRead-good : (filtering : Filtering) (t : TraceValue) (text : List ℕ) → t.is_bad ≡ false → HasRead filtering t text → IsGood filtering t text
+pub HasRead-good : (filtering : Filtering) (t : TraceValue) (text : List ℕ) → t.is_bad ≡ false → HasRead filtering t text → IsGood filtering t text
 HasRead-good filtering t text good read = subst (λ (bad : Bool). ReadsAs bad filtering t text) good read
 
 -- and one that is bad

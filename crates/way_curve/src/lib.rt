@@ -37,9 +37,11 @@ mod said;
 pub mod sample;
 pub mod sampled_curves;
 mod shifting;
+mod splitting;
 pub mod theorems;
 pub mod trace;
 pub mod trace_filter;
+mod trace_lines;
 pub mod trace_theorems;
 
 pub use curve::Curve;

@@ -1,5 +1,5 @@
 //! A trace whose text comes in pieces.
-ghost use Rattle.std.specs.Prelude.{◌≡◌, ◌+◌, ◌≤◌, ◌<◌, ℕ, List, [], ◌∷◌, ◌++◌, length, IfOk, IfSome, MatchResult, Err, None, false};
+ghost use Rattle.std.specs.Prelude.{◌≡◌, ◌+◌, ◌≤◌, ◌<◌, ℕ, List, [], ◌++◌, length, IfOk, IfSome, MatchResult, Err, None};
 ghost use Rattle.way_curve.specs.Filtering.{Filtering};
 ghost use Rattle.way_curve.specs.Reading.{AreOf, HasRead, IsGood, ReadsOn};
 ghost use Rattle.way_curve.specs.TraceTexts.{trace_of};
@@ -8,7 +8,8 @@ ghost use Rattle.way_curve.specs.declared.limits.TheConstants.{MOST_TRACE_BYTES}
 use crate::filtered_curves::FilteredCurves;
 use crate::first_levels::LevelShapes;
 use crate::limits::MOST_LINE_BYTES;
-use crate::said::{said_of, said_of_ended};
+use crate::said::said_of;
+use crate::splitting::split_line;
 use rc_base::NoMemory;
 use std::alloc::Global;
 use std::marker::Model;
@@ -23,11 +24,11 @@ pub struct BadTrace {
 /// The curves of a trace whose text comes in pieces. Contracts see which text was read (`HasRead`).
 #[derive(Drop)]
 pub struct Trace {
-    bytes: u64,
-    ended: u64,
-    rest: Vec<u8>,
-    is_bad: bool,
-    curves: FilteredCurves,
+    pub(crate) bytes: u64,
+    pub(crate) ended: u64,
+    pub(crate) rest: Vec<u8>,
+    pub(crate) is_bad: bool,
+    pub(crate) curves: FilteredCurves,
 }
 
 impl Model for Trace {
@@ -77,46 +78,12 @@ impl Trace {
         ensures bytes { self.new.bytes ≡ self.old.bytes + length piece.now }
         ensures piece { ReadsOn self.old self.new piece.now }
     {
-        for byte in piece {
-            self.take_byte(*byte);
+        let mut left = piece;
+        while let Some((line, rest)) = split_line(left) {
+            self.take_ended(line);
+            left = rest;
         }
-    }
-
-    fn take_byte(&mut self, byte: u8)
-        requires room { self.old.bytes < MOST_TRACE_BYTES }
-        ensures bytes { self.new.bytes ≡ self.old.bytes + 1 }
-        ensures byte { ReadsOn self.old self.new (byte ∷ []) }
-    {
-        if self.is_bad {
-            self.bytes += 1;
-        } else if byte == b'\n' {
-            self.end_line();
-        } else if self.rest.len() <= MOST_LINE_BYTES {
-            self.bytes += 1;
-            self.rest.push_reserved(byte);
-        } else {
-            self.bytes += 1;
-            self.is_bad = true;
-        }
-    }
-
-    // Takes a newline, which ends a line.
-    fn end_line(&mut self)
-        requires good { self.old.is_bad ≡ false }
-        requires room { self.old.bytes < MOST_TRACE_BYTES }
-        ensures bytes { self.new.bytes ≡ self.old.bytes + 1 }
-        ensures newline { ReadsOn self.old self.new (10 ∷ []) }
-    {
-        let said = said_of_ended(&self.rest);
-        self.bytes += 1;
-        match said {
-            Some(said) => {
-                self.curves.note_line(&said);
-                self.rest.clear();
-                self.ended += 1;
-            }
-            None => self.is_bad = true,
-        }
+        self.take_bytes(left);
     }
 
     /// The first line that is none of a trace, whatever follows. None where each line that has ended is one of a trace, and the
