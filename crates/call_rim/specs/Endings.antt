@@ -79,6 +79,20 @@ module _ {T : Type 0} (refuses : List ℕ → List ℕ → Type 0) (reports : Li
   Ends c WriteFault outcome = ReadsWell c × (IsReported c outcome TakesSome ⊎ (IsRefused c outcome TakesSome ⊎ IsUsage c outcome TakesSome))
   Ends c NoMemory outcome = ReadsWell c × IsNoMemory c outcome
 
+-- The command line is valid, the source had these bytes, and nothing failed.
+pub record HasInput (c : Call) (bytes : List ℕ) : Type 0 where
+  pub has_form : c.has_form ≡ true
+  pub had : c.source.left ≡ Some bytes
+  pub reads_well : ReadsWell c
+  pub writes_well : WritesWell c
+
+-- The status when nothing fails, unless memory runs out: Refused where the bytes are refused, and Done where they are not. A command
+-- line that is not valid gets Usage, whatever becomes of the source.
+pub record IsComplete (refuses : List ℕ → List ℕ → Type 0) (c : Call) (status : Status) : Type 0 where
+  pub refused : (bytes line : List ℕ) → HasInput c bytes → refuses bytes line → (status ≡ Refused) ⊎ (status ≡ NoMemory)
+  pub done : (bytes : List ℕ) → HasInput c bytes → ((line : List ℕ) → refuses bytes line → ⊥) → (status ≡ Done) ⊎ (status ≡ NoMemory)
+  pub by_words : c.has_form ≡ false → WritesWell c → status ≡ Usage
+
 -- What is left of a source that was read for a whole input: the rest, unless it failed or memory ran out.
 abbrev pub LeavesBy : ℕ → Reading → Status → Type 0
 LeavesBy most source Done = LeavesRest most source.left source.left_now

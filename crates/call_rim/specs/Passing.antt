@@ -122,6 +122,7 @@ pub record IsLastOf (Ends : List ℕ → List ℕ → Type 0) (bytes written : L
   pub ends : Ends bytes (written ++ rest)
   pub takes : Takes sink rest
 
+-- (For proofs.) by the status: what was written last is the rest of a text that the bytes have, or of one that refuses them
 abbrev pub PassSays : (passes refuses : List ℕ → List ℕ → Type 0) → (bytes written : List ℕ) → Writing → Status → Type 0
 PassSays passes refuses bytes written sink Done = IsLastOf passes bytes written sink TakesAll
 PassSays passes refuses bytes written sink Refused = IsLastOf refuses bytes written sink TakesAll

@@ -22,8 +22,8 @@ pub(crate) fn with_outcome<T: Drop>(status: Status, outcome: T) -> Ended<T>
     }
 }
 
-/// An end with no outcome.
-pub(crate) fn without_outcome<T: Drop>(status: Status) -> Ended<T>
+/// An end with no outcome. It is also for a top call whose program starts threads, as `read_all` is.
+pub fn without_outcome<T: Drop>(status: Status) -> Ended<T>
     ensures { result ≡ record { status = status; outcome = None } }
 {
     Ended {

@@ -18,7 +18,7 @@ mod within;
 pub mod writing;
 
 pub use calls::{call, stream, usage};
-pub use ended::Ended;
+pub use ended::{Ended, without_outcome};
 pub use pass_program::{MOST_DUE_BYTES, PassProgram, Passing};
 pub use passing::pass;
 pub use performed::Performed;

@@ -1,8 +1,8 @@
--- What each status of the top call says.
-use Rattle.std.specs.Prelude.{◌≡◌, ℕ, ◌<◌, ◌⊎◌, false, true, List, Option, Some, None, Result, Ok, Err}
-use Rattle.call_rim.specs.Outside.{IsToTheEnd, Reading, TakesAll, TakesNone, TakesSome, Writing}
+-- What each status of the top call says: the endings of `call_rim`, with what a form plays and what is promised of it.
+use Rattle.std.specs.Prelude.{◌≡◌, ℕ, false, true, is_some, IsSomeAnd, if◌then◌else◌, List, [], Option, Some, None, Ok, Err}
+use Rattle.call_rim.specs.Endings as rim
+use Rattle.call_rim.specs.Outside.{LeavesRest, Reading, Writing}
 use Rattle.call_rim.specs.declared.status.Status.{Status}
-use Rattle.call_rim.specs.declared.status.Status.TheVariants.{Done, Refused, Usage, ReadFault, WriteFault, NoMemory}
 use Rattle.top_parts.specs.declared.command.Command.{Command}
 use Rattle.top_parts.specs.declared.command.Command.TheVariants.{Gen, Run, Step}
 use Rattle.top_parts.specs.declared.form.Form.{Form}
@@ -10,11 +10,11 @@ use Rattle.top_parts.specs.Forms.{input_of, is_of_source, reads_source, usage_li
 use Rattle.resctrl_top.specs.Isolation.{BeginsGroupWindows, BeginsLockWindows, HoldsRegions, IsolatesGroups}
 use Rattle.top_parts.specs.Meaning.{meaning, refusal_line}
 use Rattle.resctrl_top.specs.Outputs.{IsOutput}
-use Rattle.resctrl_top.specs.Leaving.{LeavesPlayed, LeavesRefused}
 use Rattle.top_parts.specs.declared.refusal.Refusal.{Refusal}
 use Rattle.run_law.specs.Runs.{IsRun}
 use Rattle.run_law.specs.Journals.{JournalsValue}
 use Rattle.script_ops.specs.Values.{IsLawful, ScriptValue}
+use Rattle.script_ops.specs.declared.limits.TheConstants.{MOST_SCRIPT_BYTES}
 use Rattle.step_world.specs.Play.{IsPlay, IsPlayBy}
 
 -- a call as it is seen from outside: the form of its words, and its source and its sink before and after
@@ -26,14 +26,6 @@ pub record Call : Type 0 where
 -- the call with this form, this source and this sink
 abbrev pub call_of : Option Form → Reading → Writing → Call
 call_of form source sink = record { form = form; source = source; sink = sink }
-
--- no call of the source failed
-abbrev pub ReadsWell : Call → Type 0
-ReadsWell c = c.source.faults_now ≡ c.source.faults
-
--- no call of the sink failed
-abbrev pub WritesWell : Call → Type 0
-WritesWell c = c.sink.faults_now ≡ c.sink.faults
 
 -- how a command plays a script: `step` and `gen` by its order lines, and `run` in whatever order its workers take the locks, for which
 -- there are order lists by which the play of the script has just these journals
@@ -54,76 +46,36 @@ pub record IsPromised (command : Command) (script : ScriptValue) (run : Journals
   pub begins_windows : BeginsLockWindows script run
   pub begins_group_windows : BeginsGroupWindows script run
 
--- The bytes that the form plays are a script, the journals are those of its play, and the sink took their report, all of it or a
--- beginning. A source that was read has nothing left, and one that was not has all that it had.
-pub record IsPlayed (c : Call) (journals : Option JournalsValue) (Takes : Writing → List ℕ → Type 0) : Type 0 where
-  pub form : Form
-  pub bytes : List ℕ
+-- the bytes are a script, the journals are those of its play, and the text is their report
+pub record IsPlayed (form : Form) (bytes : List ℕ) (run : JournalsValue) (text : List ℕ) : Type 0 where
   pub script : ScriptValue
-  pub run : JournalsValue
-  pub has_form : c.form ≡ Some form
-  pub to_the_end : IsToTheEnd (input_of form c.source.left) bytes
-  pub leaves : LeavesPlayed form.command c.source.left c.source.left_now
   pub is_script : meaning bytes ≡ Ok script
-  pub has_run : journals ≡ Some run
   pub promised : IsPromised form.command script run
-  pub text : List ℕ
   pub output : IsOutput script run form.flags text
-  pub report : Takes c.sink text
 
--- The bytes that the source had are no script, there are no journals, and the sink took the line of the refusal, all of it or a
--- beginning. The source has nothing left, or, where its bytes were too many, the rest.
-pub record IsRefused (c : Call) (journals : Option JournalsValue) (Takes : Writing → List ℕ → Type 0) : Type 0 where
-  pub form : Form
-  pub bytes : List ℕ
+-- the bytes are those of the source, and no script, and this is the line that says why
+pub record IsRefused (form : Option Form) (bytes line : List ℕ) : Type 0 where
   pub refusal : Refusal
-  pub has_form : c.form ≡ Some form
-  pub reads : reads_source c.form ≡ true
-  pub to_the_end : IsToTheEnd (input_of form c.source.left) bytes
-  pub leaves : LeavesRefused refusal c.source.left c.source.left_now
+  pub reads : reads_source form ≡ true
   pub no_script : meaning bytes ≡ Err refusal
-  pub no_run : journals ≡ None
-  pub line : Takes c.sink (refusal_line refusal)
+  pub is_line : line ≡ refusal_line refusal
 
--- The command line is not valid, the source has all that it had, there are no journals, and the sink took the usage line, all of
--- it or a beginning.
-pub record IsUsage (c : Call) (journals : Option JournalsValue) (Takes : Writing → List ℕ → Type 0) : Type 0 where
-  pub no_form : c.form ≡ None
-  pub leaves : c.source.left_now ≡ c.source.left
-  pub no_run : journals ≡ None
-  pub line : Takes c.sink usage_line
+-- where the bytes that a form plays come from: the source, or else a text of its own, which is read to its end and does not fail
+abbrev pub origin_of : Option Form → Reading → Reading
+origin_of None source = source
+origin_of (Some form) source = if is_of_source form.command then source else record { left = input_of form source.left; left_now = Some []; faults = 0; faults_now = 0 }
 
--- The command line has the source read, the source failed, there are no journals, and the sink took nothing.
-pub record IsReadFault (c : Call) (journals : Option JournalsValue) : Type 0 where
-  pub reads : reads_source c.form ≡ true
-  pub fault : c.source.faults < c.source.faults_now
-  pub no_run : journals ≡ None
-  pub nothing : TakesNone c.sink
+-- the call as the rim has it, by where its bytes come from
+abbrev pub rim_call : Call → rim.Call
+rim_call c = record { has_form = is_some c.form; usage = usage_line; source = origin_of c.form c.source; sink = c.sink }
 
--- The command line is valid, memory ran out, there are no journals, and the sink took nothing.
-pub record IsNoMemory (c : Call) (journals : Option JournalsValue) : Type 0 where
-  pub form : Form
-  pub has_form : c.form ≡ Some form
-  pub no_run : journals ≡ None
-  pub nothing : TakesNone c.sink
-
--- What a status says of its call and of its journals.
+-- What a status says of its call and of its journals. Behind a refusal the source has the rest left, after one byte more than a script
+-- may have. One that is not read has all that it had, and did not fail.
 abbrev pub Ends : Call → Status → Option JournalsValue → Type 0
-Ends c Done journals = ReadsWell c × IsPlayed c journals TakesAll
-Ends c Refused journals = ReadsWell c × IsRefused c journals TakesAll
-Ends c Usage journals = ReadsWell c × IsUsage c journals TakesAll
-Ends c ReadFault journals = IsReadFault c journals
-Ends c WriteFault journals = ReadsWell c × (IsPlayed c journals TakesSome ⊎ (IsRefused c journals TakesSome ⊎ IsUsage c journals TakesSome))
-Ends c NoMemory journals = ReadsWell c × IsNoMemory c journals
+Ends c status journals =
+    rim.Ends (λ bytes line. IsRefused c.form bytes line × LeavesRest MOST_SCRIPT_BYTES c.source.left c.source.left_now) (λ bytes run text. IsSomeAnd c.form (λ form. IsPlayed form bytes run text)) (rim_call c) status journals
+    × (reads_source c.form ≡ false → (c.source.left_now ≡ c.source.left) × (c.source.faults_now ≡ c.source.faults))
 
--- the status that bytes call for: Done for a script, Refused for others, or NoMemory
-abbrev pub IsDue : Result ScriptValue Refusal → Status → Type 0
-IsDue (Ok script) status = (status ≡ Done) ⊎ (status ≡ NoMemory)
-IsDue (Err refusal) status = (status ≡ Refused) ⊎ (status ≡ NoMemory)
-
--- The status when nothing fails: a form gets the status that its bytes call for; `gen` gets Done or NoMemory; any other command
--- line gets Usage, whatever becomes of the source.
-pub record IsComplete (c : Call) (status : Status) : Type 0 where
-  pub by_bytes : (form : Form) (bytes : List ℕ) → c.form ≡ Some form → input_of form c.source.left ≡ Some bytes → ReadsWell c → WritesWell c → IsDue (meaning bytes) status
-  pub by_number : (form : Form) → c.form ≡ Some form → is_of_source form.command ≡ false → WritesWell c → (status ≡ Done) ⊎ (status ≡ NoMemory)
-  pub by_words : c.form ≡ None → WritesWell c → status ≡ Usage
+-- The status when nothing fails: what `gen` plays is never refused, so it gets Done or NoMemory.
+abbrev pub IsComplete : Call → Status → Type 0
+IsComplete c status = rim.IsComplete (IsRefused c.form) (rim_call c) status

@@ -1,6 +1,5 @@
 pub mod Codes
 pub mod Endings
 pub mod Isolation
-pub mod Leaving
 pub mod Outputs
 pub mod Performances

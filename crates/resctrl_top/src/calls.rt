@@ -2,17 +2,18 @@
 ghost use Rattle.std.specs.Prelude.{◌≡◌, ◌-◌, ◌<◌, ◌≤◌, ◌^◌, Some, None, false, true};
 ghost use Rattle.call_rim.specs.Endings.{Says};
 ghost use Rattle.call_rim.specs.Outside.{Reading, reading_of, writing_of};
+ghost use Rattle.call_rim.specs.declared.status.Status.TheVariants.{Usage};
 ghost use Rattle.resctrl_top.specs.Endings.{Ends, IsComplete, call_of};
 ghost use Rattle.top_parts.specs.Forms.{IsInRange, form_of as form_in, is_of_source, reads_source, usage_line};
-ghost use Rattle.call_rim.specs.declared.status.Status.TheVariants.{Usage};
 ghost use Rattle.top_parts.specs.declared.command.Command.TheVariants.{Gen, Run};
 
-use crate::ended::{Ended, with_journals, without_journals};
-use crate::playing::{play_trace, run_bytes};
+use crate::ended::{Ended, with_journals};
+use crate::live::call_live;
+use crate::playing::play_trace;
 use crate::programs::StepProgram;
-use call_rim::{ReadError, Status, call, read_all, tell};
+use call_rim::{call, tell};
 use rc_stream::{Gate, Sink, Source};
-use script_ops::MOST_SCRIPT_BYTES;
+use run_law::Journals;
 use std::alloc::Global;
 use std::sync::Wait;
 use std::thread::Threads;
@@ -24,9 +25,12 @@ fn step_source<S: Source, K: Sink>(alloc: Global, form: Form, source: &mut S, si
     requires command { is_of_source form.command ≡ true }
     requires source { S.faults source.old < 2 ^ 64 - 1 }
     requires sink { K.faults sink.old < 2 ^ 64 - 1 }
-    ensures { Ends (call_of (Some form)
+    ensures ends { Ends (call_of (Some form)
         (reading_of S.left S.faults source.old source.new)
         (writing_of K.taken K.held K.faults sink.old sink.new)) result.status result.journals }
+    ensures complete { IsComplete (call_of (Some form)
+        (reading_of S.left S.faults source.old source.new)
+        (writing_of K.taken K.held K.faults sink.old sink.new)) result.status }
 {
     with_journals(call(alloc, &StepProgram { form }, source, sink))
 }
@@ -43,15 +47,14 @@ fn run_source<R: Threads + Wait + Sync, S: Source, K: Sink, G: Gate>(
     requires command { form.command ≡ Run }
     requires source { S.faults source.old < 2 ^ 64 - 1 }
     requires sink { K.faults sink.old < 2 ^ 64 - 1 }
-    ensures { Ends (call_of (Some form)
+    ensures ends { Ends (call_of (Some form)
         (reading_of S.left S.faults source.old source.new)
         (writing_of K.taken K.held K.faults sink.old sink.new)) result.status result.journals }
+    ensures complete { IsComplete (call_of (Some form)
+        (reading_of S.left S.faults source.old source.new)
+        (writing_of K.taken K.held K.faults sink.old sink.new)) result.status }
 {
-    match read_all(alloc, source, MOST_SCRIPT_BYTES) {
-        Ok(bytes) => with_journals(tell(run_bytes(rt, alloc, form.flags, bytes, gate), sink)),
-        Err(ReadError::Failed) => without_journals(Status::ReadFault),
-        Err(ReadError::NoMemory) => without_journals(Status::NoMemory),
-    }
+    with_journals(call_live(rt, alloc, form, source, sink, gate))
 }
 
 // Plays the script that the generator makes of a number, and calls no source.
@@ -60,8 +63,10 @@ fn step_trace<K: Sink>(alloc: Global, form: Form, n: u32, sink: &mut K) -> Ended
     requires low { 1 ≤ n }
     requires high { n ≤ MOST_THREAD_ACCESSES }
     requires sink { K.faults sink.old < 2 ^ 64 - 1 }
-    ensures { (source : Reading) → source.left_now ≡ source.left → source.faults_now ≡ source.faults → Ends (call_of (Some form) source
+    ensures ends { (source : Reading) → source.left_now ≡ source.left → source.faults_now ≡ source.faults → Ends (call_of (Some form) source
         (writing_of K.taken K.held K.faults sink.old sink.new)) result.status result.journals }
+    ensures complete { (source : Reading) → source.left_now ≡ source.left → source.faults_now ≡ source.faults → IsComplete (call_of (Some form) source
+        (writing_of K.taken K.held K.faults sink.old sink.new)) result.status }
 {
     with_journals(tell(play_trace(alloc, form, n), sink))
 }
@@ -74,6 +79,9 @@ fn obey<S: Source, K: Sink>(alloc: Global, form: Form, source: &mut S, sink: &mu
     ensures ends { Ends (call_of (Some form)
         (reading_of S.left S.faults source.old source.new)
         (writing_of K.taken K.held K.faults sink.old sink.new)) result.status result.journals }
+    ensures complete { IsComplete (call_of (Some form)
+        (reading_of S.left S.faults source.old source.new)
+        (writing_of K.taken K.held K.faults sink.old sink.new)) result.status }
     ensures unread { reads_source (Some form) ≡ false → source.new ≡ source.old }
 {
     match form.command {
@@ -82,13 +90,24 @@ fn obey<S: Source, K: Sink>(alloc: Global, form: Form, source: &mut S, sink: &mu
     }
 }
 
+// Writes the usage line, as the rim has it.
+fn tell_usage<K: Sink>(sink: &mut K) -> call_rim::Ended<Journals>
+    requires { K.faults sink.old < 2 ^ 64 - 1 }
+    ensures { Says Usage None usage_line
+        (writing_of K.taken K.held K.faults sink.old sink.new) result.status result.outcome }
+{
+    call_rim::usage(sink, usage())
+}
+
 // Writes the usage line.
 fn refuse_words<K: Sink>(sink: &mut K) -> Ended
     requires { K.faults sink.old < 2 ^ 64 - 1 }
-    ensures { Says Usage None usage_line
-        (writing_of K.taken K.held K.faults sink.old sink.new) result.status result.journals }
+    ensures ends { (source : Reading) → source.left_now ≡ source.left → source.faults_now ≡ source.faults → Ends (call_of None source
+        (writing_of K.taken K.held K.faults sink.old sink.new)) result.status result.journals }
+    ensures complete { (source : Reading) → source.left_now ≡ source.left → source.faults_now ≡ source.faults → IsComplete (call_of None source
+        (writing_of K.taken K.held K.faults sink.old sink.new)) result.status }
 {
-    with_journals(call_rim::usage(sink, usage()))
+    with_journals(tell_usage(sink))
 }
 
 /// Plays a script, writes its report to the sink and flushes it, and waits for nobody. The words are those after the program's

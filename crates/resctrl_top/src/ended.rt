@@ -1,5 +1,5 @@
 //! How a call ended.
-ghost use Rattle.std.specs.Prelude.{◌≡◌, None};
+ghost use Rattle.std.specs.Prelude.{◌≡◌};
 
 use call_rim::Status;
 use run_law::Journals;
@@ -20,15 +20,5 @@ pub(crate) fn with_journals(ended: call_rim::Ended<Journals>) -> Ended
     Ended {
         status: ended.status,
         journals: ended.outcome,
-    }
-}
-
-/// An end with no journals.
-pub(crate) fn without_journals(status: Status) -> Ended
-    ensures { result ≡ record { status = status; journals = None } }
-{
-    Ended {
-        status,
-        journals: None,
     }
 }

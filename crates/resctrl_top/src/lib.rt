@@ -4,6 +4,7 @@
 
 pub mod calls;
 pub mod ended;
+mod live;
 mod playing;
 pub mod program;
 mod programs;

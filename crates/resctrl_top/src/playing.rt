@@ -2,8 +2,8 @@
 ghost use Rattle.std.specs.Prelude.{◌≡◌, ◌≤◌, ◌<◌, List, ℕ, Ok, Err, length};
 ghost use Rattle.call_rim.specs.Performing.{Performs};
 ghost use Rattle.call_rim.specs.Within.{RefusesWithin, ReportsWithin, too_large_line};
-ghost use Rattle.resctrl_top.specs.Endings.{PlaysAs};
-ghost use Rattle.resctrl_top.specs.Performances.{Plays, RefusesBytes, ReportsBytes};
+ghost use Rattle.resctrl_top.specs.Endings.{IsPlayed, PlaysAs};
+ghost use Rattle.resctrl_top.specs.Performances.{Plays, RefusesBytes};
 ghost use Rattle.run_law.specs.Runs.{IsRun};
 ghost use Rattle.top_parts.specs.Meaning.{meaning};
 ghost use Rattle.top_parts.specs.declared.command.Command.TheVariants.{Run};
@@ -24,7 +24,7 @@ use trace_gen::MOST_THREAD_ACCESSES;
 
 /// The line of a refusal.
 pub(crate) fn refuse(alloc: Global, refusal: Refusal) -> Performed<Journals>
-    ensures { (form : _) (bytes : List ℕ) → meaning bytes ≡ Err refusal → Performs RefusesBytes (ReportsBytes form) bytes result }
+    ensures { (form : _) (bytes : List ℕ) → meaning bytes ≡ Err refusal → Performs RefusesBytes (IsPlayed form) bytes result }
 {
     match line_of(alloc, refusal) {
         Ok(line) => Performed::Refused { line },
@@ -97,7 +97,7 @@ fn play_live<R: Threads + Wait + Sync, G: Gate>(
 // The refusal of an input that is too large.
 fn refuse_size(alloc: Global, bytes: &[u8]) -> Performed<Journals>
     requires { MOST_SCRIPT_BYTES < length bytes.now }
-    ensures { (form : _) → Performs (RefusesWithin MOST_SCRIPT_BYTES RefusesBytes) (ReportsWithin MOST_SCRIPT_BYTES (ReportsBytes form)) bytes.now result }
+    ensures { (form : _) → Performs (RefusesWithin MOST_SCRIPT_BYTES RefusesBytes) (ReportsWithin MOST_SCRIPT_BYTES (IsPlayed form)) bytes.now result }
 {
     match Vec::from_slice(alloc, TOO_LARGE.as_bytes()) {
         Ok(line) => Performed::Refused { line },
@@ -113,7 +113,7 @@ pub(crate) fn run_bytes<R: Threads + Wait + Sync, G: Gate>(
     bytes: Vec<u8>,
     gate: &G,
 ) -> Performed<Journals>
-    ensures { Performs (RefusesWithin MOST_SCRIPT_BYTES RefusesBytes) (ReportsWithin MOST_SCRIPT_BYTES (ReportsBytes (record { command = Run; flags = flags }))) bytes.items result }
+    ensures { Performs (RefusesWithin MOST_SCRIPT_BYTES RefusesBytes) (ReportsWithin MOST_SCRIPT_BYTES (IsPlayed (record { command = Run; flags = flags }))) bytes.items result }
 {
     if bytes.len() > MOST_SCRIPT_BYTES {
         return refuse_size(alloc, &bytes);

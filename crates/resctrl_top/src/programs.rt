@@ -1,6 +1,7 @@
 //! What `step` makes of its input.
+ghost use Rattle.resctrl_top.specs.Endings.{IsPlayed};
+ghost use Rattle.resctrl_top.specs.Performances.{RefusesBytes};
 ghost use Rattle.script_ops.specs.declared.limits.TheConstants.{MOST_SCRIPT_BYTES};
-ghost use Rattle.resctrl_top.specs.Performances.{RefusesBytes, ReportsBytes};
 
 use crate::playing::{play, refuse};
 use call_rim::{Performed, Program};
@@ -22,7 +23,7 @@ impl Program for StepProgram {
 
     ghost refuses = { λ p. RefusesBytes };
 
-    ghost reports = { λ p. ReportsBytes p.form };
+    ghost reports = { λ p. IsPlayed p.form };
 
     fn most_bytes(&self) -> usize {
         MOST_SCRIPT_BYTES

@@ -11,15 +11,13 @@ STALE = {
     "pair_runs": "counts_use count_uses",
     "way_curve": "BeginsWith IsOpen",
 }
-# Definitions that proofs alone reach, and whose mark is still to come, for the same reason.
-MISSING = {"call_rim": "PassSays"}
 
 
 def is_marked(part):
     """Whether a definition, or the head of its file, says that the top calls do not reach it."""
     lines = part.file.text.splitlines()
     has_mark = FILE_MARK in lines or lines[0].startswith(f"-- {MARK}") or part.comment.startswith(MARK)
-    return not is_stale(part) and (has_mark or part.name in MISSING.get(part.file.crate(), "").split())
+    return not is_stale(part) and has_mark
 
 
 def is_stale(part):

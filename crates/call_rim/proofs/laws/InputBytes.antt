@@ -28,6 +28,10 @@ IsInput-full most None now bytes consumed full = tt
 IsInput-full most (Some xs) None bytes consumed full = absurd consumed
 IsInput-full most (Some xs) (Some ys) bytes consumed full = sym (ap (first_bytes most) consumed ∙ first_bytes-append most bytes ys full)
 
+-- the bytes that a source had, where they are known
+pub IsToTheEnd-known : (left : Option (List ℕ)) (had bytes : List ℕ) → left ≡ Some had → IsToTheEnd left bytes → bytes ≡ had
+IsToTheEnd-known left had bytes known all = let at : IsToTheEnd (Some had) bytes = subst (λ (l : Option (List ℕ)). IsToTheEnd l bytes) known all in at
+
 -- ---- what is left of the source
 
 -- what follows the bytes that were taken

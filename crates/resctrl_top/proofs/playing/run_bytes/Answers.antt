@@ -4,7 +4,8 @@ use Rattle.std.proofs.lemmas.Grind.{common_steps}
 use Rattle.call_rim.specs.Performing.{Performs}
 use Rattle.call_rim.specs.Within.{RefusesWithin, ReportsWithin}
 use Rattle.resctrl_top.proofs.Performed.{Performs-played, Performs-within}
-use Rattle.resctrl_top.specs.Performances.{RefusesBytes, ReportsBytes}
+use Rattle.resctrl_top.specs.Endings.{IsPlayed}
+use Rattle.resctrl_top.specs.Performances.{RefusesBytes}
 use Rattle.script_ops.specs.declared.limits.TheConstants.{MOST_SCRIPT_BYTES}
 use Rattle.top_parts.specs.declared.command.Command.TheVariants.{Run}
 use Rattle.top_parts.specs.declared.form.Form.{Form}
@@ -13,7 +14,7 @@ use Rattle.resctrl_top.proofs.playing.run_bytes.Goals as goal
 pub returns-then-len-gt-MOST_SCRIPT_BYTES : goal.returns-then-len-gt-MOST_SCRIPT_BYTES
 returns-then-len-gt-MOST_SCRIPT_BYTES g c =
     let form : Form = record { command = Run; flags = c.args.flags } in
-    subst (λ (bytes : List ℕ). Performs (RefusesWithin MOST_SCRIPT_BYTES RefusesBytes) (ReportsWithin MOST_SCRIPT_BYTES (ReportsBytes form)) bytes c.refuse_size.result)
+    subst (λ (bytes : List ℕ). Performs (RefusesWithin MOST_SCRIPT_BYTES RefusesBytes) (ReportsWithin MOST_SCRIPT_BYTES (IsPlayed form)) bytes c.refuse_size.result)
     c.deref.ensures.value (c.refuse_size.ensures form)
 
 pub returns-in-Ok : goal.returns-in-Ok
