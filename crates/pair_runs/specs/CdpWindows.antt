@@ -1,5 +1,5 @@
 -- The windows in which a group has the ways of one side's mask for itself.
-use Rattle.std.specs.Prelude.{◌≡◌, ℕ, ◌+◌, ◌<◌, ◌≤◌, ◌⊎◌, true, false, IfSome, IsSomeAnd, length, slice_get}
+use Rattle.std.specs.Prelude.{◌≡◌, ℕ, ◌<◌, ◌≤◌, ◌⊎◌, true, false, IfSome, IsSomeAnd, length, slice_get}
 use Rattle.cache_core.specs.Filled.{empties}
 use Rattle.cache_core.specs.declared.entry.SliceEntry.{SliceEntry}
 use Rattle.cache_core.specs.declared.entry.What.TheVariants.{Flush}
@@ -14,6 +14,7 @@ use Rattle.pair_runs.specs.Entries.{slice_in}
 use Rattle.run_law.specs.Journals.{At}
 use Rattle.rc_base.specs.declared.names.Gid.{Gid}
 use Rattle.rc_base.specs.declared.names.Mode.TheVariants.{Exclusive}
+use Rattle.spans.specs.Spans.{IsSpan}
 
 abbrev pub other_side : Side → Side
 other_side First = Second
@@ -24,12 +25,9 @@ abbrev pub IsAlone : ℕ → Gid → Side → ℕ → PairState → Type 0
 IsAlone domain group side mask s =
     IsSomeAnd (group_of s group) (λ g. (g.mode ≡ Exclusive) × (mask_in side domain g ≡ mask) × (overlaps mask (mask_in (other_side side) domain g) ≡ false))
 
--- From the first of these epochs to the last it stays so, and no longer.
-pub record StaysAlone (script : PairScriptValue) (domain : ℕ) (group : Gid) (side : Side) (mask first last : ℕ) : Type 0 where
-  pub from_first : first ≤ last
-  pub to_last : last ≤ length (commands_of script)
-  pub always : (epoch : ℕ) → first ≤ epoch → epoch ≤ last → IsAlone domain group side mask (state_at script epoch)
-  pub no_longer : last < length (commands_of script) → IsAlone domain group side mask (state_at script (last + 1)) → ⊥
+-- from the first of these epochs to the last it stays so, and no longer
+abbrev pub StaysAlone : PairScriptValue → ℕ → Gid → Side → ℕ → ℕ → ℕ → Type 0
+StaysAlone script domain group side mask first last = IsSpan (λ epoch. IsAlone domain group side mask (state_at script epoch)) first (length (commands_of script)) last
 
 -- A window in a domain: it begins after the flush at `from`, and holds the entries up to and without that at `to`, the first that
 -- is a flush or of a later epoch than the last, or all where none is.

@@ -12,25 +12,26 @@ use Rattle.pair_windows.specs.CdpWindows.{windows_at, windows_by, windows_from}
 use Rattle.pair_windows.specs.Counted.{counted_window, counted_windows}
 use Rattle.pair_windows.specs.Fronts.{is_flush}
 use Rattle.pair_windows.specs.declared.cdp_window.CdpWindow.{CdpWindow}
-use Rattle.pair_windows.specs.declared.kept.Kept.{Kept}
+use Rattle.pair_windows.specs.declared.partition.Partition.{Partition}
+use Rattle.spans.specs.declared.span.Span.{Span}
 use Rattle.private_lru.specs.declared.counts.WindowCounts.{WindowCounts}
 use Rattle.run_law.specs.Journals.{At}
 
 -- one partition more
-pub counted_windows-more : (domain from i : ℕ) (ks : List Kept) (cs : List WindowCounts) (k : Kept) (c : WindowCounts) → i < length ks → length cs ≡ length ks
-    → counted_windows domain from (take (i + 1) ks) (take (i + 1) cs) ≡ counted_windows domain from (take i ks) (take i cs) ++ counted_window domain from (get_or ks i k).partition (get_or cs i c) ∷ []
+pub counted_windows-more : (domain from i : ℕ) (ks : List (Span Partition)) (cs : List WindowCounts) (k : Span Partition) (c : WindowCounts) → i < length ks → length cs ≡ length ks
+    → counted_windows domain from (take (i + 1) ks) (take (i + 1) cs) ≡ counted_windows domain from (take i ks) (take i cs) ++ counted_window domain from (get_or ks i k).held (get_or cs i c) ∷ []
 counted_windows-more domain from i ks cs k c lt same = let one : i + 1 ≡ suc i = omega arith in ap (λ n. counted_windows domain from (take n ks) (take n cs)) one ∙ of i ks cs lt same
   where
-    of : (i : ℕ) (ks : List Kept) (cs : List WindowCounts) → i < length ks → length cs ≡ length ks
-        → counted_windows domain from (take (suc i) ks) (take (suc i) cs) ≡ counted_windows domain from (take i ks) (take i cs) ++ counted_window domain from (get_or ks i k).partition (get_or cs i c) ∷ []
+    of : (i : ℕ) (ks : List (Span Partition)) (cs : List WindowCounts) → i < length ks → length cs ≡ length ks
+        → counted_windows domain from (take (suc i) ks) (take (suc i) cs) ≡ counted_windows domain from (take i ks) (take i cs) ++ counted_window domain from (get_or ks i k).held (get_or cs i c) ∷ []
     of i [] cs lt same = absurd (omega (arith, lt))
     of i (x ∷ xs) [] lt same = absurd (omega (arith, same))
     of zero (x ∷ xs) (y ∷ ys) lt same = refl
-    of (suc i) (x ∷ xs) (y ∷ ys) lt same = ap (λ ws. counted_window domain from x.partition y ∷ ws) (of i xs ys (omega (arith, lt)) (omega (arith, same)))
+    of (suc i) (x ∷ xs) (y ∷ ys) lt same = ap (λ ws. counted_window domain from x.held y ∷ ws) (of i xs ys (omega (arith, lt)) (omega (arith, same)))
 
 -- windows that are each counted are the counted ones
-pub counted_windows-map : (domain from : ℕ) (f : Kept → CdpWindow) (ks : List Kept) (cs : List WindowCounts) → length cs ≡ length ks
-    → ((i : ℕ) (k : Kept) (c : WindowCounts) → i < length ks → f (get_or ks i k) ≡ counted_window domain from (get_or ks i k).partition (get_or cs i c))
+pub counted_windows-map : (domain from : ℕ) (f : Span Partition → CdpWindow) (ks : List (Span Partition)) (cs : List WindowCounts) → length cs ≡ length ks
+    → ((i : ℕ) (k : Span Partition) (c : WindowCounts) → i < length ks → f (get_or ks i k) ≡ counted_window domain from (get_or ks i k).held (get_or cs i c))
     → map f ks ≡ counted_windows domain from ks cs
 counted_windows-map domain from f [] cs same each = refl
 counted_windows-map domain from f (k ∷ ks) [] same each = absurd (omega (arith, same))
@@ -83,6 +84,6 @@ module _ (script : PairScriptValue) (domain : ℕ) (entries : List SliceEntry) w
         ap (windows_at script domain entries from) at ∙ ap (windows_by script domain entries from e.epoch) (what-read is e at)
 
 -- the windows of one entry more
-pub windows-more : (f : ℕ → List CdpWindow) (before : List CdpWindow) (n : ℕ) → (before ++ flat_map f (range_with_len 0 n)) ++ f n ≡ before ++ flat_map f (range_with_len 0 (n + 1))
+pub windows-more : {W : Type 0} (f : ℕ → List W) (before : List W) (n : ℕ) → (before ++ flat_map f (range_with_len 0 n)) ++ f n ≡ before ++ flat_map f (range_with_len 0 (n + 1))
 windows-more f before n =
     flat_map_more f before (range_with_len 0 n) n ∙ ap (λ (l : List ℕ). before ++ flat_map f l) (sym (range_with_len-append 0 n 1 (n + 1) n refl (omega arith)))

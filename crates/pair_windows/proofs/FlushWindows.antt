@@ -16,7 +16,6 @@ use Rattle.pair_runs.proofs.laws.CdpWindows.{IsIsolated-cdp_window}
 use Rattle.pair_runs.specs.CdpRuns.{CdpJournalsValue}
 use Rattle.pair_runs.specs.Entries.{slice_in}
 use Rattle.pair_windows.proofs.CountedWindows.{counted_windows-map}
-use Rattle.pair_windows.proofs.KeptSteps.{last_epoch-within, map-after}
 use Rattle.pair_windows.proofs.ListedWindows.{IsCdpWindow-listed, is_kept-partitions, window_to}
 use Rattle.pair_windows.proofs.laws.RisingEpochs.{RiseByEpoch-run}
 use Rattle.pair_windows.proofs.laws.RisingGroups.{RiseByGid-state_at}
@@ -25,10 +24,12 @@ use Rattle.pair_windows.specs.CdpJournals.{IsPlayed}
 use Rattle.pair_windows.specs.CdpWindows.{ends_window, is_used, owner_of_partition, window_from, window_front, windows_from}
 use Rattle.pair_windows.specs.Counted.{ComesBefore, RiseByEpoch, counted_window, counted_windows}
 use Rattle.pair_windows.specs.Fronts.{front_len, front_of}
-use Rattle.pair_windows.specs.Kept.{kept_from, kept_of, stay_of}
-use Rattle.pair_windows.specs.Partitions.{is_kept, last_epoch, partitions_in}
+use Rattle.pair_windows.specs.PartitionSpans.{kept_from, kept_of, stay_of}
+use Rattle.pair_windows.specs.Partitions.{is_kept, is_kept_at, last_epoch, partitions_in}
 use Rattle.pair_windows.specs.declared.cdp_window.CdpWindow.{CdpWindow}
-use Rattle.pair_windows.specs.declared.kept.Kept.{Kept}
+use Rattle.spans.proofs.laws.LastEpochs.{last_within-fewer}
+use Rattle.spans.proofs.laws.LongerSpans.{map-after}
+use Rattle.spans.specs.declared.span.Span.{Span}
 use Rattle.pair_windows.specs.declared.partition.Partition.{Partition}
 use Rattle.private_lru.proofs.laws.CoveredAccesses.{hits_of_group-covered}
 use Rattle.private_lru.specs.Covered.{covered}
@@ -117,8 +118,8 @@ module _ (script : PairScriptValue) (j : CdpJournalsValue) (domain from : ℕ) (
     -- its entries
     window-held : window ≡ take (held_len (kept_of script domain opening.epoch (bound - opening.epoch) p).last front) front
     window-held = window_front-front (last_epoch script domain p opening.epoch) (kept_of script domain opening.epoch (bound - opening.epoch) p).last rest
-        (λ q d within. let le = front-bound q d within in let first = opening-bound in
-        last_epoch-within script domain opening.epoch p (bound - opening.epoch) (get_or front q d).epoch (omega (arith, first, bound-known)) (omega (arith, first, le)))
+        (λ q d within. let le = front-bound q d within in let first = opening-bound in let known = bound-known in
+        last_within-fewer (is_kept_at script domain p) opening.epoch (bound - opening.epoch) (length (commands_of script) - opening.epoch) (get_or front q d).epoch (omega (arith, first, known)) (omega (arith, first, le)))
 
     -- its private hits
     private-covered : hits_of_group (owner_of_partition p) (covered script.machines.machine.sets (owner_of_partition p) Flush window)
@@ -144,23 +145,23 @@ module _ (script : PairScriptValue) (j : CdpJournalsValue) (domain from : ℕ) (
   abbrev parts : List Partition
   parts = partitions_in domain (state_at script opening.epoch)
 
-  abbrev pub kept_parts : List Kept
+  abbrev pub kept_parts : List (Span Partition)
   kept_parts = kept_from script domain opening.epoch (bound - opening.epoch)
 
   pub windows_from-counted : (counts : List WindowCounts) → AreCounted script.machines.machine.sets Flush front (map stay_of kept_parts) counts
       → windows_from script domain entries from opening.epoch ≡ filter is_used (counted_windows domain from kept_parts counts)
   windows_from-counted counts are =
-      let f : Kept → CdpWindow = λ k. window_from script domain entries from opening.epoch k.partition in
+      let f : Span Partition → CdpWindow = λ k. window_from script domain entries from opening.epoch k.held in
       let same : length counts ≡ length kept_parts = are.same ∙ length-map kept_parts stay_of in
-      let each : (i : ℕ) (k : Kept) (c : WindowCounts) → i < length kept_parts → f (get_or kept_parts i k) ≡ counted_window domain from (get_or kept_parts i k).partition (get_or counts i c) = (λ i k c lt.
+      let each : (i : ℕ) (k : Span Partition) (c : WindowCounts) → i < length kept_parts → f (get_or kept_parts i k) ≡ counted_window domain from (get_or kept_parts i k).held (get_or counts i c) = (λ i k c lt.
       let few : i < length parts = omega (arith, lt, length-map parts (kept_of script domain opening.epoch (bound - opening.epoch))) in
-      let p : Partition = get_or parts i k.partition in
-      let is : get_or kept_parts i k ≡ kept_of script domain opening.epoch (bound - opening.epoch) p = get_or-map (kept_of script domain opening.epoch (bound - opening.epoch)) parts i k.partition k few in
+      let p : Partition = get_or parts i k.held in
+      let is : get_or kept_parts i k ≡ kept_of script domain opening.epoch (bound - opening.epoch) p = get_or-map (kept_of script domain opening.epoch (bound - opening.epoch)) parts i k.held k few in
       let counted = are.each i (stay_of k) c (subst (λ n. i < n) (sym (length-map kept_parts stay_of)) lt) in
       let stay : get_or (map stay_of kept_parts) i (stay_of k) ≡ stay_of (kept_of script domain opening.epoch (bound - opening.epoch) p) = get_or-map stay_of kept_parts i k (stay_of k) lt ∙ ap stay_of is in
-      let kept = is_kept-partitions domain (state_at script opening.epoch) (RiseByGid-state_at script opening.epoch).rising i k.partition few in
+      let kept = is_kept-partitions domain (state_at script opening.epoch) (RiseByGid-state_at script opening.epoch).rising i k.held few in
       ap f is ∙ (window_from-counted p kept (get_or counts i c) (subst (λ (s : Stay). IsCounted script.machines.machine.sets Flush front s (get_or counts i c)) stay counted)
-      ∙ ap (λ (x : Kept). counted_window domain from x.partition (get_or counts i c)) (sym is))) in
+      ∙ ap (λ (x : Span Partition). counted_window domain from x.held (get_or counts i c)) (sym is))) in
       ap (filter is_used) (sym (map-after f (kept_of script domain opening.epoch (bound - opening.epoch)) parts) ∙ counted_windows-map domain from f kept_parts counts same each)
 
   -- ---- as the code reads the entries

@@ -1,19 +1,20 @@
 -- The windows of a domain, flush by flush.
 use Rattle.std.proofs.Common.{◌≡◌, ℕ, zero, suc, ◌+◌, ◌-◌, ◌<◌, ◌≤◌, Bool, true, false, List, [], ◌∷◌, ◌++◌, length, map, filter, take, get_or, Option, None, Some, refl, sym, subst, ap, ◌∙◌, arith}
 use Rattle.std.specs.List.{flat_map, range_with_len}
-use Rattle.std.proofs.lemmas.List.{append-nil, flat_map_more}
+use Rattle.std.proofs.lemmas.List.{append-nil}
 use Rattle.cache_core.specs.declared.entry.SliceEntry.{SliceEntry}
 use Rattle.cache_core.specs.declared.entry.What.TheVariants as whats
 use Rattle.pair_windows.proofs.SegmentWindows.{counted_windows-segment}
 use Rattle.pair_windows.specs.JointCounted.{counted_window, counted_windows, is_used}
 use Rattle.pair_windows.specs.Hits.{AreHits}
 use Rattle.pair_law.specs.Epochs.{state_at}
-use Rattle.pair_windows.specs.Holdings.{exclusive_in, held_from, stay_of}
+use Rattle.pair_windows.specs.LevelSpans.{exclusive_in, held_from, stay_of}
 use Rattle.pair_windows.specs.Joined.{joined}
 use Rattle.pair_windows.specs.LevelJournals.{IsPlayedOnLevels}
 use Rattle.pair_windows.specs.JointWindows.{window_from, windows_at, windows_from}
 use Rattle.pair_windows.specs.Segments.{IsSegment, hit_l2, hit_l3}
-use Rattle.pair_windows.specs.declared.holdings.Holding.{Holding}
+use Rattle.pair_windows.specs.declared.level_masks.LevelMasks.{LevelMasks}
+use Rattle.spans.specs.declared.span.Span.{Span}
 use Rattle.pair_windows.specs.declared.joint_window.JointWindow.{JointWindow}
 use Rattle.pair_ops.specs.Values.{PairScriptValue, epoch_at, op_at}
 use Rattle.pair_ops.specs.declared.group.PairGroup.{PairGroup}
@@ -21,21 +22,21 @@ use Rattle.pair_ops.specs.declared.op.PairOp.{PairOp}
 use Rattle.pair_ops.specs.declared.op.PairOp.TheVariants as ops
 use Rattle.pair_ops.specs.declared.side.Side.TheVariants.{First, Second}
 use Rattle.pair_runs.proofs.laws.Playing.{epoch_at-command}
-use Rattle.pair_runs.proofs.laws.Cuts.{flat_map-range_at, range_with_len-append}
+use Rattle.pair_runs.proofs.laws.Cuts.{flat_map-range_at}
 use Rattle.pair_runs.specs.JointWindows.{is_flush}
 use Rattle.pair_runs.specs.LevelRuns.{LevelJournalsValue}
 use Rattle.private_lru.specs.declared.counts.WindowCounts.{WindowCounts}
 use Rattle.private_lru.specs.Tallies.{AreCounted}
 
--- ---- holding by holding
+-- ---- group by group
 
--- one holding more
-pub counted_windows-more : (domain from i : ℕ) (hs : List Holding) (cs ds : List WindowCounts) (h : Holding) (a b : WindowCounts) → i < length hs → length cs ≡ length hs → length ds ≡ length hs
+-- one group more
+pub counted_windows-more : (domain from i : ℕ) (hs : List (Span LevelMasks)) (cs ds : List WindowCounts) (h : Span LevelMasks) (a b : WindowCounts) → i < length hs → length cs ≡ length hs → length ds ≡ length hs
     → counted_windows domain from (take (i + 1) hs) (take (i + 1) cs) (take (i + 1) ds)
     ≡ counted_windows domain from (take i hs) (take i cs) (take i ds) ++ counted_window domain from (get_or hs i h) (get_or cs i a) (get_or ds i b) ∷ []
 counted_windows-more domain from i hs cs ds h a b lt same too = let one : i + 1 ≡ suc i = omega arith in ap (λ n. counted_windows domain from (take n hs) (take n cs) (take n ds)) one ∙ of i hs cs ds lt same too
   where
-    of : (i : ℕ) (hs : List Holding) (cs ds : List WindowCounts) → i < length hs → length cs ≡ length hs → length ds ≡ length hs
+    of : (i : ℕ) (hs : List (Span LevelMasks)) (cs ds : List WindowCounts) → i < length hs → length cs ≡ length hs → length ds ≡ length hs
         → counted_windows domain from (take (suc i) hs) (take (suc i) cs) (take (suc i) ds)
         ≡ counted_windows domain from (take i hs) (take i cs) (take i ds) ++ counted_window domain from (get_or hs i h) (get_or cs i a) (get_or ds i b) ∷ []
     of i [] cs ds lt same too = absurd (omega (arith, lt))
@@ -101,20 +102,20 @@ module _ (script : PairScriptValue) (domain : ℕ) (j : LevelJournalsValue) wher
 
 module _ (script : PairScriptValue) (j : LevelJournalsValue) (domain from last sets : ℕ) (played : IsPlayedOnLevels script j) (exists : domain < script.machines.machine.domains)
     (flush : is_flush (op_at script from) ≡ true) (segment : IsSegment script (from + 1) last) (a b : List Bool) (l2 : AreHits script First j.l2 a) (l3 : AreHits script Second j.l3 b) where
-  abbrev pub held_after : List Holding
+  abbrev pub held_after : List (Span LevelMasks)
   held_after = held_from script domain (epoch_at script (from + 1)) (epoch_at script last - epoch_at script (from + 1))
 
-  pub windows_from-counted : (held : List Holding) (es ds : List SliceEntry) (c2 c3 : List WindowCounts) → held ≡ held_after
+  pub windows_from-counted : (held : List (Span LevelMasks)) (es ds : List SliceEntry) (c2 c3 : List WindowCounts) → held ≡ held_after
       → es ≡ joined script domain (hit_l2 a) (from + 1) (last - (from + 1)) → ds ≡ joined script domain (hit_l3 a b) (from + 1) (last - (from + 1))
       → AreCounted sets whats.Flush es (map stay_of held) c2 → AreCounted sets whats.Flush ds (map stay_of held) c3
       → filter is_used (counted_windows domain (epoch_at script from) held c2 c3) ≡ windows_from script domain j from
   windows_from-counted held es ds c2 c3 is first second counts more =
-      let one = subst (λ (hs : List Holding). AreCounted sets whats.Flush (joined script domain (hit_l2 a) (from + 1) (last - (from + 1))) (map stay_of hs) c2) is
+      let one = subst (λ (hs : List (Span LevelMasks)). AreCounted sets whats.Flush (joined script domain (hit_l2 a) (from + 1) (last - (from + 1))) (map stay_of hs) c2) is
       (subst (λ (l : List SliceEntry). AreCounted sets whats.Flush l (map stay_of held) c2) first counts) in
-      let two = subst (λ (hs : List Holding). AreCounted sets whats.Flush (joined script domain (hit_l3 a b) (from + 1) (last - (from + 1))) (map stay_of hs) c3) is
+      let two = subst (λ (hs : List (Span LevelMasks)). AreCounted sets whats.Flush (joined script domain (hit_l3 a b) (from + 1) (last - (from + 1))) (map stay_of hs) c3) is
       (subst (λ (l : List SliceEntry). AreCounted sets whats.Flush l (map stay_of held) c3) second more) in
       ap (filter is_used)
-      (ap (λ (hs : List Holding). counted_windows domain (epoch_at script from) hs c2 c3) is
+      (ap (λ (hs : List (Span LevelMasks)). counted_windows domain (epoch_at script from) hs c2 c3) is
       ∙ counted_windows-segment script j domain from last sets a b c2 c3 played exists (op-flush (op_at script from) flush) segment l2 l3 one two)
 
 -- no window begins where no group is exclusive
@@ -123,9 +124,3 @@ pub windows_from-none : (script : PairScriptValue) (domain : ℕ) (j : LevelJour
 windows_from-none script domain j from flush none =
     let next = epoch_at-command script from ops.Flush (op-flush (op_at script from) flush) refl in
     ap (λ (gs : List PairGroup). filter is_used (map (window_from script domain j from) gs)) (ap (λ (n : ℕ). exclusive_in (state_at script n)) (sym next) ∙ none)
-
--- ---- domain by domain
-
--- the windows of a domain more
-pub windows-more : (f : ℕ → List JointWindow) (n : ℕ) → flat_map f (range_with_len 0 n) ++ f n ≡ flat_map f (range_with_len 0 (n + 1))
-windows-more f n = flat_map_more f [] (range_with_len 0 n) n ∙ ap (flat_map f) (sym (range_with_len-append 0 n 1 (n + 1) n refl (omega arith)))

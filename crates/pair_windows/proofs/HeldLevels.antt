@@ -1,24 +1,22 @@
 -- The masks that a group has in an L3 domain, and in the L2 domains that lie in it, as a test and as a fact.
-use Rattle.std.proofs.Common.{◌≡◌, ℕ, zero, suc, ◌+◌, ◌<◌, ◌≤◌, Bool, true, false, not, ◌&&◌, ◌||◌, eqb, List, [], ◌∷◌, find, get_or, Option, Some, None, inl, inr, refl, sym, subst, ap, ◌∙◌, arith}
+use Rattle.std.proofs.Common.{◌≡◌, ℕ, zero, suc, ◌+◌, ◌<◌, ◌≤◌, Bool, true, false, not, ◌&&◌, ◌||◌, eqb, get_or, Option, Some, None, inl, inr, refl, sym, subst, ap, ◌∙◌, arith}
 use Rattle.std.specs.Prelude.{IsSomeAnd}
-use Rattle.std.specs.List.{All, AllPairs, list_all, range_with_len}
+use Rattle.std.specs.List.{All, list_all, range_with_len}
 use Rattle.std.specs.Option.{option_map_or}
-use Rattle.std.proofs.lemmas.Bool.{and_parts, cases_Bool, cases_lt, eq-eqb, eqb-true, ne_eqb}
-use Rattle.std.proofs.lemmas.List.Elements.{All-cons, All-nil}
+use Rattle.std.proofs.lemmas.Bool.{and_parts, cases_Bool, cases_lt, eq-eqb, eqb-true}
 use Rattle.group_tree.specs.Records.{is_mode}
-use Rattle.pair_windows.specs.Holdings.{exclusive_in}
+use Rattle.pair_windows.proofs.FoundGroups.{find-rising, is_mode-exclusive}
+use Rattle.pair_windows.specs.LevelSpans.{exclusive_in}
 use Rattle.pair_windows.specs.JointWindows.{has_masks_of, keeps_masks}
-use Rattle.lists.proofs.Pairs.{AllPairs-head, AllPairs-tail}
 use Rattle.lists.proofs.Tests.{All-kept}
 use Rattle.pair_law.specs.Epochs.{state_at}
-use Rattle.pair_law.specs.State.{PairState, group_of, has_gid, mask_in}
+use Rattle.pair_law.specs.State.{PairState, group_of, mask_in}
 use Rattle.pair_ops.specs.Values.{Machines, PairScriptValue, side_machine}
 use Rattle.pair_ops.specs.declared.group.PairGroup.{PairGroup}
 use Rattle.pair_ops.specs.declared.side.Side.TheVariants.{First, Second}
 use Rattle.pair_runs.specs.JointWindows.{HasLevels, domain_above}
 use Rattle.pair_windows.proofs.laws.RisingGroups.{RiseByGid-state_at}
-use Rattle.rc_base.specs.declared.names.Mode.TheVariants.{Shareable, Exclusive, LockSetup, Locked}
-use Rattle.rc_base.specs.declared.names.Mode.{Mode}
+use Rattle.rc_base.specs.declared.names.Mode.TheVariants.{Exclusive}
 
 -- ---- tests of all numbers of a range
 
@@ -39,12 +37,6 @@ list_all-range p a (suc n) each =
     rw (here, rest) refl
 
 -- ---- the condition of a window, as a test and as a fact
-
-is_mode-exclusive : (mode : Mode) → is_mode Exclusive mode ≡ true → mode ≡ Exclusive
-is_mode-exclusive Exclusive is = refl
-is_mode-exclusive Shareable is = absurd (let f : false ≡ true = is in cc)
-is_mode-exclusive LockSetup is = absurd (let f : false ≡ true = is in cc)
-is_mode-exclusive Locked is = absurd (let f : false ≡ true = is in cc)
 
 module _ (m : Machines) (domain : ℕ) (g : PairGroup) where
   -- the levels that the group has
@@ -94,19 +86,6 @@ module _ (m : Machines) (domain : ℕ) (g : PairGroup) where
           ]
 
 -- ---- the exclusive groups of a state
-
--- a group of rising ones is found by its number
-find-rising : (groups : List PairGroup) → AllPairs (λ (a b : PairGroup). a.gid.0 < b.gid.0) groups → All (λ (g : PairGroup). find (has_gid g.gid) groups ≡ Some g) groups
-find-rising [] rise = All-nil (λ (g : PairGroup). find (has_gid g.gid) [] ≡ Some g)
-find-rising (x ∷ xs) rise =
-    let own : has_gid x.gid x ≡ true = eq-eqb x.gid.0 x.gid.0 refl in
-    let first : find (has_gid x.gid) (x ∷ xs) ≡ Some x = rw own refl in
-    let after = find-rising xs (AllPairs-tail (λ (a b : PairGroup). a.gid.0 < b.gid.0) x xs rise) in
-    All-cons (λ (g : PairGroup). find (has_gid g.gid) (x ∷ xs) ≡ Some g) x xs first
-    (λ k d within.
-    let lt = AllPairs-head (λ (a b : PairGroup). a.gid.0 < b.gid.0) x xs rise k d within in
-    let other : has_gid (get_or xs k d).gid x ≡ false = ne_eqb (get_or xs k d).gid.0 x.gid.0 (λ same. omega (arith, lt, same)) in
-    rw other (after k d within))
 
 -- each has its levels in the state
 pub HasLevels-exclusive : (m : Machines) (domain : ℕ) (script : PairScriptValue) (epoch : ℕ) → All (λ (g : PairGroup). HasOwn m domain g (state_at script epoch)) (exclusive_in (state_at script epoch))

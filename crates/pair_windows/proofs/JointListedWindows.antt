@@ -1,13 +1,13 @@
 -- The windows that are listed are windows of the run.
-use Rattle.std.proofs.Common.{◌≡◌, ℕ, ◌+◌, ◌-◌, ◌<◌, ◌≤◌, Bool, true, false, not, List, length, get_or, Some, inl, inr, refl, sym, subst, ap, ◌∙◌, arith}
+use Rattle.std.proofs.Common.{◌≡◌, ℕ, ◌+◌, ◌-◌, ◌<◌, ◌≤◌, true, false, List, length, get_or, Some, inl, inr, refl, sym, ap, ◌∙◌, arith}
 use Rattle.std.specs.Prelude.{nat_lt}
 use Rattle.std.specs.List.{position_or_len, range_with_len}
-use Rattle.std.proofs.lemmas.Bool.{cases_Bool, cases_lt, ltb-false, ltb-true, not-false, or_parts}
+use Rattle.std.proofs.lemmas.Bool.{cases_Bool, ltb-false, ltb-true, or_parts}
 use Rattle.std.proofs.lemmas.List.FromFn.{get_or-range_with_len, length-range_with_len}
 use Rattle.std.proofs.lemmas.List.Sums.{fails_before_first, passes_at_first}
 use Rattle.std.proofs.lemmas.Option.{slice_get_within}
 use Rattle.pair_windows.proofs.HeldLevels.{HasLevels-keeps, HasOwn, keeps_masks-has}
-use Rattle.pair_windows.specs.JointWindows.{ends_window, keeps_masks, last_epoch, window_end}
+use Rattle.pair_windows.specs.JointWindows.{ends_window, keeps_at, last_epoch, window_end}
 use Rattle.pair_law.specs.Epochs.{state_at}
 use Rattle.pair_law.specs.State.{mask_in}
 use Rattle.pair_ops.specs.Values.{PairScriptValue, commands_of, epoch_at, op_at}
@@ -17,46 +17,17 @@ use Rattle.pair_ops.specs.declared.side.Side.TheVariants.{First, Second}
 use Rattle.pair_runs.proofs.laws.Commands.{epoch_at-lt}
 use Rattle.pair_runs.specs.JointWindows.{IsJointWindow, StaysJoint, is_flush}
 use Rattle.private_lru.proofs.laws.FirstPlaces.{position_or_len-le}
+use Rattle.spans.proofs.laws.LastEpochs.{IsSpan-as, IsSpan-last_within}
 
 -- ---- how long
 
-module _ (script : PairScriptValue) (domain first : ℕ) (g : PairGroup) (known : first ≤ length (commands_of script)) (has : HasOwn script.machines domain g (state_at script first)) where
-  abbrev is_lost : ℕ → Bool
-  is_lost epoch = not (keeps_masks script.machines domain g (state_at script epoch))
-
-  abbrev later : List ℕ
-  later = range_with_len (first + 1) (length (commands_of script) - first)
-
-  abbrev count : ℕ
-  count = position_or_len is_lost later
-
-  len : length later ≡ length (commands_of script) - first
-  len = length-range_with_len (first + 1) (length (commands_of script) - first)
-
-  pub StaysJoint-last : StaysJoint script domain g.gid (mask_in Second domain g) (λ x. mask_in First x g) first (last_epoch script domain first g)
-  StaysJoint-last =
-      let le = position_or_len-le is_lost later in
-      record {
-        from_first = omega arith;
-        to_last = omega (arith, le, len, known);
-        always = λ epoch low high. elim (cases_lt first epoch) [
-          | inl lt ↦
-              let at : get_or later (epoch - (first + 1)) 0 ≡ first + 1 + (epoch - (first + 1)) = get_or-range_with_len (first + 1) (length (commands_of script) - first) (epoch - (first + 1)) 0 (omega (arith, lt, high, le, len)) in
-              let same : get_or later (epoch - (first + 1)) 0 ≡ epoch = omega (arith, at, lt) in
-              let fails = fails_before_first is_lost later (epoch - (first + 1)) 0 (omega (arith, lt, high)) in
-              let here : not (keeps_masks script.machines domain g (state_at script epoch)) ≡ false = ap is_lost (sym same) ∙ fails in
-              HasLevels-keeps script.machines domain g (state_at script epoch) (not-false (keeps_masks script.machines domain g (state_at script epoch)) here)
-          | inr ge ↦ let same : first ≡ epoch = omega (arith, ge, low) in subst (λ e. HasOwn script.machines domain g (state_at script e)) same has
-        ];
-        no_longer = λ more still.
-            let at : get_or later count 0 ≡ first + 1 + count = get_or-range_with_len (first + 1) (length (commands_of script) - first) count 0 (omega (arith, more, len)) in
-            let passes = passes_at_first is_lost later 0 (omega (arith, more, len)) in
-            let same : first + count + 1 ≡ get_or later count 0 = omega (arith, at) in
-            let kept = keeps_masks-has script.machines domain g (state_at script (first + count + 1)) still in
-            let lost : not (keeps_masks script.machines domain g (state_at script (first + count + 1))) ≡ true = ap is_lost same ∙ passes in
-            let none : not true ≡ true = ap not (sym kept) ∙ lost in
-            absurd (let f : false ≡ true = none in cc);
-      }
+-- it keeps its masks up to the last epoch
+StaysJoint-last : (script : PairScriptValue) (domain first : ℕ) (g : PairGroup) → first ≤ length (commands_of script) → HasOwn script.machines domain g (state_at script first)
+    → StaysJoint script domain g.gid (mask_in Second domain g) (λ x. mask_in First x g) first (last_epoch script domain first g)
+StaysJoint-last script domain first g known has =
+    IsSpan-as (λ epoch. keeps_at script domain g epoch ≡ true) (λ epoch. HasOwn script.machines domain g (state_at script epoch)) first (length (commands_of script)) (last_epoch script domain first g)
+    (λ epoch is. HasLevels-keeps script.machines domain g (state_at script epoch) is) (λ epoch own. keeps_masks-has script.machines domain g (state_at script epoch) own)
+    (IsSpan-last_within (keeps_at script domain g) first (length (commands_of script)) known (keeps_masks-has script.machines domain g (state_at script first) has))
 
 -- ---- windows
 

@@ -5,17 +5,15 @@ pub mod FlushWindows
 pub mod FlushedWindows
 mod FoundGroups
 pub mod HeldLevels
-pub mod HeldSteps
 pub mod JointListedWindows
-pub mod KeptSteps
 pub mod LineUses
 pub mod ListedWindows
-pub mod MappedPlaces
+pub mod LongerLevelSpans
 pub mod MarkedOps
 pub mod NextOps
 pub mod NoEntry
 pub mod QuietScripts
-pub mod RisingHoldings
+pub mod RisingLevelSpans
 pub mod RisingStays
 pub mod SegmentEnds
 pub mod SegmentSteps

@@ -29,7 +29,7 @@ use Rattle.pair_runs.specs.CdpRuns.{CdpJournalsValue}
 use Rattle.pair_runs.specs.Entries.{slice_in}
 use Rattle.pair_runs.specs.LevelRuns.{LevelJournalsValue}
 use Rattle.pair_windows.specs.CdpWindows as cdp
-use Rattle.pair_windows.specs.Holdings.{exclusive_in, is_exclusive}
+use Rattle.pair_windows.specs.LevelSpans.{exclusive_in, is_exclusive}
 use Rattle.pair_windows.specs.JointWindows as joint
 use Rattle.pair_windows.specs.Partitions.{partitions_in, partitions_of}
 use Rattle.pair_windows.specs.Quiet.{asks_exclusive, is_exclusive_text}

@@ -11,9 +11,9 @@ use Rattle.pair_ops.specs.declared.side.Side.{Side}
 use Rattle.pair_ops.specs.declared.side.Side.TheVariants.{First, Second}
 use Rattle.pair_windows.proofs.laws.RisingGroups.{RiseByGid-state_at, gid-state_at}
 use Rattle.pair_windows.specs.CdpWindows.{owner_of_partition}
-use Rattle.pair_windows.specs.Kept.{kept_from, kept_of, stay_of}
+use Rattle.pair_windows.specs.PartitionSpans.{kept_from, kept_of, stay_of}
 use Rattle.pair_windows.specs.Partitions.{has_partition, partition_of, partitions_in, partitions_of}
-use Rattle.pair_windows.specs.declared.kept.Kept.{Kept}
+use Rattle.spans.specs.declared.span.Span.{Span}
 use Rattle.pair_windows.specs.declared.partition.Partition.{Partition}
 use Rattle.private_lru.specs.Ends.{RiseByGroup}
 use Rattle.private_lru.specs.declared.stay.Stay.{Stay}
@@ -62,13 +62,13 @@ pub RiseByGroup-kept : (script : PairScriptValue) (domain first more : ℕ) → 
 RiseByGroup-kept script domain first more =
     AllPairs-map (λ (a b : ℕ). a < b) (λ (s : Stay). s.gid.0) (map stay_of (kept_from script domain first more))
     (AllPairs-map (λ (a b : Stay). a.gid.0 < b.gid.0) stay_of (kept_from script domain first more)
-    (AllPairs-map (λ (a b : Kept). owner_of_partition a.partition < owner_of_partition b.partition) (kept_of script domain first more) (partitions_in domain (state_at script first))
+    (AllPairs-map (λ (a b : Span Partition). owner_of_partition a.held < owner_of_partition b.held) (kept_of script domain first more) (partitions_in domain (state_at script first))
     (Before-partitions domain (state_at script first).groups (RiseByGid-state_at script first).rising)))
 
 -- the groups have numbers up to the epoch
-pub gid-kept : (script : PairScriptValue) (domain first more most : ℕ) → first < most → All (λ (k : Kept). k.partition.gid.0 < most) (kept_from script domain first more)
+pub gid-kept : (script : PairScriptValue) (domain first more most : ℕ) → first < most → All (λ (k : Span Partition). k.held.gid.0 < most) (kept_from script domain first more)
 gid-kept script domain first more most lt =
-    All-map (λ (k : Kept). k.partition.gid.0 < most) (kept_of script domain first more) (partitions_in domain (state_at script first))
+    All-map (λ (k : Span Partition). k.held.gid.0 < most) (kept_of script domain first more) (partitions_in domain (state_at script first))
     (All-flat_map (λ (p : Partition). p.gid.0 < most) (partitions_of domain) (state_at script first).groups
     (λ k d within x e small.
     let le = gid-state_at script first k d within in

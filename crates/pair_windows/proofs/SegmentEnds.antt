@@ -1,14 +1,12 @@
 -- Where the windows that begin at a flush end, within the segment after it.
-use Rattle.std.proofs.Common.{◌≡◌, ℕ, zero, suc, ◌+◌, ◌-◌, ◌<◌, ◌≤◌, Bool, true, false, eqb, not, ◌||◌, List, [], ◌∷◌, ◌++◌, length, take, Option, Some, None, ◌⊎◌, inl, inr, refl, sym, ap, ◌∙◌, arith}
+use Rattle.std.proofs.Common.{◌≡◌, ℕ, zero, suc, ◌+◌, ◌-◌, ◌<◌, ◌≤◌, Bool, true, false, eqb, ◌||◌, List, [], ◌∷◌, ◌++◌, length, take, Option, Some, None, ◌⊎◌, inl, inr, refl, sym, ap, ◌∙◌, arith}
 use Rattle.std.specs.Prelude.{nat_lt}
 use Rattle.std.specs.List.{position_or_len, range_with_len}
-use Rattle.std.proofs.lemmas.Bool.{cases_Bool, lt-ltb, ltb-true, ltb-false, le-ltb}
+use Rattle.std.proofs.lemmas.Bool.{cases_Bool, lt-ltb, ltb-true}
 use Rattle.cache_core.specs.declared.entry.SliceEntry.{SliceEntry}
-use Rattle.pair_windows.specs.Holdings.{last_within}
 use Rattle.pair_windows.specs.Joined.{joined, joined_of_op}
-use Rattle.pair_windows.specs.JointWindows.{ends_window, keeps_masks, last_epoch, window_end}
+use Rattle.pair_windows.specs.JointWindows.{ends_window, keeps_at, last_epoch, window_end}
 use Rattle.pair_windows.specs.Segments.{IsSegment}
-use Rattle.pair_law.specs.Epochs.{state_at}
 use Rattle.pair_ops.specs.Values.{PairScriptValue, commands_of, epoch_at, op_at}
 use Rattle.pair_ops.specs.declared.group.PairGroup.{PairGroup}
 use Rattle.pair_ops.specs.declared.op.PairOp.{PairOp}
@@ -20,26 +18,10 @@ use Rattle.pair_runs.specs.LevelRuns.{domain_on}
 use Rattle.pair_windows.proofs.laws.RisingEpochs.{epoch_at-rises}
 use Rattle.pair_windows.proofs.laws.WindowFronts.{firsts-more, firsts-stop}
 use Rattle.private_lru.specs.Ends.{held_len}
+use Rattle.spans.proofs.laws.LastEpochs.{last_within-fewer}
+use Rattle.spans.specs.Spans.{last_within}
 
 -- ---- the first number of a range that passes
-
--- it is past a number just where the first of a longer range is
-pub position_or_len-range_within : (q : ℕ → Bool) (a more all k : ℕ) → more ≤ all → k ≤ more
-    → nat_lt (position_or_len q (range_with_len a more)) k ≡ nat_lt (position_or_len q (range_with_len a all)) k
-position_or_len-range_within q a zero all k fits le = le-ltb 0 k (omega arith) ∙ sym (le-ltb (position_or_len q (range_with_len a all)) k (omega arith))
-position_or_len-range_within q a (suc more) zero k fits le = absurd (omega (arith, fits))
-position_or_len-range_within q a (suc more) (suc all) zero fits le =
-    le-ltb (position_or_len q (range_with_len a (suc more))) 0 (omega arith) ∙ sym (le-ltb (position_or_len q (range_with_len a (suc all))) 0 (omega arith))
-position_or_len-range_within q a (suc more) (suc all) (suc k) fits le = elim (cases_Bool (q a)) [
-  | inl is ↦ rw is refl
-  | inr is_not ↦ rw is_not (nat_lt-one (position_or_len q (range_with_len (a + 1) more)) (position_or_len q (range_with_len (a + 1) all)) k (position_or_len-range_within q (a + 1) more all k (omega (arith, fits)) (omega (arith, le))))
-]
-  where
-    nat_lt-one : (x y k : ℕ) → nat_lt x k ≡ nat_lt y k → nat_lt (1 + x) (suc k) ≡ nat_lt (1 + y) (suc k)
-    nat_lt-one x y k same = elim (cases_Bool (nat_lt x k)) [
-      | inl lt ↦ lt-ltb (1 + x) (suc k) (let a = ltb-true x k lt in omega (arith, a)) ∙ sym (lt-ltb (1 + y) (suc k) (let b = ltb-true y k (sym same ∙ lt) in omega (arith, b)))
-      | inr ge ↦ le-ltb (1 + x) (suc k) (let a = ltb-false x k ge in omega (arith, a)) ∙ sym (le-ltb (1 + y) (suc k) (let b = ltb-false y k (sym same ∙ ge) in omega (arith, b)))
-    ]
 
 -- it is that of a shorter range by a test that is the same there, where the first number after that passes
 pub position_or_len-range_stop : (q p : ℕ → Bool) (a m n : ℕ) → m ≤ n → ((i : ℕ) → a ≤ i → i < a + m → q i ≡ p i) → (m < n → q (a + m) ≡ true)
@@ -126,34 +108,29 @@ module _ (script : PairScriptValue) (domain from last : ℕ) (segment : IsSegmen
   abbrev more : ℕ
   more = epoch_at script last - first
 
+  -- the last epoch in the segment up to which the group keeps its masks
+  abbrev final : ℕ
+  final = last_within (keeps_at script domain g) first more
+
   -- the op after the window of a group
   abbrev to : ℕ
   to = window_end script domain from (last_epoch script domain first g)
 
   -- an op of the segment is past the last epoch just where it is past the last one in the segment
-  is_later-within : (i : ℕ) → from + 1 ≤ i → i ≤ last → nat_lt (last_epoch script domain first g) (epoch_at script i) ≡ nat_lt (last_within script domain first more g) (epoch_at script i)
+  is_later-within : (i : ℕ) → from + 1 ≤ i → i ≤ last → nat_lt (last_epoch script domain first g) (epoch_at script i) ≡ nat_lt final (epoch_at script i)
   is_later-within i low high =
-      let q : ℕ → Bool = λ later. not (keeps_masks script.machines domain g (state_at script later)) in
-      let all : ℕ = length (commands_of script) - first in
       let known = epoch_at-le script last in
       let one = epoch_at-rises script (from + 1) i low in
       let two = epoch_at-rises script i last high in
-      let same = position_or_len-range_within q (first + 1) more all (epoch_at script i - first) (omega (arith, known)) (omega (arith, two)) in
-      nat_lt-from (position_or_len q (range_with_len (first + 1) all)) (position_or_len q (range_with_len (first + 1) more)) first (epoch_at script i) (omega (arith, one, opens)) (sym same)
-    where
-      nat_lt-from : (x y a k : ℕ) → a ≤ k → nat_lt x (k - a) ≡ nat_lt y (k - a) → nat_lt (a + x) k ≡ nat_lt (a + y) k
-      nat_lt-from x y a k le same = elim (cases_Bool (nat_lt x (k - a))) [
-        | inl lt ↦ lt-ltb (a + x) k (let u = ltb-true x (k - a) lt in omega (arith, u)) ∙ sym (lt-ltb (a + y) k (let v = ltb-true y (k - a) (sym same ∙ lt) in omega (arith, v)))
-        | inr ge ↦ le-ltb (a + x) k (let u = ltb-false x (k - a) ge in omega (arith, u, le)) ∙ sym (le-ltb (a + y) k (let v = ltb-false y (k - a) (sym same ∙ ge) in omega (arith, v, le)))
-      ]
+      sym (last_within-fewer (keeps_at script domain g) first more (length (commands_of script) - first) (epoch_at script i) (omega (arith, known)) (omega (arith, one, two, opens)))
 
   -- how many ops the window goes over
-  pub window-len : to - (from + 1) ≡ position_or_len (λ i. nat_lt (last_within script domain first more g) (epoch_at script i)) (range_with_len (from + 1) (last - (from + 1)))
+  pub window-len : to - (from + 1) ≡ position_or_len (λ i. nat_lt final (epoch_at script i)) (range_with_len (from + 1) (last - (from + 1)))
   window-len =
       let later = segment.later in
       let within = segment.within in
       let q : ℕ → Bool = ends_window script domain (last_epoch script domain first g) in
-      let p : ℕ → Bool = λ i. nat_lt (last_within script domain first more g) (epoch_at script i) in
+      let p : ℕ → Bool = λ i. nat_lt final (epoch_at script i) in
       let same = position_or_len-range_stop q p (from + 1) (last - (from + 1)) (length script.ops - (from + 1)) (omega (arith, within))
       (λ i low high. let quiet = segment.quiet i low (omega (arith, high, later)) in ap (λ (b : Bool). b || nat_lt (last_epoch script domain first g) (epoch_at script i)) quiet ∙ is_later-within i low (omega (arith, high, later)))
       (λ less. let at : from + 1 + (last - (from + 1)) ≡ last = omega (arith, later) in let flush = segment.ends (omega (arith, less)) in ap (λ i. q i) at ∙ ap (λ (b : Bool). b || nat_lt (last_epoch script domain first g) (epoch_at script last)) flush) in
@@ -162,9 +139,9 @@ module _ (script : PairScriptValue) (domain from last : ℕ) (segment : IsSegmen
 
   -- the entries that its stay holds
   pub held-window : (hits : ℕ → ℕ → ℕ → Bool)
-      → take (held_len (last_within script domain first more g) (joined script domain hits (from + 1) (last - (from + 1)))) (joined script domain hits (from + 1) (last - (from + 1)))
+      → take (held_len final (joined script domain hits (from + 1) (last - (from + 1)))) (joined script domain hits (from + 1) (last - (from + 1)))
       ≡ joined script domain hits (from + 1) (to - (from + 1))
   held-window hits =
       let later = segment.later in
-      held-joined script domain hits (last_within script domain first more g) (from + 1) (last - (from + 1)) (λ i low high. segment.quiet i low (omega (arith, high, later)))
+      held-joined script domain hits final (from + 1) (last - (from + 1)) (λ i low high. segment.quiet i low (omega (arith, high, later)))
       ∙ ap (joined script domain hits (from + 1)) (sym window-len)

@@ -7,7 +7,7 @@ use Rattle.std.proofs.lemmas.Grind.{flat_map-append}
 use Rattle.std.proofs.lemmas.List.{append-nil, length-append}
 use Rattle.std.proofs.lemmas.Option.{slice_get_within}
 use Rattle.cache_core.specs.declared.entry.SliceEntry.{SliceEntry}
-use Rattle.pair_windows.specs.Holdings.{held_from}
+use Rattle.pair_windows.specs.LevelSpans.{held_from}
 use Rattle.pair_windows.specs.Joined.{joined, joined_at, joined_of_op}
 use Rattle.pair_windows.specs.Segments.{IsWalked, hit_l2, hit_l3, is_end}
 use Rattle.pair_windows.specs.declared.segments.Hits.{Hits}

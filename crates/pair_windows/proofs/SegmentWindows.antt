@@ -11,12 +11,13 @@ use Rattle.pair_windows.proofs.SegmentEnds.{held-window}
 use Rattle.pair_windows.proofs.laws.JoinedCounts.{accesses-joined, count-covered}
 use Rattle.pair_windows.specs.JointCounted.{counted_window, counted_windows}
 use Rattle.pair_windows.specs.Hits.{AreHits}
-use Rattle.pair_windows.specs.Holdings.{exclusive_in, held_from, held_of, stay_of}
+use Rattle.pair_windows.specs.LevelSpans.{exclusive_in, held_from, held_of, stay_of}
 use Rattle.pair_windows.specs.Joined.{joined}
 use Rattle.pair_windows.specs.JointWindows.{exclusive_after, last_epoch, uses_of, window_end, window_from}
 use Rattle.pair_windows.specs.LevelJournals.{IsPlayedOnLevels}
 use Rattle.pair_windows.specs.Segments.{IsSegment, hit_l2, hit_l3}
-use Rattle.pair_windows.specs.declared.holdings.Holding.{Holding}
+use Rattle.pair_windows.specs.declared.level_masks.LevelMasks.{LevelMasks}
+use Rattle.spans.specs.declared.span.Span.{Span}
 use Rattle.pair_windows.specs.declared.joint_window.JointWindow.{JointWindow}
 use Rattle.pair_law.specs.Epochs.{state_at}
 use Rattle.pair_law.specs.State.{mask_in}
@@ -39,7 +40,7 @@ use Rattle.private_lru.specs.declared.stay.Stay.{Stay}
 -- ---- windows of groups, each with its counts
 
 -- the windows of groups that are each counted are the counted ones
-counted_windows-map : (domain from : ℕ) (held : PairGroup → Holding) (f : PairGroup → JointWindow) (gs : List PairGroup) (l2 l3 : List WindowCounts) → length l2 ≡ length gs → length l3 ≡ length gs
+counted_windows-map : (domain from : ℕ) (held : PairGroup → Span LevelMasks) (f : PairGroup → JointWindow) (gs : List PairGroup) (l2 l3 : List WindowCounts) → length l2 ≡ length gs → length l3 ≡ length gs
     → ((i : ℕ) (g : PairGroup) (c d : WindowCounts) → i < length gs → f (get_or gs i g) ≡ counted_window domain from (held (get_or gs i g)) (get_or l2 i c) (get_or l3 i d))
     → counted_windows domain from (map held gs) l2 l3 ≡ map f gs
 counted_windows-map domain from held f [] l2 l3 one two each = refl
@@ -111,7 +112,7 @@ module _ (script : PairScriptValue) (j : LevelJournalsValue) (domain from last :
     abbrev to : ℕ
     to = window_end script domain from (last_epoch script domain opened g)
 
-    abbrev held : Holding
+    abbrev held : Span LevelMasks
     held = held_of script domain opened more g
 
     pub window_from-counted : (sets : ℕ) (l2 l3 : WindowCounts) → IsCounted sets Flush entries_l2 (stay_of held) l2 → IsCounted sets Flush entries_l3 (stay_of held) l3
@@ -141,28 +142,28 @@ module _ (script : PairScriptValue) (j : LevelJournalsValue) (domain from last :
       → AreCounted sets Flush entries_l3 (map stay_of (held_from script domain opened more)) l3
       → counted_windows domain (epoch_at script from) (held_from script domain opened more) l2 l3 ≡ map (window_from script domain j from) groups
   windows-counted sets l2 l3 in_l2 in_l3 =
-      let f : PairGroup → Holding = held_of script domain opened more in
+      let f : PairGroup → Span LevelMasks = held_of script domain opened more in
       let stays : length (map stay_of (map f groups)) ≡ length groups = length-map (map f groups) stay_of ∙ length-map groups f in
       counted_windows-map domain (epoch_at script from) f (window_from script domain j from) groups l2 l3 (in_l2.same ∙ stays) (in_l3.same ∙ stays)
       (λ i g c d lt.
       let x : PairGroup = get_or groups i g in
-      let holding : get_or (map f groups) i (f g) ≡ f x = get_or-map f groups i g (f g) lt in
-      let stay : get_or (map stay_of (map f groups)) i (stay_of (f g)) ≡ stay_of (f x) = get_or-map stay_of (map f groups) i (f g) (stay_of (f g)) (subst (λ n. i < n) (sym (length-map groups f)) lt) ∙ ap stay_of holding in
+      let span : get_or (map f groups) i (f g) ≡ f x = get_or-map f groups i g (f g) lt in
+      let stay : get_or (map stay_of (map f groups)) i (stay_of (f g)) ≡ stay_of (f x) = get_or-map stay_of (map f groups) i (f g) (stay_of (f g)) (subst (λ n. i < n) (sym (length-map groups f)) lt) ∙ ap stay_of span in
       let few : i < length (map stay_of (map f groups)) = subst (λ n. i < n) (sym stays) lt in
       window_from-counted x (HasLevels-exclusive script.machines domain script opened i g lt) sets (get_or l2 i c) (get_or l3 i d)
       (subst (λ (s : Stay). IsCounted sets Flush entries_l2 s (get_or l2 i c)) stay (in_l2.each i (stay_of (f g)) c few))
       (subst (λ (s : Stay). IsCounted sets Flush entries_l3 s (get_or l3 i d)) stay (in_l3.each i (stay_of (f g)) d few)))
 
   -- from the epoch at the place after the flush
-  abbrev holdings : List Holding
-  holdings = held_from script domain (epoch_at script (from + 1)) (epoch_at script last - epoch_at script (from + 1))
+  abbrev spans : List (Span LevelMasks)
+  spans = held_from script domain (epoch_at script (from + 1)) (epoch_at script last - epoch_at script (from + 1))
 
-  windows-held : (sets : ℕ) (l2 l3 : List WindowCounts) → AreCounted sets Flush entries_l2 (map stay_of holdings) l2 → AreCounted sets Flush entries_l3 (map stay_of holdings) l3
-      → counted_windows domain (epoch_at script from) holdings l2 l3 ≡ map (window_from script domain j from) groups
+  windows-held : (sets : ℕ) (l2 l3 : List WindowCounts) → AreCounted sets Flush entries_l2 (map stay_of spans) l2 → AreCounted sets Flush entries_l3 (map stay_of spans) l3
+      → counted_windows domain (epoch_at script from) spans l2 l3 ≡ map (window_from script domain j from) groups
   windows-held sets l2 l3 in_l2 in_l3 =
-      let same : holdings ≡ held_from script domain opened more = ap (λ n. held_from script domain n (epoch_at script last - n)) next in
-      ap (λ (hs : List Holding). counted_windows domain (epoch_at script from) hs l2 l3) same
-      ∙ windows-counted sets l2 l3 (subst (λ (hs : List Holding). AreCounted sets Flush entries_l2 (map stay_of hs) l2) same in_l2) (subst (λ (hs : List Holding). AreCounted sets Flush entries_l3 (map stay_of hs) l3) same in_l3)
+      let same : spans ≡ held_from script domain opened more = ap (λ n. held_from script domain n (epoch_at script last - n)) next in
+      ap (λ (hs : List (Span LevelMasks)). counted_windows domain (epoch_at script from) hs l2 l3) same
+      ∙ windows-counted sets l2 l3 (subst (λ (hs : List (Span LevelMasks)). AreCounted sets Flush entries_l2 (map stay_of hs) l2) same in_l2) (subst (λ (hs : List (Span LevelMasks)). AreCounted sets Flush entries_l3 (map stay_of hs) l3) same in_l3)
 
 -- the windows of all groups that are exclusive after a flush, by the counts of the segment after it
 module _ (script : PairScriptValue) (j : LevelJournalsValue) (domain from last sets : ℕ) (a b : List Bool) (l2 l3 : List WindowCounts) where

@@ -5,7 +5,7 @@ use Rattle.cache_core.specs.declared.entry.SliceEntry.{SliceEntry}
 use Rattle.cache_core.specs.declared.entry.What.TheVariants.{Flush}
 use Rattle.cbm.specs.Masks.{ways_of}
 use Rattle.pair_windows.specs.declared.cdp_window.CdpWindow.{CdpWindow}
-use Rattle.pair_windows.specs.declared.kept.Kept.{Kept}
+use Rattle.spans.specs.declared.span.Span.{Span}
 use Rattle.pair_windows.specs.declared.partition.Partition.{Partition}
 use Rattle.private_lru.specs.declared.counts.WindowCounts.{WindowCounts}
 use Rattle.run_law.specs.Journals.{At}
@@ -26,10 +26,10 @@ counted_window domain from p c = record {
 }
 
 -- the windows of these partitions, each with its counts
-abbrev pub counted_windows : ℕ → ℕ → List Kept → List WindowCounts → List CdpWindow
+abbrev pub counted_windows : ℕ → ℕ → List (Span Partition) → List WindowCounts → List CdpWindow
 counted_windows domain from [] counts = []
 counted_windows domain from (k ∷ ks) [] = []
-counted_windows domain from (k ∷ ks) (c ∷ cs) = counted_window domain from k.partition c ∷ counted_windows domain from ks cs
+counted_windows domain from (k ∷ ks) (c ∷ cs) = counted_window domain from k.held c ∷ counted_windows domain from ks cs
 
 -- the entries of a run rise in their epochs
 abbrev pub RiseByEpoch : List SliceEntry → Type 0

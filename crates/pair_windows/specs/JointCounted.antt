@@ -1,16 +1,17 @@
 -- Windows with the counts that were made for them.
 -- (For functions and proofs: no promise of the program stands on it.)
 use Rattle.std.specs.Prelude.{ℕ, ◌-◌, Bool, nat_lt, List, [], ◌∷◌}
-use Rattle.pair_windows.specs.declared.holdings.Holding.{Holding}
 use Rattle.pair_windows.specs.declared.joint_window.JointWindow.{JointWindow}
+use Rattle.pair_windows.specs.declared.level_masks.LevelMasks.{LevelMasks}
 use Rattle.private_lru.specs.declared.counts.WindowCounts.{WindowCounts}
+use Rattle.spans.specs.declared.span.Span.{Span}
 
--- The window of a holding, from its counts where a use hits by its L2 entry, and where it hits by its L3 entry. As many uses hit in
+-- The window of a group with its masks, from its counts where a use hits by its L2 entry, and where it hits by its L3 entry. As many uses hit in
 -- private caches as covered ones hit, and what does not hit the L2 is asked of the L3.
-abbrev pub counted_window : ℕ → ℕ → Holding → WindowCounts → WindowCounts → JointWindow
+abbrev pub counted_window : ℕ → ℕ → Span LevelMasks → WindowCounts → WindowCounts → JointWindow
 counted_window domain from h l2 l3 = record {
   domain = domain;
-  gid = h.gid;
+  gid = h.held.gid;
   from = from;
   uses = l2.accesses;
   covered = l2.covered;
@@ -25,8 +26,8 @@ counted_window domain from h l2 l3 = record {
 abbrev pub is_used : JointWindow → Bool
 is_used w = nat_lt 0 w.uses
 
--- the windows of these holdings
-abbrev pub counted_windows : ℕ → ℕ → List Holding → List WindowCounts → List WindowCounts → List JointWindow
+-- the windows of these groups
+abbrev pub counted_windows : ℕ → ℕ → List (Span LevelMasks) → List WindowCounts → List WindowCounts → List JointWindow
 counted_windows domain from [] l2 l3 = []
 counted_windows domain from (h ∷ hs) [] l3 = []
 counted_windows domain from (h ∷ hs) (a ∷ rest) [] = []

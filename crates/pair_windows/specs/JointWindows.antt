@@ -17,6 +17,7 @@ use Rattle.pair_runs.specs.PrivateLevels.{l2_hits, l3_hits}
 use Rattle.pair_runs.specs.WindowLaws.{count_uses}
 use Rattle.pair_windows.specs.declared.joint_window.JointWindow.{JointWindow}
 use Rattle.rc_base.specs.declared.names.Mode.TheVariants.{Exclusive}
+use Rattle.spans.specs.Spans.{last_within}
 
 -- ---- how long a group keeps its masks
 
@@ -31,10 +32,13 @@ abbrev pub keeps_masks : Machines → ℕ → PairGroup → PairState → Bool
 keeps_masks m domain g s = option_map_or (has_masks_of m domain g) (group_of s g.gid) false
 
 module _ (script : PairScriptValue) (domain : ℕ) where
+  -- the same of the state of an epoch
+  abbrev pub keeps_at : PairGroup → ℕ → Bool
+  keeps_at g epoch = keeps_masks script.machines domain g (state_at script epoch)
+
   -- the last epoch up to which a group of this epoch is exclusive with the same masks
   abbrev pub last_epoch : ℕ → PairGroup → ℕ
-  last_epoch epoch g =
-      epoch + position_or_len (λ later. not (keeps_masks script.machines domain g (state_at script later))) (range_with_len (epoch + 1) (length (commands_of script) - epoch))
+  last_epoch epoch g = last_within (keeps_at g) epoch (length (commands_of script) - epoch)
 
   -- whether an op ends a window that lasts up to this epoch
   abbrev pub ends_window : ℕ → ℕ → Bool

@@ -5,12 +5,12 @@ pub mod CdpWindows
 pub mod Counted
 pub mod Fronts
 pub mod Hits
-pub mod Holdings
 pub mod Joined
 pub mod JointCounted
 pub mod JointWindows
-pub mod Kept
 pub mod LevelJournals
+pub mod LevelSpans
+pub mod PartitionSpans
 pub mod Partitions
 pub mod Quiet
 pub mod Replays

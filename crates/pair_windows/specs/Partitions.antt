@@ -1,6 +1,6 @@
 -- The ways of a domain that one side of a group has for itself, and how long it has them.
-use Rattle.std.specs.Prelude.{ℕ, ◌+◌, ◌-◌, Bool, false, not, ◌==◌, ◌&&◌, List, [], ◌∷◌, filter, length, map}
-use Rattle.std.specs.List.{flat_map, position_or_len, range_with_len}
+use Rattle.std.specs.Prelude.{ℕ, ◌-◌, Bool, false, not, ◌==◌, ◌&&◌, List, [], ◌∷◌, filter, length, map}
+use Rattle.std.specs.List.{flat_map}
 use Rattle.std.specs.Option.{option_map_or}
 use Rattle.cbm.specs.Masks.{overlaps}
 use Rattle.group_tree.specs.Records.{is_mode}
@@ -14,6 +14,7 @@ use Rattle.pair_runs.specs.CdpWindows.{other_side}
 use Rattle.pair_windows.specs.declared.partition.Partition.{Partition}
 use Rattle.rc_base.specs.declared.names.Gid.{Gid}
 use Rattle.rc_base.specs.declared.names.Mode.TheVariants.{Exclusive}
+use Rattle.spans.specs.Spans.{last_within}
 
 -- whether a group is exclusive, with this mask on a side of a domain, and its mask on the other side there does not meet it
 abbrev pub is_alone_on : ℕ → Side → ℕ → PairGroup → Bool
@@ -47,14 +48,10 @@ partitions_in domain s = flat_map (partitions_of domain) s.groups
 abbrev pub is_kept : ℕ → Partition → PairState → Bool
 is_kept domain p s = is_alone domain p.gid p.side p.mask s
 
--- how many of these epochs, from the first on, a partition is kept without a break
-abbrev pub kept_for : PairScriptValue → ℕ → Partition → List ℕ → ℕ
-kept_for script domain p epochs = position_or_len (λ epoch. not (is_kept domain p (state_at script epoch))) epochs
+-- the same of the state of an epoch
+abbrev pub is_kept_at : PairScriptValue → ℕ → Partition → ℕ → Bool
+is_kept_at script domain p epoch = is_kept domain p (state_at script epoch)
 
--- the last epoch up to which a partition of this epoch is kept, within so many more
-abbrev pub kept_within : PairScriptValue → ℕ → Partition → ℕ → ℕ → ℕ
-kept_within script domain p epoch more = epoch + kept_for script domain p (range_with_len (epoch + 1) more)
-
--- the last epoch up to which it is kept
+-- the last epoch up to which a partition of this epoch is kept without a break
 abbrev pub last_epoch : PairScriptValue → ℕ → Partition → ℕ → ℕ
-last_epoch script domain p epoch = kept_within script domain p epoch (length (commands_of script) - epoch)
+last_epoch script domain p epoch = last_within (is_kept_at script domain p) epoch (length (commands_of script) - epoch)

@@ -1,7 +1,7 @@
 -- What stands between a flush and the next one.
 -- (For functions and proofs: no promise of the program stands on it.)
 use Rattle.std.specs.Prelude.{◌≡◌, ℕ, ◌-◌, ◌^◌, ◌<◌, ◌≤◌, Bool, false, true, not, ◌==◌, ◌&&◌, if◌then◌else◌, List, Option, None, Some, length, slice_index_or}
-use Rattle.pair_windows.specs.Holdings.{held_from}
+use Rattle.pair_windows.specs.LevelSpans.{held_from}
 use Rattle.pair_windows.specs.Joined.{joined}
 use Rattle.pair_windows.specs.declared.segments.Hits.{Hits}
 use Rattle.pair_windows.specs.declared.line_uses.LineUse.{LineUse}

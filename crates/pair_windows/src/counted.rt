@@ -5,18 +5,21 @@ ghost use Rattle.pair_ops.specs.Values.{commands_of};
 ghost use Rattle.pair_windows.specs.Replays.{HasTaken, IsPlayable};
 ghost use Rattle.pair_windows.specs.CdpWindows.{is_used};
 ghost use Rattle.pair_windows.specs.Counted.{counted_window, counted_windows};
-ghost use Rattle.pair_windows.specs.Kept.{kept_from, stay_of};
-ghost use Rattle.pair_windows.specs.declared.kept.Kept.{Kept as KeptValue};
+ghost use Rattle.pair_windows.specs.PartitionSpans.{kept_from, stay_of};
+ghost use Rattle.pair_windows.specs.declared.partition.Partition.{Partition as PartitionValue};
 ghost use Rattle.private_lru.specs.Ends.{RiseByGroup};
 ghost use Rattle.private_lru.specs.Tallies.{AreCounted};
+ghost use Rattle.spans.specs.declared.span.Span.{Span as SpanValue};
 
 use crate::Replay;
 use crate::cdp_window::CdpWindow;
-use crate::kept::{Kept, keep_on, partitions, stays_of};
+use crate::partition::Partition;
+use crate::partition_spans::{DomainState, partitions, stays_of};
 use cache_core::{SliceEntry, What};
 use pair_text::PairScript;
 use private_lru::{WindowCounts, counts_of};
 use rc_base::NoMemory;
+use spans::{Span, keep_on};
 use std::alloc::Global;
 
 // Takes the commands up to this epoch.
@@ -38,7 +41,7 @@ fn keep_until(
     replay: &mut Replay,
     script: &PairScript,
     domain: u8,
-    kept: &mut Vec<Kept>,
+    kept: &mut Vec<Span<Partition>>,
     first: u64,
     last: u64,
 )
@@ -55,7 +58,11 @@ fn keep_until(
 {
     for epoch in first..last {
         replay.take_command(script);
-        keep_on(kept, replay.tree(), domain, epoch);
+        let state = DomainState {
+            tree: replay.tree(),
+            domain,
+        };
+        keep_on(kept, &state, epoch);
     }
 }
 
@@ -68,7 +75,7 @@ pub(crate) fn kept_between(
     domain: u8,
     first: u64,
     last: u64,
-) -> Result<Vec<Kept>, NoMemory>
+) -> Result<Vec<Span<Partition>>, NoMemory>
     requires playable { IsPlayable script.now }
     requires domain { domain < 8 }
     requires taken { HasTaken script.now replay.old }
@@ -89,10 +96,10 @@ pub(crate) fn kept_between(
 pub(crate) fn counts_at(
     alloc: Global,
     sets: u32,
-    kept: &[Kept],
+    kept: &[Span<Partition>],
     front: &[SliceEntry],
 ) -> Result<Vec<WindowCounts>, NoMemory>
-    requires few_groups { All (λ (k : KeptValue). k.partition.gid.0 < 2 ^ 31) kept.now }
+    requires few_groups { All (λ (s : SpanValue PartitionValue). s.held.gid.0 < 2 ^ 31) kept.now }
     requires rising { RiseByGroup (map stay_of kept.now) }
     requires few { length front.now < 2 ^ 32 }
     ensures { IfOk result (λ counts. AreCounted sets TheFlush front.now (map stay_of kept.now) counts.items) }
@@ -106,10 +113,9 @@ pub(crate) fn counts_at(
 
 // The window of a partition with these counts. The hits of a private cache are not counted anew: they are as many as the covered
 // hits.
-fn window_of(domain: u8, from: u32, kept: Kept, counts: WindowCounts) -> CdpWindow
-    ensures { result ≡ counted_window domain from kept.partition counts }
+fn window_of(domain: u8, from: u32, p: Partition, counts: WindowCounts) -> CdpWindow
+    ensures { result ≡ counted_window domain from p counts }
 {
-    let p = kept.partition;
     CdpWindow {
         domain,
         gid: p.gid,
@@ -139,14 +145,14 @@ pub(crate) fn push_counted(
     windows: &mut Vec<CdpWindow>,
     domain: u8,
     from: u32,
-    kept: &[Kept],
+    kept: &[Span<Partition>],
     counts: &[WindowCounts],
 ) -> Result<(), NoMemory>
     requires same { length counts.now ≡ length kept.now }
     ensures { OnOk result (windows.new.items ≡ windows.old.items ++ filter is_used (counted_windows domain from kept.now counts.now)) }
 {
     for i in 0..kept.len() {
-        push_used(windows, window_of(domain, from, kept[i], counts[i]))?;
+        push_used(windows, window_of(domain, from, kept[i].held, counts[i]))?;
     }
     Ok(())
 }

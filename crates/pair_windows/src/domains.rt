@@ -1,10 +1,23 @@
-//! The L2 domains and the L3 domains that they lie in.
+//! The caches of each level, and the L3 domains that L2 domains lie in.
 ghost use Rattle.std.specs.Prelude.{◌≡◌};
+ghost use Rattle.machine.specs.Maps.{parameters_of};
 ghost use Rattle.pair_ops.specs.Values.{AreMachines, side_machine};
 ghost use Rattle.pair_ops.specs.declared.side.Side.TheVariants.{First};
 ghost use Rattle.pair_runs.specs.JointWindows.{domain_above};
 
+use machine::Machine;
+use pair_ops::Side;
 use pair_text::PairScript;
+
+/// The machine whose caches are those of a level: the L2 caches are the first side, where there are some.
+pub fn machine_on(script: &PairScript, side: Side) -> &Machine
+    ensures { parameters_of result.now ≡ side_machine script.now.machines side }
+{
+    match side {
+        Side::First => script.l2().unwrap_or(script.machine()),
+        Side::Second => script.machine(),
+    }
+}
 
 /// How many L2 domains there are.
 pub(crate) fn l2_domains(script: &PairScript) -> u8

@@ -1,27 +1,16 @@
 //! Which uses of a script hit at a level.
 ghost use Rattle.std.specs.Prelude.{◌≡◌, ◌<◌, [], ◌∷◌, IfOk, length, map};
 ghost use Rattle.pair_windows.specs.Hits.{AreHits, AreMarked, is_use_in};
-ghost use Rattle.machine.specs.Maps.{parameters_of};
 ghost use Rattle.pair_ops.specs.Values.{IsLawful, op_at, side_machine};
 ghost use Rattle.pair_runs.specs.LevelRuns.{is_hit};
 ghost use Rattle.run_law.specs.Entries.{entries_of};
 
+use crate::domains::machine_on;
 use cache_core::{SliceEntry, What};
-use machine::Machine;
 use pair_ops::{PairOp, Side};
 use pair_text::PairScript;
 use rc_base::NoMemory;
 use std::alloc::Global;
-
-// The caches of a level.
-fn machine_on(script: &PairScript, side: Side) -> &Machine
-    ensures { parameters_of result.now ≡ side_machine script.now.machines side }
-{
-    match side {
-        Side::First => script.l2().unwrap_or(script.machine()),
-        Side::Second => script.machine(),
-    }
-}
 
 // Whether the op at a place is a use on a CPU of a domain of a level.
 fn is_use_in(script: &PairScript, side: Side, domain: usize, place: usize) -> bool

@@ -2,25 +2,26 @@
 ghost use Rattle.std.specs.Prelude.{◌≡◌, ◌∷◌, [], ◌++◌, OnOk, filter, length};
 ghost use Rattle.pair_windows.specs.JointCounted.{counted_window, counted_windows, is_used};
 
-use crate::holdings::Holding;
 use crate::joint_window::JointWindow;
+use crate::level_masks::LevelMasks;
 use private_lru::WindowCounts;
 use rc_base::NoMemory;
+use spans::Span;
 
-// The window of a holding, by its counts at both levels. The hits of private caches are not counted anew: they are as many as the
-// covered hits.
+// The window of a group with its masks, by its counts at both levels. The hits of private caches are not counted anew: they are as
+// many as the covered hits.
 fn window_of(
     domain: u8,
     from: u32,
-    held: Holding,
+    span: Span<LevelMasks>,
     l2: WindowCounts,
     l3: WindowCounts,
 ) -> JointWindow
-    ensures { result ≡ counted_window domain from held l2 l3 }
+    ensures { result ≡ counted_window domain from span l2 l3 }
 {
     JointWindow {
         domain,
-        gid: held.gid,
+        gid: span.held.gid,
         from,
         uses: l2.accesses,
         covered: l2.covered,
@@ -42,12 +43,12 @@ fn push_used(windows: &mut Vec<JointWindow>, window: JointWindow) -> Result<(), 
     Ok(())
 }
 
-/// Adds the windows of these holdings in which their groups use lines.
+/// Adds the windows of these groups in which their groups use lines.
 pub(crate) fn push_counted(
     windows: &mut Vec<JointWindow>,
     domain: u8,
     from: u32,
-    held: &[Holding],
+    held: &[Span<LevelMasks>],
     l2: &[WindowCounts],
     l3: &[WindowCounts],
 ) -> Result<(), NoMemory>

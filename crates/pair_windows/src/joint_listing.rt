@@ -2,7 +2,7 @@
 ghost use Rattle.std.specs.Prelude.{◌≡◌, ◌+◌, ◌^◌, ◌<◌, ◌≤◌, ◌++◌, IfOk, OnOk, length, map, true};
 ghost use Rattle.cache_core.specs.declared.entry.What.TheVariants.{Flush as TheFlush};
 ghost use Rattle.pair_windows.specs.Hits.{AreHits};
-ghost use Rattle.pair_windows.specs.Holdings.{stay_of};
+ghost use Rattle.pair_windows.specs.LevelSpans.{stay_of};
 ghost use Rattle.pair_windows.specs.JointWindows.{joint_windows, windows_from, windows_in};
 ghost use Rattle.pair_windows.specs.LevelJournals.{IsPlayedOnLevels, level_journals};
 ghost use Rattle.pair_windows.specs.Segments.{CanWalk, IsSegment};
@@ -16,9 +16,10 @@ ghost use Rattle.private_lru.specs.Tallies.{AreCounted};
 
 use crate::Replay;
 use crate::hits::hits_on;
-use crate::holdings::{Holding, has_exclusive, stays_of};
 use crate::joint_counted::push_counted;
 use crate::joint_window::JointWindow;
+use crate::level_masks::LevelMasks;
+use crate::level_spans::{has_exclusive, stays_of};
 use crate::quiet::has_exclusive_write;
 use crate::segments::{Hits, is_end, take_segment};
 use cache_core::{SliceEntry, What};
@@ -26,13 +27,14 @@ use pair_ops::Side;
 use pair_text::PairScript;
 use private_lru::{WindowCounts, counts_of};
 use rc_base::{NoMemory, Reply};
+use spans::Span;
 use std::alloc::Global;
 
-// The counts of the windows of these holdings among the entries after a flush.
+// The counts of the windows of these groups among the entries after a flush.
 fn counts_at(
     alloc: Global,
     sets: u32,
-    held: &[Holding],
+    held: &[Span<LevelMasks>],
     entries: &[SliceEntry],
 ) -> Result<Vec<WindowCounts>, NoMemory>
     requires rising { RiseByGroup (map stay_of held.now) }

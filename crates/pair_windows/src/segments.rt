@@ -1,7 +1,7 @@
 //! What stands between a flush and the next one.
 ghost use Rattle.std.specs.Prelude.{◌≡◌, ℕ, ◌+◌, ◌-◌, ◌<◌, ◌≤◌, ◌∷◌, [], ◌++◌, ◌&&◌, not, IfOk, OnOk, Some, false, length, slice_index_or, true};
 ghost use Rattle.cache_core.specs.declared.entry.What.TheVariants.{Access as AnAccess};
-ghost use Rattle.pair_windows.specs.Holdings.{held_from};
+ghost use Rattle.pair_windows.specs.LevelSpans.{held_from};
 ghost use Rattle.pair_windows.specs.Joined.{joined, joined_at};
 ghost use Rattle.pair_windows.specs.Segments.{CanWalk, IsSegment, IsWalked, hit_l2, hit_l3, is_end};
 ghost use Rattle.pair_ops.specs.Values.{op_at};
@@ -10,12 +10,14 @@ ghost use Rattle.pair_runs.specs.Entries.{entry};
 ghost use Rattle.pair_runs.specs.JointWindows.{is_flush};
 
 use crate::Replay;
-use crate::holdings::{Holding, hold_on, holdings};
+use crate::level_masks::LevelMasks;
+use crate::level_spans::{LevelState, level_spans};
 use crate::line_uses::{LineUse, next_use, push_entry};
 use cache_core::SliceEntry;
 use pair_ops::PairOp;
 use pair_text::PairScript;
 use rc_base::NoMemory;
+use spans::{Span, keep_on};
 use std::alloc::Global;
 
 /// For each op whether it is a use that hit, at each level.
@@ -32,7 +34,7 @@ pub(crate) struct Hits {
 #[derive(Drop)]
 pub(crate) struct Segment {
     /// The groups.
-    pub held: Vec<Holding>,
+    pub held: Vec<Span<LevelMasks>>,
     /// The uses, as they hit by their L2 entries.
     pub l2: Vec<SliceEntry>,
     /// The uses, as they hit by their L3 entries.
@@ -108,8 +110,8 @@ fn push_op(
     }
 }
 
-// Takes an op, and where it is a command the holdings to the next epoch.
-fn take_op(held: &mut Vec<Holding>, script: &PairScript, domain: u8, replay: &mut Replay)
+// Takes an op, and where it is a command the spans to the next epoch.
+fn take_op(held: &mut Vec<Span<LevelMasks>>, script: &PairScript, domain: u8, replay: &mut Replay)
     requires playable { IsPlayable script.now }
     requires domain { domain < 8 }
     requires taken { HasTaken script.now replay.old }
@@ -126,7 +128,12 @@ fn take_op(held: &mut Vec<Holding>, script: &PairScript, domain: u8, replay: &mu
     if now == epoch {
         return;
     }
-    hold_on(held, replay.tree(), script, domain, epoch);
+    let state = LevelState {
+        script,
+        tree: replay.tree(),
+        domain,
+    };
+    keep_on(held, &state, epoch);
 }
 
 // Takes the ops up to the next flush.
@@ -168,7 +175,7 @@ pub(crate) fn take_segment(
     ensures l2 { IfOk result (λ s. s.l2.items ≡ joined script.now domain (hit_l2 hits.now.l2.items) replay.old.place (replay.new.place - replay.old.place)) }
     ensures l3 { IfOk result (λ s. s.l3.items ≡ joined script.now domain (hit_l3 hits.now.l2.items hits.now.l3.items) replay.old.place (replay.new.place - replay.old.place)) }
 {
-    let held = holdings(alloc, replay.tree(), domain, replay.epoch())?;
+    let held = level_spans(alloc, replay.tree(), domain, replay.epoch())?;
     let mut segment = Segment {
         held,
         l2: Vec::new(alloc),

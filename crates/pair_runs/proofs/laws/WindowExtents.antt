@@ -12,7 +12,6 @@ use Rattle.pair_ops.specs.declared.side.Side.{Side}
 use Rattle.pair_runs.proofs.laws.CdpEntries.{IsCdpRun-given}
 use Rattle.pair_runs.proofs.laws.Commands.{epoch_at-lt}
 use Rattle.pair_runs.proofs.Conditions.{Decided, HasLevels-decided, HasLevels-masks, HasLevels-same, IsAlone-decided, IsAlone-mask}
-use Rattle.pair_runs.proofs.Extents.{IsExtent, IsExtent-same, IsExtent-some, Greatest-same, Greatest-some}
 use Rattle.std.proofs.lemmas.Option.{slice_get_within}
 use Rattle.pair_runs.specs.CdpRuns.{CdpJournalsValue}
 use Rattle.pair_runs.specs.CdpWindows.{IsAlone, IsCdpWindow, StaysAlone}
@@ -21,6 +20,9 @@ use Rattle.run_law.specs.Journals.{At}
 use Rattle.pair_runs.specs.JointWindows.{HasLevels, IsJointWindow, is_flush}
 use Rattle.pair_runs.specs.WindowLaws.{CdpWindowsAreUnique, CdpWindowsExist, JointWindowsAreUnique, JointWindowsExist}
 use Rattle.rc_base.specs.declared.names.Gid.{Gid}
+use Rattle.spans.proofs.laws.Extents.{IsExtent, IsExtent-same, IsExtent-some}
+use Rattle.spans.proofs.laws.LastEpochs.{IsSpan-as, IsSpan-same, IsSpan-some}
+use Rattle.spans.specs.Spans.{IsSpan}
 
 At-same : {X : Type 0} (a b : X) → Some a ≡ Some b → a ≡ b
 At-same a b e = cc
@@ -70,21 +72,21 @@ pub IsCdpWindow-some : CdpWindowsExist
 IsCdpWindow-some script j domain from opening group side mask run exists opens flush alone =
     let es : List SliceEntry = slice_in j.slices domain in
     let known = (IsCdpRun-given script domain j from opening run exists opens).known in
-    let g = Greatest-some (λ epoch. IsAlone domain group side mask (state_at script epoch)) (λ epoch. IsAlone-decided domain group side mask (state_at script epoch)) (length (commands_of script) - opening.epoch) opening.epoch (length (commands_of script)) (omega arith) alone in
+    let span = IsSpan-some (λ epoch. IsAlone domain group side mask (state_at script epoch)) (λ epoch. IsAlone-decided domain group side mask (state_at script epoch)) opening.epoch (length (commands_of script)) known alone in
     let inside : from < length es = slice_get_within es from opening opens in
-    let x = IsExtent-some (OverEntry es g.last) (OverEntry-decided es g.last) (length es - (from + 1)) (from + 1) (length es) (omega arith) in
+    let x = IsExtent-some (OverEntry es span.0) (OverEntry-decided es span.0) (length es - (from + 1)) (from + 1) (length es) (omega arith) in
     let begins = x.1.begins in (
       x.0,
-      g.last,
+      span.0,
       record {
         domain_exists = exists;
         opens = opens;
         flush = flush;
-        alone = record { from_first = g.from_first; to_last = g.to_last; always = g.always; no_longer = g.no_longer };
+        alone = span.1;
         after_opening = omega (arith, begins);
         within = x.1.within;
         goes_over = λ p e there low high. x.1.over p (omega arith) high e there;
-        ends = IsExtent-ends es g.last (from + 1) x.0 x.1;
+        ends = IsExtent-ends es span.0 (from + 1) x.0 x.1;
       },
     )
 
@@ -113,7 +115,7 @@ IsCdpWindow-same script j domain from to other_to opening other group side mask 
     let low' = stays.from_first in
     let masks : mask ≡ other_mask = IsAlone-mask domain group side mask other_mask (state_at script opening.epoch) (one.alone.always opening.epoch (omega arith) low) (stays.always opening.epoch (omega arith) low') in
     let so : StaysAlone script domain group side mask opening.epoch other_last = subst (λ n. StaysAlone script domain group side n opening.epoch other_last) (sym masks) stays in
-    let lasts : last ≡ other_last = Greatest-same (λ epoch. IsAlone domain group side mask (state_at script epoch)) opening.epoch (length (commands_of script)) last other_last low low' one.alone.to_last so.to_last one.alone.always so.always one.alone.no_longer so.no_longer in
+    let lasts : last ≡ other_last = IsSpan-same (λ epoch. IsAlone domain group side mask (state_at script epoch)) opening.epoch (length (commands_of script)) last other_last one.alone so in
     let x = IsExtent-window script j domain from to opening group side mask last one in
     let y : IsExtent (OverEntry es last) (from + 1) (length es) other_to = subst (λ n. IsExtent (OverEntry es n) (from + 1) (length es) other_to) (sym lasts) (IsExtent-window script j domain from other_to other group side other_mask other_last two) in
     record { same_end = IsExtent-same (OverEntry es last) (from + 1) (length es) to other_to x y; same_last = lasts; same_mask = masks }
@@ -147,20 +149,20 @@ pub IsJointWindow-some : JointWindowsExist
 IsJointWindow-some script domain from group mask masks exists opens has =
     let first : ℕ = epoch_at script from + 1 in
     let most : first ≤ length (commands_of script) = epoch_at-lt script from ops.Flush opens refl in
-    let g = Greatest-some (λ epoch. HasLevels script.machines domain group mask masks (state_at script epoch)) (λ epoch. HasLevels-decided script.machines domain group mask masks (state_at script epoch)) (length (commands_of script) - first) first (length (commands_of script)) (omega arith) has in
+    let span = IsSpan-some (λ epoch. HasLevels script.machines domain group mask masks (state_at script epoch)) (λ epoch. HasLevels-decided script.machines domain group mask masks (state_at script epoch)) first (length (commands_of script)) most has in
     let inside : from < length script.ops = slice_get_within script.ops from ops.Flush opens in
-    let x = IsExtent-some (OverOp script g.last) (OverOp-decided script g.last) (length script.ops - (from + 1)) (from + 1) (length script.ops) (omega arith) in
+    let x = IsExtent-some (OverOp script span.0) (OverOp-decided script span.0) (length script.ops - (from + 1)) (from + 1) (length script.ops) (omega arith) in
     let begins = x.1.begins in (
       x.0,
-      g.last,
+      span.0,
       record {
         domain_exists = exists;
         opens = opens;
-        joint = record { from_first = g.from_first; to_last = g.to_last; always = g.always; no_longer = g.no_longer };
+        joint = span.1;
         after_opening = omega (arith, begins);
         within = x.1.within;
         goes_over = λ i low high. x.1.over i (omega arith) high;
-        ends = λ less. elim (OverOp-or_ends script g.last x.0) [
+        ends = λ less. elim (OverOp-or_ends script span.0 x.0) [
           | inl over ↦ absurd (x.1.ends less over)
           | inr ends ↦ ends
         ];
@@ -182,7 +184,8 @@ IsJointWindow-same script domain from to other_to group mask other_mask masks ot
     let turned : (n : ℕ) → HasLevels script.machines domain group other_mask other_masks (state_at script n) → P n = λ n has. HasLevels-same script.machines domain group mask other_mask masks other_masks (state_at script n) both.0 both.1 has in
     let back : (n : ℕ) → P n → HasLevels script.machines domain group other_mask other_masks (state_at script n) =
     λ n has. HasLevels-same script.machines domain group other_mask mask other_masks masks (state_at script n) (sym both.0) (λ x lt lies. sym (both.1 x lt lies)) has in
-    let lasts : last ≡ other_last = Greatest-same P first (length (commands_of script)) last other_last low low' one.joint.to_last two.joint.to_last one.joint.always (λ n a b. turned n (two.joint.always n a b)) one.joint.no_longer (λ less has. two.joint.no_longer less (back (other_last + 1) has)) in
+    let other : IsSpan P first (length (commands_of script)) other_last = IsSpan-as (λ n. HasLevels script.machines domain group other_mask other_masks (state_at script n)) P first (length (commands_of script)) other_last turned back two.joint in
+    let lasts : last ≡ other_last = IsSpan-same P first (length (commands_of script)) last other_last one.joint other in
     let x = IsExtent-joint script domain from to group mask masks last one in
     let y : IsExtent (OverOp script last) (from + 1) (length script.ops) other_to = subst (λ n. IsExtent (OverOp script n) (from + 1) (length script.ops) other_to) (sym lasts) (IsExtent-joint script domain from other_to group other_mask other_masks other_last two) in
     (record { same_end = IsExtent-same (OverOp script last) (from + 1) (length script.ops) to other_to x y; same_last = lasts; same_mask = both.0 }, both.1)

@@ -11,7 +11,7 @@ use Rattle.pair_windows.proofs.HeldLevels.{HasLevels-exclusive, HasOwn}
 use Rattle.pair_windows.proofs.JointListedWindows.{IsJointWindow-listed}
 use Rattle.pair_windows.specs.AllJointWindows.{AreJointWindowsOf, CountsAsPrivate, IsUsedJointWindow, JointWindowsAreListed, PrecedesOnLevels}
 use Rattle.pair_windows.specs.JointCounted.{is_used}
-use Rattle.pair_windows.specs.Holdings.{exclusive_in, is_exclusive}
+use Rattle.pair_windows.specs.LevelSpans.{exclusive_in, is_exclusive}
 use Rattle.pair_windows.specs.JointWindows.{hits_l2, hits_l3, joint_windows, last_epoch, reaches_l3, uses_of, window_end, window_from, windows_at, windows_from, windows_in}
 use Rattle.pair_windows.specs.declared.joint_window.JointWindow.{JointWindow}
 use Rattle.lists.proofs.Pairs.{All-flat_map, AllPairs-map}

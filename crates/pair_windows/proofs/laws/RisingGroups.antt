@@ -23,7 +23,7 @@ use Rattle.pair_ops.specs.declared.op.PairOp.TheVariants as ops
 use Rattle.pair_ops.specs.declared.side_mask.SideMask.{SideMask}
 use Rattle.path_names.specs.declared.files.FileKind.{FileKind}
 use Rattle.path_names.specs.declared.files.FileKind.TheVariants.{Mode, Schemata, Tasks}
-use Rattle.pair_windows.specs.Kept.{RiseByGid}
+use Rattle.pair_windows.specs.PartitionSpans.{RiseByGid}
 use Rattle.rc_base.specs.declared.names.Mode.{Mode as ModeType}
 use Rattle.schemata_text.specs.declared.fault.TextFault.{TextFault}
 use Rattle.tree_law.specs.Refusals.{Refusal}

@@ -11,8 +11,9 @@ use Rattle.cbm.specs.Masks.{ways_of}
 use Rattle.pair_windows.specs.CdpWindows.{ends_window, owner_of_partition, window_front, window_of}
 use Rattle.pair_windows.specs.Counted.{counted_window}
 use Rattle.pair_windows.specs.Fronts.{front_of}
-use Rattle.pair_windows.specs.Kept.{stay_of}
-use Rattle.pair_windows.specs.declared.kept.Kept.{Kept}
+use Rattle.pair_windows.specs.PartitionSpans.{stay_of}
+use Rattle.pair_windows.specs.declared.partition.Partition.{Partition}
+use Rattle.spans.specs.declared.span.Span.{Span}
 use Rattle.private_lru.specs.Covered.{covered}
 use Rattle.private_lru.specs.GroupCounts.{accesses_of, covered_private_hits, hits_of_group}
 use Rattle.private_lru.specs.declared.counts.WindowCounts.{WindowCounts}
@@ -66,17 +67,17 @@ window_front-front last other (e ∷ rest) same = elim (cases_Bool (empties e.wh
 
 -- ---- counts
 
-module _ (sets domain from : ℕ) (k : Kept) (window : List SliceEntry) (front : List SliceEntry) (c : WindowCounts) where
+module _ (sets domain from : ℕ) (k : Span Partition) (window : List SliceEntry) (front : List SliceEntry) (c : WindowCounts) where
   -- the window of a partition, by the counts of its entries
   pub window_of-counted : window ≡ take (held_len k.last front) front → IsCounted sets Flush front (stay_of k) c
-      → hits_of_group (owner_of_partition k.partition) (covered sets (owner_of_partition k.partition) Flush window)
-      ≡ covered_private_hits sets (owner_of_partition k.partition) (length (ways_of k.partition.mask)) Flush window
-      → window_of sets domain from k.partition window ≡ counted_window domain from k.partition c
+      → hits_of_group (owner_of_partition k.held) (covered sets (owner_of_partition k.held) Flush window)
+      ≡ covered_private_hits sets (owner_of_partition k.held) (length (ways_of k.held.mask)) Flush window
+      → window_of sets domain from k.held window ≡ counted_window domain from k.held c
   window_of-counted is counted private =
-      let owner : ℕ = owner_of_partition k.partition in
+      let owner : ℕ = owner_of_partition k.held in
       let accesses : accesses_of owner window ≡ c.accesses = ap (accesses_of owner) is ∙ sym counted.accesses in
       let hits : hits_of_group owner window ≡ c.hits = ap (hits_of_group owner) is ∙ sym counted.hits in
       let covers : length (covered sets owner Flush window) ≡ c.covered = ap (λ (l : List SliceEntry). length (covered sets owner Flush l)) is ∙ sym counted.covers in
       let covers_hits : hits_of_group owner (covered sets owner Flush window) ≡ c.covered_hits = ap (λ (l : List SliceEntry). hits_of_group owner (covered sets owner Flush l)) is ∙ sym counted.covers_hits in
-      let privates : covered_private_hits sets owner (length (ways_of k.partition.mask)) Flush window ≡ c.covered_hits = sym private ∙ covers_hits in
+      let privates : covered_private_hits sets owner (length (ways_of k.held.mask)) Flush window ≡ c.covered_hits = sym private ∙ covers_hits in
       rw (accesses, hits, covers, covers_hits, privates) refl

@@ -1,7 +1,10 @@
 use Rattle.std.proofs.Common.{◌≡◌, ℕ, ◌+◌, ◌-◌, map, sym, ap, ◌∙◌, arith}
 use Rattle.pair_law.specs.Epochs.{state_at}
-use Rattle.pair_windows.proofs.KeptSteps.{kept_from-more}
-use Rattle.pair_windows.specs.Kept.{kept_from, kept_on}
+use Rattle.pair_windows.specs.PartitionSpans.{kept_from}
+use Rattle.pair_windows.specs.Partitions.{is_kept, is_kept_at, partitions_in}
+use Rattle.pair_windows.specs.declared.partition.Partition.{Partition}
+use Rattle.spans.proofs.laws.LongerSpans.{spans-more}
+use Rattle.spans.specs.Keeping.{span_on}
 use Rattle.pair_windows.proofs.counted.keep_until.Goals as goal
 
 pub loop-epoch-preserved : goal.loop-epoch-preserved
@@ -21,7 +24,7 @@ loop-epoch-preserved c =
       taken_to = to;
       kept_to_there =
           c.keep_on.ensures
-          ∙ (ap (λ s. map (kept_on domain s epoch) c.loop-epoch.kept.items) (ap (λ t. t.state) c.tree.ensures ∙ state)
-          ∙ (ap (map (kept_on domain (state_at script (epoch + 1)) epoch)) before.kept_to_there
-          ∙ (sym (kept_from-more script domain first (epoch - first) epoch at) ∙ ap (kept_from script domain first) one)));
+          ∙ (ap (λ s. map (span_on (λ p. is_kept domain p s) epoch) c.loop-epoch.kept.items) (ap (λ t. t.state) c.tree.ensures ∙ state)
+          ∙ (ap (map (span_on (λ p. is_kept domain p (state_at script (epoch + 1))) epoch)) before.kept_to_there
+          ∙ (sym (spans-more (λ (p : Partition). p) (is_kept_at script domain) first (partitions_in domain (state_at script first)) (epoch - first) epoch at) ∙ ap (kept_from script domain first) one)));
     }

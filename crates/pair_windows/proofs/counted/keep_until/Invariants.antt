@@ -1,6 +1,6 @@
 use Rattle.std.proofs.Common.{◌≡◌, ◌-◌}
 use Rattle.pair_windows.specs.Replays.{HasTaken}
-use Rattle.pair_windows.specs.Kept.{kept_from}
+use Rattle.pair_windows.specs.PartitionSpans.{kept_from}
 use Rattle.pair_windows.proofs.counted.keep_until.Given as goal
 
 abbrev pub invariant-loop-epoch : goal.invariant-loop-epoch

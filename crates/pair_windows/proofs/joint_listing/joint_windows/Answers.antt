@@ -1,6 +1,6 @@
-use Rattle.std.proofs.Common.{ℕ, List, ◌++◌, sym, ap, ◌∙◌}
+use Rattle.std.proofs.Common.{ℕ, List, [], ◌++◌, sym, ap, ◌∙◌}
 use Rattle.std.proofs.lemmas.List.{length-map}
-use Rattle.pair_windows.proofs.FlushedWindows.{windows-more}
+use Rattle.pair_windows.proofs.CountedWindows.{windows-more}
 use Rattle.pair_windows.proofs.QuietScripts.{joint_windows-none}
 use Rattle.pair_windows.specs.JointWindows.{windows_in}
 use Rattle.pair_windows.specs.LevelJournals.{level_journals}
@@ -23,4 +23,4 @@ pub loop-domain-preserved : goal.loop-domain-preserved
 loop-domain-preserved c =
     let j = level_journals c.args.replies.now c.args.l2.now c.args.l3.now in
     let f : ℕ → List JointWindow = λ domain. windows_in c.args.script.now domain j in
-    c.in_ok-push_domain.ensures j c.requires c.in_ok-l2.ensures c.in_ok-l3.ensures ∙ (ap (λ (l : List JointWindow). l ++ f c.loop-domain.domain) c.loop-domain.invariant ∙ windows-more f c.loop-domain.domain)
+    c.in_ok-push_domain.ensures j c.requires c.in_ok-l2.ensures c.in_ok-l3.ensures ∙ (ap (λ (l : List JointWindow). l ++ f c.loop-domain.domain) c.loop-domain.invariant ∙ windows-more f [] c.loop-domain.domain)

@@ -5,7 +5,7 @@ use Rattle.pair_ops.specs.Values.{epoch_at}
 use Rattle.pair_runs.proofs.laws.Commands.{epoch_at-le}
 use Rattle.pair_text.specs.declared.limits.TheConstants.{MOST_COMMANDS}
 use Rattle.pair_windows.proofs.FlushedWindows.{windows_from-none}
-use Rattle.pair_windows.specs.Holdings.{exclusive_in}
+use Rattle.pair_windows.specs.LevelSpans.{exclusive_in}
 use Rattle.pair_windows.specs.Segments.{IsSegment}
 use Rattle.pair_windows.specs.declared.joint_window.JointWindow.{JointWindow}
 use Rattle.pair_windows.proofs.joint_listing.push_flush.Goals as goal

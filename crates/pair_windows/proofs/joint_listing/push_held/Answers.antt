@@ -2,13 +2,14 @@ use Rattle.std.proofs.Common.{◌≡◌, ℕ, ◌+◌, ◌-◌, ◌++◌, List, 
 use Rattle.cache_core.specs.declared.entry.SliceEntry.{SliceEntry}
 use Rattle.cache_core.specs.declared.entry.What.TheVariants as whats
 use Rattle.pair_windows.proofs.FlushedWindows.{windows_from-counted}
-use Rattle.pair_windows.proofs.RisingHoldings.{RiseByGroup-held}
+use Rattle.pair_windows.proofs.RisingLevelSpans.{RiseByGroup-held}
 use Rattle.pair_windows.proofs.SegmentSteps.{length-joined}
 use Rattle.pair_windows.specs.JointCounted.{counted_windows, is_used}
-use Rattle.pair_windows.specs.Holdings.{held_from, stay_of}
+use Rattle.pair_windows.specs.LevelSpans.{held_from, stay_of}
 use Rattle.pair_windows.specs.Joined.{joined}
 use Rattle.pair_windows.specs.Segments.{IsSegment, hit_l2, hit_l3}
-use Rattle.pair_windows.specs.declared.holdings.Holding.{Holding}
+use Rattle.pair_windows.specs.declared.level_masks.LevelMasks.{LevelMasks}
+use Rattle.spans.specs.declared.span.Span.{Span}
 use Rattle.pair_windows.specs.declared.joint_window.JointWindow.{JointWindow}
 use Rattle.pair_ops.specs.Values.{epoch_at}
 use Rattle.private_lru.specs.declared.counts.WindowCounts.{WindowCounts}
@@ -27,14 +28,14 @@ counts_at-requires-clause-rising c =
     let from = c.args.replay.now in
     let to = c.take_segment.new.replay in
     let is = c.deref.ensures.value ∙ c.in_ok-part.ensures.held in
-    subst (λ (hs : List Holding). RiseByGroup (map stay_of hs)) (sym is) (RiseByGroup-held c.args.script.now c.args.domain from.tree.epoch (to.tree.epoch - from.tree.epoch))
+    subst (λ (hs : List (Span LevelMasks)). RiseByGroup (map stay_of hs)) (sym is) (RiseByGroup-held c.args.script.now c.args.domain from.tree.epoch (to.tree.epoch - from.tree.epoch))
 
 pub counts_at-requires-2-clause-rising : goal.counts_at-requires-2-clause-rising
 counts_at-requires-2-clause-rising c =
     let from = c.args.replay.now in
     let to = c.take_segment.new.replay in
     let is = c.deref-3.ensures.value ∙ c.in_ok-part.ensures.held in
-    subst (λ (hs : List Holding). RiseByGroup (map stay_of hs)) (sym is) (RiseByGroup-held c.args.script.now c.args.domain from.tree.epoch (to.tree.epoch - from.tree.epoch))
+    subst (λ (hs : List (Span LevelMasks)). RiseByGroup (map stay_of hs)) (sym is) (RiseByGroup-held c.args.script.now c.args.domain from.tree.epoch (to.tree.epoch - from.tree.epoch))
 
 pub counts_at-requires-clause-few : goal.counts_at-requires-clause-few
 counts_at-requires-clause-few c =
@@ -82,15 +83,15 @@ returns-clause-windows c = λ j played a b.
     let sets : ℕ = c.machine.result.now.sets in
     let one : AreCounted sets whats.Flush part.l2.items (map stay_of part.held.items) c2 =
     subst (λ (l : List SliceEntry). AreCounted sets whats.Flush l (map stay_of part.held.items) c2) c.deref-2.ensures.value
-    (subst (λ (hs : List Holding). AreCounted sets whats.Flush c.deref-2.result.now (map stay_of hs) c2) c.deref.ensures.value c.in_ok-l2.ensures) in
+    (subst (λ (hs : List (Span LevelMasks)). AreCounted sets whats.Flush c.deref-2.result.now (map stay_of hs) c2) c.deref.ensures.value c.in_ok-l2.ensures) in
     let two : AreCounted sets whats.Flush part.l3.items (map stay_of part.held.items) c3 =
     subst (λ (l : List SliceEntry). AreCounted sets whats.Flush l (map stay_of part.held.items) c3) c.deref-4.ensures.value
-    (subst (λ (hs : List Holding). AreCounted sets whats.Flush c.deref-4.result.now (map stay_of hs) c3) c.deref-3.ensures.value c.in_ok-l3.ensures) in
+    (subst (λ (hs : List (Span LevelMasks)). AreCounted sets whats.Flush c.deref-4.result.now (map stay_of hs) c3) c.deref-3.ensures.value c.in_ok-l3.ensures) in
     let d6 : List WindowCounts = c.deref-6.result.now in
     let d7 : List WindowCounts = c.deref-7.result.now in
     c.in_ok-push_counted.ensures
     ∙ ap (λ (l : List JointWindow). c.args.windows.now.items ++ l)
     (ap (λ (n : ℕ). filter is_used (counted_windows domain n c.deref-5.result.now d6 d7)) c.requires.epoch
-    ∙ (ap (λ (hs : List Holding). filter is_used (counted_windows domain (epoch_at script from) hs d6 d7)) c.deref-5.ensures.value
+    ∙ (ap (λ (hs : List (Span LevelMasks)). filter is_used (counted_windows domain (epoch_at script from) hs d6 d7)) c.deref-5.ensures.value
     ∙ (ap₂ (λ (xs ys : List WindowCounts). filter is_used (counted_windows domain (epoch_at script from) part.held.items xs ys)) c.deref-6.ensures.value c.deref-7.ensures.value
     ∙ windows_from-counted script j domain from last sets played c.requires.domain c.requires.flush segment h2 h3 a b part.held.items part.l2.items part.l3.items c2 c3 held es ds one two)))

@@ -1,7 +1,8 @@
 use Rattle.std.proofs.Common.{◌≡◌, ℕ, ◌+◌, ◌-◌, map, refl, sym, ap, ap₂, ◌∙◌, arith}
-use Rattle.pair_windows.proofs.HeldSteps.{held_from-taken}
-use Rattle.pair_windows.specs.Holdings.{held_from, held_on}
+use Rattle.pair_windows.proofs.LongerLevelSpans.{held_from-taken}
+use Rattle.pair_windows.specs.LevelSpans.{goes_on, held_from}
 use Rattle.pair_law.specs.State.{PairState}
+use Rattle.spans.specs.Keeping.{span_on}
 use Rattle.pair_runs.proofs.laws.Commands.{epoch_at-le}
 use Rattle.pair_text.specs.declared.limits.TheConstants.{MOST_COMMANDS}
 use Rattle.pair_windows.proofs.segments.take_op.Goals as goal
@@ -11,8 +12,8 @@ returns-then-now-epoch-clause-held c = λ first le is.
     let same = sym c.epoch-epoch.ensures ∙ (sym c.if-now-epoch.true ∙ c.epoch-now.ensures) in
     is ∙ ap (λ n. held_from c.args.script.now c.args.domain first (n - first)) same
 
-pub hold_on-requires-clause-epoch : goal.hold_on-requires-clause-epoch
-hold_on-requires-clause-epoch c =
+pub keep_on-requires-clause-epoch : goal.keep_on-requires-clause-epoch
+keep_on-requires-clause-epoch c =
     let script = c.args.script.now in
     let most = epoch_at-le script c.args.replay.now.place in
     let at = c.requires.taken.epoch in
@@ -34,6 +35,6 @@ returns-clause-held c = λ first le is.
     let was = c.epoch-epoch.ensures in
     let now = c.epoch-now.ensures in
     let one : new.tree.epoch ≡ old.tree.epoch + 1 = omega (arith, least, most, other, was, now) in
-    c.hold_on.ensures
-    ∙ (ap₂ (λ (s : PairState) (e : ℕ). map (held_on script.machines domain s e) held) (ap (λ t. t.state) c.tree.ensures) was
+    c.keep_on.ensures
+    ∙ (ap₂ (λ (s : PairState) (e : ℕ). map (span_on (λ h. goes_on script.machines domain h s) e) held) (ap (λ t. t.state) c.tree.ensures) was
     ∙ held_from-taken script domain first old new held c.take_op.ensures.taken le one is)

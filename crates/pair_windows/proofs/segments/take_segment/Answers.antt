@@ -1,8 +1,10 @@
 use Rattle.std.proofs.Common.{rules, ◌≡◌, ℕ, map, ap, ap₂, ◌∙◌}
-use Rattle.pair_windows.proofs.HeldSteps.{held_from-none}
 use Rattle.pair_windows.proofs.SegmentSteps.{IsWalked-none}
-use Rattle.pair_windows.specs.Holdings.{exclusive_in, held_from, held_to}
+use Rattle.pair_windows.specs.LevelSpans.{exclusive_in, goes_on_at, held_from, masks_of}
+use Rattle.pair_law.specs.Epochs.{state_at}
 use Rattle.pair_law.specs.State.{PairState}
+use Rattle.spans.proofs.laws.LongerSpans.{spans-none}
+use Rattle.spans.specs.Keeping.{span_to}
 use Rattle.pair_windows.proofs.segments.take_segment.Goals as goal
 
 pub take_ops-requires-clause-fresh : goal.take_ops-requires-clause-fresh
@@ -12,8 +14,8 @@ take_ops-requires-clause-fresh c =
     let from = c.args.replay.now in
     let held : c.in_ok-held.held.items ≡ held_from script domain from.tree.epoch 0 =
     c.in_ok-held.ensures
-    ∙ (ap₂ (λ (s : PairState) (n : ℕ). map (held_to domain n) (exclusive_in s)) (ap (λ t. t.state) c.tree.ensures ∙ c.requires.taken.state) c.epoch.ensures
-    ∙ held_from-none script domain from.tree.epoch) in
+    ∙ (ap₂ (λ (s : PairState) (n : ℕ). map (λ g. span_to n (masks_of domain g)) (exclusive_in s)) (ap (λ t. t.state) c.tree.ensures ∙ c.requires.taken.state) c.epoch.ensures
+    ∙ spans-none (masks_of domain) (goes_on_at script domain) from.tree.epoch (exclusive_in (state_at script from.tree.epoch))) in
     IsWalked-none script domain c.args.hits.now from _ c.requires.taken c.requires.within held (search rules) (search rules)
 
 pub returns-clause-segment : goal.returns-clause-segment

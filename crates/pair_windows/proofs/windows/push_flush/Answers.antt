@@ -12,9 +12,10 @@ use Rattle.pair_windows.specs.CdpJournals.{cdp_journals}
 use Rattle.pair_windows.specs.CdpWindows.{is_used}
 use Rattle.pair_windows.specs.Counted.{ComesBefore, counted_windows}
 use Rattle.pair_windows.specs.Fronts.{front_of}
-use Rattle.pair_windows.specs.Kept.{kept_from, stay_of}
+use Rattle.pair_windows.specs.PartitionSpans.{kept_from, stay_of}
 use Rattle.pair_windows.specs.declared.cdp_window.CdpWindow.{CdpWindow}
-use Rattle.pair_windows.specs.declared.kept.Kept.{Kept}
+use Rattle.pair_windows.specs.declared.partition.Partition.{Partition}
+use Rattle.spans.specs.declared.span.Span.{Span}
 use Rattle.run_law.specs.Journals.{At}
 use Rattle.private_lru.specs.Ends.{RiseByGroup}
 use Rattle.private_lru.specs.Tallies.{AreCounted}
@@ -70,7 +71,7 @@ counts_at-requires-clause-few_groups c =
     let few = c.requires.played.playable.few in
     let most : MOST_COMMANDS ≡ 20000 = refl in
     let is : c.deref.result.now ≡ kept_from script domain first (last - first) = c.deref.ensures.value ∙ c.in_ok-kept.ensures.kept in
-    subst (All (λ (k : Kept). k.partition.gid.0 < 2147483648)) (sym is) (gid-kept script domain first (last - first) 2147483648 (omega (arith, one, le, known, few, most)))
+    subst (All (λ (k : Span Partition). k.held.gid.0 < 2147483648)) (sym is) (gid-kept script domain first (last - first) 2147483648 (omega (arith, one, le, known, few, most)))
 
 pub counts_at-requires-clause-rising : goal.counts_at-requires-clause-rising
 counts_at-requires-clause-rising c =
@@ -80,7 +81,7 @@ counts_at-requires-clause-rising c =
     let first : ℕ = (get_or read c.args.from no_entry).epoch in
     let last : ℕ = (get_or read (c.args.from + c.front_len-len.result) no_entry).epoch in
     let is : c.deref.result.now ≡ kept_from script domain first (last - first) = c.deref.ensures.value ∙ c.in_ok-kept.ensures.kept in
-    subst (λ (ks : List Kept). RiseByGroup (map stay_of ks)) (sym is) (RiseByGroup-kept script domain first (last - first))
+    subst (λ (ks : List (Span Partition)). RiseByGroup (map stay_of ks)) (sym is) (RiseByGroup-kept script domain first (last - first))
 
 pub returns-clause-before : goal.returns-clause-before
 returns-clause-before c =
@@ -108,7 +109,7 @@ returns-clause-windows c = λ e at.
     let n : ℕ = c.front_len-len.result in
     let one = first-read script j domain from e c.requires.played c.requires.domain at flush read c.entries_in-entries.ensures no_entry in
     let two = bound-read script j domain from e c.requires.played c.requires.domain at flush read c.entries_in-entries.ensures n c.front_len-len.ensures.len no_entry in
-    let parts : List Kept = kept_parts script j domain from e c.requires.played c.requires.domain at flush in
+    let parts : List (Span Partition) = kept_parts script j domain from e c.requires.played c.requires.domain at flush in
     let is : c.in_ok-kept.kept.items ≡ parts = c.in_ok-kept.ensures.kept ∙ ap₂ (λ (a b : ℕ). kept_from script domain a (b - a)) one two in
     let front : List SliceEntry = front_of (drop (from + 1) entries) in
     let seen : take n (take (length read - (from + 1)) (drop (from + 1) read)) ≡ front = front-read script j domain from e c.requires.played c.requires.domain at flush read c.entries_in-entries.ensures n c.front_len-len.ensures.len in
@@ -116,7 +117,7 @@ returns-clause-windows c = λ e at.
     let counted : AreCounted script.machines.machine.sets whats.Flush front (map stay_of parts) c.in_ok-counts.counts.items =
     subst (λ k. AreCounted k whats.Flush front (map stay_of parts) c.in_ok-counts.counts.items) sets
     (subst (λ (l : List SliceEntry). AreCounted c.machine.result.now.sets whats.Flush l (map stay_of parts) c.in_ok-counts.counts.items) seen
-    (subst (λ (ks : List Kept). AreCounted c.machine.result.now.sets whats.Flush (take n (take (length read - (from + 1)) (drop (from + 1) read))) (map stay_of ks) c.in_ok-counts.counts.items) (c.deref.ensures.value ∙ is) c.in_ok-counts.ensures)) in
+    (subst (λ (ks : List (Span Partition)). AreCounted c.machine.result.now.sets whats.Flush (take n (take (length read - (from + 1)) (drop (from + 1) read))) (map stay_of ks) c.in_ok-counts.counts.items) (c.deref.ensures.value ∙ is) c.in_ok-counts.ensures)) in
     c.in_ok-push_counted.ensures
     ∙ ap (λ (l : List CdpWindow). c.args.windows.now.items ++ l)
     (ap₂ (λ ks cs. filter is_used (counted_windows domain from ks cs)) (c.deref-2.ensures.value ∙ is) c.deref-3.ensures.value

@@ -1,9 +1,0 @@
-use Rattle.std.proofs.Common.{List, sym, subst, ◌≡◌, None}
-use Rattle.std.specs.Prelude.{find}
-use Rattle.pair_ops.specs.declared.group.PairGroup.{PairGroup}
-use Rattle.pair_windows.proofs.FoundGroups.{filter-found_none}
-use Rattle.pair_windows.specs.Holdings.{is_exclusive}
-use Rattle.pair_windows.proofs.holdings.has_exclusive.Goals as goal
-
-pub returns-in-None : goal.returns-in-None
-returns-in-None c = λ is. filter-found_none is_exclusive c.args.tree.now.state.groups (subst (λ (gs : List PairGroup). find is_exclusive gs ≡ None) c.groups.ensures (sym c.in-None.ensures))

@@ -1,0 +1,6 @@
+use Rattle.std.proofs.Common.{◌≡◌, map, take}
+use Rattle.pair_windows.specs.LevelSpans.{stay_of}
+use Rattle.pair_windows.proofs.level_spans.stays_of.Given as goal
+
+abbrev pub invariant-loop-span : goal.invariant-loop-span
+invariant-loop-span l = l.stays.items ≡ map stay_of (take l.span-index l.held)
