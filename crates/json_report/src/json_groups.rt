@@ -16,7 +16,7 @@ use rc_base::NoMemory;
 use report_pieces::ReportText;
 use run_counts::Tally;
 use run_law::Journals;
-use run_replay::Made;
+use run_replay::MadeGroup;
 use script_ops::Script;
 use std::alloc::Global;
 
@@ -26,7 +26,7 @@ fn push_made_group(
     report: &mut ReportText,
     script: &Script,
     journals: &Journals,
-    made: Made,
+    made: MadeGroup,
     tally: &Tally,
 ) -> Result<(), NoMemory>
     requires known { made.name.0 < length script.now.names }
@@ -51,7 +51,7 @@ fn push_made(
     report: &mut ReportText,
     script: &Script,
     journals: &Journals,
-    made: &[Made],
+    made: &[MadeGroup],
     tally: &Tally,
 ) -> Result<(), NoMemory>
     requires known { AreKnownGroups script.now.names made.now }
@@ -85,7 +85,7 @@ pub(crate) fn push_groups(
     report: &mut ReportText,
     script: &Script,
     journals: &Journals,
-    made: &[Made],
+    made: &[MadeGroup],
     tally: &Tally,
 ) -> Result<(), NoMemory>
     requires counts { IsTallyOf journals.now (slice_count script.now.machine) tally.now }

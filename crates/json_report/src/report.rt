@@ -10,6 +10,7 @@ use rc_base::NoMemory;
 use report_pieces::ReportText;
 use run_counts::RunCounts;
 use run_law::{Flags, Journals, Window};
+use run_replay::made_groups;
 use script_ops::Script;
 use std::alloc::Global;
 
@@ -26,7 +27,8 @@ fn push_report(
     ensures { OnOk result (report.new ≡ report.old ++ json_of script.now journals.now flags windows.now) }
 {
     report.push(b"{".as_slice())?;
-    let made = push_commands_part(alloc, report, flags.quiet, script, journals)?;
+    push_commands_part(alloc, report, flags.quiet, script, journals)?;
+    let made = made_groups(alloc, script, journals)?;
     let counts = RunCounts::of(alloc, script, journals)?;
     push_domains(alloc, report, !flags.quiet, script, journals, &counts)?;
     push_groups(alloc, report, script, journals, &made, counts.tally())?;

@@ -14,7 +14,7 @@ use Rattle.run_law.specs.Journals.{JournalsValue}
 use Rattle.run_law.specs.declared.flags.Flags.{Flags}
 use Rattle.run_law.specs.declared.window.Window.{Window}
 use Rattle.run_replay.specs.Made.{control_of, controls}
-use Rattle.run_replay.specs.declared.made.Made.{Made}
+use Rattle.run_replay.specs.declared.made_group.MadeGroup.{MadeGroup}
 use Rattle.script_ops.specs.Values.{ScriptValue}
 use Rattle.report_text.specs.Domains.{domain_line}
 use Rattle.report_text.specs.Groups.{group_told}
@@ -28,7 +28,7 @@ pub group_told-is : (script : ScriptValue) (j : JournalsValue) (gid : ℕ) (path
 group_told-is script j gid path counts is = ap (group_told gid path) is
 
 -- the line of a group that was made
-pub group_told-made : (script : ScriptValue) (j : JournalsValue) (made : Made) (counts : Counts) → counts ≡ counted_in (is_access_of made.gid) j (slice_count script.machine)
+pub group_told-made : (script : ScriptValue) (j : JournalsValue) (made : MadeGroup) (counts : Counts) → counts ≡ counted_in (is_access_of made.gid) j (slice_count script.machine)
     → group_told made.gid (path_text script.names (Dir (Ctrl made.name))) counts ≡ group_line script j (control_of script.names made)
 group_told-made script j made counts is = group_told-is script j made.gid (path_text script.names (Dir (Ctrl made.name))) counts is
 

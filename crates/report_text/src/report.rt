@@ -1,10 +1,7 @@
 //! The report of a run.
 ghost use Rattle.std.specs.Prelude.{◌≡◌, ◌++◌, IfOk, OnOk};
 ghost use Rattle.report_text.specs.Reporting.{commands_part, report_of};
-ghost use Rattle.run_replay.specs.Made.{made_from};
-ghost use Rattle.run_replay.specs.Replayed.{AreKnownGroups};
 ghost use Rattle.run_law.specs.Runs.{IsRun};
-ghost use Rattle.tree_law.specs.State.{opening};
 
 use crate::commands::push_commands;
 use crate::text_groups::push_groups;
@@ -13,25 +10,23 @@ use rc_base::NoMemory;
 use report_pieces::ReportText;
 use run_counts::RunCounts;
 use run_law::{Flags, Journals, Window};
-use run_replay::{Made, made_groups};
+use run_replay::made_groups;
 use script_ops::Script;
 use std::alloc::Global;
 
-// Adds the lines of the commands, but not to a quiet report, and returns the control groups that they made.
+// Adds the lines of the commands, but not to a quiet report.
 fn push_commands_part(
     alloc: Global,
     report: &mut ReportText,
     script: &Script,
     journals: &Journals,
     quiet: bool,
-) -> Result<Vec<Made>, NoMemory>
+) -> Result<(), NoMemory>
     requires run { IsRun script.now journals.now }
     ensures text { OnOk result (report.new ≡ report.old ++ commands_part script.now journals.now quiet) }
-    ensures made { IfOk result (λ made. made.items ≡ made_from script.now (opening script.now.machine script.now.tasks) journals.now.tree) }
-    ensures known { IfOk result (λ made. AreKnownGroups script.now.names made.items) }
 {
     if quiet {
-        return made_groups(alloc, script, journals);
+        return Ok(());
     }
     push_commands(alloc, report, script, journals)
 }
@@ -48,9 +43,10 @@ fn push_report(
     requires run { IsRun script.now journals.now }
     ensures { OnOk result (report.new ≡ report.old ++ report_of script.now journals.now flags windows.now) }
 {
-    let made = push_commands_part(alloc, report, script, journals, flags.quiet)?;
+    push_commands_part(alloc, report, script, journals, flags.quiet)?;
     push_journal(report, flags.journal, script, journals)?;
     push_windows(report, flags.windows, windows)?;
+    let made = made_groups(alloc, script, journals)?;
     let counts = RunCounts::of(alloc, script, journals)?;
     push_groups(report, script, journals, &made, counts.tally())?;
     push_domains(report, script, journals, &counts)?;

@@ -14,7 +14,7 @@ use rc_base::NoMemory;
 use report_pieces::ReportText;
 use run_counts::Tally;
 use run_law::Journals;
-use run_replay::Made;
+use run_replay::MadeGroup;
 use script_ops::Script;
 
 // Adds the line of a control group that was made.
@@ -22,7 +22,7 @@ fn push_made_group(
     report: &mut ReportText,
     script: &Script,
     journals: &Journals,
-    made: Made,
+    made: MadeGroup,
     tally: &Tally,
 ) -> Result<(), NoMemory>
     requires known { made.name.0 < length script.now.names }
@@ -38,7 +38,7 @@ fn push_made(
     report: &mut ReportText,
     script: &Script,
     journals: &Journals,
-    made: &[Made],
+    made: &[MadeGroup],
     tally: &Tally,
 ) -> Result<(), NoMemory>
     requires known { AreKnownGroups script.now.names made.now }
@@ -70,7 +70,7 @@ pub(crate) fn push_groups(
     report: &mut ReportText,
     script: &Script,
     journals: &Journals,
-    made: &[Made],
+    made: &[MadeGroup],
     tally: &Tally,
 ) -> Result<(), NoMemory>
     requires counts { IsTallyOf journals.now (slice_count script.now.machine) tally.now }

@@ -1,3 +1,5 @@
-pub mod Entries
-pub mod Replays
+mod Entries
+mod GroupHistories
+mod Replays
+mod Serials
 pub mod laws

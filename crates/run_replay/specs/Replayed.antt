@@ -3,7 +3,7 @@
 use Rattle.std.specs.Prelude.{ℕ, ◌<◌, ◌≤◌, ◌^◌, ◌≡◌, List, All, Some, length}
 use Rattle.tree_core.specs.Named.{AreNamed}
 use Rattle.machine.specs.declared.parameters.Parameters.{Parameters}
-use Rattle.run_replay.specs.declared.made.Made.{Made}
+use Rattle.run_replay.specs.declared.made_group.MadeGroup.{MadeGroup}
 use Rattle.run_law.specs.TreeHistory.{IsCommandThat, TreeEntryValue}
 use Rattle.script_ops.specs.Canonical.{IsNamed, IsShort}
 use Rattle.script_ops.specs.Fits.{Fits}
@@ -13,21 +13,15 @@ use Rattle.tree_law.specs.State.{State, tasks_of}
 use Rattle.tree_core.specs.Values.{TreeValue}
 use Rattle.tree_law.specs.Steps.{needs, next}
 
--- the tree, and the control groups that were made so far
-pub record ReplayValue : Type 0 where
-  pub tree : TreeValue
-  pub made : List Made
-
 -- the names of groups that were made are names of the script
-abbrev pub AreKnownGroups : List (List ℕ) → List Made → Type 0
-AreKnownGroups names made = All (λ (m : Made). m.name.0 < length names) made
+abbrev pub AreKnownGroups : List (List ℕ) → List MadeGroup → Type 0
+AreKnownGroups names made = All (λ (m : MadeGroup). m.name.0 < length names) made
 
 -- a tree of the script's machine and tasks, all of whose names are the script's
-pub record IsReplay (script : ScriptValue) (r : ReplayValue) : Type 0 where
-  pub machine : r.tree.machine ≡ script.machine
-  pub tasks : tasks_of r.tree.state ≡ script.tasks
-  pub named : AreNamed script.names r.tree.state.groups
-  pub known : AreKnownGroups script.names r.made
+pub record IsReplay (script : ScriptValue) (t : TreeValue) : Type 0 where
+  pub machine : t.machine ≡ script.machine
+  pub tasks : tasks_of t.state ≡ script.tasks
+  pub named : AreNamed script.names t.state.groups
 
 -- an entry has as many counts as an op needs in this state, and its reply is the state's
 pub record IsAnsweredAs (m : Parameters) (s : State) (e : TreeEntryValue) (op : Op) : Type 0 where

@@ -1,12 +1,15 @@
-//! The tree, taken through the commands of a run once more. A call that runs out of memory answers NoMemory, and promises nothing
-//! of its `Replay` then.
+//! What the commands of a run made and gave, from its journals: the control groups, by the replies alone, and the text of each
+//! accepted read and list, by the tree before it. The tree is taken through its history once more only where a text or the tree
+//! itself is asked for, and only as far. A call that runs out of memory answers NoMemory.
 #![tactic(auto)]
 
-pub mod made;
-mod playback;
+mod group_history;
+mod made_group;
 mod replay;
 mod taken;
+mod texts;
 
-pub use made::Made;
-pub use playback::{begin, end, made_groups, push_given, take_next};
+pub use group_history::made_groups;
+pub use made_group::MadeGroup;
 pub use replay::Replay;
+pub use texts::GivenTexts;

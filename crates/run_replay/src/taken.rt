@@ -1,6 +1,5 @@
 //! Commands that the tree takes once more.
-ghost use Rattle.std.specs.Prelude.{◌≡◌, ◌+◌, ◌<◌, ◌++◌, IsTrue, OnOk, is_some, length};
-ghost use Rattle.run_replay.specs.Made.{made_by};
+ghost use Rattle.std.specs.Prelude.{◌≡◌, ◌+◌, ◌<◌, IsTrue, is_some, length};
 ghost use Rattle.run_replay.specs.Replayed.{IsCounted, IsOpOf, IsReplay};
 ghost use Rattle.run_law.specs.Entries.{entry_value};
 ghost use Rattle.run_law.specs.TreeHistory.{state_after};
@@ -9,7 +8,6 @@ ghost use Rattle.script_ops.specs.declared.limits.TheConstants.{MOST_WEIGHT};
 ghost use Rattle.tree_law.specs.Steps.{needs};
 
 use crate::replay::Replay;
-use rc_base::NoMemory;
 use run_law::TreeEntry;
 use script_ops::{Op, OpAt, Script};
 
@@ -24,35 +22,28 @@ pub(crate) fn op_of<'a>(script: &'a Script, entry: &TreeEntry) -> OpAt<'a>
     }
 }
 
-/// Takes this op of an entry once more.
-pub(crate) fn take_op(
-    replay: &mut Replay,
-    script: &Script,
-    entry: &TreeEntry,
-    op: &Op,
-) -> Result<(), NoMemory>
+// Takes this op of an entry once more.
+fn take_op(replay: &mut Replay, script: &Script, entry: &TreeEntry, op: &Op)
     requires replay { IsReplay script.now replay.old }
     requires op { IsOpOf script.now entry.now.thread entry.now.op op.now }
-    requires looks { length entry.now.looks.numbers ≡ length (needs script.now.machine replay.old.tree.state op.now) }
-    requires epoch { replay.old.tree.epoch < MOST_WEIGHT }
-    ensures replay { OnOk result (IsReplay script.now replay.new) }
-    ensures state { OnOk result (replay.new.tree.state ≡ state_after script.now.machine replay.old.tree.state entry.now.looks.numbers (op_at script.now entry.now.thread entry.now.op)) }
-    ensures epoch { OnOk result (replay.new.tree.epoch ≡ replay.old.tree.epoch + 1) }
-    ensures made { OnOk result (replay.new.made ≡ replay.old.made ++ made_by replay.old.tree.state (op_at script.now entry.now.thread entry.now.op) entry.now.reply) }
+    requires looks { length entry.now.looks.numbers ≡ length (needs script.now.machine replay.old.state op.now) }
+    requires epoch { replay.old.epoch < MOST_WEIGHT }
+    ensures replay { IsReplay script.now replay.new }
+    ensures state { replay.new.state ≡ state_after script.now.machine replay.old.state entry.now.looks.numbers (op_at script.now entry.now.thread entry.now.op) }
+    ensures epoch { replay.new.epoch ≡ replay.old.epoch + 1 }
 {
-    replay.take(op, entry.looks.items(), entry.reply)
+    replay.take(op, entry.looks.items());
 }
 
 /// Takes the op of an entry once more.
-pub(crate) fn take(replay: &mut Replay, script: &Script, entry: &TreeEntry) -> Result<(), NoMemory>
+pub(crate) fn take(replay: &mut Replay, script: &Script, entry: &TreeEntry)
     requires replay { IsReplay script.now replay.old }
-    requires counted { IsCounted script.now replay.old.tree.state (entry_value entry.now) }
-    requires epoch { replay.old.tree.epoch < MOST_WEIGHT }
-    ensures replay { OnOk result (IsReplay script.now replay.new) }
-    ensures state { OnOk result (replay.new.tree.state ≡ state_after script.now.machine replay.old.tree.state entry.now.looks.numbers (op_at script.now entry.now.thread entry.now.op)) }
-    ensures epoch { OnOk result (replay.new.tree.epoch ≡ replay.old.tree.epoch + 1) }
-    ensures made { OnOk result (replay.new.made ≡ replay.old.made ++ made_by replay.old.tree.state (op_at script.now entry.now.thread entry.now.op) entry.now.reply) }
+    requires counted { IsCounted script.now replay.old.state (entry_value entry.now) }
+    requires epoch { replay.old.epoch < MOST_WEIGHT }
+    ensures replay { IsReplay script.now replay.new }
+    ensures state { replay.new.state ≡ state_after script.now.machine replay.old.state entry.now.looks.numbers (op_at script.now entry.now.thread entry.now.op) }
+    ensures epoch { replay.new.epoch ≡ replay.old.epoch + 1 }
 {
     let op = op_of(script, entry);
-    take_op(replay, script, entry, op.get())
+    take_op(replay, script, entry, op.get());
 }

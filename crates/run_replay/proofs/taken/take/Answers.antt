@@ -10,4 +10,4 @@ op_of-op-requires c = is_some-command _ (op_at c.args.script.now c.args.entry.no
 
 pub take_op-requires-clause-looks : goal.take_op-requires-clause-looks
 take_op-requires-clause-looks c =
-    IsCommandThat-some (λ op. length c.args.entry.now.looks.numbers ≡ length (needs c.args.script.now.machine c.args.replay.now.tree.state op)) (op_at c.args.script.now c.args.entry.now.thread c.args.entry.now.op) c.get.result.now c.requires.counted (c.op_of-op.ensures.there ∙ ap (λ (o : Op). Some o) (sym c.get.ensures))
+    IsCommandThat-some (λ op. length c.args.entry.now.looks.numbers ≡ length (needs c.args.script.now.machine c.args.replay.now.state op)) (op_at c.args.script.now c.args.entry.now.thread c.args.entry.now.op) c.get.result.now c.requires.counted (c.op_of-op.ensures.there ∙ ap (λ (o : Op). Some o) (sym c.get.ensures))

@@ -1,5 +1,4 @@
 use Rattle.run_replay.proofs.Replays.{Fits-replay, IsReplay-next}
-use Rattle.run_replay.proofs.laws.Steps.{OnOk-map_three}
 use Rattle.run_replay.proofs.taken.take_op.Goals as goal
 
 pub take-requires-clause-fits : goal.take-requires-clause-fits
@@ -8,4 +7,4 @@ take-requires-clause-fits c = Fits-replay c.args.script.now c.args.replay.now c.
 pub returns-clause-replay : goal.returns-clause-replay
 returns-clause-replay c =
     let did = c.take.ensures in
-    OnOk-map_three c.take.result (λ machine state made. IsReplay-next c.args.script.now c.args.replay.now c.take.new.self c.args.op.now c.items.result.now c.args.entry.now.reply c.requires.replay c.requires.op.named c.requires.op.short machine state made) did.machine did.state did.made
+    IsReplay-next c.args.script.now c.args.replay.now c.take.new.self c.args.op.now c.items.result.now c.requires.replay c.requires.op.named c.requires.op.short did.machine did.state

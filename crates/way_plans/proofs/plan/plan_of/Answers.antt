@@ -8,7 +8,7 @@ use Rattle.way_plans.proofs.plan.plan_of.Goals as goal
 pub returns-clause-printable : goal.returns-clause-printable
 returns-clause-printable c =
     let names = c.args.script.now.names in
-    let state = c.in_ok-replay.replay.tree.state in
+    let state = c.in_ok-replay.replay.state in
     let groups : c.in_ok-groups.groups.items ≡ planned state = c.in_ok-groups.ensures ∙ ap (λ t. planned t.state) c.tree.ensures in
     record {
       named = subst (AreNamed names) (sym groups) (All-filter is_counted (IsNamed names) state.groups c.in_ok-replay.ensures.named);
