@@ -11,7 +11,7 @@ use Rattle.script_ops.specs.declared.op.Op.{Op}
 use Rattle.tree_core.specs.Values.{TreeValue}
 use Rattle.tree_law.specs.State.{State, opening}
 
--- the state of the tree before the command at a position
+-- (For proofs.) the state of the tree before the command at a position
 abbrev pub state_before : ScriptValue → List TreeEntryValue → ℕ → State
 state_before script tree position = tree_from script (opening script.machine script.tasks) (take position tree)
 
@@ -29,7 +29,7 @@ pub record HasTakenBefore (script : ScriptValue) (tree : List TreeEntryValue) (p
   pub taken : HasTaken script tree t
   pub before : t.epoch ≤ position
 
--- the tree, and the text that was asked for last
+-- (For proofs.) the tree, and the text that was asked for last
 pub record GivenTextsValue : Type 0 where
   pub tree : TreeValue
   pub latest : List ℕ

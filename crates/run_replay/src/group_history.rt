@@ -1,12 +1,11 @@
 //! The control groups that the commands of a run made, in order of creation. The tree is not played for them: a group takes the
 //! next serial number where its mkdir is accepted, and the replies tell which were.
-ghost use Rattle.std.specs.Prelude.{◌≡◌, ◌+◌, ◌<◌, ◌≤◌, ◌++◌, IfOk, OnOk, Some, length};
+ghost use Rattle.std.specs.Prelude.{◌≡◌, ◌+◌, ◌<◌, ◌≤◌, ◌++◌, IfOk, OnOk, Some};
 ghost use Rattle.std.specs.Option.{option_to_list};
 ghost use Rattle.run_law.specs.Runs.{IsRun};
 ghost use Rattle.run_replay.specs.GroupHistories.{made_as, serials_taken};
 ghost use Rattle.run_replay.specs.Made.{made_from};
 ghost use Rattle.run_replay.specs.Replayed.{AreKnownGroups};
-ghost use Rattle.script_ops.specs.Canonical.{IsNamed};
 ghost use Rattle.script_ops.specs.Values.{op_at};
 ghost use Rattle.script_ops.specs.declared.limits.TheConstants.{MOST_WEIGHT};
 ghost use Rattle.tree_law.specs.State.{opening};

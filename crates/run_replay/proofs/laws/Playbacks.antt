@@ -1,9 +1,9 @@
 -- The commands of a run by their positions, while a tree is taken through them.
-use Rattle.std.proofs.Common.{◌≡◌, ℕ, ◌+◌, ◌<◌, ◌≤◌, List, length, map, take, get_or, Some, refl, sym, ap, ◌∙◌, subst, arith}
+use Rattle.std.proofs.Common.{◌≡◌, ℕ, ◌+◌, ◌<◌, List, length, map, take, get_or, Some, sym, ap, ◌∙◌, subst, arith}
 use Rattle.std.proofs.lemmas.List.{length-map, take-map}
 use Rattle.std.proofs.lemmas.Option.{slice_get-get_or}
 use Rattle.std.proofs.Math.ListN.{get_or-map}
-use Rattle.run_replay.specs.Playbacks.{HasTaken, HasTakenBefore, state_before}
+use Rattle.run_replay.specs.Playbacks.{HasTakenBefore, state_before}
 use Rattle.run_law.specs.Entries.{entry_value}
 use Rattle.run_law.specs.Journals.{At}
 use Rattle.run_law.specs.TreeHistory.{TreeEntryValue, tree_from}
