@@ -1,5 +1,5 @@
-pub mod Alone
-pub mod Complete
+pub mod Apart
 pub mod MadeOf
 pub mod RimEndings
 pub mod SteppedPlays
+pub mod Verdicts

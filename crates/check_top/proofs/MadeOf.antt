@@ -7,7 +7,8 @@ use Rattle.call_rim.specs.declared.performed.Performed.TheVariants.{Refused, Rep
 use Rattle.check_parts.specs.BadInputs.{IsBad}
 use Rattle.check_parts.specs.declared.bad_input.BadInput.{BadInput}
 use Rattle.check_parts.specs.declared.form.Form.{Form}
-use Rattle.check_top.specs.Performances.{Refuses, TellsBad}
+use Rattle.check_top.specs.Endings.{Refuses}
+use Rattle.check_top.specs.Performances.{TellsBad}
 
 -- the line of a bad input
 pub Performs-bad : {T : Type 0} (form : Form) (reports : List ℕ → T → List ℕ → Type 0) (bytes : List ℕ) (bad : BadInput) (made : Performed T) → IsBad form bytes bad → TellsBad bad made → Performs (Refuses form) reports bytes made

@@ -1,21 +1,23 @@
--- What each status of the call says.
-use Rattle.std.specs.Prelude.{◌≡◌, ℕ, ◌<◌, ◌⊎◌, List, Option, Some, None}
-use Rattle.call_rim.specs.Outside.{IsToTheEnd, LeavesNothing, LeavesRest, Reading, TakesAll, TakesNone, TakesSome, Writing}
+-- How a call ends: the endings of `call_rim`, with what a form exports or checks, and what is promised of it.
+use Rattle.std.specs.Prelude.{◌≡◌, ℕ, is_some, IfSome, IsSomeAnd, List, Option}
+use Rattle.call_rim.specs.Endings.{LeavesBy}
+use Rattle.call_rim.specs.Endings as rim
+use Rattle.call_rim.specs.Outside.{Reading, Writing}
+use Rattle.call_rim.specs.declared.status.Status.{Status}
 use Rattle.check_parts.specs.BadInputs.{HasScript, IsBad, bad_line, most_of}
 use Rattle.check_parts.specs.Exports.{export_text}
 use Rattle.check_parts.specs.Forms.{usage_line}
 use Rattle.check_parts.specs.Inputs.{HoldsJournals}
 use Rattle.check_parts.specs.VerdictLines.{verdict_line}
 use Rattle.check_parts.specs.declared.bad_input.BadInput.{BadInput}
-use Rattle.check_parts.specs.declared.bad_input.BadInput.TheVariants.{BadJournal, BadScript, NoJournal, TooLarge}
 use Rattle.check_parts.specs.declared.form.Form.{Form}
 use Rattle.check_parts.specs.declared.form.Form.TheVariants.{Check, Export}
 use Rattle.check_parts.specs.declared.form.Play.{Play}
 use Rattle.check_parts.specs.declared.form.Play.TheVariants.{Run, Step}
-use Rattle.check_top.specs.declared.status.CheckStatus.{CheckStatus}
-use Rattle.check_top.specs.declared.status.CheckStatus.TheVariants.{Done, Refused, Usage, ReadFault, WriteFault, NoMemory, No}
+use Rattle.check_top.specs.Statuses.{ended_by}
+use Rattle.check_top.specs.declared.checked.Checked.{Checked}
+use Rattle.check_top.specs.declared.ended.CheckEnded.{CheckEnded}
 use Rattle.journal_check.specs.Verdicts.{IsVerdict}
-use Rattle.journal_check.specs.declared.verdict.Clause.{Clause}
 use Rattle.journal_check.specs.declared.verdict.Verdict.{Verdict}
 use Rattle.journal_check.specs.declared.verdict.Verdict.TheVariants as verdicts
 use Rattle.journal_text.specs.Lines.{journal_text}
@@ -25,24 +27,6 @@ use Rattle.run_law.specs.Journals.{JournalsValue}
 use Rattle.run_law.specs.Runs.{IsRun}
 use Rattle.script_ops.specs.Values.{IsLawful, ScriptValue}
 use Rattle.step_world.specs.Play.{IsPlay, IsPlayBy}
-
--- a call as it is seen from outside: the form of its words, and its source and its sink before and after
-pub record Call : Type 0 where
-  pub form : Option Form
-  pub source : Reading
-  pub sink : Writing
-
--- the call with this form, this source and this sink
-abbrev pub call_of : Option Form → Reading → Writing → Call
-call_of form source sink = record { form = form; source = source; sink = sink }
-
--- no call of the source failed
-abbrev pub ReadsWell : Call → Type 0
-ReadsWell c = c.source.faults_now ≡ c.source.faults
-
--- no call of the sink failed
-abbrev pub WritesWell : Call → Type 0
-WritesWell c = c.sink.faults_now ≡ c.sink.faults
 
 -- how a script is played: by its order lines, or in whatever order its workers take the locks, for which there are order lists by
 -- which the play of the script has just these journals
@@ -58,131 +42,60 @@ pub record Isolates (script : ScriptValue) (run : JournalsValue) : Type 0 where
   pub group_windows : BeginsGroupWindows script run
   pub lock_windows : BeginsLockWindows script run
 
--- what a verdict says besides: of a run all that is proved of every run, and nothing of other journals
+-- what a verdict says besides: of a run all that is proved of every run, and of other journals that they are none
 abbrev pub IsolatesBy : Verdict → ScriptValue → JournalsValue → Type 0
 IsolatesBy verdicts.Yes script run = Isolates script run
-IsolatesBy (verdicts.No clause) script run = Unit {0}
+IsolatesBy (verdicts.No clause) script run = IsRun script run → ⊥
 
--- The bytes that the source had are a lawful script, the journals are those of its play, and the sink took its export, all of it or a
--- beginning. The text of the journals reads back as these journals. The source has nothing left.
-pub record IsExported (c : Call) (journals : Option JournalsValue) (Takes : Writing → List ℕ → Type 0) : Type 0 where
-  pub play : Play
-  pub bytes : List ℕ
+-- the input is bad, and this is the line that says why
+pub record Refuses (form : Form) (bytes line : List ℕ) : Type 0 where
+  pub bad : BadInput
+  pub is_bad : IsBad form bytes bad
+  pub told : line ≡ bad_line bad
+
+-- The input is a lawful script, the journals are those of its play, which are a run, their text reads back as these, and the text is
+-- its export.
+pub record IsExported (play : Play) (bytes : List ℕ) (found : Checked) (text : List ℕ) : Type 0 where
   pub script : ScriptValue
-  pub run : JournalsValue
-  pub has_form : c.form ≡ Some (Export play)
-  pub to_the_end : IsToTheEnd c.source.left bytes
-  pub leaves : LeavesNothing c.source.left c.source.left_now
   pub has_script : HasScript (Export play) bytes script
   pub lawful : IsLawful script
-  pub has_run : journals ≡ Some run
-  pub is_run : IsRun script run
-  pub plays : PlaysAs play script run
-  pub isolates : Isolates script run
-  pub reads_back : IsTextOf script (journal_text script.machine run) run
-  pub text : Takes c.sink (export_text bytes script.machine run)
+  pub says : found.verdict ≡ verdicts.Yes
+  pub is_run : IsRun script found.journals
+  pub plays : PlaysAs play script found.journals
+  pub isolates : Isolates script found.journals
+  pub reads_back : IsTextOf script (journal_text script.machine found.journals) found.journals
+  pub told : text ≡ export_text bytes script.machine found.journals
 
--- The bytes that the source had hold a lawful script and journals, of which this is the verdict, and the sink took its line, all of it or a
--- beginning. The source has nothing left.
-pub record IsChecked (c : Call) (journals : Option JournalsValue) (verdict : Verdict) (Takes : Writing → List ℕ → Type 0) : Type 0 where
-  pub bytes : List ℕ
+-- The input holds a lawful script and these journals, and no others, this is their verdict, and the text is its line.
+pub record IsChecked (bytes : List ℕ) (found : Checked) (text : List ℕ) : Type 0 where
   pub script : ScriptValue
-  pub run : JournalsValue
-  pub has_form : c.form ≡ Some Check
-  pub to_the_end : IsToTheEnd c.source.left bytes
-  pub leaves : LeavesNothing c.source.left c.source.left_now
-  pub holds : HoldsJournals bytes script run
+  pub holds : HoldsJournals bytes script found.journals
+  pub alone : (other : ScriptValue) (run : JournalsValue) → HoldsJournals bytes other run → found.journals ≡ run
   pub lawful : IsLawful script
-  pub has_run : journals ≡ Some run
-  pub says : IsVerdict script run verdict
-  pub isolates : IsolatesBy verdict script run
-  pub line : Takes c.sink (verdict_line verdict)
+  pub says : IsVerdict script found.journals found.verdict
+  pub isolates : IsolatesBy found.verdict script found.journals
+  pub told : text ≡ verdict_line found.verdict
 
--- what a bad input leaves: nothing, or the rest where it was too large
-abbrev pub LeavesBad : Form → BadInput → Option (List ℕ) → Option (List ℕ) → Type 0
-LeavesBad form TooLarge left now = LeavesRest (most_of form) left now
-LeavesBad form (BadScript fault) left now = LeavesNothing left now
-LeavesBad form NoJournal left now = LeavesNothing left now
-LeavesBad form (BadJournal line) left now = LeavesNothing left now
+-- what a form reports
+abbrev pub Reports : Form → List ℕ → Checked → List ℕ → Type 0
+Reports (Export play) = IsExported play
+Reports Check = IsChecked
 
--- The bytes that the source had are bad, there are no journals, and the sink took the line that says why, all of it or a beginning.
--- The source has nothing left, or, where its bytes were too many, the rest.
-pub record IsRefused (c : Call) (journals : Option JournalsValue) (Takes : Writing → List ℕ → Type 0) : Type 0 where
-  pub form : Form
-  pub bytes : List ℕ
-  pub bad : BadInput
-  pub has_form : c.form ≡ Some form
-  pub to_the_end : IsToTheEnd c.source.left bytes
-  pub leaves : LeavesBad form bad c.source.left c.source.left_now
-  pub is_bad : IsBad form bytes bad
-  pub no_run : journals ≡ None
-  pub line : Takes c.sink (bad_line bad)
+-- what a command line refuses: nothing, where it is not valid
+abbrev pub refuses_by : Option Form → List ℕ → List ℕ → Type 0
+refuses_by form bytes line = IsSomeAnd form (λ form. Refuses form bytes line)
 
--- The command line is not valid, the source has all that it had, there are no journals, and the sink took the usage line, all of
--- it or a beginning.
-pub record IsUsage (c : Call) (journals : Option JournalsValue) (Takes : Writing → List ℕ → Type 0) : Type 0 where
-  pub no_form : c.form ≡ None
-  pub leaves : c.source.left_now ≡ c.source.left
-  pub no_run : journals ≡ None
-  pub line : Takes c.sink usage_line
+-- what it reports: nothing, where it is not valid
+abbrev pub reports_by : Option Form → List ℕ → Checked → List ℕ → Type 0
+reports_by form bytes found text = IsSomeAnd form (λ form. Reports form bytes found text)
 
--- The command line is valid, the source failed, there are no journals, and the sink took nothing.
-pub record IsReadFault (c : Call) (journals : Option JournalsValue) : Type 0 where
-  pub form : Form
-  pub has_form : c.form ≡ Some form
-  pub fault : c.source.faults < c.source.faults_now
-  pub no_run : journals ≡ None
-  pub nothing : TakesNone c.sink
-
--- The command line is valid, memory ran out, there are no journals, and the sink took nothing.
-pub record IsNoMemory (c : Call) (journals : Option JournalsValue) : Type 0 where
-  pub form : Form
-  pub has_form : c.form ≡ Some form
-  pub no_run : journals ≡ None
-  pub nothing : TakesNone c.sink
-
--- the sink failed, and took a beginning of the export, of the line of a verdict, of the line that says what is wrong, or of the
--- usage line
-abbrev pub IsWriteFault : Call → Option JournalsValue → Type 0
-IsWriteFault c journals =
-    IsExported c journals TakesSome ⊎ (((verdict : Verdict) × IsChecked c journals verdict TakesSome) ⊎ (IsRefused c journals TakesSome ⊎ IsUsage c journals TakesSome))
-
--- What a status says of its call and of its journals.
-abbrev pub Ends : Call → CheckStatus → Option JournalsValue → Type 0
-Ends c Done journals = ReadsWell c × (IsExported c journals TakesAll ⊎ IsChecked c journals verdicts.Yes TakesAll)
-Ends c Refused journals = ReadsWell c × IsRefused c journals TakesAll
-Ends c Usage journals = ReadsWell c × IsUsage c journals TakesAll
-Ends c ReadFault journals = IsReadFault c journals
-Ends c WriteFault journals = ReadsWell c × IsWriteFault c journals
-Ends c NoMemory journals = ReadsWell c × IsNoMemory c journals
-Ends c No journals = ReadsWell c × ((clause : Clause) × IsChecked c journals (verdicts.No clause) TakesAll)
-
--- the journals that are handed back of a check are the only ones that its input holds
-abbrev pub AreAlone : Call → Option JournalsValue → Type 0
-AreAlone c journals =
-    (bytes : List ℕ) (script : ScriptValue) (run found : JournalsValue)
-    → c.form ≡ Some Check → c.source.left ≡ Some bytes → HoldsJournals bytes script run → journals ≡ Some found → found ≡ run
-
--- ---- which status is due
-
--- nothing is wrong with the input
-abbrev pub IsGood : Form → List ℕ → Type 0
-IsGood form bytes = (why : BadInput) → IsBad form bytes why → ⊥
-
--- the call has this form, the source had these bytes, and nothing failed
-pub record HasInput (c : Call) (form : Form) (bytes : List ℕ) : Type 0 where
-  pub has_form : c.form ≡ Some form
-  pub had : c.source.left ≡ Some bytes
-  pub reads_well : ReadsWell c
-  pub writes_well : WritesWell c
-
--- The status when nothing fails, unless memory runs out: Refused where the input is bad, and where it is not Done for an export, and
--- for a check Done where the journals that it holds are a run of its script, and No where they are none. Any other command line gets
--- Usage, whatever becomes of the source.
-pub record IsComplete (c : Call) (status : CheckStatus) : Type 0 where
-  pub bad : (form : Form) (bytes : List ℕ) (why : BadInput) → HasInput c form bytes → IsBad form bytes why → (status ≡ Refused) ⊎ (status ≡ NoMemory)
-  pub exported : (play : Play) (bytes : List ℕ) → HasInput c (Export play) bytes → IsGood (Export play) bytes → (status ≡ Done) ⊎ (status ≡ NoMemory)
-  pub checked : (bytes : List ℕ) → HasInput c Check bytes → IsGood Check bytes → (status ≡ Done) ⊎ ((status ≡ No) ⊎ (status ≡ NoMemory))
-  pub yes : (bytes : List ℕ) (script : ScriptValue) (run : JournalsValue) → HasInput c Check bytes → HoldsJournals bytes script run → IsRun script run → (status ≡ Done) ⊎ (status ≡ NoMemory)
-  pub no : (bytes : List ℕ) (script : ScriptValue) (run : JournalsValue) → HasInput c Check bytes → HoldsJournals bytes script run → (IsRun script run → ⊥) → (status ≡ No) ⊎ (status ≡ NoMemory)
-  pub by_words : c.form ≡ None → WritesWell c → status ≡ Usage
+-- A call with words of this form ended as the rim has it, with the status that is due, and hands this back: No in place of Done where
+-- the verdict is no, and the journals that were found. Of the source it leaves the rest behind one byte more than is taken, unless the
+-- source failed or memory ran out.
+pub record Ends (form : Option Form) (source : Reading) (sink : Writing) (ended : CheckEnded) : Type 0 where
+  pub status : Status
+  pub found : Option Checked
+  pub ends : rim.Ends (refuses_by form) (reports_by form) (rim.call_of (is_some form) usage_line source sink) status found
+  pub complete : rim.IsComplete (refuses_by form) (rim.call_of (is_some form) usage_line source sink) status
+  pub leaves : IfSome form (λ form. LeavesBy (most_of form) source status)
+  pub told : ended ≡ ended_by status found

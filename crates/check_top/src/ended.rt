@@ -1,6 +1,6 @@
 //! How a call ended.
 ghost use Rattle.std.specs.Prelude.{◌≡◌, None, Some};
-ghost use Rattle.check_top.specs.Statuses.{check_ended, export_ended};
+ghost use Rattle.check_top.specs.Statuses.{ended_by};
 
 use crate::checked::Checked;
 use crate::status::{CheckStatus, status_of, status_with};
@@ -17,19 +17,9 @@ pub struct CheckEnded {
     pub journals: Option<Journals>,
 }
 
-/// The end of a call whose outcome is the journals of an export.
-pub(crate) fn exported(ended: Ended<Journals>) -> CheckEnded
-    ensures { result ≡ export_ended ended.status ended.outcome }
-{
-    CheckEnded {
-        status: status_of(ended.status),
-        journals: ended.outcome,
-    }
-}
-
 // The end of a call that found these journals and this verdict.
 fn with_verdict(status: Status, found: Checked) -> CheckEnded
-    ensures { result ≡ check_ended status (Some found) }
+    ensures { result ≡ ended_by status (Some found) }
 {
     let Checked { journals, verdict } = found;
     CheckEnded {
@@ -38,23 +28,23 @@ fn with_verdict(status: Status, found: Checked) -> CheckEnded
     }
 }
 
-/// The end of a call whose outcome is what a check found.
+// An end with no journals.
+fn without_journals(status: Status) -> CheckEnded
+    ensures { result ≡ ended_by status None }
+{
+    CheckEnded {
+        status: status_of(status),
+        journals: None,
+    }
+}
+
+/// The end of a call of the rim.
 pub(crate) fn checked(ended: Ended<Checked>) -> CheckEnded
-    ensures { result ≡ check_ended ended.status ended.outcome }
+    ensures { result ≡ ended_by ended.status ended.outcome }
 {
     let Ended { status, outcome } = ended;
     match outcome {
         Some(found) => with_verdict(status, found),
         None => without_journals(status),
-    }
-}
-
-/// An end with no journals.
-pub(crate) fn without_journals(status: Status) -> CheckEnded
-    ensures { result ≡ export_ended status None }
-{
-    CheckEnded {
-        status: status_of(status),
-        journals: None,
     }
 }

@@ -5,13 +5,15 @@ ghost use Rattle.call_rim.specs.Within.{RefusesWithin, ReportsWithin};
 ghost use Rattle.check_parts.specs.BadInputs.{HasScript};
 ghost use Rattle.check_parts.specs.declared.form.Form.TheVariants.{Export};
 ghost use Rattle.check_parts.specs.declared.form.Play.TheVariants.{Run};
-ghost use Rattle.check_top.specs.Endings.{PlaysAs};
-ghost use Rattle.check_top.specs.Performances.{Exports, Refuses, TellsBad};
+ghost use Rattle.check_top.specs.Endings.{IsExported, PlaysAs, Refuses};
+ghost use Rattle.check_top.specs.Performances.{TellsBad};
 ghost use Rattle.run_law.specs.Runs.{IsRun};
 
+use crate::checked::Checked;
 use crate::theorems::{runs_isolate, runs_read_back};
 use call_rim::Performed;
 use check_parts::{BadInput, InputError, bad_line_of, export_text, script_in};
+use journal_check::Verdict;
 use rc_base::NoMemory;
 use rc_stream::Gate;
 use run_law::Journals;
@@ -21,7 +23,7 @@ use std::sync::Wait;
 use std::thread::Threads;
 
 /// The line that says what is wrong with an input.
-pub(crate) fn refuse<T: Drop>(alloc: Global, bad: BadInput) -> Performed<T>
+pub(crate) fn refuse(alloc: Global, bad: BadInput) -> Performed<Checked>
     ensures { TellsBad bad result }
 {
     match bad_line_of(alloc, bad) {
@@ -36,9 +38,9 @@ fn export_of(
     bytes: Vec<u8>,
     script: &Script,
     journals: Journals,
-) -> Performed<Journals>
+) -> Performed<Checked>
     requires { IsRun script.now journals }
-    ensures { (play : _) → HasScript (Export play) bytes.items script.now → PlaysAs play script.now journals → Performs (Refuses (Export play)) (Exports play) bytes.items result }
+    ensures { (play : _) → HasScript (Export play) bytes.items script.now → PlaysAs play script.now journals → Performs (Refuses (Export play)) (IsExported play) bytes.items result }
 {
     // A script that was read is lawful.
     let _threads = script.threads();
@@ -46,7 +48,10 @@ fn export_of(
     runs_read_back();
     match export_text(alloc, bytes, script.machine(), &journals) {
         Ok(report) => Performed::Reported {
-            outcome: journals,
+            outcome: Checked {
+                journals,
+                verdict: Verdict::Yes,
+            },
             report,
         },
         Err(NoMemory) => Performed::NoMemory,
@@ -54,8 +59,8 @@ fn export_of(
 }
 
 // The export of a script that is played by its order lines.
-fn step_script(alloc: Global, bytes: Vec<u8>, script: &Script) -> Performed<Journals>
-    ensures { (play : _) → HasScript (Export play) bytes.items script.now → Performs (Refuses (Export play)) (Exports play) bytes.items result }
+fn step_script(alloc: Global, bytes: Vec<u8>, script: &Script) -> Performed<Checked>
+    ensures { (play : _) → HasScript (Export play) bytes.items script.now → Performs (Refuses (Export play)) (IsExported play) bytes.items result }
 {
     match step_world::play(alloc, script) {
         Ok(journals) => export_of(alloc, bytes, script, journals),
@@ -64,9 +69,9 @@ fn step_script(alloc: Global, bytes: Vec<u8>, script: &Script) -> Performed<Jour
 }
 
 /// The export of an input that is played by its order lines, or what is wrong with the input.
-pub(crate) fn step_bytes(alloc: Global, bytes: Vec<u8>) -> Performed<Journals>
+pub(crate) fn step_bytes(alloc: Global, bytes: Vec<u8>) -> Performed<Checked>
     requires { length bytes.items ≤ MOST_SCRIPT_BYTES }
-    ensures { (play : _) → Performs (Refuses (Export play)) (Exports play) bytes.items result }
+    ensures { (play : _) → Performs (Refuses (Export play)) (IsExported play) bytes.items result }
 {
     match script_in(alloc, &bytes) {
         Ok(script) => step_script(alloc, bytes, &script),
@@ -82,8 +87,8 @@ fn run_script<R: Threads + Wait + Sync, G: Gate>(
     bytes: Vec<u8>,
     script: &Script,
     gate: &G,
-) -> Performed<Journals>
-    ensures { HasScript (Export Run) bytes.items script.now → Performs (Refuses (Export Run)) (Exports Run) bytes.items result }
+) -> Performed<Checked>
+    ensures { HasScript (Export Run) bytes.items script.now → Performs (Refuses (Export Run)) (IsExported Run) bytes.items result }
 {
     match live_run::play(rt, alloc, script, gate) {
         Ok(journals) => export_of(alloc, bytes, script, journals),
@@ -98,8 +103,8 @@ pub(crate) fn run_bytes<R: Threads + Wait + Sync, G: Gate>(
     alloc: Global,
     bytes: Vec<u8>,
     gate: &G,
-) -> Performed<Journals>
-    ensures { Performs (RefusesWithin MOST_SCRIPT_BYTES (Refuses (Export Run))) (ReportsWithin MOST_SCRIPT_BYTES (Exports Run)) bytes.items result }
+) -> Performed<Checked>
+    ensures { Performs (RefusesWithin MOST_SCRIPT_BYTES (Refuses (Export Run))) (ReportsWithin MOST_SCRIPT_BYTES (IsExported Run)) bytes.items result }
 {
     if bytes.len() > MOST_SCRIPT_BYTES {
         return refuse(alloc, BadInput::TooLarge);

@@ -4,7 +4,6 @@ ghost use Rattle.std.specs.Process.{exit_status};
 ghost use Rattle.call_rim.specs.Outside.{reading_of, writing_of};
 ghost use Rattle.check_parts.specs.Forms.{form_of as form_in};
 ghost use Rattle.check_top.specs.Codes.{EndsWith};
-ghost use Rattle.check_top.specs.Endings.{call_of};
 ghost use Rattle.check_top.specs.Statuses.{code_of};
 ghost use Rattle.check_top.specs.declared.status.CheckStatus.TheVariants.{NoMemory as OutOfMemory};
 
@@ -29,9 +28,9 @@ pub fn run_check<R: Threads + Wait + Sync, S: Source, K: Sink, G: Gate>(
 ) -> ExitCode
     requires source { S.faults source.old < 2 ^ 64 - 1 }
     requires sink { K.faults sink.old < 2 ^ 64 - 1 }
-    ensures ends { IfOk words (λ words. EndsWith (call_of (form_in words.items)
+    ensures ends { IfOk words (λ words. EndsWith (form_in words.items)
         (reading_of S.left S.faults source.old source.new)
-        (writing_of K.taken K.held K.faults sink.old sink.new)) (exit_status result)) }
+        (writing_of K.taken K.held K.faults sink.old sink.new) (exit_status result)) }
     ensures unread { IfOk words (λ words. form_in words.items ≡ None → source.new ≡ source.old) }
     ensures memory { OnErr words (exit_status result ≡ code_of OutOfMemory) }
     ensures untouched { OnErr words ((source.new ≡ source.old) × (sink.new ≡ sink.old)) }

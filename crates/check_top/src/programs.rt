@@ -1,7 +1,7 @@
 //! What `export` and `check` make of their inputs.
 ghost use Rattle.check_parts.specs.declared.form.Form.TheVariants.{Check, Export};
 ghost use Rattle.check_parts.specs.declared.limits.TheConstants.{MOST_CHECK_BYTES};
-ghost use Rattle.check_top.specs.Performances.{Checks, Exports, Refuses};
+ghost use Rattle.check_top.specs.Endings.{IsChecked, IsExported, Refuses};
 ghost use Rattle.script_ops.specs.declared.limits.TheConstants.{MOST_SCRIPT_BYTES};
 
 use crate::checked::Checked;
@@ -9,7 +9,6 @@ use crate::checking::check_bytes;
 use crate::exporting::step_bytes;
 use call_rim::{Performed, Program};
 use check_parts::{MOST_CHECK_BYTES, Play};
-use run_law::Journals;
 use script_ops::MOST_SCRIPT_BYTES;
 use std::alloc::Global;
 
@@ -20,19 +19,19 @@ pub(crate) struct ExportProgram {
 }
 
 impl Program for ExportProgram {
-    type Outcome = Journals;
+    type Outcome = Checked;
 
     ghost most = { λ p. MOST_SCRIPT_BYTES };
 
     ghost refuses = { λ p. Refuses (Export p.play) };
 
-    ghost reports = { λ p. Exports p.play };
+    ghost reports = { λ p. IsExported p.play };
 
     fn most_bytes(&self) -> usize {
         MOST_SCRIPT_BYTES
     }
 
-    fn perform(&self, alloc: Global, bytes: Vec<u8>) -> Performed<Journals> {
+    fn perform(&self, alloc: Global, bytes: Vec<u8>) -> Performed<Checked> {
         step_bytes(alloc, bytes)
     }
 }
@@ -48,7 +47,7 @@ impl Program for CheckProgram {
 
     ghost refuses = { λ p. Refuses Check };
 
-    ghost reports = { λ p. Checks };
+    ghost reports = { λ p. IsChecked };
 
     fn most_bytes(&self) -> usize {
         MOST_CHECK_BYTES

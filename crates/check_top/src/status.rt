@@ -1,6 +1,6 @@
 //! How a call ends.
-ghost use Rattle.std.specs.Prelude.{◌≡◌};
-ghost use Rattle.check_top.specs.Statuses.{code_of, status_by, status_of as status_as};
+ghost use Rattle.std.specs.Prelude.{◌≡◌, None, Some};
+ghost use Rattle.check_top.specs.Statuses.{code_of, status_by};
 
 use call_rim::Status;
 use journal_check::Verdict;
@@ -36,7 +36,7 @@ impl CheckStatus {
 
 /// The status of a call that has no verdict.
 pub(crate) fn status_of(status: Status) -> CheckStatus
-    ensures { result ≡ status_as status }
+    ensures { result ≡ status_by status None }
 {
     match status {
         Status::Done => CheckStatus::Done,
@@ -50,7 +50,7 @@ pub(crate) fn status_of(status: Status) -> CheckStatus
 
 /// The status of a call that has this verdict.
 pub(crate) fn status_with(status: Status, verdict: Verdict) -> CheckStatus
-    ensures { result ≡ status_by status verdict }
+    ensures { result ≡ status_by status (Some verdict) }
 {
     match (status, verdict) {
         (Status::Done, Verdict::No { .. }) => CheckStatus::No,
