@@ -10,7 +10,7 @@ use Rattle.pair_ops.specs.declared.op.PairOp.{PairOp}
 use Rattle.pair_ops.specs.declared.op.PairOp.TheVariants as ops
 use Rattle.pair_report.specs.LinesBefore.{HasMade, commands_before, group_made, made_before, made_by, makes, path_made}
 use Rattle.pair_report.specs.MadeGroups.{GroupPath, made_from}
-use Rattle.pair_report.specs.declared.made.Made.{Made}
+use Rattle.pair_report.specs.declared.made.MadeGroup.{MadeGroup}
 use Rattle.pair_runs.proofs.laws.Playing.{epoch_at-command, epoch_at-use, filter-take_command, filter-take_use}
 use Rattle.rc_base.specs.declared.replies.Reply.{Reply}
 use Rattle.rc_base.specs.declared.replies.Reply.TheVariants as replies
@@ -57,7 +57,7 @@ group_made-by script op reply gid place at = elim (cases_Bool (makes op reply)) 
   | inr is_not ↦ rw is_not refl
 ]
 
-module _ (script : PairScriptValue) (all : List Reply) (i : ℕ) (op : PairOp) (at : op_at script i ≡ Some op) (made : List Made) (so_far : map (group_made script) made ≡ made_before script all i) where
+module _ (script : PairScriptValue) (all : List Reply) (i : ℕ) (op : PairOp) (at : op_at script i ≡ Some op) (made : List MadeGroup) (so_far : map (group_made script) made ≡ made_before script all i) where
   -- the next op is a command
   pub made_before-command : (reply : Reply) → is_command op ≡ true → slice_get all (epoch_at script i) ≡ Some reply → map (group_made script) (made ++ made_by op reply (length made + 1) i) ≡ made_before script all (i + 1)
   made_before-command reply command told =
@@ -75,9 +75,9 @@ module _ (script : PairScriptValue) (all : List Reply) (i : ℕ) (op : PairOp) (
 -- ---- the groups so far
 
 -- what a command makes has the number that it was given
-small-made_by : (op : PairOp) (reply : Reply) (gid place most : ℕ) → gid ≤ most → All (λ (m : Made). m.gid ≤ most) (made_by op reply gid place)
+small-made_by : (op : PairOp) (reply : Reply) (gid place most : ℕ) → gid ≤ most → All (λ (m : MadeGroup). m.gid ≤ most) (made_by op reply gid place)
 small-made_by op reply gid place most le = elim (cases_Bool (makes op reply)) [
-  | inl is ↦ rw is (All-one (λ (m : Made). m.gid ≤ most) (record { gid = gid; place = place }) le)
+  | inl is ↦ rw is (All-one (λ (m : MadeGroup). m.gid ≤ most) (record { gid = gid; place = place }) le)
   | inr is_not ↦ rw is_not (λ k d within. absurd (omega (arith, within)))
 ]
 
@@ -87,7 +87,7 @@ length-made_by op reply gid place = elim (cases_Bool (makes op reply)) [
   | inr is_not ↦ rw is_not (omega arith)
 ]
 
-module _ (script : PairScriptValue) (all : List Reply) (i k : ℕ) (op : PairOp) (at : op_at script i ≡ Some op) (made : List Made) (before : HasMade script all i k made) where
+module _ (script : PairScriptValue) (all : List Reply) (i k : ℕ) (op : PairOp) (at : op_at script i ≡ Some op) (made : List MadeGroup) (before : HasMade script all i k made) where
   -- the next op is a command
   pub HasMade-command : (reply : Reply) → is_command op ≡ true → slice_get all k ≡ Some reply → HasMade script all (i + 1) (k + 1) (made ++ made_by op reply (length made + 1) i)
   HasMade-command reply command told =
@@ -96,7 +96,7 @@ module _ (script : PairScriptValue) (all : List Reply) (i k : ℕ) (op : PairOp)
         commands = ap (λ n. n + 1) before.commands ∙ sym (epoch_at-command script i op at command);
         groups = made_before-command script all i op at made before.groups reply command (subst (λ n. slice_get all n ≡ Some reply) before.commands told);
         few = (let both = length-append made (made_by op reply (length made + 1) i) in let one = length-made_by op reply (length made + 1) i in omega (arith, both, one, few));
-        small = All-append (λ (m : Made). m.gid ≤ k + 1) made (made_by op reply (length made + 1) i) (λ n d within. let le = before.small n d within in omega (arith, le)) (small-made_by op reply (length made + 1) i (k + 1) (omega (arith, few)));
+        small = All-append (λ (m : MadeGroup). m.gid ≤ k + 1) made (made_by op reply (length made + 1) i) (λ n d within. let le = before.small n d within in omega (arith, le)) (small-made_by op reply (length made + 1) i (k + 1) (omega (arith, few)));
       }
 
   -- it is a use

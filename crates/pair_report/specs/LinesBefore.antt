@@ -7,7 +7,7 @@ use Rattle.pair_ops.specs.declared.op.PairOp.{PairOp}
 use Rattle.pair_ops.specs.declared.op.PairOp.TheVariants as ops
 use Rattle.pair_report.specs.MadeGroups.{GroupPath, made_from}
 use Rattle.pair_report.specs.PairCommands.{command_lines}
-use Rattle.pair_report.specs.declared.made.Made.{Made}
+use Rattle.pair_report.specs.declared.made.MadeGroup.{MadeGroup}
 use Rattle.rc_base.specs.declared.replies.Reply.{Reply}
 use Rattle.rc_base.specs.declared.replies.Reply.TheVariants as replies
 
@@ -29,7 +29,7 @@ path_made (Some (ops.Mkdir name)) = codes "/" ++ name
 path_made op = []
 
 -- a group that was made, by the place of the op that made it
-abbrev pub group_made : PairScriptValue → Made → GroupPath
+abbrev pub group_made : PairScriptValue → MadeGroup → GroupPath
 group_made script made = record { gid = made.gid; path = path_made (op_at script made.place) }
 
 -- whether a command with this reply makes a group
@@ -38,12 +38,12 @@ makes (ops.Mkdir name) replies.Ok = true
 makes op reply = false
 
 -- the group that it makes, by its serial number and the place of the op
-abbrev pub made_by : PairOp → Reply → ℕ → ℕ → List Made
+abbrev pub made_by : PairOp → Reply → ℕ → ℕ → List MadeGroup
 made_by op reply gid place = if makes op reply then record { gid = gid; place = place } ∷ [] else []
 
 -- The groups that the commands before an op made, where so many commands stand before it.
-pub record HasMade (script : PairScriptValue) (answers : List Reply) (i k : ℕ) (made : List Made) : Type 0 where
+pub record HasMade (script : PairScriptValue) (answers : List Reply) (i k : ℕ) (made : List MadeGroup) : Type 0 where
   pub commands : k ≡ epoch_at script i
   pub groups : map (group_made script) made ≡ made_before script answers i
   pub few : length made ≤ k
-  pub small : All (λ (m : Made). m.gid ≤ k) made
+  pub small : All (λ (m : MadeGroup). m.gid ≤ k) made

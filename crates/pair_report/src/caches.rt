@@ -1,28 +1,17 @@
 //! The caches of a level of a script, and what is counted in them.
 ghost use Rattle.std.specs.Prelude.{◌≡◌, ◌≤◌, IfOk, length, map};
-ghost use Rattle.machine.specs.Maps.{parameters_of};
 ghost use Rattle.pair_ops.specs.Values.{side_machine};
 ghost use Rattle.run_counts.specs.CacheCounts.{slices_alone, valid_in};
 ghost use Rattle.run_counts.specs.Tallies.{IsTallyOf};
 ghost use Rattle.run_law.specs.Entries.{entries_of};
 
 use cache_core::SliceEntry;
-use machine::Machine;
 use pair_ops::Side;
 use pair_text::PairScript;
+use pair_windows::machine_on;
 use rc_base::NoMemory;
 use run_counts::CacheCounts;
 use std::alloc::Global;
-
-/// The machine whose caches are those of a level: the L2 caches are the first side, where there are some.
-pub(crate) fn machine_on(script: &PairScript, side: Side) -> &Machine
-    ensures { parameters_of result.now ≡ side_machine script.now.machines side }
-{
-    match side {
-        Side::First => script.l2().unwrap_or(script.machine()),
-        Side::Second => script.machine(),
-    }
-}
 
 /// What is counted in the caches of a level.
 pub(crate) fn counts_on(

@@ -6,7 +6,7 @@ ghost use Rattle.pair_report.specs.CdpReport.{cdp_report_of, group_line, window_
 ghost use Rattle.pair_report.specs.LinesBefore.{group_made};
 ghost use Rattle.pair_report.specs.MadeGroups.{default_path, groups_of};
 ghost use Rattle.pair_report.specs.PairCounts.{domain_line};
-ghost use Rattle.pair_report.specs.declared.made.Made.{Made as MadeValue};
+ghost use Rattle.pair_report.specs.declared.made.MadeGroup.{MadeGroup as MadeGroupValue};
 ghost use Rattle.pair_windows.specs.CdpJournals.{IsPlayed, cdp_journals};
 ghost use Rattle.pair_windows.specs.CdpWindows.{cdp_windows};
 ghost use Rattle.run_counts.specs.CacheCounts.{slices_alone, valid_in};
@@ -19,7 +19,7 @@ use crate::cdp_window_lines::push_windows;
 use crate::commands::push_commands;
 use crate::counts::push_total;
 use crate::domains::push_domain;
-use crate::made::{Made, made_groups};
+use crate::made::{MadeGroup, made_groups};
 use cache_core::SliceEntry;
 use pair_ops::Side;
 use pair_text::PairScript;
@@ -52,11 +52,11 @@ fn push_lines(
     report: &mut ReportText,
     script: &PairScript,
     slices: &[Vec<SliceEntry>],
-    made: &[Made],
+    made: &[MadeGroup],
     counts: &CacheCounts,
 ) -> Result<(), NoMemory>
     requires one_each { length slices.now ≡ script.now.machines.machine.domains }
-    requires small { All (λ (m : MadeValue). m.gid < 2 ^ 31) made.now }
+    requires small { All (λ (m : MadeGroupValue). m.gid < 2 ^ 31) made.now }
     requires tally { IsTallyOf (slices_alone (map entries_of slices.now)) (length (map entries_of slices.now)) counts.now.tally }
     requires valid { counts.now.valid ≡ valid_in script.now.machines.machine (map entries_of slices.now) }
     ensures { OnOk result (report.new ≡ report.old ++ (flat_map (group_line (map entries_of slices.now)) (default_path ∷ map (group_made script.now) made.now)

@@ -7,14 +7,14 @@ ghost use Rattle.pair_report.specs.CdpReport.{group_line};
 ghost use Rattle.pair_report.specs.LinesBefore.{group_made};
 ghost use Rattle.pair_report.specs.MadeGroups.{default_path};
 ghost use Rattle.pair_report.specs.PairCounts.{owner_counts};
-ghost use Rattle.pair_report.specs.declared.made.Made.{Made as MadeValue};
+ghost use Rattle.pair_report.specs.declared.made.MadeGroup.{MadeGroup as MadeGroupValue};
 ghost use Rattle.run_counts.specs.CacheCounts.{slices_alone};
 ghost use Rattle.run_counts.specs.Tallies.{IsTallyOf};
 ghost use Rattle.run_law.specs.Entries.{entries_of};
 
 use crate::counts::push_sides;
 use crate::groups::{push_gid, push_path};
-use crate::made::Made;
+use crate::made::MadeGroup;
 use cache_core::SliceEntry;
 use pair_text::PairScript;
 use rc_base::NoMemory;
@@ -83,7 +83,7 @@ fn push_made_group(
     report: &mut ReportText,
     script: &PairScript,
     slices: &[Vec<SliceEntry>],
-    made: Made,
+    made: MadeGroup,
     tally: &Tally,
 ) -> Result<(), NoMemory>
     requires counts { IsTallyOf (slices_alone (map entries_of slices.now)) (length (map entries_of slices.now)) tally.now }
@@ -100,11 +100,11 @@ fn push_made(
     report: &mut ReportText,
     script: &PairScript,
     slices: &[Vec<SliceEntry>],
-    made: &[Made],
+    made: &[MadeGroup],
     tally: &Tally,
 ) -> Result<(), NoMemory>
     requires counts { IsTallyOf (slices_alone (map entries_of slices.now)) (length (map entries_of slices.now)) tally.now }
-    requires small { All (λ (m : MadeValue). m.gid < 2 ^ 31) made.now }
+    requires small { All (λ (m : MadeGroupValue). m.gid < 2 ^ 31) made.now }
     ensures { OnOk result (report.new ≡ report.old ++ flat_map (group_line (map entries_of slices.now)) (map (group_made script.now) made.now)) }
 {
     for group in made {
@@ -118,11 +118,11 @@ pub(crate) fn push_groups(
     report: &mut ReportText,
     script: &PairScript,
     slices: &[Vec<SliceEntry>],
-    made: &[Made],
+    made: &[MadeGroup],
     tally: &Tally,
 ) -> Result<(), NoMemory>
     requires counts { IsTallyOf (slices_alone (map entries_of slices.now)) (length (map entries_of slices.now)) tally.now }
-    requires small { All (λ (m : MadeValue). m.gid < 2 ^ 31) made.now }
+    requires small { All (λ (m : MadeGroupValue). m.gid < 2 ^ 31) made.now }
     ensures { OnOk result (report.new ≡ report.old ++ flat_map (group_line (map entries_of slices.now)) (default_path ∷ map (group_made script.now) made.now)) }
 {
     push_group_at(report, slices, tally, 0, b"/".as_slice())?;

@@ -13,18 +13,18 @@ ghost use Rattle.run_counts.specs.CacheCounts.{slices_alone, valid_in};
 ghost use Rattle.run_counts.specs.Tallies.{IsTallyOf};
 ghost use Rattle.run_law.specs.Entries.{entries_of};
 
-use crate::caches::{counts_on, machine_on};
+use crate::caches::counts_on;
 use crate::commands::push_commands;
 use crate::counts::push_total;
 use crate::domains::push_domain;
 use crate::level_groups::push_groups;
 use crate::level_window_lines::push_windows;
-use crate::made::{Made, made_groups};
+use crate::made::{MadeGroup, made_groups};
 use cache_core::SliceEntry;
 use machine::Machine;
 use pair_ops::Side;
 use pair_text::PairScript;
-use pair_windows::JointWindow;
+use pair_windows::{JointWindow, machine_on};
 use rc_base::{NoMemory, Reply};
 use report_pieces::ReportText;
 use run_counts::CacheCounts;
@@ -85,7 +85,7 @@ fn push_lines(
     script: &PairScript,
     l2: &[Vec<SliceEntry>],
     l3: &[Vec<SliceEntry>],
-    made: &[Made],
+    made: &[MadeGroup],
     first: &CacheCounts,
     second: &CacheCounts,
 ) -> Result<(), NoMemory>

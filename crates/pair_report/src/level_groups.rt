@@ -11,7 +11,7 @@ ghost use Rattle.run_law.specs.Entries.{entries_of};
 
 use crate::counts::push_sides;
 use crate::groups::{push_gid, push_path};
-use crate::made::Made;
+use crate::made::MadeGroup;
 use cache_core::SliceEntry;
 use pair_text::PairScript;
 use rc_base::NoMemory;
@@ -70,7 +70,7 @@ fn push_made_group(
     script: &PairScript,
     l2: &[Vec<SliceEntry>],
     l3: &[Vec<SliceEntry>],
-    made: Made,
+    made: MadeGroup,
     l2_tally: &Tally,
     l3_tally: &Tally,
 ) -> Result<(), NoMemory>
@@ -89,7 +89,7 @@ fn push_made(
     script: &PairScript,
     l2: &[Vec<SliceEntry>],
     l3: &[Vec<SliceEntry>],
-    made: &[Made],
+    made: &[MadeGroup],
     l2_tally: &Tally,
     l3_tally: &Tally,
 ) -> Result<(), NoMemory>
@@ -109,7 +109,7 @@ pub(crate) fn push_groups(
     script: &PairScript,
     l2: &[Vec<SliceEntry>],
     l3: &[Vec<SliceEntry>],
-    made: &[Made],
+    made: &[MadeGroup],
     l2_tally: &Tally,
     l3_tally: &Tally,
 ) -> Result<(), NoMemory>

@@ -4,7 +4,7 @@ ghost use Rattle.pair_ops.specs.Values.{commands_of};
 ghost use Rattle.pair_windows.specs.Replays.{IsPlayable};
 ghost use Rattle.pair_report.specs.LinesBefore.{HasMade, group_made, made_by, makes};
 ghost use Rattle.pair_report.specs.MadeGroups.{made_from};
-ghost use Rattle.pair_report.specs.declared.made.Made.{Made as MadeValue};
+ghost use Rattle.pair_report.specs.declared.made.MadeGroup.{MadeGroup as MadeGroupValue};
 
 use crate::counts::reply_at;
 use pair_ops::PairOp;
@@ -15,7 +15,7 @@ use std::alloc::Global;
 
 /// A group that was made: its serial number, and the place of the op that made it.
 #[derive(Clone, Copy, Debug, PartialEq, Eq, Drop)]
-pub(crate) struct Made {
+pub(crate) struct MadeGroup {
     /// The serial number, from 1.
     pub gid: u32,
     /// The place of the op.
@@ -30,20 +30,25 @@ fn makes(op: &PairOp, reply: Reply) -> bool
 }
 
 // Adds the group that a command makes, where it makes one.
-fn push_made(made: &mut Vec<Made>, op: &PairOp, reply: Reply, place: usize) -> Result<(), NoMemory>
+fn push_made(
+    made: &mut Vec<MadeGroup>,
+    op: &PairOp,
+    reply: Reply,
+    place: usize,
+) -> Result<(), NoMemory>
     requires { length made.old.items + 1 < 2 ^ 32 }
     ensures { OnOk result (made.new.items ≡ made.old.items ++ made_by op.now reply (length made.old.items + 1) place) }
 {
     if makes(op, reply) {
         let gid = made.len() as u32 + 1;
-        made.push(Made { gid, place })?;
+        made.push(MadeGroup { gid, place })?;
     }
     Ok(())
 }
 
 // Takes the next op, before which so many commands stand, and returns how many stand before the one after it.
 fn take_op(
-    made: &mut Vec<Made>,
+    made: &mut Vec<MadeGroup>,
     script: &PairScript,
     replies: &[Reply],
     i: usize,
@@ -68,13 +73,13 @@ pub(crate) fn made_groups(
     alloc: Global,
     script: &PairScript,
     replies: &[Reply],
-) -> Result<Vec<Made>, NoMemory>
+) -> Result<Vec<MadeGroup>, NoMemory>
     requires playable { IsPlayable script.now }
     requires answered { length replies.now ≡ length (commands_of script.now) }
     ensures made { IfOk result (λ made. map (group_made script.now) made.items ≡ made_from 1 (commands_of script.now) replies.now) }
-    ensures few { IfOk result (λ made. All (λ (m : MadeValue). m.gid < 2 ^ 31) made.items) }
+    ensures few { IfOk result (λ made. All (λ (m : MadeGroupValue). m.gid < 2 ^ 31) made.items) }
 {
-    let mut made: Vec<Made> = Vec::new(alloc);
+    let mut made: Vec<MadeGroup> = Vec::new(alloc);
     let mut k = 0;
     for i in 0..script.ops().len() {
         k = take_op(&mut made, script, replies, i, k)?;
