@@ -7,9 +7,9 @@ ghost use Rattle.journal_text.specs.States.{nothing_read};
 
 use crate::fault::ReadError;
 use crate::keeper::Keeper;
+use crate::kept_journals::KeptJournals;
 use crate::reader::Reader;
 use crate::weight::script_weight;
-use crate::kept_journals::KeptJournals;
 use num_text::cut;
 use rc_base::NoMemory;
 use run_law::Journals;
