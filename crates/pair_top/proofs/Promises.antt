@@ -1,14 +1,13 @@
 -- What the calls promise, by the form of their words.
 use Rattle.std.proofs.Common.{◌≡◌, ℕ, Bool, true, false, List, Option, Some, None, refl, subst}
-use Rattle.call_rim.proofs.laws.Ends.{Ends-usage}
-use Rattle.call_rim.specs.Endings.{Call, Ends, Says, call_of}
+use Rattle.call_rim.proofs.laws.Ends.{Ends-usage, IsComplete-ends}
+use Rattle.call_rim.specs.Endings.{Call, Ends, IsComplete, Says, call_of}
 use Rattle.call_rim.specs.Outside.{Reading, Writing}
 use Rattle.call_rim.specs.Within.{ReportsWithin}
 use Rattle.call_rim.specs.declared.status.Status.{Status}
 use Rattle.call_rim.specs.declared.status.Status.TheVariants as statuses
 use Rattle.pair_text.specs.declared.kind.PairKind.{PairKind}
-use Rattle.pair_top.proofs.Complete.{HasScript, complete}
-use Rattle.pair_top.specs.Endings.{IsComplete}
+use Rattle.pair_top.proofs.Apart.{HasScript, apart}
 use Rattle.pair_top.specs.Forms.{is_quiet, is_valid, usage_line}
 use Rattle.pair_top.specs.Refusals.{refuses}
 use Rattle.pair_top.specs.declared.words.Form.{Form}
@@ -26,12 +25,12 @@ module _ {T : Type 0} (kind : PairKind) (Plays : Bool → List ℕ → T → Lis
   -- how it ended, and that this status was due
   pub record IsPromised (form : Option Form) (status : Status) (journals : Option T) : Type 0 where
     pub ends : Ends (refuses kind) (reports_of (is_quiet form)) (call_with form) status journals
-    pub complete : IsComplete kind (call_with form) status
+    pub complete : IsComplete (refuses kind) (call_with form) status
 
   promised-by : (form : Option Form) (status : Status) (journals : Option T) → Ends (refuses kind) (reports_of (is_quiet form)) (call_with form) status journals → IsPromised form status journals
   promised-by form status journals ends = record {
     ends = ends;
-    complete = complete kind (Plays (is_quiet form)) (plays_script (is_quiet form)) (call_with form) journals status ends;
+    complete = IsComplete-ends (refuses kind) (reports_of (is_quiet form)) (apart kind (Plays (is_quiet form)) (plays_script (is_quiet form))) (call_with form) status journals ends;
   }
 
   -- a call that read its source

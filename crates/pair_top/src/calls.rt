@@ -1,9 +1,8 @@
 //! The top calls.
 ghost use Rattle.std.specs.Prelude.{◌≡◌, ◌-◌, ◌<◌, ◌^◌, IfSome, None};
-ghost use Rattle.call_rim.specs.Endings.{Ends, LeavesBy, call_of};
+ghost use Rattle.call_rim.specs.Endings.{Ends, IsComplete, LeavesBy, call_of};
 ghost use Rattle.call_rim.specs.Outside.{reading_of, writing_of};
 ghost use Rattle.pair_text.specs.declared.kind.PairKind.TheVariants.{Cdp, Levels};
-ghost use Rattle.pair_top.specs.Endings.{IsComplete};
 ghost use Rattle.pair_top.specs.Forms.{form_of as form_in, is_quiet, is_valid, usage_line};
 ghost use Rattle.pair_top.specs.Refusals.{refuses};
 ghost use Rattle.pair_top.specs.Reports.{reports_cdp, reports_levels};
@@ -38,7 +37,7 @@ pub fn top_cdp<S: Source, K: Sink>(
     ensures ends { Ends (refuses Cdp) (reports_cdp (is_quiet (form_in words.now))) (call_of (is_valid (form_in words.now)) (usage_line Cdp)
         (reading_of S.left S.faults source.old source.new)
         (writing_of K.taken K.held K.faults sink.old sink.new)) result.status result.journals }
-    ensures complete { IsComplete Cdp (call_of (is_valid (form_in words.now)) (usage_line Cdp)
+    ensures complete { IsComplete (refuses Cdp) (call_of (is_valid (form_in words.now)) (usage_line Cdp)
         (reading_of S.left S.faults source.old source.new)
         (writing_of K.taken K.held K.faults sink.old sink.new)) result.status }
     ensures leaves { IfSome (form_in words.now) (λ form. LeavesBy MOST_SCRIPT_BYTES (reading_of S.left S.faults source.old source.new) result.status) }
@@ -64,7 +63,7 @@ pub fn top_l2<S: Source, K: Sink>(
     ensures ends { Ends (refuses Levels) (reports_levels (is_quiet (form_in words.now))) (call_of (is_valid (form_in words.now)) (usage_line Levels)
         (reading_of S.left S.faults source.old source.new)
         (writing_of K.taken K.held K.faults sink.old sink.new)) result.status result.journals }
-    ensures complete { IsComplete Levels (call_of (is_valid (form_in words.now)) (usage_line Levels)
+    ensures complete { IsComplete (refuses Levels) (call_of (is_valid (form_in words.now)) (usage_line Levels)
         (reading_of S.left S.faults source.old source.new)
         (writing_of K.taken K.held K.faults sink.old sink.new)) result.status }
     ensures leaves { IfSome (form_in words.now) (λ form. LeavesBy MOST_SCRIPT_BYTES (reading_of S.left S.faults source.old source.new) result.status) }
