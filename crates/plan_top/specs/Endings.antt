@@ -1,12 +1,13 @@
 -- Which status is due, and what a call read of a trace or a stream that failed.
-use Rattle.std.specs.Prelude.{◌≡◌, ℕ, ◌⊎◌, Bool, true, false, List, length, Option, Some, None, String, is_ok}
+use Rattle.std.specs.Prelude.{◌≡◌, ℕ, Bool, false, List, length, Option, Some, None, String, is_ok}
 use Rattle.std.specs.declared.alloc.Global.{Global}
 use Rattle.call_rim.specs.Codes.{code_of}
-use Rattle.call_rim.specs.Endings.{Call, Ends, LeavesBy, ReadsWell, WritesWell, call_of}
+use Rattle.call_rim.specs.Endings.{Call, Ends, LeavesBy, call_of}
+use Rattle.call_rim.specs.Endings as rim
 use Rattle.call_rim.specs.Outside.{IsGoodSoFar, Reading, Writing}
 use Rattle.call_rim.specs.Passing.{PassEnds}
 use Rattle.call_rim.specs.declared.status.Status.{Status}
-use Rattle.call_rim.specs.declared.status.Status.TheVariants.{Done, Refused, Usage, ReadFault, NoMemory}
+use Rattle.call_rim.specs.declared.status.Status.TheVariants.{ReadFault}
 use Rattle.plan_top.specs.Beginnings.{HasNoBadLine}
 use Rattle.plan_top.specs.Forms.{form_of, usage_line}
 use Rattle.plan_top.specs.Plans.{is_valid, refuses_by, reports_by}
@@ -28,13 +29,6 @@ EndsBy form source sink status outcome = Ends (refuses_by form) (reports_by form
 
 -- ---- the status that is due
 
--- the command line is valid, the source had these bytes, and nothing failed
-pub record HasInput (c : Call) (bytes : List ℕ) : Type 0 where
-  pub has_form : c.has_form ≡ true
-  pub had : c.source.left ≡ Some bytes
-  pub reads_well : ReadsWell c
-  pub writes_well : WritesWell c
-
 -- whether these bytes are what the words ask for: a trace, a script, or a stream of so many programs
 abbrev pub is_input : Option Form → List ℕ → Bool
 is_input None bytes = false
@@ -45,10 +39,8 @@ is_input (Some (Filter levels)) bytes = is_ok (trace_of bytes)
 
 -- The status when nothing fails, unless memory runs out: Done where the bytes are what the words ask for, and Refused where they are
 -- not. A command line that is not valid gets Usage, whatever becomes of the source.
-pub record IsComplete (form : Option Form) (c : Call) (status : Status) : Type 0 where
-  pub reported : (bytes : List ℕ) → HasInput c bytes → is_input form bytes ≡ true → (status ≡ Done) ⊎ (status ≡ NoMemory)
-  pub bad : (bytes : List ℕ) → HasInput c bytes → is_input form bytes ≡ false → (status ≡ Refused) ⊎ (status ≡ NoMemory)
-  pub by_words : c.has_form ≡ false → WritesWell c → status ≡ Usage
+abbrev pub IsComplete : Option Form → Call → Status → Type 0
+IsComplete form c status = rim.IsComplete (λ bytes line. is_input form bytes ≡ false) c status
 
 -- ---- what is left of the source
 
