@@ -6,6 +6,7 @@ use Rattle.cache_core.specs.declared.entry.SliceEntry.{SliceEntry}
 use Rattle.cache_core.specs.declared.entry.What.TheVariants as whats
 use Rattle.pair_windows.proofs.SegmentWindows.{counted_windows-segment}
 use Rattle.pair_windows.specs.JointCounted.{counted_window, counted_windows, is_used}
+use Rattle.pair_windows.specs.DomainWalks.{windows_before}
 use Rattle.pair_windows.specs.Hits.{AreHits}
 use Rattle.pair_law.specs.Epochs.{state_at}
 use Rattle.pair_windows.specs.LevelSpans.{exclusive_in, held_from, stay_of}
@@ -76,27 +77,23 @@ module _ (script : PairScriptValue) (domain : ℕ) (j : LevelJournalsValue) wher
   windows_at-quiet from (Some (ops.Read file)) is = refl
   windows_at-quiet from None is = refl
 
-  -- the windows that begin before a place
-  abbrev pub windows_before : ℕ → List JointWindow
-  windows_before place = flat_map (λ from. windows_at script domain j from (op_at script from)) (range_with_len 0 place)
-
   -- a segment has none
   windows-quiet : (first n : ℕ) → ((i : ℕ) → first ≤ i → i < first + n → is_flush (op_at script i) ≡ false) → flat_map (λ from. windows_at script domain j from (op_at script from)) (range_with_len first n) ≡ []
   windows-quiet first n quiet = flat_map-range_none (λ from. windows_at script domain j from (op_at script from)) first n (λ k low high. windows_at-quiet k (op_at script k) (quiet k low high))
 
-  pub windows_before-first : (last : ℕ) → IsSegment script 0 last → windows_before last ≡ []
+  pub windows_before-first : (last : ℕ) → IsSegment script 0 last → windows_before script domain j last ≡ []
   windows_before-first last segment = windows-quiet 0 last (λ i low high. segment.quiet i low (omega (arith, high)))
 
   -- a flush and its segment have those of the flush
-  pub windows_before-more : (from last : ℕ) → is_flush (op_at script from) ≡ true → IsSegment script (from + 1) last → windows_before last ≡ windows_before from ++ windows_from script domain j from
+  pub windows_before-more : (from last : ℕ) → is_flush (op_at script from) ≡ true → IsSegment script (from + 1) last → windows_before script domain j last ≡ windows_before script domain j from ++ windows_from script domain j from
   windows_before-more from last flush segment =
       let f : ℕ → List JointWindow = λ k. windows_at script domain j k (op_at script k) in
       let n : ℕ = last - (from + 1) in
       let le = segment.later in
-      let cut : windows_before last ≡ windows_before from ++ (f from ++ flat_map f (range_with_len (from + 1) n)) = flat_map-range_at f 0 from n last from (omega (arith, le)) (omega arith) in
+      let cut : windows_before script domain j last ≡ windows_before script domain j from ++ (f from ++ flat_map f (range_with_len (from + 1) n)) = flat_map-range_at f 0 from n last from (omega (arith, le)) (omega arith) in
       let none : flat_map f (range_with_len (from + 1) n) ≡ [] = windows-quiet (from + 1) n (λ i low high. segment.quiet i low (omega (arith, le, high))) in
       let here : f from ≡ windows_from script domain j from = ap (windows_at script domain j from) (op-flush (op_at script from) flush) in
-      cut ∙ ap (λ (l : List JointWindow). windows_before from ++ l) (ap (λ (l : List JointWindow). f from ++ l) none ∙ (append-nil (f from) ∙ here))
+      cut ∙ ap (λ (l : List JointWindow). windows_before script domain j from ++ l) (ap (λ (l : List JointWindow). f from ++ l) none ∙ (append-nil (f from) ∙ here))
 
 -- ---- a flush, by what was counted of its segment
 

@@ -1,5 +1,7 @@
 pub mod CountedWindows
 pub mod CoveredUses
+pub mod DomainLists
+pub mod DomainSteps
 pub mod FittingOps
 pub mod FlushWindows
 pub mod FlushedWindows
@@ -19,4 +21,5 @@ pub mod SegmentEnds
 pub mod SegmentSteps
 pub mod SegmentWindows
 pub mod SharedDomains
+pub mod Turns
 pub mod laws

@@ -3,7 +3,6 @@ use Rattle.std.proofs.Common.{◌≡◌, ℕ, ◌+◌, ◌-◌, ◌≤◌, List,
 use Rattle.pair_law.specs.Epochs.{state_at}
 use Rattle.pair_ops.specs.Values.{PairScriptValue}
 use Rattle.pair_windows.specs.LevelSpans.{exclusive_in, goes_on, goes_on_at, held_from, masks_of}
-use Rattle.pair_windows.specs.Replays.{HasTaken, ReplayValue}
 use Rattle.pair_windows.specs.declared.level_masks.LevelMasks.{LevelMasks}
 use Rattle.spans.proofs.laws.LongerSpans.{spans-more}
 use Rattle.spans.specs.Keeping.{span_on}
@@ -11,18 +10,10 @@ use Rattle.spans.specs.declared.span.Span.{Span}
 
 module _ (script : PairScriptValue) (domain first : ℕ) where
   -- from an epoch to the next one
-  held_from-kept : (epoch : ℕ) (held : List (Span LevelMasks)) → first ≤ epoch → held ≡ held_from script domain first (epoch - first)
+  pub held_from-kept : (epoch : ℕ) (held : List (Span LevelMasks)) → first ≤ epoch → held ≡ held_from script domain first (epoch - first)
       → map (span_on (λ h. goes_on script.machines domain h (state_at script (epoch + 1))) epoch) held ≡ held_from script domain first (epoch + 1 - first)
   held_from-kept epoch held le is =
       let at : epoch ≡ first + (epoch - first) = omega (arith, le) in
       let one : epoch - first + 1 ≡ epoch + 1 - first = omega (arith, le) in
       ap (map (span_on (λ h. goes_on script.machines domain h (state_at script (epoch + 1))) epoch)) is
       ∙ (sym (spans-more (masks_of domain) (goes_on_at script domain) first (exclusive_in (state_at script first)) (epoch - first) epoch at) ∙ ap (held_from script domain first) one)
-
-  -- as a tree takes a command
-  pub held_from-taken : (old new : ReplayValue) (held : List (Span LevelMasks)) → HasTaken script new → first ≤ old.tree.epoch → new.tree.epoch ≡ old.tree.epoch + 1
-      → held ≡ held_from script domain first (old.tree.epoch - first)
-      → map (span_on (λ h. goes_on script.machines domain h new.tree.state) old.tree.epoch) held ≡ held_from script domain first (new.tree.epoch - first)
-  held_from-taken old new held taken le one is =
-      ap (λ s. map (span_on (λ h. goes_on script.machines domain h s) old.tree.epoch) held) (taken.state ∙ ap (state_at script) one)
-      ∙ (held_from-kept old.tree.epoch held le is ∙ ap (λ n. held_from script domain first (n - first)) (sym one))

@@ -1,22 +1,19 @@
 -- A segment, op by op.
-use Rattle.std.proofs.Common.{◌≡◌, ℕ, zero, suc, ◌+◌, ◌-◌, ◌<◌, ◌≤◌, Bool, true, false, List, [], ◌∷◌, ◌++◌, length, Option, None, Some, inl, inr, refl, sym, subst, ap, ◌∙◌, arith}
+use Rattle.std.proofs.Common.{◌≡◌, ℕ, zero, suc, ◌+◌, ◌-◌, ◌<◌, ◌≤◌, Bool, true, false, List, [], ◌∷◌, ◌++◌, length, get_or, Option, None, Some, inl, inr, refl, subst, ap, ◌∙◌, arith}
 use Rattle.std.specs.Prelude.{◌==◌}
 use Rattle.std.specs.List.{flat_map, range_with_len}
 use Rattle.std.proofs.lemmas.Bool.{cases_Bool, cases_lt}
 use Rattle.std.proofs.lemmas.Grind.{flat_map-append}
 use Rattle.std.proofs.lemmas.List.{append-nil, length-append}
-use Rattle.std.proofs.lemmas.Option.{slice_get_within}
+use Rattle.std.proofs.lemmas.Option.{slice_get-get_or, slice_get_within}
 use Rattle.cache_core.specs.declared.entry.SliceEntry.{SliceEntry}
-use Rattle.pair_windows.specs.LevelSpans.{held_from}
+use Rattle.pair_windows.specs.DomainWalks.{IsQuiet}
 use Rattle.pair_windows.specs.Joined.{joined, joined_at, joined_of_op}
-use Rattle.pair_windows.specs.Segments.{IsWalked, hit_l2, hit_l3, is_end}
-use Rattle.pair_windows.specs.declared.segments.Hits.{Hits}
-use Rattle.pair_windows.specs.declared.segments.Segment.{Segment}
+use Rattle.pair_windows.specs.Segments.{IsSegment, is_end}
 use Rattle.pair_ops.specs.Values.{PairScriptValue, op_at}
 use Rattle.pair_ops.specs.declared.op.PairOp.{PairOp}
 use Rattle.pair_ops.specs.declared.op.PairOp.TheVariants as ops
 use Rattle.pair_ops.specs.declared.side.Side.TheVariants.{Second}
-use Rattle.pair_windows.specs.Replays.{HasTaken, ReplayValue}
 use Rattle.pair_runs.proofs.laws.Cuts.{range_with_len-append}
 use Rattle.pair_runs.specs.JointWindows.{is_flush}
 use Rattle.pair_runs.specs.LevelRuns.{domain_on}
@@ -73,57 +70,30 @@ module _ (script : PairScriptValue) (domain : ℕ) (hits : ℕ → ℕ → ℕ �
       let both = length-append (joined_at script domain hits first) (joined script domain hits (first + 1) n) in
       omega (arith, here, rest, both)
 
--- ---- what was taken of a segment
+-- ---- from a place up to another
 
-module _ (script : PairScriptValue) (domain : ℕ) (hits : Hits) (from : ReplayValue) where
+module _ (script : PairScriptValue) (first : ℕ) where
   -- nothing
-  pub IsWalked-none : (s : Segment) → HasTaken script from → from.place ≤ length script.ops → s.held.items ≡ held_from script domain from.tree.epoch 0 → s.l2.items ≡ [] → s.l3.items ≡ []
-      → IsWalked script domain hits from from s
-  IsWalked-none s taken within held l2 l3 =
-      let no : from.place - from.place ≡ 0 = omega arith in
-      let none : from.tree.epoch - from.tree.epoch ≡ 0 = omega arith in
+  pub IsQuiet-none : first ≤ length script.ops → IsQuiet script first first
+  IsQuiet-none within = record { later = omega arith; within = within; quiet = λ i low high. absurd (omega (arith, low, high)) }
+
+  -- an op more, which is no flush
+  pub IsQuiet-more : (place next : ℕ) → next ≡ place + 1 → place < length script.ops → is_flush (op_at script place) ≡ false → IsQuiet script first place → IsQuiet script first next
+  IsQuiet-more place next one lt quiet before =
+      let later = before.later in
       record {
-        taken = taken;
-        later = omega arith;
-        within = within;
-        quiet = λ i low high. absurd (omega (arith, low, high));
-        rises = omega arith;
-        held = held ∙ ap (held_from script domain from.tree.epoch) (sym none);
-        l2 = l2 ∙ ap (joined script domain (hit_l2 hits.l2.items) from.place) (sym no);
-        l3 = l3 ∙ ap (joined script domain (hit_l3 hits.l2.items hits.l3.items) from.place) (sym no);
+        later = omega (arith, later, one);
+        within = omega (arith, lt, one);
+        quiet = λ i low high. elim (cases_lt i place) [
+          | inl less ↦ before.quiet i low less
+          | inr ge ↦ let same : place ≡ i = omega (arith, high, one, ge) in subst (λ k. is_flush (op_at script k) ≡ false) same quiet
+        ];
       }
 
-  module _ (to new : ReplayValue) (s t : Segment) (walked : IsWalked script domain hits from to s) where
-    -- no flush up to and with the op
-    quiet-more : is_flush (op_at script to.place) ≡ false → (i : ℕ) → from.place ≤ i → i < to.place + 1 → is_flush (op_at script i) ≡ false
-    quiet-more quiet i low high = elim (cases_lt i to.place) [
-      | inl lt ↦ walked.quiet i low lt
-      | inr ge ↦ let same : to.place ≡ i = omega (arith, high, ge) in subst (λ k. is_flush (op_at script k) ≡ false) same quiet
-    ]
-
-    -- an op more
-    pub IsWalked-more : HasTaken script new → new.place ≡ to.place + 1 → to.tree.epoch ≤ new.tree.epoch → to.place < length script.ops → is_flush (op_at script to.place) ≡ false
-        → t.held.items ≡ held_from script domain from.tree.epoch (new.tree.epoch - from.tree.epoch)
-        → t.l2.items ≡ s.l2.items ++ joined_at script domain (hit_l2 hits.l2.items) to.place
-        → t.l3.items ≡ s.l3.items ++ joined_at script domain (hit_l3 hits.l2.items hits.l3.items) to.place
-        → IsWalked script domain hits from new t
-    IsWalked-more taken place rises lt quiet held l2 l3 =
-        let before = walked.later in
-        let low = walked.rises in
-        record {
-          taken = taken;
-          later = omega (arith, before, place);
-          within = omega (arith, lt, place);
-          quiet = λ i first last. quiet-more quiet i first (omega (arith, last, place));
-          rises = omega (arith, low, rises);
-          held = held;
-          l2 =
-              l2
-              ∙ (ap (λ (l : List SliceEntry). l ++ joined_at script domain (hit_l2 hits.l2.items) to.place) walked.l2
-              ∙ (sym (joined-more script domain (hit_l2 hits.l2.items) from.place to.place before) ∙ ap (λ n. joined script domain (hit_l2 hits.l2.items) from.place (n - from.place)) (sym place)));
-          l3 =
-              l3
-              ∙ (ap (λ (l : List SliceEntry). l ++ joined_at script domain (hit_l3 hits.l2.items hits.l3.items) to.place) walked.l3
-              ∙ (sym (joined-more script domain (hit_l3 hits.l2.items hits.l3.items) from.place to.place before)
-              ∙ ap (λ n. joined script domain (hit_l3 hits.l2.items hits.l3.items) from.place (n - from.place)) (sym place)));
-        }
+  -- up to an end
+  pub IsSegment-quiet : (place : ℕ) → IsQuiet script first place → is_end (op_at script place) ≡ true → IsSegment script first place
+  IsSegment-quiet place before end = record { later = before.later; within = before.within; quiet = before.quiet; ends = λ lt. of (op_at script place) (slice_get-get_or script.ops place ops.Flush lt) end }
+    where
+      of : (o : Option PairOp) → o ≡ Some (get_or script.ops place ops.Flush) → is_end o ≡ true → is_flush o ≡ true
+      of None none is = absurd (let no : None ≡ Some (get_or script.ops place ops.Flush) = none in cc)
+      of (Some op) some is = is

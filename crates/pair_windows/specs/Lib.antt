@@ -3,6 +3,7 @@ pub mod AllJointWindows
 pub mod CdpJournals
 pub mod CdpWindows
 pub mod Counted
+pub mod DomainWalks
 pub mod Fronts
 pub mod Hits
 pub mod Joined

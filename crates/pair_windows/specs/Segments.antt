@@ -1,17 +1,14 @@
 -- What stands between a flush and the next one.
 -- (For functions and proofs: no promise of the program stands on it.)
-use Rattle.std.specs.Prelude.{◌≡◌, ℕ, ◌-◌, ◌^◌, ◌<◌, ◌≤◌, Bool, false, true, not, ◌==◌, ◌&&◌, if◌then◌else◌, List, Option, None, Some, length, slice_index_or}
-use Rattle.pair_windows.specs.LevelSpans.{held_from}
-use Rattle.pair_windows.specs.Joined.{joined}
+use Rattle.std.specs.Prelude.{◌≡◌, ℕ, ◌^◌, ◌<◌, ◌≤◌, Bool, false, true, not, ◌==◌, ◌&&◌, if◌then◌else◌, List, Option, None, Some, length, slice_index_or}
 use Rattle.pair_windows.specs.declared.segments.Hits.{Hits}
 use Rattle.pair_windows.specs.declared.line_uses.LineUse.{LineUse}
-use Rattle.pair_windows.specs.declared.segments.Segment.{Segment}
 use Rattle.pair_law.specs.State.{PairState, owner_of}
 use Rattle.pair_ops.specs.Values.{PairScriptValue, op_at}
 use Rattle.pair_ops.specs.declared.op.PairOp.{PairOp}
 use Rattle.pair_ops.specs.declared.op.PairOp.TheVariants as ops
 use Rattle.pair_ops.specs.declared.side.Side.TheVariants.{Second}
-use Rattle.pair_windows.specs.Replays.{HasTaken, IsPlayable, ReplayValue}
+use Rattle.pair_windows.specs.Replays.{IsPlayable}
 use Rattle.pair_runs.specs.JointWindows.{is_flush}
 use Rattle.pair_runs.specs.LevelRuns.{domain_on}
 
@@ -48,14 +45,3 @@ pub record CanWalk (script : PairScriptValue) (hits : Hits) : Type 0 where
 abbrev pub use_in : PairScriptValue → PairState → ℕ → Option PairOp → Option LineUse
 use_in script s domain (Some (ops.Use task cpu line code)) = if domain_on script Second cpu == domain then Some (record { owner = owner_of s task; line = line }) else None
 use_in script s domain op = None
-
--- What was taken of a segment, from a place on: the ops up to another place, none of which is a flush.
-pub record IsWalked (script : PairScriptValue) (domain : ℕ) (hits : Hits) (from to : ReplayValue) (s : Segment) : Type 0 where
-  pub taken : HasTaken script to
-  pub later : from.place ≤ to.place
-  pub within : to.place ≤ length script.ops
-  pub quiet : (i : ℕ) → from.place ≤ i → i < to.place → is_flush (op_at script i) ≡ false
-  pub rises : from.tree.epoch ≤ to.tree.epoch
-  pub held : s.held.items ≡ held_from script domain from.tree.epoch (to.tree.epoch - from.tree.epoch)
-  pub l2 : s.l2.items ≡ joined script domain (hit_l2 hits.l2.items) from.place (to.place - from.place)
-  pub l3 : s.l3.items ≡ joined script domain (hit_l3 hits.l2.items hits.l3.items) from.place (to.place - from.place)

@@ -1,12 +1,24 @@
 //! Windows with the counts that were made for them.
-ghost use Rattle.std.specs.Prelude.{◌≡◌, ◌∷◌, [], ◌++◌, OnOk, filter, length};
+ghost use Rattle.std.specs.Prelude.{◌≡◌, ℕ, ◌^◌, ◌<◌, ◌≤◌, ◌∷◌, [], ◌++◌, All, IfOk, OnOk, filter, length, map};
+ghost use Rattle.cache_core.specs.declared.entry.What.TheVariants.{Flush as TheFlush};
+ghost use Rattle.pair_ops.specs.Values.{epoch_at};
+ghost use Rattle.pair_windows.specs.DomainWalks.{CanClose, Each, HasFound, HasWalked, IsCountable};
 ghost use Rattle.pair_windows.specs.JointCounted.{counted_window, counted_windows, is_used};
+ghost use Rattle.pair_windows.specs.LevelSpans.{stay_of};
+ghost use Rattle.pair_windows.specs.declared.segments.Hits.{Hits as HitsValue};
+ghost use Rattle.private_lru.specs.Ends.{RiseByGroup};
+ghost use Rattle.private_lru.specs.Tallies.{AreCounted};
 
+use crate::domain_walks::DomainWalk;
 use crate::joint_window::JointWindow;
 use crate::level_masks::LevelMasks;
-use private_lru::WindowCounts;
+use crate::level_spans::stays_of;
+use cache_core::{SliceEntry, What};
+use pair_text::PairScript;
+use private_lru::{WindowCounts, counts_of};
 use rc_base::NoMemory;
 use spans::Span;
+use std::alloc::Global;
 
 // The window of a group with its masks, by its counts at both levels. The hits of private caches are not counted anew: they are as
 // many as the covered hits.
@@ -43,8 +55,8 @@ fn push_used(windows: &mut Vec<JointWindow>, window: JointWindow) -> Result<(), 
     Ok(())
 }
 
-/// Adds the windows of these groups in which their groups use lines.
-pub(crate) fn push_counted(
+// Adds the windows of these groups in which their groups use lines.
+fn push_counted(
     windows: &mut Vec<JointWindow>,
     domain: u8,
     from: u32,
@@ -58,6 +70,59 @@ pub(crate) fn push_counted(
 {
     for i in 0..held.len() {
         push_used(windows, window_of(domain, from, held[i], l2[i], l3[i]))?;
+    }
+    Ok(())
+}
+
+// The counts of the windows of these groups among the entries after a flush.
+fn counts_at(
+    alloc: Global,
+    sets: u32,
+    held: &[Span<LevelMasks>],
+    entries: &[SliceEntry],
+) -> Result<Vec<WindowCounts>, NoMemory>
+    requires rising { RiseByGroup (map stay_of held.now) }
+    requires few { length entries.now < 2 ^ 32 }
+    ensures { IfOk result (λ counts. AreCounted sets TheFlush entries.now (map stay_of held.now) counts.items) }
+{
+    let stays = stays_of(alloc, held)?;
+    counts_of(alloc, &stays, sets, What::Flush, entries)
+}
+
+// Adds the windows that begin at a flush to those of a domain, by what stands after the flush. `epoch` is the position of the flush
+// among the commands.
+fn close(
+    alloc: Global,
+    walk: &mut DomainWalk,
+    script: &PairScript,
+    epoch: u32,
+) -> Result<(), NoMemory>
+    requires countable { IsCountable walk.old }
+    ensures { OnOk result ((hits : HitsValue) (from last domain : ℕ) → CanClose script.now from last → domain < script.now.machines.machine.domains → epoch ≡ epoch_at script.now from
+        → HasWalked script.now hits from (epoch_at script.now last) last domain walk.old → HasFound script.now hits last domain walk.new) }
+{
+    let sets = script.machine().sets;
+    let part = &walk.segment;
+    let l2 = counts_at(alloc, sets, &part.held, &part.l2)?;
+    let l3 = counts_at(alloc, sets, &part.held, &part.l3)?;
+    push_counted(&mut walk.windows, walk.domain, epoch, &part.held, &l2, &l3)?;
+    Ok(())
+}
+
+/// Adds the windows that begin at a flush to those of each domain.
+pub(crate) fn close_all(
+    alloc: Global,
+    walks: &mut [DomainWalk],
+    script: &PairScript,
+    epoch: u32,
+) -> Result<(), NoMemory>
+    requires countable { All IsCountable walks.old }
+    requires few { length walks.old ≤ script.now.machines.machine.domains }
+    ensures { OnOk result ((hits : HitsValue) (from last : ℕ) → CanClose script.now from last → epoch ≡ epoch_at script.now from
+        → Each (HasWalked script.now hits from (epoch_at script.now last) last) walks.old → Each (HasFound script.now hits last) walks.new) }
+{
+    for walk in walks {
+        close(alloc, walk, script, epoch)?;
     }
     Ok(())
 }

@@ -1,49 +1,32 @@
 //! The windows of a run with two levels.
-ghost use Rattle.std.specs.Prelude.{◌≡◌, ◌+◌, ◌^◌, ◌<◌, ◌≤◌, ◌++◌, IfOk, OnOk, length, map, true};
-ghost use Rattle.cache_core.specs.declared.entry.What.TheVariants.{Flush as TheFlush};
-ghost use Rattle.pair_windows.specs.Hits.{AreHits};
-ghost use Rattle.pair_windows.specs.LevelSpans.{stay_of};
-ghost use Rattle.pair_windows.specs.JointWindows.{joint_windows, windows_from, windows_in};
-ghost use Rattle.pair_windows.specs.LevelJournals.{IsPlayedOnLevels, level_journals};
-ghost use Rattle.pair_windows.specs.Segments.{CanWalk, IsSegment};
-ghost use Rattle.pair_ops.specs.Values.{epoch_at, op_at};
+ghost use Rattle.std.specs.Prelude.{◌≡◌, ◌+◌, ◌<◌, ◌≤◌, ◌++◌, IfOk, OnOk, length, true};
+ghost use Rattle.std.specs.List.{flat_map};
+ghost use Rattle.pair_ops.specs.Values.{op_at};
 ghost use Rattle.pair_ops.specs.declared.side.Side.TheVariants.{First, Second};
-ghost use Rattle.pair_windows.specs.Replays.{HasTaken, IsPlayable};
 ghost use Rattle.pair_runs.specs.JointWindows.{is_flush};
 ghost use Rattle.pair_runs.specs.LevelRuns.{LevelJournalsValue};
-ghost use Rattle.private_lru.specs.Ends.{RiseByGroup};
-ghost use Rattle.private_lru.specs.Tallies.{AreCounted};
+ghost use Rattle.pair_windows.specs.DomainWalks.{Each, HasFound, HasFoundAfter, IsFresh};
+ghost use Rattle.pair_windows.specs.Hits.{AreHits};
+ghost use Rattle.pair_windows.specs.JointWindows.{joint_windows};
+ghost use Rattle.pair_windows.specs.LevelJournals.{IsPlayedOnLevels, level_journals};
+ghost use Rattle.pair_windows.specs.Replays.{HasTaken, IsPlayable};
+ghost use Rattle.pair_windows.specs.Segments.{CanWalk, IsSegment};
+ghost use Rattle.pair_windows.specs.declared.domain_walks.DomainWalk.{DomainWalk as DomainWalkValue};
 
 use crate::Replay;
+use crate::domain_walks::{DomainWalk, fresh_walks};
 use crate::hits::hits_on;
-use crate::joint_counted::push_counted;
+use crate::joint_counted::close_all;
 use crate::joint_window::JointWindow;
-use crate::level_masks::LevelMasks;
-use crate::level_spans::{has_exclusive, stays_of};
+use crate::level_spans::has_exclusive;
+use crate::level_walks::take_segment;
 use crate::quiet::has_exclusive_write;
-use crate::segments::{Hits, is_end, take_segment};
-use cache_core::{SliceEntry, What};
+use crate::segments::{Hits, is_end};
+use cache_core::SliceEntry;
 use pair_ops::Side;
 use pair_text::PairScript;
-use private_lru::{WindowCounts, counts_of};
 use rc_base::{NoMemory, Reply};
-use spans::Span;
 use std::alloc::Global;
-
-// The counts of the windows of these groups among the entries after a flush.
-fn counts_at(
-    alloc: Global,
-    sets: u32,
-    held: &[Span<LevelMasks>],
-    entries: &[SliceEntry],
-) -> Result<Vec<WindowCounts>, NoMemory>
-    requires rising { RiseByGroup (map stay_of held.now) }
-    requires few { length entries.now < 2 ^ 32 }
-    ensures { IfOk result (λ counts. AreCounted sets TheFlush entries.now (map stay_of held.now) counts.items) }
-{
-    let stays = stays_of(alloc, held)?;
-    counts_of(alloc, &stays, sets, What::Flush, entries)
-}
 
 // Takes the ops up to the next flush.
 fn take_quiet(script: &PairScript, replay: &mut Replay)
@@ -58,34 +41,26 @@ fn take_quiet(script: &PairScript, replay: &mut Replay)
     }
 }
 
-// Takes the ops after a flush, which stands at `from` in the script, up to the next one, and adds the windows that begin at it.
+// Takes the ops after a flush, whose position among the commands this is, up to the next one, and adds the windows that begin at it.
 fn push_held(
     alloc: Global,
     script: &PairScript,
     hits: &Hits,
-    domain: u8,
-    from: usize,
     epoch: u32,
     replay: &mut Replay,
-    windows: &mut Vec<JointWindow>,
+    walks: &mut [DomainWalk],
 ) -> Result<(), NoMemory>
     requires walk { CanWalk script.now hits.now }
-    requires domain { domain < script.now.machines.machine.domains }
+    requires one_each { length walks.old ≡ script.now.machines.machine.domains }
     requires taken { HasTaken script.now replay.old }
-    requires after { replay.old.place ≡ from + 1 }
-    requires within { from < length script.now.ops }
-    requires flush { is_flush (op_at script.now from) ≡ true }
-    requires epoch { epoch ≡ epoch_at script.now from }
+    requires within { replay.old.place ≤ length script.now.ops }
+    requires found { HasFoundAfter script.now hits.now epoch replay.old.place walks.old }
     ensures taken { OnOk result (HasTaken script.now replay.new) }
-    ensures segment { OnOk result (IsSegment script.now (from + 1) replay.new.place) }
-    ensures windows { OnOk result ((j : LevelJournalsValue) → IsPlayedOnLevels script.now j → AreHits script.now First j.l2 hits.now.l2.items → AreHits script.now Second j.l3 hits.now.l3.items
-        → windows.new.items ≡ windows.old.items ++ windows_from script.now domain j from) }
+    ensures segment { OnOk result (IsSegment script.now replay.old.place replay.new.place) }
+    ensures found { OnOk result (Each (HasFound script.now hits.now replay.new.place) walks.new) }
 {
-    let sets = script.machine().sets;
-    let part = take_segment(alloc, script, domain, hits, replay)?;
-    let l2 = counts_at(alloc, sets, &part.held, &part.l2)?;
-    let l3 = counts_at(alloc, sets, &part.held, &part.l3)?;
-    push_counted(windows, domain, epoch, &part.held, &l2, &l3)?;
+    take_segment(alloc, walks, script, hits, replay)?;
+    close_all(alloc, walks, script, epoch)?;
     Ok(())
 }
 
@@ -94,28 +69,27 @@ fn push_flush(
     alloc: Global,
     script: &PairScript,
     hits: &Hits,
-    domain: u8,
     replay: &mut Replay,
-    windows: &mut Vec<JointWindow>,
+    walks: &mut [DomainWalk],
 ) -> Result<(), NoMemory>
     requires walk { CanWalk script.now hits.now }
-    requires domain { domain < script.now.machines.machine.domains }
+    requires one_each { length walks.old ≡ script.now.machines.machine.domains }
     requires taken { HasTaken script.now replay.old }
     requires within { replay.old.place < length script.now.ops }
     requires flush { is_flush (op_at script.now replay.old.place) ≡ true }
+    requires found { Each (HasFound script.now hits.now replay.old.place) walks.old }
     ensures taken { OnOk result (HasTaken script.now replay.new) }
     ensures segment { OnOk result (IsSegment script.now (replay.old.place + 1) replay.new.place) }
-    ensures windows { OnOk result ((j : LevelJournalsValue) → IsPlayedOnLevels script.now j → AreHits script.now First j.l2 hits.now.l2.items → AreHits script.now Second j.l3 hits.now.l3.items
-        → windows.new.items ≡ windows.old.items ++ windows_from script.now domain j replay.old.place) }
+    ensures found { OnOk result (Each (HasFound script.now hits.now replay.new.place) walks.new) }
 {
-    let from = replay.place();
     let epoch = replay.epoch() as u32;
     replay.take_op(script);
     if !has_exclusive(replay.tree()) {
         take_quiet(script, replay);
         return Ok(());
     }
-    push_held(alloc, script, hits, domain, from, epoch, replay, windows)
+    push_held(alloc, script, hits, epoch, replay, walks)?;
+    Ok(())
 }
 
 // Adds the windows that begin at the flushes from the next op on, which is one.
@@ -123,49 +97,70 @@ fn push_flushes(
     alloc: Global,
     script: &PairScript,
     hits: &Hits,
-    domain: u8,
     replay: &mut Replay,
-    windows: &mut Vec<JointWindow>,
+    walks: &mut [DomainWalk],
 ) -> Result<(), NoMemory>
     requires walk { CanWalk script.now hits.now }
-    requires domain { domain < script.now.machines.machine.domains }
+    requires one_each { length walks.old ≡ script.now.machines.machine.domains }
     requires taken { HasTaken script.now replay.old }
     requires segment { IsSegment script.now 0 replay.old.place }
-    ensures { OnOk result ((j : LevelJournalsValue) → IsPlayedOnLevels script.now j → AreHits script.now First j.l2 hits.now.l2.items → AreHits script.now Second j.l3 hits.now.l3.items
-        → windows.new.items ≡ windows.old.items ++ windows_in script.now domain j) }
+    requires found { Each (HasFound script.now hits.now replay.old.place) walks.old }
+    ensures { OnOk result (Each (HasFound script.now hits.now (length script.now.ops)) walks.new) }
 {
     while replay.place() < script.ops().len() {
-        push_flush(alloc, script, hits, domain, replay, windows)?;
+        push_flush(alloc, script, hits, replay, walks)?;
     }
     Ok(())
 }
 
-// Adds the windows of a domain. The tree is played once more for it.
-fn push_domain(
+// Adds these windows.
+fn push_windows(all: &mut Vec<JointWindow>, windows: &[JointWindow]) -> Result<(), NoMemory>
+    ensures { OnOk result (all.new.items ≡ all.old.items ++ windows.now) }
+{
+    for window in windows {
+        all.push(*window)?;
+    }
+    Ok(())
+}
+
+// The windows of all domains, in order.
+fn windows_of(alloc: Global, walks: &[DomainWalk]) -> Result<Vec<JointWindow>, NoMemory>
+    ensures { IfOk result (λ windows. windows.items ≡ flat_map (λ (w : DomainWalkValue). w.windows.items) walks.now) }
+{
+    let mut windows: Vec<JointWindow> = Vec::new(alloc);
+    for walk in walks {
+        push_windows(&mut windows, &walk.windows)?;
+    }
+    Ok(windows)
+}
+
+// The windows of these domains, of which none was found yet. The tree is played once more for all of them.
+fn find_windows(
     alloc: Global,
     script: &PairScript,
     hits: &Hits,
-    domain: u8,
-    windows: &mut Vec<JointWindow>,
-) -> Result<(), NoMemory>
+    walks: &mut [DomainWalk],
+) -> Result<Vec<JointWindow>, NoMemory>
     requires walk { CanWalk script.now hits.now }
-    requires domain { domain < script.now.machines.machine.domains }
-    ensures { OnOk result ((j : LevelJournalsValue) → IsPlayedOnLevels script.now j → AreHits script.now First j.l2 hits.now.l2.items → AreHits script.now Second j.l3 hits.now.l3.items
-        → windows.new.items ≡ windows.old.items ++ windows_in script.now domain j) }
+    requires one_each { length walks.old ≡ script.now.machines.machine.domains }
+    requires fresh { Each IsFresh walks.old }
+    ensures { IfOk result (λ windows. (j : LevelJournalsValue) → IsPlayedOnLevels script.now j → AreHits script.now First j.l2 hits.now.l2.items → AreHits script.now Second j.l3 hits.now.l3.items
+        → windows.items ≡ joint_windows script.now j) }
 {
     let mut replay = Replay::create(alloc, script)?;
     take_quiet(script, &mut replay);
-    push_flushes(alloc, script, hits, domain, &mut replay, windows)?;
-    Ok(())
+    push_flushes(alloc, script, hits, &mut replay, walks)?;
+    let windows = windows_of(alloc, walks)?;
+    Ok(windows)
 }
 
 /// The windows of a run with two levels in which a group is exclusive, with the same masks in an L3 domain and in the L2 domains that
 /// lie in it, after a flush, and uses lines: by L3 domain, by the position of the flush, and by group in order of creation (this
 /// project's profile).
 ///
-/// Where no command writes the mode exclusive, there are none, and the ops are looked at once. Else for each L3 domain the tree is
-/// played once more, and its uses after a flush at which groups are exclusive are walked some times, whatever the number of groups,
-/// as `private_lru` says.
+/// Where no command writes the mode exclusive, there are none, and the ops are looked at once. Else the tree is played once more, for
+/// all L3 domains together, and the uses after a flush at which groups are exclusive are walked some times, whatever the number of
+/// groups, as `private_lru` says.
 pub fn joint_windows(
     alloc: Global,
     script: &PairScript,
@@ -182,9 +177,7 @@ pub fn joint_windows(
     let l2 = hits_on(alloc, script, Side::First, l2)?;
     let l3 = hits_on(alloc, script, Side::Second, l3)?;
     let hits = Hits { l2, l3 };
-    let mut windows: Vec<JointWindow> = Vec::new(alloc);
-    for domain in 0..script.machine().domains {
-        push_domain(alloc, script, &hits, domain, &mut windows)?;
-    }
+    let mut walks = fresh_walks(alloc, script.machine().domains)?;
+    let windows = find_windows(alloc, script, &hits, &mut walks)?;
     Ok(windows)
 }

@@ -7,6 +7,7 @@
 pub mod cdp_window;
 mod commands;
 mod counted;
+mod domain_walks;
 pub mod domains;
 mod fronts;
 mod hits;
@@ -16,6 +17,7 @@ pub mod joint_theorems;
 pub mod joint_window;
 mod level_masks;
 mod level_spans;
+mod level_walks;
 mod line_uses;
 pub mod partition;
 mod partition_spans;

@@ -1,24 +1,21 @@
 //! What stands between a flush and the next one.
-ghost use Rattle.std.specs.Prelude.{◌≡◌, ℕ, ◌+◌, ◌-◌, ◌<◌, ◌≤◌, ◌∷◌, [], ◌++◌, ◌&&◌, not, IfOk, OnOk, Some, false, length, slice_index_or, true};
+ghost use Rattle.std.specs.Prelude.{◌≡◌, ◌<◌, ◌∷◌, [], ◌++◌, ◌&&◌, not, OnOk, Some, false, length, slice_index_or};
 ghost use Rattle.cache_core.specs.declared.entry.What.TheVariants.{Access as AnAccess};
-ghost use Rattle.pair_windows.specs.LevelSpans.{held_from};
-ghost use Rattle.pair_windows.specs.Joined.{joined, joined_at};
-ghost use Rattle.pair_windows.specs.Segments.{CanWalk, IsSegment, IsWalked, hit_l2, hit_l3, is_end};
+ghost use Rattle.pair_windows.specs.Joined.{joined_at};
+ghost use Rattle.pair_windows.specs.Segments.{CanWalk, hit_l2, hit_l3, is_end};
 ghost use Rattle.pair_ops.specs.Values.{op_at};
-ghost use Rattle.pair_windows.specs.Replays.{HasTaken, IsPlayable};
+ghost use Rattle.pair_windows.specs.Replays.{HasTaken};
 ghost use Rattle.pair_runs.specs.Entries.{entry};
 ghost use Rattle.pair_runs.specs.JointWindows.{is_flush};
 
 use crate::Replay;
 use crate::level_masks::LevelMasks;
-use crate::level_spans::{LevelState, level_spans};
 use crate::line_uses::{LineUse, next_use, push_entry};
 use cache_core::SliceEntry;
 use pair_ops::PairOp;
 use pair_text::PairScript;
 use rc_base::NoMemory;
-use spans::{Span, keep_on};
-use std::alloc::Global;
+use spans::Span;
 
 /// For each op whether it is a use that hit, at each level.
 #[derive(Drop)]
@@ -88,8 +85,8 @@ fn push_use(
     Ok(())
 }
 
-// Adds the next op, which is no flush, to both lists, where it is a use on a CPU of the domain.
-fn push_op(
+/// Adds the next op, which is no flush, to both lists, where it is a use on a CPU of the domain.
+pub(crate) fn push_op(
     segment: &mut Segment,
     script: &PairScript,
     domain: u8,
@@ -108,79 +105,4 @@ fn push_op(
         Some(u) => push_use(segment, hits, u, replay.place() as u32, replay.epoch()),
         None => Ok(()),
     }
-}
-
-// Takes an op, and where it is a command the spans to the next epoch.
-fn take_op(held: &mut Vec<Span<LevelMasks>>, script: &PairScript, domain: u8, replay: &mut Replay)
-    requires playable { IsPlayable script.now }
-    requires domain { domain < 8 }
-    requires taken { HasTaken script.now replay.old }
-    requires within { replay.old.place < length script.now.ops }
-    ensures taken { HasTaken script.now replay.new }
-    ensures place { replay.new.place ≡ replay.old.place + 1 }
-    ensures rises { replay.old.tree.epoch ≤ replay.new.tree.epoch }
-    ensures held { (first : ℕ) → first ≤ replay.old.tree.epoch → held.old.items ≡ held_from script.now domain first (replay.old.tree.epoch - first)
-        → held.new.items ≡ held_from script.now domain first (replay.new.tree.epoch - first) }
-{
-    let epoch = replay.epoch();
-    replay.take_op(script);
-    let now = replay.epoch();
-    if now == epoch {
-        return;
-    }
-    let state = LevelState {
-        script,
-        tree: replay.tree(),
-        domain,
-    };
-    keep_on(held, &state, epoch);
-}
-
-// Takes the ops up to the next flush.
-fn take_ops(
-    segment: &mut Segment,
-    script: &PairScript,
-    domain: u8,
-    hits: &Hits,
-    replay: &mut Replay,
-) -> Result<(), NoMemory>
-    requires walk { CanWalk script.now hits.now }
-    requires domain { domain < 8 }
-    requires fresh { IsWalked script.now domain hits.now replay.old replay.old segment.old }
-    ensures walked { OnOk result (IsWalked script.now domain hits.now replay.old replay.new segment.new) }
-    ensures ends { OnOk result (replay.new.place < length script.now.ops → is_flush (op_at script.now replay.new.place) ≡ true) }
-{
-    while !is_end(script, replay.place()) {
-        push_op(segment, script, domain, hits, replay)?;
-        take_op(&mut segment.held, script, domain, replay);
-    }
-    Ok(())
-}
-
-/// Takes the ops up to the next flush: what they are for an L3 domain.
-pub(crate) fn take_segment(
-    alloc: Global,
-    script: &PairScript,
-    domain: u8,
-    hits: &Hits,
-    replay: &mut Replay,
-) -> Result<Segment, NoMemory>
-    requires walk { CanWalk script.now hits.now }
-    requires domain { domain < 8 }
-    requires taken { HasTaken script.now replay.old }
-    requires within { replay.old.place ≤ length script.now.ops }
-    ensures taken { OnOk result (HasTaken script.now replay.new) }
-    ensures segment { OnOk result (IsSegment script.now replay.old.place replay.new.place) }
-    ensures held { IfOk result (λ s. s.held.items ≡ held_from script.now domain replay.old.tree.epoch (replay.new.tree.epoch - replay.old.tree.epoch)) }
-    ensures l2 { IfOk result (λ s. s.l2.items ≡ joined script.now domain (hit_l2 hits.now.l2.items) replay.old.place (replay.new.place - replay.old.place)) }
-    ensures l3 { IfOk result (λ s. s.l3.items ≡ joined script.now domain (hit_l3 hits.now.l2.items hits.now.l3.items) replay.old.place (replay.new.place - replay.old.place)) }
-{
-    let held = level_spans(alloc, replay.tree(), domain, replay.epoch())?;
-    let mut segment = Segment {
-        held,
-        l2: Vec::new(alloc),
-        l3: Vec::new(alloc),
-    };
-    take_ops(&mut segment, script, domain, hits, replay)?;
-    Ok(segment)
 }
