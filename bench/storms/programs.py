@@ -1,6 +1,6 @@
 """Storms of the planner, the checker, the program of orders, and the programs of two masks."""
 from storms import caches, trees, windows
-from storms.limits import DOMAINS, LONG_TASKS, MOST_WEIGHT
+from storms.limits import DOMAINS, LONG_TASKS, MOST_WEIGHT, SLICES
 from storms.row import REPORT, Row
 
 # The limits of a script of two masks.
@@ -55,6 +55,22 @@ def tree_lines(script, count):
     """Commands that a journal tells and its script does not have."""
     script.write("machine sets=1 ways=4\ntasks 1\nphase\nthread\nflush\naccess 1 0 0\njournal 1\n")
     script.write("tree 0 0 0 0 1 0\n" * count + "slice 0 0 0\nend\n")
+
+
+def tree_flushes(script, count):
+    """A command of the script that a journal tells over and over."""
+    script.write("machine sets=1 ways=4\ntasks 1\nphase\nthread\nflush\naccess 1 0 0\njournal 1\n")
+    script.write("tree 0 0 0 0 0\n" * count + "slice 0 0 0\nend\n")
+
+
+def slice_lines(script, count):
+    """Flushes that a journal tells over and over in each slice. The accesses are there so that a slice may have so many entries."""
+    each = count // SLICES
+    script.write(f"machine domains=2 slices={SLICES // 2} sets=16 ways=4 cpus=2\ntasks 1\nphase\nthread\nflush\nsweep 1 0 0 {each} 64\n")
+    script.write("journal 1\ntree 0 0 0 0 0\n")
+    for number in range(SLICES):
+        script.write(f"slice {number * 2 // SLICES} {number % (SLICES // 2)} {each}\n" + "flush 0 0 1\n" * each)
+    script.write("end\n")
 
 
 def pair_tasks(script, count):
@@ -149,6 +165,8 @@ ROWS = (
     Row("div_one_set", "resctrl_plan", ["divide"], MOST_WEIGHT - 1_000, div_one_set),
     *planned(named(trees.ROWS, "setup_refused", "setup_tasks", "rmdir_tasks")),
     Row("check_tree_lines", "resctrl_check", ["check"], 58_000_000, tree_lines),
+    Row("check_tree_flushes", "resctrl_check", ["check"], 68_000_000, tree_flushes),
+    Row("check_slice_lines", "resctrl_check", ["check"], 85_000_000, slice_lines),
     *exported(SLOW_TREES + SLOW_WINDOWS),
     *checked(SLOW_TREES + SLOW_WINDOWS),
     *checked(SLOW_TREES[:1] + SLOW_WINDOWS[:1], "resctrl_replay", ("order",)),
