@@ -1,7 +1,9 @@
 -- Which status is due, from how a call ended.
 use Rattle.std.proofs.Common.{◌≡◌, ℕ, ◌<◌, ◌⊎◌, Bool, true, false, List, Option, Some, None, refl, sym, subst, ap, ◌∙◌, inl, inr, arith}
-use Rattle.call_rim.specs.Endings.{Call, Ends, IsRefused, IsReported}
-use Rattle.call_rim.specs.Outside.{IsToTheEnd, Writing}
+use Rattle.call_rim.proofs.laws.Ends.{IsComplete-ends}
+use Rattle.call_rim.proofs.laws.InputBytes.{IsToTheEnd-known}
+use Rattle.call_rim.specs.Endings.{Call, Ends, HasInput, IsRefused, IsReported}
+use Rattle.call_rim.specs.Outside.{Writing}
 use Rattle.call_rim.specs.declared.status.Status.{Status}
 use Rattle.call_rim.specs.declared.status.Status.TheVariants.{Done, Refused, Usage, ReadFault, WriteFault, NoMemory}
 use Rattle.check_parts.specs.BadInputs.{IsBad}
@@ -16,7 +18,7 @@ use Rattle.journal_check.specs.declared.verdict.Clause.{Clause}
 use Rattle.journal_check.specs.declared.verdict.Clause.TheVariants as clauses
 use Rattle.journal_text.specs.Laws.{TextsAreOfOneValue}
 use Rattle.journal_text.specs.Readings.{IsTextOf}
-use Rattle.replay_top.specs.Endings.{HasInput, IsComplete, IsGood, says_no_run}
+use Rattle.replay_top.specs.Endings.{IsComplete, says_no_run}
 use Rattle.replay_top.specs.Reports.{Finds, FindsReport, IsNoRun, refuses, reports}
 use Rattle.replay_top.specs.declared.form.ReplayForm.{ReplayForm}
 use Rattle.replay_top.specs.declared.form.ReplayForm.TheVariants as forms
@@ -29,10 +31,6 @@ use Rattle.run_law.specs.declared.flags.Flags.{Flags}
 use Rattle.script_ops.specs.Values.{IsLawful, ScriptValue}
 
 -- ---- an input
-
--- the bytes that a source had, where they are known
-IsToTheEnd-known : (left : Option (List ℕ)) (had bytes : List ℕ) → left ≡ Some had → IsToTheEnd left bytes → bytes ≡ had
-IsToTheEnd-known left had bytes known all = let at : IsToTheEnd (Some had) bytes = subst (λ (l : Option (List ℕ)). IsToTheEnd l bytes) known all in at
 
 -- an input that holds journals is not bad
 HoldsJournals-good : (bytes : List ℕ) (script : ScriptValue) (run : JournalsValue) (why : BadInput) → HoldsJournals bytes script run → IsBad Check bytes why → ⊥
@@ -123,19 +121,19 @@ IsFoundOf-reported runs (Some forms.Order) bytes found text (few, is) = IsFoundO
 IsFoundOf-reported runs (Some (forms.Report flags)) bytes found text (few, is) = IsFoundOf-report runs flags bytes found text is
 IsFoundOf-reported runs None bytes found text is = absurd is
 
--- what is refused is bad
-refused_same : (read text bytes : List ℕ) → read ≡ bytes → refuses read text → IsGood bytes → ⊥
-refused_same read text bytes same (inl large) good = good TooLarge (subst (λ (b : List ℕ). IsBad Check b TooLarge) same large.0)
-refused_same read text bytes same (inr few) good = good few.1.bad (subst (λ (b : List ℕ). IsBad Check b few.1.bad) same few.1.is_bad)
+-- bytes that hold journals are not refused
+refused_held : (bytes line : List ℕ) (script : ScriptValue) (run : JournalsValue) → refuses bytes line → HoldsJournals bytes script run → ⊥
+refused_held bytes line script run (inl large) holds = HoldsJournals-good bytes script run TooLarge holds large.0
+refused_held bytes line script run (inr few) holds = HoldsJournals-good bytes script run few.1.bad holds few.1.is_bad
+
+-- so none are both refused and reported on
+apart : RunsByClauses → (form : Option ReplayForm) (bytes line : List ℕ) (found : Replayed) (text : List ℕ) → refuses bytes line → reports form bytes found text → ⊥
+apart runs form bytes line found text refused reported = let made = IsFoundOf-reported runs form bytes found text reported in refused_held bytes line made.script made.run refused made.holds
 
 -- a condition holds or not
 true-or-false : (b : Bool) → (b ≡ true) ⊎ (b ≡ false)
 true-or-false true = inl refl
 true-or-false false = inr refl
-
--- and not both
-never-both : (b : Bool) → b ≡ true → b ≡ false → ⊥
-never-both b yes_b no_b = let never : true ≡ false = sym yes_b ∙ no_b in absurd cc
 
 module _ (texts : TextsAreOfOneValue) (runs : RunsByClauses) (form : Option ReplayForm) (c : Call) (outcome : Option Replayed) where
   -- ---- a call that reported
@@ -146,9 +144,6 @@ module _ (texts : TextsAreOfOneValue) (runs : RunsByClauses) (form : Option Repl
     found_of bytes has =
         let same_bytes = IsToTheEnd-known c.source.left bytes is.bytes has.had is.to_the_end in
         subst (λ (b : List ℕ). IsFoundOf b is.found) same_bytes (IsFoundOf-reported runs form is.bytes is.found is.text is.reported)
-
-    reported_bad : (bytes : List ℕ) (why : BadInput) → HasInput c bytes → IsBad Check bytes why → ⊥
-    reported_bad bytes why has bad = let found = found_of bytes has in HoldsJournals-good bytes found.script found.run why found.holds bad
 
     -- what holds of the script and the journals that were found holds of those that the input holds
     reported_of : (bytes : List ℕ) (script : ScriptValue) (run : JournalsValue) → HasInput c bytes → HoldsJournals bytes script run → (P : ScriptValue → JournalsValue → Type 0) → (found : IsFoundOf bytes is.found) → P found.script found.run → P script run
@@ -173,59 +168,37 @@ module _ (texts : TextsAreOfOneValue) (runs : RunsByClauses) (form : Option Repl
 
   -- ---- a call that refused its input
 
-  refused_good : (Takes : Writing → List ℕ → Type 0) (bytes : List ℕ) → IsRefused refuses (reports form) c outcome Takes → HasInput c bytes → IsGood bytes → ⊥
-  refused_good Takes bytes is has good = refused_same is.bytes is.text bytes (IsToTheEnd-known c.source.left bytes is.bytes has.had is.to_the_end) is.refused good
+  refused_of : (Takes : Writing → List ℕ → Type 0) (bytes : List ℕ) (script : ScriptValue) (run : JournalsValue) → IsRefused refuses (reports form) c outcome Takes → HasInput c bytes → HoldsJournals bytes script run → ⊥
+  refused_of Takes bytes script run is has holds =
+      let same = IsToTheEnd-known c.source.left bytes is.bytes has.had is.to_the_end in
+      refused_held bytes is.text script run (subst (λ (b : List ℕ). refuses b is.text) same is.refused) holds
 
-  refused_held : (Takes : Writing → List ℕ → Type 0) (bytes : List ℕ) (script : ScriptValue) (run : JournalsValue) → IsRefused refuses (reports form) c outcome Takes → HasInput c bytes → HoldsJournals bytes script run → ⊥
-  refused_held Takes bytes script run is has holds = refused_good Takes bytes is has (λ why bad. HoldsJournals-good bytes script run why holds bad)
+  -- ---- what was said of journals
 
-  -- a call whose sink failed
-  sink_failed : (status : Status) → c.sink.faults < c.sink.faults_now → IsComplete c status outcome
-  sink_failed status fault = record {
-    bad = λ bytes why has bad. absurd (omega (arith, fault, has.writes_well));
-    good = λ bytes has good. absurd (omega (arith, fault, has.writes_well));
-    run = λ bytes script run has holds is_run. absurd (omega (arith, fault, has.writes_well));
-    no_run = λ bytes script run has holds no_run. absurd (omega (arith, fault, has.writes_well));
-    by_words = λ none well. absurd (omega (arith, fault, well));
-  }
+  sink_failed : (bytes : List ℕ) → c.sink.faults < c.sink.faults_now → HasInput c bytes → ⊥
+  sink_failed bytes fault has = omega (arith, fault, has.writes_well)
+
+  said_of_run : (status : Status) → Ends refuses (reports form) c status outcome → (bytes : List ℕ) (script : ScriptValue) (run : JournalsValue) → HasInput c bytes → HoldsJournals bytes script run → IsRun script run → says_no_run outcome ≡ false
+  said_of_run Done (read, is) bytes script run has holds is_run = reported_run _ is bytes script run has holds is_run
+  said_of_run Refused (read, is) bytes script run has holds is_run = ap says_no_run is.no_outcome
+  said_of_run Usage (read, is) bytes script run has holds is_run = ap says_no_run is.no_outcome
+  said_of_run ReadFault is bytes script run has holds is_run = ap says_no_run is.no_outcome
+  said_of_run WriteFault (read, inl is) bytes script run has holds is_run = absurd (sink_failed bytes is.report.fault has)
+  said_of_run WriteFault (read, inr (inl is)) bytes script run has holds is_run = ap says_no_run is.no_outcome
+  said_of_run WriteFault (read, inr (inr is)) bytes script run has holds is_run = ap says_no_run is.no_outcome
+  said_of_run NoMemory (read, is) bytes script run has holds is_run = ap says_no_run is.no_outcome
+
+  said_of_no_run : (status : Status) → Ends refuses (reports form) c status outcome → (bytes : List ℕ) (script : ScriptValue) (run : JournalsValue) → HasInput c bytes → HoldsJournals bytes script run → (IsRun script run → ⊥)
+      → (says_no_run outcome ≡ true) ⊎ (status ≡ NoMemory)
+  said_of_no_run Done (read, is) bytes script run has holds no_run = inl (reported_no_run _ is bytes script run has holds no_run)
+  said_of_no_run Refused (read, is) bytes script run has holds no_run = absurd (refused_of _ bytes script run is has holds)
+  said_of_no_run Usage (read, is) bytes script run has holds no_run = absurd (let yes = has.has_form in let no = is.no_form in cc)
+  said_of_no_run ReadFault is bytes script run has holds no_run = absurd (omega (arith, is.fault, has.reads_well))
+  said_of_no_run WriteFault (read, inl is) bytes script run has holds no_run = absurd (sink_failed bytes is.report.fault has)
+  said_of_no_run WriteFault (read, inr (inl is)) bytes script run has holds no_run = absurd (sink_failed bytes is.line.fault has)
+  said_of_no_run WriteFault (read, inr (inr is)) bytes script run has holds no_run = absurd (sink_failed bytes is.line.fault has)
+  said_of_no_run NoMemory (read, is) bytes script run has holds no_run = inr refl
 
   -- the status that is due
   pub complete : (status : Status) → Ends refuses (reports form) c status outcome → IsComplete c status outcome
-  complete Done (read, is) = record {
-    bad = λ bytes why has bad. absurd (reported_bad _ is bytes why has bad);
-    good = λ bytes has good. inl refl;
-    run = λ bytes script run has holds is_run. reported_run _ is bytes script run has holds is_run;
-    no_run = λ bytes script run has holds no_run. inl (reported_no_run _ is bytes script run has holds no_run);
-    by_words = λ none well. absurd (never-both c.has_form is.form none);
-  }
-  complete Refused (read, is) = record {
-    bad = λ bytes why has bad. inl refl;
-    good = λ bytes has good. absurd (refused_good _ bytes is has good);
-    run = λ bytes script run has holds is_run. absurd (refused_held _ bytes script run is has holds);
-    no_run = λ bytes script run has holds no_run. absurd (refused_held _ bytes script run is has holds);
-    by_words = λ none well. absurd (never-both c.has_form is.form none);
-  }
-  complete Usage (read, is) = record {
-    bad = λ bytes why has bad. absurd (never-both c.has_form has.has_form is.no_form);
-    good = λ bytes has good. absurd (never-both c.has_form has.has_form is.no_form);
-    run = λ bytes script run has holds is_run. absurd (never-both c.has_form has.has_form is.no_form);
-    no_run = λ bytes script run has holds no_run. absurd (never-both c.has_form has.has_form is.no_form);
-    by_words = λ none well. refl;
-  }
-  complete ReadFault is = record {
-    bad = λ bytes why has bad. absurd (omega (arith, is.fault, has.reads_well));
-    good = λ bytes has good. absurd (omega (arith, is.fault, has.reads_well));
-    run = λ bytes script run has holds is_run. absurd (omega (arith, is.fault, has.reads_well));
-    no_run = λ bytes script run has holds no_run. absurd (omega (arith, is.fault, has.reads_well));
-    by_words = λ none well. absurd (never-both c.has_form is.form none);
-  }
-  complete WriteFault (read, inl is) = sink_failed WriteFault is.report.fault
-  complete WriteFault (read, inr (inl is)) = sink_failed WriteFault is.line.fault
-  complete WriteFault (read, inr (inr is)) = sink_failed WriteFault is.line.fault
-  complete NoMemory (read, is) = record {
-    bad = λ bytes why has bad. inr refl;
-    good = λ bytes has good. inr refl;
-    run = λ bytes script run has holds is_run. ap says_no_run is.no_outcome;
-    no_run = λ bytes script run has holds no_run. inr refl;
-    by_words = λ none well. absurd (never-both c.has_form is.form none);
-  }
+  complete status ends = record { due = IsComplete-ends refuses (reports form) (apart runs form) c status outcome ends; run = said_of_run status ends; no_run = said_of_no_run status ends }

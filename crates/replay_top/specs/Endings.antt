@@ -1,13 +1,11 @@
 -- Which status is due, and the exit status.
 use Rattle.std.specs.Prelude.{◌≡◌, ℕ, ◌⊎◌, Bool, true, false, List, Option, Some, None}
 use Rattle.call_rim.specs.Codes.{code_of}
-use Rattle.call_rim.specs.Endings.{Call, Ends, LeavesBy, ReadsWell, WritesWell}
+use Rattle.call_rim.specs.Endings.{Call, Ends, HasInput, LeavesBy}
+use Rattle.call_rim.specs.Endings as rim
 use Rattle.call_rim.specs.declared.status.Status.{Status}
 use Rattle.call_rim.specs.declared.status.Status.TheVariants.{Done, NoMemory, ReadFault, Refused, Usage, WriteFault}
-use Rattle.check_parts.specs.BadInputs.{IsBad}
 use Rattle.check_parts.specs.Inputs.{HoldsJournals}
-use Rattle.check_parts.specs.declared.bad_input.BadInput.{BadInput}
-use Rattle.check_parts.specs.declared.form.Form.TheVariants.{Check}
 use Rattle.check_parts.specs.declared.limits.TheConstants.{MOST_CHECK_BYTES}
 use Rattle.replay_top.specs.Reports.{refuses, reports}
 use Rattle.replay_top.specs.declared.form.ReplayForm.{ReplayForm}
@@ -19,17 +17,6 @@ use Rattle.script_ops.specs.Values.{ScriptValue}
 
 -- ---- which status is due
 
--- the command line is valid, the source had these bytes, and nothing failed
-pub record HasInput (c : Call) (bytes : List ℕ) : Type 0 where
-  pub has_form : c.has_form ≡ true
-  pub had : c.source.left ≡ Some bytes
-  pub reads_well : ReadsWell c
-  pub writes_well : WritesWell c
-
--- nothing is wrong with the input
-abbrev pub IsGood : List ℕ → Type 0
-IsGood bytes = (why : BadInput) → IsBad Check bytes why → ⊥
-
 -- what was found is that the journals are no run
 abbrev pub says_no_run : Option Replayed → Bool
 says_no_run (Some (outcomes.NoRun clause)) = true
@@ -39,15 +26,12 @@ says_no_run (Some outcomes.TooLong) = false
 says_no_run (Some (outcomes.Reported run)) = false
 says_no_run None = false
 
--- The status when nothing fails, unless memory runs out: Refused where the input is bad, and Done where it is not. Journals that are a
--- run are never said to be none, and those that are none always. A command line that is not valid gets Usage, whatever becomes of the
--- source.
+-- The status is the one that is due. Where nothing fails, journals that are a run are never said to be none, and those that are none
+-- always, unless memory runs out.
 pub record IsComplete (c : Call) (status : Status) (outcome : Option Replayed) : Type 0 where
-  pub bad : (bytes : List ℕ) (why : BadInput) → HasInput c bytes → IsBad Check bytes why → (status ≡ Refused) ⊎ (status ≡ NoMemory)
-  pub good : (bytes : List ℕ) → HasInput c bytes → IsGood bytes → (status ≡ Done) ⊎ (status ≡ NoMemory)
+  pub due : rim.IsComplete refuses c status
   pub run : (bytes : List ℕ) (script : ScriptValue) (run : JournalsValue) → HasInput c bytes → HoldsJournals bytes script run → IsRun script run → says_no_run outcome ≡ false
   pub no_run : (bytes : List ℕ) (script : ScriptValue) (run : JournalsValue) → HasInput c bytes → HoldsJournals bytes script run → (IsRun script run → ⊥) → (says_no_run outcome ≡ true) ⊎ (status ≡ NoMemory)
-  pub by_words : c.has_form ≡ false → WritesWell c → status ≡ Usage
 
 -- ---- the exit status
 
