@@ -1,3 +1,4 @@
 pub mod EqualWays
 pub mod LowestEmpty
 pub mod LowestWay
+pub mod WayWords
