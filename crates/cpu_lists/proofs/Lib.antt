@@ -2,11 +2,12 @@ pub mod Additions
 pub mod Bits
 pub mod KeptNumbers
 pub mod LeastNumbers
+pub mod ListRoundTrips
 pub mod LowParts
 pub mod LowestNumbers
+pub mod MaskRoundTrips
 pub mod MaskTexts
 pub mod Members
 pub mod Pieces
-pub mod RoundTrips
 pub mod RunsOfSets
 pub mod Texts
