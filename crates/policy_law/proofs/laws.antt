@@ -1,4 +1,5 @@
 -- Lemmas that crates above cite.
+pub mod LinesOnce
 pub mod Masks
 pub mod Places
 pub mod Stamped
