@@ -1,8 +1,8 @@
 -- Counts of the groups that have a way, when a group comes, goes or is replaced.
-use Rattle.std.proofs.Common.{◌≡◌, ℕ, zero, suc, ◌+◌, ◌<◌, ◌≤◌, Bool, true, false, ◌&&◌, not, cond, eqb, List, [], ◌∷◌, ◌++◌, length, filter, find, get_or, Option, Some, None, refl, sym, subst, ap, ◌∙◌, arith}
+use Rattle.std.proofs.Common.{◌≡◌, ℕ, zero, suc, ◌+◌, ◌<◌, ◌≤◌, Bool, true, false, ◌&&◌, cond, eqb, List, [], ◌∷◌, ◌++◌, length, find, get_or, Option, Some, None, refl, sym, subst, ap, ◌∙◌, arith}
 use Rattle.std.specs.Int.{bit_at}
 use Rattle.std.specs.List.{count_by}
-use Rattle.std.proofs.lemmas.List.Sums.{count_by-le-length, sum_by-cons, sum_by_push}
+use Rattle.std.proofs.lemmas.List.Sums.{count_by-le-length, sum_by_push}
 use Rattle.std.proofs.lemmas.Nat.Bits.{bit_at-lt}
 use Rattle.cbm.specs.Masks.{has_way}
 use Rattle.rc_base.specs.declared.names.Gid.{Gid}
@@ -10,13 +10,11 @@ use Rattle.rc_base.specs.declared.names.Mode.{Mode}
 use Rattle.rc_base.specs.declared.names.Mode.TheVariants.{Shareable, Exclusive, LockSetup, Locked}
 use Rattle.group_tree.specs.Counts.{IsCountOf, ModeCountsAre, added_in, groups_with, has_way_in, no_counts, own_group, removed_in, with_group, without_group, without_some}
 use Rattle.group_tree.specs.Lists.{GidsDiffer, replaced, without}
-use Rattle.group_tree.specs.Records.{has_gid, is_control, is_mode, is_other, mask_in}
+use Rattle.group_tree.specs.Records.{has_gid, is_control, is_mode, mask_in}
 use Rattle.group_tree.specs.declared.group.Group.{Group}
 use Rattle.group_tree.specs.declared.mode_counts.ModeCounts.{ModeCounts}
 use Rattle.group_tree.proofs.Digits.{CountsAre-added, CountsAre-none, CountsAre-removed, CountsAre-same}
-use Rattle.group_tree.proofs.Edits.{GidsDiffer-tail, HasNone-others, without-none, replaced-none}
-
--- ---- the counts of a domain
+use Rattle.group_tree.proofs.TestedGroups.{count_by-cons, others_than, one_if, count_by-without, count_by-others, count_by-replaced}
 
 -- a mask more in a mode
 ModeCountsAre-added_in : (mode : Mode) (mask : ℕ) (counts : ModeCounts) (number next : Mode → ℕ → ℕ) → ModeCountsAre counts number
@@ -107,62 +105,6 @@ ModeCountsAre-without_group g domain counts number next are fewer = at (is_contr
         → ModeCountsAre (cond control (removed_in g.mode (mask_in domain g) counts) counts) next
     at true change = ModeCountsAre-removed_in g.mode (mask_in domain g) counts number next are (λ m way. ap (λ (n : ℕ). next m way + n) (sym (has_way_in-bit (is_mode m g.mode) (mask_in domain g) way)) ∙ change m way)
     at false change = ModeCountsAre-same counts number next are (λ m way. omega (arith, change m way))
-
--- ---- the groups that pass a test
-
--- the first counts where it passes
-pub count_by-cons : (p : Group → Bool) (g : Group) (gs : List Group) → count_by p (g ∷ gs) ≡ cond (p g) 1 0 + count_by p gs
-count_by-cons p g gs = sum_by-cons (λ (x : Group). cond (p x) 1 0) g gs
-
--- those but for one, where one is named
-abbrev pub others_than : Option Gid → List Group → List Group
-others_than gid groups = filter (is_other gid) groups
-
--- what a group that may be there counts
-abbrev pub one_if : (Group → Bool) → Option Group → ℕ
-one_if p None = 0
-one_if p (Some g) = cond (p g) 1 0
-
--- where none is named, all are others
-others_than-None : (gs : List Group) → others_than None gs ≡ gs
-others_than-None [] = refl
-others_than-None (g ∷ gs) = ap (λ (xs : List Group). g ∷ xs) (others_than-None gs)
-
--- the others and the one are all
-count_by-without : (p : Group → Bool) (gid : Gid) (gs : List Group) → GidsDiffer gs → count_by p (without gid gs) + one_if p (find (has_gid gid) gs) ≡ count_by p gs
-count_by-without p gid [] differ = refl
-count_by-without p gid (g ∷ gs) differ = at (has_gid gid g) refl (count_by-without p gid gs (GidsDiffer-tail g gs differ))
-  where
-    at : (b : Bool) → has_gid gid g ≡ b → count_by p (without gid gs) + one_if p (find (has_gid gid) gs) ≡ count_by p gs
-        → count_by p (cond (not b) (g ∷ without gid gs) (without gid gs)) + one_if p (cond b (Some g) (find (has_gid gid) gs)) ≡ count_by p (g ∷ gs)
-    at true is rest = (
-        let none = ap (count_by p) (without-none gid gs (HasNone-others gid g gs is differ)) in
-        let all = count_by-cons p g gs in omega arith)
-    at false is rest = (
-        let kept = count_by-cons p g (without gid gs) in
-        let all = count_by-cons p g gs in omega arith)
-
-count_by-others : (p : Group → Bool) (gid : Option Gid) (gs : List Group) → GidsDiffer gs → count_by p (others_than gid gs) + one_if p (own_group gid gs) ≡ count_by p gs
-count_by-others p None gs differ = (let all = ap (count_by p) (others_than-None gs) in omega arith)
-count_by-others p (Some gid) gs differ = count_by-without p gid gs differ
-
--- a record that takes the place of another
-count_by-replaced : (p : Group → Bool) (new old : Group) (gs : List Group) → find (has_gid new.gid) gs ≡ Some old → GidsDiffer gs → count_by p (replaced new gs) ≡ count_by p (without new.gid gs) + cond (p new) 1 0
-count_by-replaced p new old [] found differ = absurd cc
-count_by-replaced p new old (g ∷ gs) found differ = at (has_gid new.gid g) refl found (λ e. count_by-replaced p new old gs e (GidsDiffer-tail g gs differ))
-  where
-    at : (b : Bool) → has_gid new.gid g ≡ b → cond b (Some g) (find (has_gid new.gid) gs) ≡ Some old
-        → (find (has_gid new.gid) gs ≡ Some old → count_by p (replaced new gs) ≡ count_by p (without new.gid gs) + cond (p new) 1 0)
-        → count_by p (cond b new g ∷ replaced new gs) ≡ count_by p (cond (not b) (g ∷ without new.gid gs) (without new.gid gs)) + cond (p new) 1 0
-    at true is e rest = (
-        let none = HasNone-others new.gid g gs is differ in
-        let kept = ap (count_by p) (without-none new.gid gs none) in
-        let same = ap (count_by p) (replaced-none new gs none) in
-        let all = count_by-cons p new (replaced new gs) in omega arith)
-    at false is e rest = (
-        let others = rest e in
-        let kept = count_by-cons p g (without new.gid gs) in
-        let all = count_by-cons p g (replaced new gs) in omega arith)
 
 -- ---- the counts of all groups
 

@@ -1,134 +1,20 @@
--- Indices: what a search finds, and what an edit leaves.
-use Rattle.std.proofs.Common.{◌≡◌, ◌≢◌, ℕ, zero, suc, ◌+◌, ◌-◌, ◌<◌, ◌≤◌, Bool, true, false, not, cond, List, [], ◌∷◌, ◌++◌, length, map, filter, set, take, drop, get_or, All, AllPairs, HoldsAt, count_by, insert, remove, length-set, refl, sym, ap, ◌∙◌, subst, arith, inl, inr}
-use Rattle.std.specs.List.{AllWithin, position_or_len, refill}
-use Rattle.std.proofs.lemmas.Bool.{cases_eq, cases_lt, cond-false, cond-true, eq-eqb, eqb-false, eqb-true, false_from_ne_true, le-ltb, lt-ltb, ne_eqb, not-true}
+-- Indices: what an edit leaves.
+use Rattle.std.proofs.Common.{◌≡◌, ◌≢◌, ℕ, zero, suc, ◌+◌, ◌-◌, ◌<◌, ◌≤◌, Bool, true, false, not, List, [], ◌∷◌, ◌++◌, length, map, filter, set, get_or, All, HoldsAt, insert, remove, length-set, refl, sym, ap, ◌∙◌, subst, arith, inl, inr}
+use Rattle.std.specs.List.{AllWithin}
+use Rattle.std.proofs.lemmas.Bool.{cases_eq, cases_lt, cond-false, cond-true, eq-eqb, eqb-false, le-ltb, lt-ltb, ne_eqb, not-true}
 use Rattle.std.proofs.lemmas.Bool.Decides.{nat_tests}
-use Rattle.std.proofs.lemmas.List.{append-nil, drop_all, take_all, get_or_append_left, get_or_default, get_or_push, get_or-set_other, get_or-set_same, length-map, length_push}
-use Rattle.std.proofs.lemmas.List.Edits.{get_or-insert_above, get_or-insert_at, get_or-insert_below, get_or-remove_above, get_or-remove_below, length-insert, length-remove}
-use Rattle.std.proofs.lemmas.List.Elements.{All-append, All-cons, All-drop, All-filter, All-take, All-weaker, filter_passes}
+use Rattle.std.proofs.lemmas.List.{get_or_append_left, get_or_push, get_or-set_other, get_or-set_same, length-map, length_push}
+use Rattle.std.proofs.lemmas.List.Edits.{get_or-remove_above, get_or-remove_below, length-insert, length-remove}
+use Rattle.std.proofs.lemmas.List.Elements.{All-filter, All-weaker, filter_passes}
 use Rattle.std.proofs.lemmas.List.Filters.{length-filter_both}
 use Rattle.std.proofs.lemmas.List.Kept.{AllPairs-filter}
-use Rattle.std.proofs.lemmas.List.Sums.{length-filter, position_or_len_is, sum_by-cons, sum_by-insert}
+use Rattle.std.proofs.lemmas.List.Sums.{length-filter, sum_by-insert}
 use Rattle.group_tree.specs.Indices.{IsEntryOf, IsIndex, IsIndexBut, in_order, is_at, lowered, precedes}
-use Rattle.group_tree.specs.Keys.{is_below, is_key}
-use Rattle.group_tree.specs.Records.{blank}
 use Rattle.group_tree.specs.declared.group.Group.{Group}
 use Rattle.group_tree.specs.declared.index.Entry.{Entry}
 use Rattle.group_tree.specs.declared.key.Key.{Key}
-use Rattle.group_tree.proofs.Orders.{in_order-le, in_order-lowered, in_order-precedes, is_below-other, is_key-after, is_key-sym, place-le}
-
--- what an entry adds to the count of a place
-abbrev count_at : ℕ → Entry → ℕ
-count_at place e = cond (is_at place e) 1 0
-
--- ---- entries of a place
-
--- a place of which there is no entry
-count_by-none : (place : ℕ) (xs : List Entry) → All (λ e. e.place ≢ place) xs → count_by (is_at place) xs ≡ 0
-count_by-none place [] all = refl
-count_by-none place (x ∷ xs) all =
-    let other : is_at place x ≡ false = ne_eqb x.place place (all 0 x (omega arith)) in
-    let nothing : count_at place x ≡ 0 = rw other refl in
-    let rest = count_by-none place xs (λ k d h. all (suc k) d (omega arith)) in
-    sum_by-cons (count_at place) x xs ∙ omega (arith, nothing, rest)
-
--- the entries of one place are still there when those of another are gone
-count_by-filter : (place gone : ℕ) → place ≢ gone → (xs : List Entry) → count_by (is_at place) (filter (λ e. not (is_at gone e)) xs) ≡ count_by (is_at place) xs
-count_by-filter place gone other [] = refl
-count_by-filter place gone other (x ∷ xs) = at (is_at gone x) (count_by-filter place gone other xs) refl
-  where
-    at : (b : Bool) → count_by (is_at place) (filter (λ e. not (is_at gone e)) xs) ≡ count_by (is_at place) xs → b ≡ is_at gone x
-        → count_by (is_at place) (cond (not b) (x ∷ filter (λ e. not (is_at gone e)) xs) (filter (λ e. not (is_at gone e)) xs)) ≡ count_by (is_at place) (x ∷ xs)
-    at true rest is =
-        let there : x.place ≡ gone = eqb-true x.place gone (sym is) in
-        let apart : is_at place x ≡ false = ne_eqb x.place place (λ e. other (sym e ∙ there)) in
-        let nothing : count_at place x ≡ 0 = rw apart refl in
-        rest ∙ omega (arith, nothing, sum_by-cons (count_at place) x xs)
-    at false rest is = sum_by-cons (count_at place) x (filter (λ e. not (is_at gone e)) xs) ∙ omega (arith, rest, sum_by-cons (count_at place) x xs)
-
--- the entries of a place when the places after a gap have moved
-count_by-lowered : (gap place from : ℕ) → ((x : Entry) → x.place ≢ gap → is_at place (lowered gap x) ≡ is_at from x) → (xs : List Entry) → All (λ e. e.place ≢ gap) xs
-    → count_by (is_at place) (map (lowered gap) xs) ≡ count_by (is_at from) xs
-count_by-lowered gap place from same [] all = refl
-count_by-lowered gap place from same (x ∷ xs) all =
-    let here : count_at place (lowered gap x) ≡ count_at from x = ap (λ (b : Bool). cond b 1 0) (same x (all 0 x (omega arith))) in
-    let rest = count_by-lowered gap place from same xs (λ k d h. all (suc k) d (omega arith)) in
-    sum_by-cons (count_at place) (lowered gap x) (map (lowered gap) xs) ∙ omega (arith, here, rest, sum_by-cons (count_at from) x xs)
-
--- ---- edits of lists
-
--- an insert between what may stand before and what may stand after
-AllPairs-insert : (test : Entry → Entry → Bool) (xs : List Entry) (i : ℕ) (y : Entry) → AllPairs (λ a b. test a b ≡ true) xs → i ≤ length xs
-    → ((k : ℕ) (d : Entry) → k < i → test (get_or xs k d) y ≡ true) → ((k : ℕ) (d : Entry) → i ≤ k → k < length xs → test y (get_or xs k d) ≡ true)
-    → AllPairs (λ a b. test a b ≡ true) (insert xs i y)
-AllPairs-insert test xs i y pairs bound before after =
-    let long = length-insert xs i y bound in
-    let below : (k : ℕ) (d : Entry) → k < i → get_or (insert xs i y) k d ≡ get_or xs k d = λ k d lt. get_or-insert_below xs i y d k lt bound in
-    let here : (k : ℕ) (d : Entry) → k ≡ i → get_or (insert xs i y) k d ≡ y = λ k d same. rw same (get_or-insert_at xs i y d bound) in
-    let above : (k : ℕ) (d : Entry) → i < k → get_or (insert xs i y) k d ≡ get_or xs (k - 1) d = λ k d lt.
-    subst (λ q. get_or (insert xs i y) q d ≡ get_or xs (k - 1) d) {x = k - 1 + 1} (omega arith) (get_or-insert_above xs i y d (k - 1) (omega arith) bound) in
-    λ a b d lt within. grind (arith, below a d, here a d, above a d, below b d, here b d, above b d, pairs a b d, pairs a (b - 1) d, pairs (a - 1) (b - 1) d, before a d, after (b - 1) d, long)
-
--- what holds of all and of a new one
-All-insert : (P : Entry → Type 0) (xs : List Entry) (i : ℕ) (y : Entry) → All P xs → P y → All P (insert xs i y)
-All-insert P xs i y all new = All-append P _ _ (All-take P i xs all) (All-cons P y _ new (All-drop P i xs all))
-
--- an element of a list that was mapped
-get_or-map : (f : Entry → Entry) (xs : List Entry) (k : ℕ) (d e : Entry) → k < length xs → get_or (map f xs) k d ≡ f (get_or xs k e)
-get_or-map f [] k d e within = absurd (omega arith)
-get_or-map f (x ∷ xs) zero d e within = refl
-get_or-map f (x ∷ xs) (suc k) d e within = get_or-map f xs k d e (omega arith)
-
--- all elements are written back through a slice
-pub refill-whole : (xs ys : List Entry) → length ys ≡ length xs → refill (length xs) xs ys ≡ ys
-refill-whole xs ys same =
-    let rest : drop (length ys) xs ≡ [] = drop_all (length ys) xs (omega (arith, same)) in
-    ap (λ (zs : List Entry). take (length xs) (ys ++ zs)) rest ∙ ap (λ (zs : List Entry). take (length xs) zs) (append-nil ys) ∙ take_all (length xs) ys (omega (arith, same))
-
--- ---- what a search finds
-
-module _ (key_of : Group → Key) (groups : List Group) (entries : List Entry) (index : IsIndex key_of groups entries) where
-  -- each group has an entry
-  has_entry : (place : ℕ) → place < length groups → All (λ e. e.place ≢ place) entries → ⊥
-  has_entry place within none = omega (arith, count_by-none place entries none, index.once place within)
-
-  -- the entry of a group has its key
-  is_key-entry : (key : Key) (place k : ℕ) (d : Entry) (g : Group) → k < length entries → (get_or entries k d).place ≡ place → is_key key (key_of (get_or groups place g)) ≡ true → is_key key (get_or entries k d).key ≡ true
-  is_key-entry key place k d g within same is =
-      let entry = index.right k d within in
-      subst (λ (x : Key). is_key key x ≡ true) (entry.key g) (subst (λ (n : ℕ). is_key key (key_of (get_or groups n g)) ≡ true) (sym same) is)
-
-  module _ (key : Key) (from : ℕ) (bound : from ≤ length entries) (below : AllWithin (λ e. is_below e.key key ≡ true) entries 0 from) (rest : AllWithin (λ e. is_below e.key key ≡ false) entries from (length entries)) where
-    -- where the first entry that is not below has another key, no group has the key
-    pub position_or_len-absent : ((d : Entry) → from < length entries → is_key (get_or entries from d).key key ≡ false) → length entries ≡ position_or_len (λ g. is_key key (key_of g)) groups
-    position_or_len-absent other = sym (position_or_len_is (λ g. is_key key (key_of g)) groups (length entries) blank (omega (arith, index.size)) none (λ within. absurd (omega (arith, index.size))))
-      where
-        none : (place : ℕ) → place < length entries → is_key key (key_of (get_or groups place blank)) ≡ false
-        none place within = false_from_ne_true _ (λ is. has_entry place (omega (arith, index.size)) (λ k d h same.
-            let has = is_key-entry key place k d blank h same is in
-            elim (cases_lt k from) [
-              | inl lower ↦ is_below-other (get_or entries k d).key key (below k d (omega arith) lower) has
-              | inr past ↦ is_key-after (get_or entries from d) (get_or entries k d) key (in_order-le entries index.rising from k d past h) (rest from d (omega arith) (omega arith)) (other d (omega arith)) has
-            ]))
-
-    -- where it has the key, its group is the first that has
-    pub position_or_len-present : (d : Entry) → from < length entries → is_key (get_or entries from d).key key ≡ true → (get_or entries from d).place ≡ position_or_len (λ g. is_key key (key_of g)) groups
-    position_or_len-present d inside is_first =
-        let entry = index.right from d inside in
-        sym (position_or_len_is (λ g. is_key key (key_of g)) groups (get_or entries from d).place blank (omega (arith, entry.within)) none
-        (λ within. subst (λ (x : Key). is_key key x ≡ true) (sym (entry.key blank)) (is_key-sym (get_or entries from d).key key is_first)))
-      where
-        none : (place : ℕ) → place < (get_or entries from d).place → is_key key (key_of (get_or groups place blank)) ≡ false
-        none place lower_place = let entry = index.right from d inside in
-            false_from_ne_true _ (λ is. has_entry place (omega (arith, entry.within)) (λ k e h same.
-            let same_here : (get_or entries k d).place ≡ place = ap (λ (x : Entry). x.place) (get_or_default entries k d e h) ∙ same in
-            let has = is_key-entry key place k d blank h same_here is in
-            elim (cases_lt k from) [
-              | inl lower ↦ is_below-other (get_or entries k d).key key (below k d (omega arith) lower) has
-              | inr past ↦ (let le = place-le (get_or entries from d) (get_or entries k d) key (in_order-le entries index.rising from k d past h) is_first has in absurd (omega (arith, le, same_here, lower_place)))
-            ]))
-
--- ---- what an edit leaves
+use Rattle.group_tree.proofs.Orders.{in_order-lowered, in_order-precedes}
+use Rattle.group_tree.proofs.IndexEntries.{count_at, count_by-none, count_by-filter, count_by-lowered, AllPairs-insert, All-insert, get_or-map}
 
 -- the index of one group
 pub IsIndex-one : (key_of : Group → Key) (g : Group) (key : Key) → key_of g ≡ key → IsIndex key_of (g ∷ []) (record { key = key; place = 0 } ∷ [])

@@ -2,8 +2,11 @@ pub mod Counts
 pub mod Digits
 pub mod EachDomain
 pub mod Edits
+pub mod IndexEntries
+pub mod IndexSearches
 pub mod Indices
 pub mod Lookups
 pub mod Orders
+pub mod TestedGroups
 pub mod Unions
 pub mod laws

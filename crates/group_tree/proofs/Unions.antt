@@ -12,7 +12,7 @@ use Rattle.group_tree.specs.declared.group.Group.{Group}
 use Rattle.group_tree.specs.Counts.{CountsAre, groups_with, has_way_in}
 use Rattle.group_tree.specs.Others.{IsUnionOfOthers, masks_of_others, others_in}
 use Rattle.group_tree.specs.Records.{has_mode, is_other, mask_in}
-use Rattle.group_tree.proofs.Counts.{count_by-cons, others_than}
+use Rattle.group_tree.proofs.TestedGroups.{count_by-cons, others_than}
 use Rattle.group_tree.proofs.Digits.{Tells, Tells-digits, Tells-one, Tells-same, zero-plus}
 
 -- one more mask is joined by `|`

@@ -2,7 +2,7 @@ use Rattle.std.proofs.Common.{◌<◌, length, sym, ap, ◌∙◌, arith}
 use Rattle.std.proofs.lemmas.List.{get_or_default}
 use Rattle.group_tree.specs.Keys.{is_key}
 use Rattle.group_tree.specs.declared.index.Entry.{Entry}
-use Rattle.group_tree.proofs.Indices.{position_or_len-absent, position_or_len-present}
+use Rattle.group_tree.proofs.IndexSearches.{position_or_len-absent, position_or_len-present}
 use Rattle.group_tree.proofs.index.first_place.Goals as goal
 
 pub returns-then-from-entries : goal.returns-then-from-entries

@@ -2,7 +2,8 @@ use Rattle.std.proofs.Common.{◌≡◌, length, map, ap, ◌∙◌}
 use Rattle.std.specs.List.{refill}
 use Rattle.std.proofs.lemmas.List.{length-map}
 use Rattle.group_tree.specs.Indices.{lowered}
-use Rattle.group_tree.proofs.Indices.{IsIndex-lowered, refill-whole}
+use Rattle.group_tree.proofs.Indices.{IsIndex-lowered}
+use Rattle.group_tree.proofs.IndexEntries.{refill-whole}
 use Rattle.group_tree.proofs.index.leave.Goals as goal
 
 pub returns : goal.returns

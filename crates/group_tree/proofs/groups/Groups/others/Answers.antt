@@ -5,7 +5,8 @@ use Rattle.group_tree.specs.Lists.{GroupList}
 use Rattle.group_tree.specs.Others.{IsUseByOthers}
 use Rattle.group_tree.specs.declared.group.Group.{Group}
 use Rattle.group_tree.specs.declared.mode_counts.ModeCounts.{ModeCounts}
-use Rattle.group_tree.proofs.Counts.{ModeCountsAre-without_some, others_than}
+use Rattle.group_tree.proofs.Counts.{ModeCountsAre-without_some}
+use Rattle.group_tree.proofs.TestedGroups.{others_than}
 use Rattle.group_tree.proofs.Unions.{IsUnionOfOthers-counted}
 use Rattle.group_tree.proofs.groups.Groups.others.Goals as goal
 
