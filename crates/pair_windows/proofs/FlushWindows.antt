@@ -31,7 +31,7 @@ use Rattle.spans.proofs.laws.LastEpochs.{last_within-fewer}
 use Rattle.spans.proofs.laws.LongerSpans.{map-after}
 use Rattle.spans.specs.declared.span.Span.{Span}
 use Rattle.pair_windows.specs.declared.partition.Partition.{Partition}
-use Rattle.private_lru.proofs.laws.CoveredAccesses.{hits_of_group-covered}
+use Rattle.private_lru.proofs.laws.CoveredHits.{hits_of_group-covered}
 use Rattle.private_lru.specs.Covered.{covered}
 use Rattle.private_lru.specs.GroupCounts.{covered_private_hits, hits_of_group}
 use Rattle.private_lru.specs.Isolation.{IsIsolated, between}

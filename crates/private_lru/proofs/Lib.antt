@@ -1,10 +1,14 @@
 mod CountedFronts
 mod CutEnds
+mod EachGroup
 mod HeldReaches
 mod HighEpochs
+mod KeptAccesses
 mod KeptAfter
+mod KeptEntries
 mod KeptWays
 mod LineUses
+mod LoweredEnds
 mod MissingWays
 mod OtherUsers
 mod PrivateHits

@@ -11,7 +11,7 @@ use Rattle.machine.proofs.laws.Slices.{slice_number-lt}
 use Rattle.machine.specs.Slices.{slice_number}
 use Rattle.rc_base.specs.declared.names.Gid.{Gid}
 use Rattle.cbm.specs.Masks.{ways_of}
-use Rattle.private_lru.proofs.laws.CoveredAccesses.{hits_of_group-covered}
+use Rattle.private_lru.proofs.laws.CoveredHits.{hits_of_group-covered}
 use Rattle.private_lru.specs.GroupCounts.{accesses_of, covered_private_hits, hits_of_group}
 use Rattle.private_lru.specs.Covered.{covered}
 use Rattle.private_lru.specs.Isolation.{IsIsolated, between}

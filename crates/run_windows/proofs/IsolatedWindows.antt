@@ -7,7 +7,7 @@ use Rattle.cache_core.specs.declared.entry.SliceEntry.{SliceEntry}
 use Rattle.cbm.specs.Masks.{ways_of}
 use Rattle.private_lru.specs.Isolation.{IsIsolated, Respects, between}
 use Rattle.private_lru.proofs.laws.SliceWindows.{IsIsolated-between}
-use Rattle.private_lru.proofs.laws.CoveredAccesses.{covered_hits-two_worlds}
+use Rattle.private_lru.proofs.laws.CoveredHits.{covered_hits-two_worlds}
 use Rattle.rc_base.specs.declared.names.Gid.{Gid}
 use Rattle.run_law.specs.Journals.{At, JournalsValue, slice_at}
 use Rattle.run_law.specs.Runs.{IsRun}

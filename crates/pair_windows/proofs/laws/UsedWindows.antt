@@ -33,7 +33,7 @@ use Rattle.pair_windows.specs.CdpWindows.{cdp_windows, ends_window, is_used, win
 use Rattle.pair_windows.specs.Partitions.{has_partition, is_kept, last_epoch, partition_of, partitions_in, partitions_of}
 use Rattle.pair_windows.specs.declared.cdp_window.CdpWindow.{CdpWindow}
 use Rattle.pair_windows.specs.declared.partition.Partition.{Partition}
-use Rattle.private_lru.proofs.laws.CoveredAccesses.{hits_of_group-covered}
+use Rattle.private_lru.proofs.laws.CoveredHits.{hits_of_group-covered}
 use Rattle.private_lru.specs.Covered.{covered}
 use Rattle.private_lru.specs.GroupCounts.{accesses_of, covered_private_hits, hits_of_group}
 use Rattle.private_lru.specs.Isolation.{IsIsolated, between}

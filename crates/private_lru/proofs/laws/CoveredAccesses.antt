@@ -10,11 +10,10 @@ use Rattle.cache_core.specs.declared.entry.What.{What}
 use Rattle.cache_core.specs.declared.entry.What.TheVariants.{Access, Raise, Flush, Lock, Look, Drop}
 use Rattle.cache_core.specs.declared.entry.SliceEntry.{SliceEntry}
 use Rattle.lists.specs.Sums.{one_if}
-use Rattle.private_lru.specs.GroupCounts.{hits_of_group, is_own_hit, is_private_hit, private_hits_after, private_hits_of}
-use Rattle.private_lru.specs.Covered.{covered, covered_after, covered_front, covered_front_after, hit_of, hits_in, is_covered, is_loaded_use, is_other_use, is_own, item_of, items, uses_line, with_front}
+use Rattle.private_lru.specs.GroupCounts.{hits_of_group, is_own_hit, is_private_hit, private_hits_after}
+use Rattle.private_lru.specs.Covered.{covered_after, covered_front_after, hit_of, hits_in, is_covered, is_loaded_use, is_other_use, is_own, item_of, items, uses_line, with_front}
 use Rattle.private_lru.specs.Isolation.{HitsAsPrivate, IsIsolated}
-use Rattle.private_lru.specs.SliceLaws.{CoveredHits, CoveredHitsAreCounted, TwoWorlds}
-use Rattle.private_lru.specs.Private.{hits_after, hits_of, private_hit}
+use Rattle.private_lru.specs.Private.{hits_after, private_hit}
 use Rattle.private_lru.specs.declared.item.Item.{Item}
 use Rattle.private_lru.specs.declared.item.Item.TheVariants.{Use, Drop as Dropped}
 
@@ -49,7 +48,7 @@ module _ (sets group : ℕ) (opening : What) (window : List SliceEntry) where
       at false none = none
 
   -- and nothing stands before its last
-  covered_front_after-none : (earlier es : List SliceEntry) → is_covered sets group opening window earlier ≡ false → covered_front_after sets group opening window earlier es ≡ []
+  pub covered_front_after-none : (earlier es : List SliceEntry) → is_covered sets group opening window earlier ≡ false → covered_front_after sets group opening window earlier es ≡ []
   covered_front_after-none earlier [] none = refl
   covered_front_after-none earlier (e ∷ es) none = rw none (at (is_own group e.what) (covered_front_after sets group opening window (earlier ++ e ∷ []) es) (covered_front_after-none (earlier ++ e ∷ []) es (is_covered-front earlier e none)))
     where
@@ -114,7 +113,7 @@ module _ (sets group : ℕ) (opening : What) (window : List SliceEntry) where
       hits_after-entry earlier lines (Look rmid counted) hits private is = hits_after-none (items sets group set own earlier) lines hits is
 
       -- the items up to the last covered access, after some entries that leave accesses covered
-      hits_in-covered_front_after : (earlier es : List SliceEntry) → window ≡ earlier ++ es → is_covered sets group opening window earlier ≡ true
+      pub hits_in-covered_front_after : (earlier es : List SliceEntry) → window ≡ earlier ++ es → is_covered sets group opening window earlier ≡ true
           → hits_in sets group set own (covered_front_after sets group opening window earlier es) ≡ hits_after ways (items sets group set own earlier) (items sets group set own (covered_front_after sets group opening window earlier es))
       hits_in-covered_front_after earlier [] split is = refl
       hits_in-covered_front_after earlier (e ∷ es) split is =
@@ -159,7 +158,7 @@ module _ (sets group : ℕ) (opening : What) (window : List SliceEntry) where
     is_private_hit-other earlier (Drop line at) other = refl
 
     -- as many of the covered accesses hit as would in a private cache
-    hits_of_group-covered_after : (earlier es : List SliceEntry) → window ≡ earlier ++ es → is_covered sets group opening window earlier ≡ true
+    pub hits_of_group-covered_after : (earlier es : List SliceEntry) → window ≡ earlier ++ es → is_covered sets group opening window earlier ≡ true
         → hits_of_group group (covered_after sets group opening window earlier es) ≡ private_hits_after sets group own ways earlier (covered_front_after sets group opening window earlier es)
     hits_of_group-covered_after earlier [] split is = refl
     hits_of_group-covered_after earlier (e ∷ es) split is =
@@ -190,27 +189,3 @@ module _ (sets group : ℕ) (opening : What) (window : List SliceEntry) where
             count false true n k hit more = absurd (false≢true hit)
         by_own false other rest [] next = next
         by_own false other rest (r ∷ rs) next = let none : one_if (is_private_hit sets group own ways earlier e.what) ≡ 0 = ap one_if (is_private_hit-other earlier e.what other) in omega (arith, next, none)
-
--- up to the last covered access an isolated group's items hit as in a private cache
-pub covered_hits-private : CoveredHits
-covered_hits-private sets group ways set opening window isolated = elim (cases_Bool (is_covered sets group opening window [])) [
-  | inl is ↦ hits_in-covered_front_after sets group opening window ways isolated set [] window refl is
-  | inr none ↦
-      let empty : covered_front sets group opening window ≡ [] = covered_front_after-none sets group opening window [] window none in
-      subst (λ (l : List SliceEntry). hits_in sets group set (uses_line group window) l ≡ hits_of ways (items sets group set (uses_line group window) l)) (sym empty) refl
-]
-
--- and as many of the covered accesses as would in it
-pub hits_of_group-covered : CoveredHitsAreCounted
-hits_of_group-covered sets group ways opening window isolated = elim (cases_Bool (is_covered sets group opening window [])) [
-  | inl is ↦ hits_of_group-covered_after sets group opening window ways isolated [] window refl is
-  | inr none ↦
-      let empty : covered sets group opening window ≡ [] = covered_after-none sets group opening window [] window none in
-      let empty_front : covered_front sets group opening window ≡ [] = covered_front_after-none sets group opening window [] window none in
-      ap (hits_of_group group) empty ∙ sym (ap (private_hits_of sets group (uses_line group window) ways) empty_front)
-]
-
--- so what others do makes no difference to them
-pub covered_hits-two_worlds : TwoWorlds
-covered_hits-two_worlds sets group its_group ways set opening its_opening window its_window first second same =
-    covered_hits-private sets group ways set opening window first ∙ ap (hits_of ways) same ∙ sym (covered_hits-private sets its_group ways set its_opening its_window second)

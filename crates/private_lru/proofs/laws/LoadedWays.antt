@@ -20,7 +20,7 @@ use Rattle.private_lru.specs.SliceLaws.{SliceHolds}
 use Rattle.private_lru.specs.Locked.{HitsLoaded, Spares, drops_line, is_drop}
 use Rattle.private_lru.proofs.OtherUsers.{place-loads}
 use Rattle.private_lru.proofs.WayLines.{line_in}
-use Rattle.private_lru.proofs.KeptAfter.{and-third_false}
+use Rattle.private_lru.proofs.KeptEntries.{and-third_false}
 use Rattle.private_lru.proofs.laws.SliceWindows.{GoesOn-rest}
 
 -- the line of a region in a place

@@ -17,8 +17,9 @@ use Rattle.private_lru.specs.SliceLaws.{SliceIsolation}
 use Rattle.private_lru.proofs.OtherUsers.{IsCovered, IsCovered-is_covered, is_use_of_other, loads-place}
 use Rattle.private_lru.proofs.Ways.{ways_below-all}
 use Rattle.private_lru.proofs.Recency.{private_hit-kept}
-use Rattle.private_lru.proofs.KeptWays.{hit-among}
-use Rattle.private_lru.proofs.KeptAfter.{AllFit, Fits, Own, KeepsAfter, KeepsAfter-append, KeepsAfter-opening}
+use Rattle.private_lru.proofs.KeptAccesses.{hit-among}
+use Rattle.private_lru.proofs.KeptAfter.{AllFit, KeepsAfter-append, KeepsAfter-opening}
+use Rattle.private_lru.proofs.KeptEntries.{Fits, Own, KeepsAfter}
 use Rattle.rc_base.proofs.laws.Histories.{GoesOn-front}
 
 -- the entries after the first ones

@@ -1,5 +1,5 @@
 use Rattle.std.proofs.Common.{set, sym, subst}
-use Rattle.private_lru.proofs.UseCuts.{AreEach-at, AreEach-none}
+use Rattle.private_lru.proofs.EachGroup.{AreEach-at, AreEach-none}
 use Rattle.private_lru.specs.Cuts.{AreEach, cut_by}
 use Rattle.private_lru.proofs.ends.cut.Goals as goal
 

@@ -1,6 +1,6 @@
 use Rattle.std.proofs.Common.{get_or, arith}
 use Rattle.std.proofs.lemmas.Option.{slice_get-get_or}
-use Rattle.private_lru.proofs.UseCuts.{AreCuts-next}
+use Rattle.private_lru.proofs.EachGroup.{AreCuts-next}
 use Rattle.private_lru.proofs.UseLists.{no_use}
 use Rattle.private_lru.proofs.ends.cut_use.Goals as goal
 

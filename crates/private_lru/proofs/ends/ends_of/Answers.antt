@@ -1,7 +1,7 @@
 use Rattle.std.proofs.Common.{length, get_or, subst, ap, ◌∙◌, arith}
 use Rattle.std.proofs.lemmas.List.{get_or-replicate, length-replicate}
 use Rattle.private_lru.proofs.RunStarts.{IsStart-none}
-use Rattle.private_lru.proofs.UseCuts.{AreCuts-none}
+use Rattle.private_lru.proofs.EachGroup.{AreCuts-none}
 use Rattle.private_lru.specs.Cuts.{AreCuts}
 use Rattle.private_lru.proofs.ends.ends_of.Goals as goal
 

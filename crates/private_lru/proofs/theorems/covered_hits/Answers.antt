@@ -1,4 +1,4 @@
-use Rattle.private_lru.proofs.laws.CoveredAccesses.{covered_hits-private, hits_of_group-covered}
+use Rattle.private_lru.proofs.laws.CoveredHits.{covered_hits-private, hits_of_group-covered}
 use Rattle.private_lru.proofs.theorems.covered_hits.Goals as goal
 
 pub returns-clause-lists : goal.returns-clause-lists

@@ -1,4 +1,4 @@
-use Rattle.private_lru.proofs.laws.CoveredAccesses.{covered_hits-two_worlds}
+use Rattle.private_lru.proofs.laws.CoveredHits.{covered_hits-two_worlds}
 use Rattle.private_lru.proofs.theorems.two_worlds.Goals as goal
 
 pub returns : goal.returns
