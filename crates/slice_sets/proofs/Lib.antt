@@ -1,9 +1,14 @@
 mod Fills
 mod Groups
+mod ItemEntries
 mod LastAccess
 mod Loads
+mod Openings
+mod OwnLines
 mod Owned
 mod PrivateSets
+mod SetEntries
+mod SetPlaces
 mod SliceLaw
 mod Steps
 mod Victims

@@ -11,8 +11,9 @@ use Rattle.cache_core.proofs.laws.WaysBelow.{ways_below-lt}
 use Rattle.policy_law.specs.Policies.{CacheSet, Event, way_of, is_empty, set_after, empty_set, fill_way, after_access}
 use Rattle.policy_law.specs.Policies.Event.{Access as Accessed}
 use Rattle.policy_law.specs.KnownPolicies.{Stamps, lru, with_at}
-use Rattle.policy_law.proofs.laws.Victims.{way_of-held}
-use Rattle.slice_sets.proofs.Steps.{IsSet, IsSet-same, IsSet-fill, IsSome-resident, way_of-missed}
+use Rattle.policy_law.proofs.laws.LinesOnce.{way_of-held}
+use Rattle.slice_sets.proofs.Steps.{IsSet-same, IsSet-fill}
+use Rattle.slice_sets.proofs.SetPlaces.{IsSet, IsSome-resident, way_of-missed}
 
 -- the line of a region in a way of a set
 abbrev pub line_in : Shape → ℕ → ℕ → ℕ → ℕ → ℕ

@@ -22,7 +22,7 @@ use Rattle.policy_law.proofs.laws.Stamped.{has_way-victim}
 use Rattle.slice_sets.specs.SliceIsolation.{LeavesWays}
 use Rattle.slice_sets.specs.SliceSets.{event_in, ways_in}
 use Rattle.slice_sets.proofs.Fills.{has-ways_in, ways_in-has, length-ways, some_or-some}
-use Rattle.slice_sets.proofs.Windows.{IsSetOf}
+use Rattle.slice_sets.proofs.SetEntries.{IsSetOf}
 
 -- ---- after an event
 

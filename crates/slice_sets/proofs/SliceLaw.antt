@@ -1,8 +1,8 @@
 -- The law of one slice, from the law of policies: the group's private set sees what its private cache does.
-use Rattle.std.proofs.Common.{◌≡◌, ℕ, ◌+◌, ◌*◌, ◌%◌, ◌^◌, ◌<◌, ◌≤◌, Bool, true, false, not, ◌==◌, List, [], ◌∷◌, ◌++◌, length, map, take, get_or, Option, Some, None, refl, sym, ◌∙◌, ap, subst, inl, inr, arith}
-use Rattle.std.specs.Prelude.{filter, is_some}
-use Rattle.std.specs.List.{All, list_all}
-use Rattle.std.proofs.lemmas.Bool.{cases_Bool, and_from, and_parts, eq-eqb, ne_eqb, true≢false}
+use Rattle.std.proofs.Common.{◌≡◌, ℕ, ◌+◌, ◌*◌, ◌%◌, ◌^◌, ◌<◌, ◌≤◌, Bool, true, false, ◌==◌, List, [], ◌∷◌, ◌++◌, length, map, take, get_or, None, refl, sym, ◌∙◌, ap, subst, inl, inr, arith}
+use Rattle.std.specs.Prelude.{is_some}
+use Rattle.std.specs.List.{All}
+use Rattle.std.proofs.lemmas.Bool.{cases_Bool, eq-eqb, true≢false}
 use Rattle.std.proofs.lemmas.List.Folds.{list_any_at}
 use Rattle.cbm.specs.Masks.{ways_of}
 use Rattle.cache_core.specs.declared.entry.What.{What}
@@ -13,7 +13,7 @@ use Rattle.private_lru.specs.declared.item.Item.{Item}
 use Rattle.private_lru.specs.Covered.{is_use, item_of, items, uses_line}
 use Rattle.private_lru.specs.Isolation.{HitsAsPrivate, Opens, Respects, between}
 use Rattle.private_lru.specs.SliceLaws.{SliceIsolation}
-use Rattle.policy_law.specs.Policies.{CacheSet, Event, Place, way_of, set_after, empty_set, after_access, after_drop, fill_way}
+use Rattle.policy_law.specs.Policies.{CacheSet, Event, way_of, set_after, empty_set, after_access}
 use Rattle.policy_law.specs.Policies.Event.{Access as Accessed, Drop as Dropped}
 use Rattle.policy_law.specs.Isolation.{private_events}
 use Rattle.policy_law.specs.KnownPolicies.{Stamps, lru, some_or}
@@ -25,42 +25,7 @@ use Rattle.slice_sets.proofs.Groups.{AreReady, AreReady-each, HitsAsAlone-betwee
 use Rattle.slice_sets.proofs.Owned.{IsReady}
 use Rattle.slice_sets.proofs.PrivateSets.{private_hit-lru}
 use Rattle.slice_sets.proofs.Windows.{All-take, set_after-append}
-
--- ---- sets of the group's lines alone
-
--- each line is the group's
-abbrev AreOwn : (ℕ → Bool) → List Place → Type 0
-AreOwn own places = list_all (λ (p : Place). own p.line) places ≡ true
-
--- of fewer places too
-AreOwn-filter : (own : ℕ → Bool) (q : Place → Bool) (ps : List Place) → AreOwn own ps → AreOwn own (filter q ps)
-AreOwn-filter own q [] h = refl
-AreOwn-filter own q (p ∷ ps) h =
-    let parts = and_parts (own p.line) (list_all (λ (r : Place). own r.line) ps) h in
-    elim (cases_Bool (q p)) [
-      | inl k ↦ rw k (and_from (own p.line) _ parts.0 (AreOwn-filter own q ps parts.1))
-      | inr k ↦ rw k (AreOwn-filter own q ps parts.1)
-    ]
-
--- after an access of the group
-AreOwn-access : (own : ℕ → Bool) (mask : List ℕ) (x : ℕ) (d : CacheSet Stamps) (o : Option ℕ) → own x ≡ true → AreOwn own d.places → AreOwn own (after_access lru mask x d o).places
-AreOwn-access own mask x d (Some w) mine h = h
-AreOwn-access own mask x d None mine h = and_from (own x) _ mine (AreOwn-filter own (λ (p : Place). not (p.way == fill_way lru mask d)) d.places h)
-
--- after a drop
-AreOwn-drop : (own : ℕ → Bool) (x : ℕ) (d : CacheSet Stamps) (o : Option ℕ) → AreOwn own d.places → AreOwn own (after_drop lru x d o).places
-AreOwn-drop own x d (Some w) h = AreOwn-filter own (λ (p : Place). not (p.line == x)) d.places h
-AreOwn-drop own x d None h = h
-
--- another's line is not there
-way_of-foreign : (own : ℕ → Bool) (x : ℕ) (ps : List Place) → AreOwn own ps → own x ≡ false → way_of x ps ≡ None
-way_of-foreign own x [] h foreign = refl
-way_of-foreign own x (p ∷ ps) h foreign =
-    let parts = and_parts (own p.line) (list_all (λ (r : Place). own r.line) ps) h in
-    let other : (p.line == x) ≡ false = ne_eqb p.line x (λ e. true≢false (sym parts.0 ∙ (ap own e ∙ foreign))) in
-    rw other (way_of-foreign own x ps parts.1 foreign)
-
--- ---- what the private set sees
+use Rattle.slice_sets.proofs.OwnLines.{AreOwn, AreOwn-access, AreOwn-drop, way_of-foreign}
 
 -- what a private cache sees of two lists
 private_events-append : (es fs : List Event) → private_events (es ++ fs) ≡ private_events es ++ private_events fs

@@ -12,7 +12,7 @@ use Rattle.policy_law.proofs.laws.Places.{has_way-find, find-none}
 use Rattle.policy_law.proofs.laws.Masks.{has_way-first_way, has_way-least_way}
 use Rattle.slice_sets.specs.SliceSets.{ways_in}
 use Rattle.slice_sets.proofs.Fills.{has-ways_in, ways_in-has}
-use Rattle.slice_sets.proofs.Steps.{IsSet, IsSome-resident, is_empty-resident}
+use Rattle.slice_sets.proofs.SetPlaces.{IsSet, IsSome-resident, is_empty-resident}
 
 -- one of two keys, the lesser
 key-cond : (key : ℕ → ℕ) (best w : ℕ) → (key (cond (nat_lt (key w) (key best)) w best) ≤ key best) × (key (cond (nat_lt (key w) (key best)) w best) ≤ key w)
