@@ -8,6 +8,7 @@ pub mod FlatReads
 pub mod FlatViews
 pub mod Formed
 pub mod Keeping
+pub mod KeptDrops
 pub mod LazyChanges
 pub mod LazyViews
 pub mod LoadedSlices

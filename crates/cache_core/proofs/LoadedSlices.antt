@@ -12,7 +12,8 @@ use Rattle.cache_core.specs.Loads.{AreLoaded, loaded, loaded_place}
 use Rattle.cache_core.specs.Places.{place_in, set_in}
 use Rattle.lists.specs.Sums.{one_if, sum_below}
 use Rattle.lists.proofs.Sums.{sum_below-same}
-use Rattle.cache_core.proofs.Keeping.{length-kept_set, length-set_in_spread_same}
+use Rattle.cache_core.proofs.Keeping.{length-kept_set}
+use Rattle.cache_core.proofs.KeptDrops.{length-set_in_spread_same}
 use Rattle.cache_core.proofs.KeptPlaces.{res}
 use Rattle.cache_core.proofs.RegionLoads.{number-own}
 use Rattle.cache_core.proofs.Spread.{length-spread, set_in-spread, set_in-spread_own}

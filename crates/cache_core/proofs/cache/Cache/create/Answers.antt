@@ -5,7 +5,7 @@ use Rattle.machine.specs.Maps.{parameters_of}
 use Rattle.cache_core.specs.History.{Shape, shape_of}
 use Rattle.cache_core.specs.Kept.{spread}
 use Rattle.cache_core.proofs.Commands.{StandsFor-empty}
-use Rattle.cache_core.proofs.Keeping.{IsKept-empty, length-set_in_spread}
+use Rattle.cache_core.proofs.KeptDrops.{IsKept-empty, length-set_in_spread}
 use Rattle.cache_core.proofs.KeptPlaces.{kept}
 use Rattle.cache_core.proofs.Powers.{pow-trailing_zeros}
 use Rattle.cache_core.proofs.Spread.{div-lt_sets, place_in-spread_empty}

@@ -10,7 +10,8 @@ use Rattle.cache_core.specs.Places.{CacheValue, place_in, set_in}
 use Rattle.cache_core.specs.Stands.{Adds, Drops}
 use Rattle.cache_core.proofs.Counts.{IsCounted-kept_place}
 use Rattle.cache_core.proofs.DroppedLines.{Adds-drop}
-use Rattle.cache_core.proofs.Keeping.{Drops-spread, IsKept-dropped, lt-kept_set}
+use Rattle.cache_core.proofs.Keeping.{lt-kept_set}
+use Rattle.cache_core.proofs.KeptDrops.{Drops-spread, IsKept-dropped}
 use Rattle.cache_core.proofs.KeptPlaces.{kept}
 use Rattle.cache_core.proofs.Spread.{set_in-spread_own}
 use Rattle.cache_core.proofs.cache.Cache.drop_line.Goals as goal

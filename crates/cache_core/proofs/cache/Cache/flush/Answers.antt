@@ -7,7 +7,7 @@ use Rattle.cache_core.specs.Kept.{spread}
 use Rattle.cache_core.specs.Places.{CacheValue}
 use Rattle.cache_core.specs.Stands.{Adds}
 use Rattle.cache_core.proofs.Commands.{Adds-flush}
-use Rattle.cache_core.proofs.Keeping.{IsKept-emptied}
+use Rattle.cache_core.proofs.KeptDrops.{IsKept-emptied}
 use Rattle.cache_core.proofs.KeptPlaces.{kept}
 use Rattle.cache_core.proofs.Spread.{place_in-spread_empty}
 use Rattle.cache_core.proofs.cache.Cache.flush.Goals as goal
