@@ -18,7 +18,7 @@ use Rattle.rc_base.specs.Gids.{default_gid}
 use Rattle.rc_base.specs.declared.names.Gid.{Gid}
 use Rattle.task_binding.specs.Bindings.{has_control, is_of, joined}
 use Rattle.task_binding.specs.declared.binding.Binding.{Binding}
-use Rattle.tree_law.proofs.laws.DeclaredTasks.{AreRising-changed}
+use Rattle.tree_law.proofs.laws.TaskNumbers.{AreRising-changed}
 use Rattle.tree_law.specs.Counted.{is_counted_mode}
 use Rattle.tree_law.specs.Refusals.{Refusal}
 use Rattle.tree_law.specs.commands.Tasks.{against_task, elements, in_group, moved, moves, or_ended, task_in}

@@ -19,7 +19,7 @@ use Rattle.tree_law.proofs.Limbo.{HasNone}
 use Rattle.tree_law.specs.Freeing.{rmids_of}
 use Rattle.tree_law.specs.Masks.{HasValid, HaveMasks, KeepApart, OffShareable}
 use Rattle.tree_law.specs.Sound.{AreNamed, AreNumbered, Differ, HasIds, IdsDiffer, IsCounted, IsDefault, IsUsed, NamesDiffer, counts}
-use Rattle.tree_law.proofs.NewRecords.{Differ-turned}
+use Rattle.tree_law.proofs.BothSides.{Differ-turned}
 
 -- the RMID of a record, as a list
 pub All-option_to_list : (P : ℕ → Type 0) (o : Option ℕ) → IfSome o P → All P (option_to_list o)

@@ -1,3 +1,5 @@
+pub mod AcceptedMkdir
+pub mod BothSides
 pub mod Cpus
 pub mod GroupKinds
 pub mod Groups
@@ -14,6 +16,7 @@ pub mod NewRecords
 pub mod Owners
 pub mod RemovedControl
 pub mod RemovedMonitor
+pub mod Rmdir
 pub mod Rows
 pub mod Schemata
 pub mod ScriptRows

@@ -15,7 +15,8 @@ use Rattle.rc_base.specs.declared.names.Mode.{Mode}
 use Rattle.rc_base.specs.declared.names.Mode.TheVariants.{Shareable, Exclusive, Locked}
 use Rattle.schemata_text.specs.declared.assignment.Assignment.{Assignment}
 use Rattle.tree_law.proofs.Groups.{gid_number}
-use Rattle.tree_law.proofs.NewRecords.{after, KeepApart-turned, HaveMasks-replaced, new_record, HaveRegions-replaced}
+use Rattle.tree_law.proofs.NewRecords.{after, HaveMasks-replaced, new_record, HaveRegions-replaced}
+use Rattle.tree_law.proofs.BothSides.{KeepApart-turned}
 use Rattle.tree_law.proofs.laws.Refusals.{cond-Ok}
 use Rattle.tree_law.proofs.laws.Unions.{AreApart-each, AreApart-region, has_mode-counted, has_mode-exclusive, is_other_in-mode}
 use Rattle.tree_law.specs.Counted.{is_counted}

@@ -23,7 +23,8 @@ use Rattle.tree_law.proofs.laws.FreeIds.{free_rmid-some, All-range}
 use Rattle.tree_law.proofs.Groups.{gid_number}
 use Rattle.tree_law.proofs.Limbo.{HasNone, AreNumbered-limbo_after}
 use Rattle.tree_law.proofs.Masks.{FitsBeside, FitsBeside-exclusive, FitsBeside-leaving, FitsBeside-old, FitsBeside-shared, HaveMasks-fitting, HaveRegions-fitting}
-use Rattle.tree_law.proofs.NewRecords.{after, AreBound-replaced, IdsDiffer-turned, HaveMasks-replaced, AreNamed-replaced, new_record, AreNumbered-replaced, HaveRegions-replaced, AreServed-replaced}
+use Rattle.tree_law.proofs.NewRecords.{after, AreBound-replaced, HaveMasks-replaced, AreNamed-replaced, new_record, AreNumbered-replaced, HaveRegions-replaced, AreServed-replaced}
+use Rattle.tree_law.proofs.BothSides.{IdsDiffer-turned}
 use Rattle.tree_law.proofs.laws.Refusals.{against_overlap-none}
 use Rattle.tree_law.specs.Counted.{is_counted, is_counted_mode}
 use Rattle.tree_law.specs.Freeing.{limbo_after}

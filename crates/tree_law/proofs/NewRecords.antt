@@ -1,9 +1,8 @@
 -- One record with another mode, other ids or other masks: what stays sound.
-use Rattle.std.proofs.Common.{◌≡◌, ◌≢◌, ℕ, ◌<◌, Bool, true, false, cond, eqb, List, [], ◌∷◌, length, find, get_or, Option, None, Some, IsSomeAnd, IfSome, IsSome, IsNone, ◌⊎◌, inl, inr, refl, sym, subst, ◌∙◌}
+use Rattle.std.proofs.Common.{◌≡◌, ◌≢◌, ℕ, ◌<◌, Bool, true, false, cond, eqb, List, [], ◌∷◌, length, find, get_or, Option, Some, IsSomeAnd, IfSome, IsSome, IsNone, ◌⊎◌, inl, inr, refl, sym, subst, ◌∙◌}
 use Rattle.std.specs.List.{All, slice_get}
 use Rattle.std.proofs.lemmas.Bool.{eqb-true}
 use Rattle.std.proofs.lemmas.Option.{IfSome_then}
-use Rattle.cbm.proofs.laws.Overlaps.{overlaps-comm}
 use Rattle.cpu_binding.specs.declared.groups.CpuGroups.{CpuGroups}
 use Rattle.group_tree.specs.Lists.{GidsDiffer, replaced}
 use Rattle.group_tree.specs.Records.{has_gid, has_mode, mask_in}
@@ -21,40 +20,9 @@ use Rattle.tree_law.proofs.Groups.{gid_number}
 use Rattle.tree_law.specs.Counted.{is_counted}
 use Rattle.tree_law.specs.Masks.{HasValid, HaveMasks, KeepApart, OffShareable}
 use Rattle.tree_law.specs.Regions.{HasNoOther, HasOneRegion, HaveRegions, OffCounted, holds_region}
-use Rattle.tree_law.specs.Sound.{AreBound, AreNamed, AreNumbered, AreServed, Differ, HasIds, HasIdsOf, IdsDiffer, IsCounted, IsDefault, IsOf, IsUsed, NamesDiffer, StandTogether, counts, monitors}
+use Rattle.tree_law.specs.Sound.{AreBound, AreNamed, AreNumbered, AreServed, HasIds, HasIdsOf, IdsDiffer, IsCounted, IsDefault, IsOf, IsUsed, NamesDiffer, counts, monitors}
+use Rattle.tree_law.proofs.BothSides.{NamesDiffer-turned, IdsDiffer-turned, KeepApart-turned}
 use Rattle.pseudo_lock.specs.declared.region.Region.{Region}
-
--- ---- what is the same from both sides
-
--- groups stand together in either order
-StandTogether-turned : (a b : GroupKind) → StandTogether a b → StandTogether b a
-StandTogether-turned Control Control together = tt
-StandTogether-turned (Monitor p) (Monitor q) together = sym together
-StandTogether-turned Control (Monitor q) together = together
-StandTogether-turned (Monitor p) Control together = together
-
--- names differ in either order
-pub NamesDiffer-turned : (a b : Group) → NamesDiffer a b → NamesDiffer b a
-NamesDiffer-turned a b differ = λ together e. differ (StandTogether-turned b.kind a.kind together) (sym e)
-
--- ids differ in either order
-pub Differ-turned : (a b : Option ℕ) → Differ a b → Differ b a
-Differ-turned None None differ = tt
-Differ-turned None (Some b) differ = tt
-Differ-turned (Some a) None differ = tt
-Differ-turned (Some a) (Some b) differ = λ e. differ (sym e)
-
--- the ids of two groups differ in either order
-pub IdsDiffer-turned : (a b : Group) → IdsDiffer a b → IdsDiffer b a
-IdsDiffer-turned a b differ = (Differ-turned a.class b.class differ.0, Differ-turned a.rmid b.rmid differ.1)
-
--- groups keep apart in either order
-pub KeepApart-turned : (domain : ℕ) (a b : Group) → KeepApart domain a b → KeepApart domain b a
-KeepApart-turned domain a b apart = λ cb ca either. overlaps-comm (mask_in domain b) (mask_in domain a) ∙ apart ca cb (turned either)
-  where
-    turned : (b.mode ≡ Exclusive) ⊎ (a.mode ≡ Exclusive) → (a.mode ≡ Exclusive) ⊎ (b.mode ≡ Exclusive)
-    turned (inl e) = inr e
-    turned (inr e) = inl e
 
 -- ids of a mode depend on the ids alone
 pub HasIdsOf-same : (mode : Mode) (g new : Group) → new.class ≡ g.class → new.rmid ≡ g.rmid → HasIdsOf mode g → HasIdsOf mode new

@@ -32,7 +32,7 @@ use Rattle.tree_law.specs.commands.Rmdir.{cpu_after, goes_with, region_after, st
 use Rattle.cpu_binding.specs.Groups as cpu_groups
 use Rattle.task_binding.specs.Bindings as bindings
 use Rattle.tree_law.proofs.GroupKinds.{is_control-counted, is_control-locked}
-use Rattle.tree_law.proofs.laws.DeclaredTasks.{AreRising-changed}
+use Rattle.tree_law.proofs.laws.TaskNumbers.{AreRising-changed}
 use Rattle.group_tree.proofs.laws.Records.{is_monitor_of-control}
 
 -- ---- a control group

@@ -27,7 +27,7 @@ use Rattle.tree_law.specs.commands.Rmdir.{cpu_uncounted, uncounted, without_moni
 use Rattle.cpu_binding.specs.Groups as cpu_groups
 use Rattle.task_binding.specs.Bindings as bindings
 use Rattle.tree_law.proofs.GroupKinds.{is_control-counted, is_control-locked}
-use Rattle.tree_law.proofs.laws.DeclaredTasks.{AreRising-changed}
+use Rattle.tree_law.proofs.laws.TaskNumbers.{AreRising-changed}
 
 -- ---- a monitor group
 

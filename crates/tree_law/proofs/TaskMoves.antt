@@ -11,7 +11,7 @@ use Rattle.rc_base.specs.declared.names.Gid.{Gid}
 use Rattle.rc_base.specs.declared.replies.Why.TheVariants.{NoTask, OtherControl}
 use Rattle.task_binding.specs.Bindings.{AreRising, binding_of, changed, is_of}
 use Rattle.task_binding.specs.declared.binding.Binding.{Binding}
-use Rattle.tree_law.proofs.laws.DeclaredTasks.{AreRising-changed}
+use Rattle.tree_law.proofs.laws.TaskNumbers.{AreRising-changed}
 use Rattle.tree_law.specs.Refusals.{Refusal}
 use Rattle.tree_law.specs.Sound.{AreBound, IsBound, IsCounted, IsOf}
 use Rattle.tree_law.specs.commands.Tasks.{against_binding, against_task, in_group, may_join, moved, moves, or_ended, task_in}

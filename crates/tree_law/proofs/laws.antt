@@ -4,6 +4,7 @@ pub mod Changes
 pub mod Counts
 pub mod DeclaredTasks
 pub mod DistinctCounts
+pub mod DistinctRmids
 pub mod Follows
 pub mod FreeIds
 pub mod Lines
@@ -14,6 +15,8 @@ pub mod Regions
 pub mod RisingGroups
 pub mod StartMasks
 pub mod Steps
+pub mod TaskNumbers
+pub mod TouchedRegions
 pub mod Unions
 pub mod ValidMasks
 pub mod WayMasks

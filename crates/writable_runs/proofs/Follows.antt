@@ -24,7 +24,8 @@ use Rattle.schemata_text.specs.declared.fault.TextFault.{TextFault}
 use Rattle.script_ops.specs.Fits.{Fits}
 use Rattle.script_ops.specs.declared.op.Op.{Op}
 use Rattle.script_ops.specs.declared.op.Op.TheVariants as ops
-use Rattle.tree_law.proofs.laws.Follows.{IsLineOf-offset, region_in-touched}
+use Rattle.tree_law.proofs.laws.Follows.{IsLineOf-offset}
+use Rattle.tree_law.proofs.laws.TouchedRegions.{region_in-touched}
 use Rattle.tree_law.proofs.laws.Readings.{reading-valid}
 use Rattle.tree_law.specs.Masks.{IsValid}
 use Rattle.tree_law.specs.Places.{control_at}

@@ -15,7 +15,7 @@ use Rattle.machine.specs.declared.parameters.Parameters.{Parameters}
 use Rattle.pseudo_lock.specs.Regions.{first_line_of}
 use Rattle.pseudo_lock.specs.declared.region.Region.{Region}
 use Rattle.tree_law.proofs.laws.Access.{group_of-one, owner_of-counted, resolve-good}
-use Rattle.tree_law.proofs.laws.Follows.{lt-regions}
+use Rattle.tree_law.proofs.laws.TouchedRegions.{lt-regions}
 use Rattle.tree_law.specs.Counted.{is_counted}
 use Rattle.tree_law.specs.LawsFollows.{lines_of}
 use Rattle.tree_law.specs.Masks.{IsValid}

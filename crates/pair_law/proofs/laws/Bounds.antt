@@ -25,7 +25,7 @@ use Rattle.path_names.specs.declared.files.FileKind.{FileKind}
 use Rattle.path_names.specs.declared.files.FileKind.TheVariants.{Tasks, Schemata, Mode}
 use Rattle.rc_base.specs.declared.names.Mode.{Mode as AMode}
 use Rattle.schemata_text.specs.declared.fault.TextFault.{TextFault}
-use Rattle.tree_law.proofs.laws.DeclaredTasks.{numbers_of-changed, numbers_of-moves}
+use Rattle.tree_law.proofs.laws.TaskNumbers.{numbers_of-changed, numbers_of-moves}
 use Rattle.tree_law.specs.Refusals.{Refusal, reply_of}
 use Rattle.tree_law.specs.commands.Mode.{is_present}
 use Rattle.tree_law.specs.commands.Tasks.{elements}

@@ -1,11 +1,9 @@
 -- No count is needed twice.
-use Rattle.std.proofs.Common.{◌≡◌, ◌≢◌, ℕ, zero, suc, ◌<◌, Bool, true, false, List, [], ◌∷◌, ◌++◌, length, map, filter, find, get_or, Option, None, Some, is_some, refl, sym, subst, ap, ◌∙◌, arith}
-use Rattle.std.specs.List.{All, AllPairs, flat_map, range_with_len}
-use Rattle.std.specs.Option.{option_map_or, option_to_list}
+use Rattle.std.proofs.Common.{◌≡◌, ◌≢◌, ℕ, ◌<◌, Bool, true, false, List, [], ◌∷◌, ◌++◌, length, filter, find, get_or, Option, None, Some, is_some, refl, sym, subst, ap, ◌∙◌, arith}
+use Rattle.std.specs.List.{AllPairs, flat_map}
+use Rattle.std.specs.Option.{option_map_or}
 use Rattle.std.proofs.lemmas.Bool.{eq-eqb, eqb-true}
-use Rattle.std.proofs.lemmas.List.Elements.{All-map}
 use Rattle.std.proofs.lemmas.List.Folds.{Any-from_list_any}
-use Rattle.std.proofs.lemmas.List.FromFn.{get_or-range_with_len, length-range_with_len}
 use Rattle.std.proofs.lemmas.List.Kept.{AllPairs-cons, AllPairs-filter}
 use Rattle.group_tree.specs.Records.{has_gid, is_control, is_monitor_of}
 use Rattle.group_tree.specs.declared.group.Group.{Group}
@@ -13,7 +11,7 @@ use Rattle.group_tree.specs.declared.group_kind.GroupKind.{GroupKind}
 use Rattle.group_tree.specs.declared.group_kind.GroupKind.TheVariants.{Control, Monitor}
 use Rattle.lists.proofs.Choices.{cond-both, cond-and}
 use Rattle.lists.proofs.Keyed.{AllPairs-beside, get_or-key}
-use Rattle.lists.proofs.Pairs.{AllAcross, AllPairs-flat_map, AllPairs-map, AllPairs-one}
+use Rattle.lists.proofs.Pairs.{AllPairs-map}
 use Rattle.lists.proofs.Tests.{All-kept}
 use Rattle.machine.specs.declared.parameters.Parameters.{Parameters}
 use Rattle.path_names.specs.declared.dirs.DirRef.TheVariants.{Ctrl, Mon, MonDomain}
@@ -25,13 +23,13 @@ use Rattle.rc_base.specs.declared.names.Mode.{Mode}
 use Rattle.script_ops.specs.declared.op.Op.{Op}
 use Rattle.script_ops.specs.declared.op.Op.TheVariants as ops
 use Rattle.tree_law.proofs.Groups.{find-gid, find-own, gid_number}
-use Rattle.tree_law.proofs.NewRecords.{IdsDiffer-turned}
+use Rattle.tree_law.proofs.BothSides.{IdsDiffer-turned}
 use Rattle.tree_law.proofs.GroupKinds.{is_control-counted}
 use Rattle.tree_law.specs.Counted.{is_counted}
 use Rattle.tree_law.specs.Existing.{directory_gid, group_of, holder_gid}
-use Rattle.tree_law.specs.Freeing.{counts_of, rmids_of, rmids_with}
+use Rattle.tree_law.specs.Freeing.{rmids_of, rmids_with}
 use Rattle.tree_law.specs.Places.{control_at}
-use Rattle.tree_law.specs.Sound.{Differ, HasIds, IdsDiffer, IsSound, counts}
+use Rattle.tree_law.specs.Sound.{HasIds, IdsDiffer, IsSound, counts}
 use Rattle.tree_law.specs.State.{State}
 use Rattle.tree_law.specs.Steps.{needs, needs_accepted, refusal}
 use Rattle.tree_law.specs.commands.Mode as mode
@@ -39,68 +37,7 @@ use Rattle.tree_law.specs.commands.Reads as read
 use Rattle.tree_law.specs.commands.Rmdir as rmdir
 use Rattle.tree_law.specs.commands.Tick as tick
 use Rattle.tree_law.specs.commands.Write as write
-
--- each two of these RMIDs differ
-abbrev AreDistinct : List ℕ → Type 0
-AreDistinct ns = AllPairs (λ (a b : ℕ). a ≢ b) ns
-
--- two counts that differ
-abbrev Apart : ℕ × ℕ → ℕ × ℕ → Type 0
-Apart a b = a ≢ b
-
--- nothing has no pairs
-AllPairs-nil : {X : Type 0} (R : X → X → Type 0) → AllPairs R []
-AllPairs-nil R = λ i j d below within. absurd (omega arith)
-
--- ---- counts of distinct RMIDs
-
--- the counts of distinct RMIDs differ
-counts_of-distinct : (m : Parameters) (rmids : List ℕ) → AreDistinct rmids → AllPairs Apart (counts_of m rmids)
-counts_of-distinct m rmids distinct = AllPairs-flat_map Apart each_domain rmids (λ k d within. of_one (get_or rmids k d)) (λ i j c below within. of_two (get_or rmids i c) (get_or rmids j c) (distinct i j c below within))
-  where
-    each_domain : ℕ → List (ℕ × ℕ)
-    each_domain rmid = map (λ domain. (domain, rmid)) (range_with_len 0 m.domains)
-
-    of_one : (rmid : ℕ) → AllPairs Apart (map (λ domain. (domain, rmid)) (range_with_len 0 m.domains))
-    of_one rmid = AllPairs-map Apart (λ (domain : ℕ). (domain, rmid)) (range_with_len 0 m.domains) (λ i j d below within e.
-        let lt : j < m.domains = omega (arith, within, length-range_with_len 0 m.domains) in
-        let one = get_or-range_with_len 0 m.domains i d (omega arith) in
-        let two = get_or-range_with_len 0 m.domains j d lt in
-        let same = ap (λ (p : ℕ × ℕ). p.0) e in omega (arith, one, two, same))
-
-    of_two : (r q : ℕ) → r ≢ q → AllAcross Apart (map (λ domain. (domain, r)) (range_with_len 0 m.domains)) (map (λ domain. (domain, q)) (range_with_len 0 m.domains))
-    of_two r q differ = λ i j d less within e. differ (sym (rmid_of r i d less) ∙ ap (λ (p : ℕ × ℕ). p.1) e ∙ rmid_of q j d within)
-      where
-        rmid_of : (r : ℕ) → All (λ (p : ℕ × ℕ). p.1 ≡ r) (map (λ domain. (domain, r)) (range_with_len 0 m.domains))
-        rmid_of r = All-map (λ (p : ℕ × ℕ). p.1 ≡ r) (λ (domain : ℕ). (domain, r)) (range_with_len 0 m.domains) (λ k d within. refl)
-
--- ---- the RMIDs of records
-
--- of records whose ids differ
-flat_map-distinct : (groups : List Group) → AllPairs IdsDiffer groups → AreDistinct (flat_map rmids_of groups)
-flat_map-distinct groups pairs = AllPairs-flat_map (λ (a b : ℕ). a ≢ b) rmids_of groups (λ k d within. of_one (get_or groups k d).rmid) (λ i j d below within. of_two (get_or groups i d).rmid (get_or groups j d).rmid (pairs i j d below within).1)
-  where
-    of_one : (o : Option ℕ) → AreDistinct (option_to_list o)
-    of_one None = AllPairs-nil (λ (a b : ℕ). a ≢ b)
-    of_one (Some id) = AllPairs-one (λ (a b : ℕ). a ≢ b) id
-
-    of_two : (a b : Option ℕ) → Differ a b → AllAcross (λ (x y : ℕ). x ≢ y) (option_to_list a) (option_to_list b)
-    of_two None b differ = λ i j d less within. absurd (omega arith)
-    of_two (Some a) None differ = λ i j d less within. absurd (omega arith)
-    of_two (Some a) (Some b) differ = at
-      where
-        at : (i j d : ℕ) → i < 1 → j < 1 → get_or (a ∷ []) i d ≢ get_or (b ∷ []) j d
-        at zero zero d less within = differ
-        at zero (suc j) d less within = absurd (omega arith)
-        at (suc i) j d less within = absurd (omega arith)
-
--- one record has no RMID twice
-rmids_of-distinct : (g : Group) → AreDistinct (rmids_of g)
-rmids_of-distinct g = at g.rmid
-  where
-    at : (o : Option ℕ) → AreDistinct (option_to_list o)
-    at None = AllPairs-nil (λ (a b : ℕ). a ≢ b)
-    at (Some id) = AllPairs-one (λ (a b : ℕ). a ≢ b) id
+use Rattle.tree_law.proofs.laws.DistinctRmids.{AreDistinct, Apart, AllPairs-nil, counts_of-distinct, flat_map-distinct, rmids_of-distinct}
 
 module _ (m : Parameters) (s : State) (sound : IsSound m s) where
   -- no group is its own monitor group

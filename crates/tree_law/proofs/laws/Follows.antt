@@ -1,30 +1,23 @@
 -- What follows a command: domains of the machine, valid masks, and lines of regions.
-use Rattle.std.proofs.Common.{◌≡◌, ℕ, ◌+◌, ◌*◌, ◌/◌, ◌<◌, Bool, true, false, not, cond, eqb, leb, List, [], ◌∷◌, length, map, filter, find, get_or, Option, None, Some, is_some, Result, Ok, Err, refl, sym, ap, ◌∙◌, arith, inl, inr, zero-add}
-use Rattle.std.specs.List.{All, enumerate_from, range_with_len}
+use Rattle.std.proofs.Common.{◌≡◌, ℕ, ◌+◌, ◌*◌, ◌/◌, ◌<◌, Bool, true, false, not, cond, eqb, leb, List, [], ◌∷◌, length, map, filter, get_or, Option, None, Some, is_some, Result, Ok, Err, refl, sym, ap, ◌∙◌, arith}
+use Rattle.std.specs.List.{All, range_with_len}
 use Rattle.std.specs.Option.{option_map_or}
 use Rattle.std.proofs.Math.Nat.{mul_assoc, mul_comm}
-use Rattle.std.proofs.lemmas.Bool.{cases_lt, eqb-true, leb-false}
-use Rattle.std.proofs.Math.ListN.{get_or-eq_default}
-use Rattle.std.proofs.lemmas.List.{get_or_default}
+use Rattle.std.proofs.lemmas.Bool.{eqb-true, leb-false}
 use Rattle.std.proofs.lemmas.List.Elements.{All-filter, All-map}
-use Rattle.std.proofs.lemmas.List.FromFn.{get_or-enumerate_from, get_or-range_with_len, length-enumerate_from, length-range_with_len}
-use Rattle.std.proofs.lemmas.Option.{same_Some}
+use Rattle.std.proofs.lemmas.List.FromFn.{get_or-range_with_len, length-range_with_len}
 use Rattle.cbm.specs.Masks.{ways_of}
-use Rattle.group_tree.specs.Records.{has_mode}
 use Rattle.group_tree.specs.declared.group.Group.{Group}
 use Rattle.lists.proofs.Choices.{cond-both}
-use Rattle.lists.proofs.Tests.{All-one, find-found}
-use Rattle.lists.proofs.Options.{option_and_then-some}
+use Rattle.lists.proofs.Tests.{All-one}
 use Rattle.machine.proofs.laws.Domains.{domain_of-lt}
 use Rattle.machine.specs.Maps.{bytes_of, domain_of, line_of}
 use Rattle.machine.specs.Ranges.{InRange}
 use Rattle.machine.specs.declared.parameters.Parameters.{Parameters}
 use Rattle.num_text.specs.Blanks.{trim}
-use Rattle.path_names.specs.declared.dirs.DirRef.TheVariants.{Ctrl}
 use Rattle.path_names.specs.declared.files.FileKind.TheVariants as kinds
 use Rattle.path_names.specs.declared.path_ref.PathRef.{PathRef}
-use Rattle.path_names.specs.declared.path_ref.PathRef.TheVariants.{Dir, File}
-use Rattle.rc_base.specs.declared.names.Gid.{Gid}
+use Rattle.path_names.specs.declared.path_ref.PathRef.TheVariants.{File}
 use Rattle.rc_base.specs.declared.names.Mode.{Mode}
 use Rattle.rc_base.specs.declared.names.Mode.TheVariants.{Shareable, Exclusive, LockSetup, Locked}
 use Rattle.rc_base.specs.declared.replies.Why.TheVariants.{PastRegion, WrongCpu}
@@ -35,7 +28,7 @@ use Rattle.script_ops.specs.declared.op.Op.{Op}
 use Rattle.script_ops.specs.declared.op.Op.TheVariants as ops
 use Rattle.tree_law.proofs.laws.Readings.{reading-valid}
 use Rattle.tree_law.specs.LawsFollows.{IsLawful, IsLineOf, lines_of}
-use Rattle.tree_law.specs.Places.{control_at, group_at}
+use Rattle.tree_law.specs.Places.{control_at}
 use Rattle.tree_law.specs.Refusals.{Refusal, plain}
 use Rattle.tree_law.specs.Space.{region_in}
 use Rattle.tree_law.specs.State.{State, tasks_of}
@@ -50,6 +43,7 @@ use Rattle.tree_law.specs.commands.Mode as mode
 use Rattle.tree_law.specs.commands.Schemata as schemata
 use Rattle.tree_law.specs.commands.Touch as touch
 use Rattle.tree_law.specs.commands.Write as write
+use Rattle.tree_law.proofs.laws.TouchedRegions.{region_in-touched, lt-regions}
 
 -- what a range has is below its end
 range_with_len-below : (n : ℕ) → All (λ k. k < n) (range_with_len 0 n)
@@ -58,42 +52,6 @@ range_with_len-below n k d within = let lt : k < n = omega (arith, within, lengt
 -- anything holds of each in an empty list
 All-nil : {X : Type 0} (P : X → Type 0) → All P []
 All-nil P = λ k d within. absurd (omega arith)
-
--- ---- the region that is touched
-
--- the region of a group stands at its domain
-region_in-region_of : (s : State) (gid : Gid) (domain : ℕ) (r : Region) → touch.region_of s gid ≡ Some (domain, r) → region_in s.regions domain ≡ Some r
-region_in-region_of s gid domain r is =
-    let e = option_and_then-some touch.with_domain (find (touch.is_held_by gid) (enumerate_from 0 s.regions)) (domain, r) is in
-    let f = find-found (touch.is_held_by gid) (enumerate_from 0 s.regions) e.0 e.1 in
-    let within : f.place < length s.regions = omega (arith, f.within, length-enumerate_from 0 s.regions) in
-    let there : (0 + f.place, get_or s.regions f.place e.0.1) ≡ e.0 = sym (get_or-enumerate_from 0 s.regions f.place e.0 within) ∙ f.at e.0 in
-    let two = parts e.0 e.2 in
-    let place : f.place ≡ domain = sym (zero-add f.place) ∙ ap (λ (p : ℕ × Option Region). p.0) there ∙ two.0 in
-    let region : get_or s.regions f.place e.0.1 ≡ Some r = ap (λ (p : ℕ × Option Region). p.1) there ∙ two.1 in
-    get_or_default s.regions domain None e.0.1 (omega arith) ∙ ap (λ (n : ℕ). get_or s.regions n e.0.1) (sym place) ∙ region
-  where
-    parts : (p : ℕ × Option Region) → touch.with_domain p ≡ Some (domain, r) → (p.0 ≡ domain) × (p.1 ≡ Some r)
-    parts (d, None) e = absurd (let f : ◌≡◌ {A = Option (ℕ × Region)} None (Some (domain, r)) = e in cc)
-    parts (d, Some q) e = let same = same_Some (d, q) (domain, r) e in (ap (λ (p : ℕ × Region). p.0) same, ap (λ (p : ℕ × Region). Some p.1) same)
-
--- the region that a path touches stands at its domain
-pub region_in-touched : (s : State) (path : PathRef) (domain : ℕ) (r : Region) → touch.touched s path ≡ Some (domain, r) → region_in s.regions domain ≡ Some r
-unfolding touch.touched
-region_in-touched s (Dir (Ctrl name)) domain r is =
-    let g = option_and_then-some (touch.region_if_locked s) (group_at s (Ctrl name)) (domain, r) is in at g.0 (has_mode Locked g.0) g.2
-  where
-    at : (g : Group) (b : Bool) → cond b (touch.region_of s g.gid) None ≡ Some (domain, r) → region_in s.regions domain ≡ Some r
-    at g true e = region_in-region_of s g.gid domain r e
-    at g false e = absurd (let f : ◌≡◌ {A = Option (ℕ × Region)} None (Some (domain, r)) = e in cc)
-region_in-touched s path domain r is = absurd (let f : ◌≡◌ {A = Option (ℕ × Region)} None (Some (domain, r)) = is in cc)
-
--- a region stands at a domain of the list
-pub lt-regions : (s : State) (domain : ℕ) (r : Region) → region_in s.regions domain ≡ Some r → domain < length s.regions
-lt-regions s domain r there = elim (cases_lt domain (length s.regions)) [
-  | inl less ↦ less
-  | inr past ↦ absurd (let none : ◌≡◌ {A = Option Region} None (Some r) = sym (get_or-eq_default s.regions None past) ∙ there in cc)
-]
 
 -- ---- what each command gives
 

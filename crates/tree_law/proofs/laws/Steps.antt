@@ -7,7 +7,8 @@ use Rattle.script_ops.specs.Fits.{Fits}
 use Rattle.script_ops.specs.declared.op.Op.{Op}
 use Rattle.tree_law.proofs.Mkdir.{mkdir-sound}
 use Rattle.tree_law.proofs.Tick.{tick-sound}
-use Rattle.tree_law.proofs.Writes.{refused-sound, rmdir-sound, write-sound}
+use Rattle.tree_law.proofs.Writes.{refused-sound, write-sound}
+use Rattle.tree_law.proofs.Rmdir.{rmdir-sound}
 use Rattle.tree_law.specs.Refusals.{Refusal}
 use Rattle.tree_law.specs.Sound.{IsSound}
 use Rattle.tree_law.specs.State.{State, tasks_of}
