@@ -7,6 +7,7 @@ pub mod Endings
 pub mod FollowCounts
 pub mod FoundLooks
 pub mod FoundSums
+pub mod FreeTrees
 pub mod GrownLists
 pub mod JobKinds
 pub mod JobLists
@@ -14,15 +15,19 @@ pub mod LaterEntries
 pub mod LegalHistories
 pub mod LightCounts
 pub mod LightRooms
+pub mod LineSlices
 pub mod Lines
 pub mod ListCounts
 pub mod LongerHistories
+pub mod LookPositions
+pub mod LookQuotas
 pub mod Looks
 pub mod MadeAccesses
 pub mod MadeTruth
 pub mod MatchedLooks
 pub mod MovedThreads
 pub mod NeededCounts
+pub mod NewMarks
 pub mod NotedEntries
 pub mod NotedTruth
 pub mod OpKinds

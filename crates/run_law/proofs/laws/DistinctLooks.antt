@@ -5,7 +5,7 @@ use Rattle.std.proofs.lemmas.Option.{slice_get_within, same_Some}
 use Rattle.machine.specs.declared.parameters.Parameters.{Parameters}
 use Rattle.run_law.specs.Journals.{At}
 use Rattle.machine.specs.Slices.{domain_in, slice_number}
-use Rattle.run_law.proofs.laws.FoundLooks.{at_mapped, length_mapped}
+use Rattle.run_law.proofs.laws.LookPositions.{at_mapped, length_mapped}
 use Rattle.run_law.proofs.laws.SliceDomains.{of_domain}
 use Rattle.run_law.proofs.laws.Positions.{At-append}
 use Rattle.run_law.specs.FoundLooks.{AreDistinct, look_pairs}

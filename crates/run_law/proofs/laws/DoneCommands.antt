@@ -19,7 +19,7 @@ use Rattle.run_law.proofs.laws.JobLists.{owed_are}
 use Rattle.run_law.proofs.laws.MovedThreads.{moved-held, phase_moved, moved-holds, where_moved}
 use Rattle.run_law.proofs.laws.NotedTruth.{holding, none_tag, one_op, some_is}
 use Rattle.run_law.proofs.laws.OpMarks.{not_some}
-use Rattle.run_law.proofs.laws.TakenCommands.{idle}
+use Rattle.run_law.proofs.laws.FreeTrees.{idle}
 use Rattle.run_law.specs.Jobs.{in_slice, jobs_of}
 use Rattle.run_law.specs.Progress.{HasBegun, Progress, moved}
 use Rattle.run_law.specs.Growth.{AreInOrderSoFar, HasMade, IsAlone, IsKept, IsTagOf}

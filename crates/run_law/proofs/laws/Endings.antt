@@ -16,7 +16,7 @@ use Rattle.script_ops.specs.Values.{PhaseValue, ScriptValue, op_at, ops_of, thre
 use Rattle.script_ops.specs.declared.op.Op.{Op}
 use Rattle.run_law.proofs.laws.OpMarks.{marks_begun, not_some}
 use Rattle.run_law.proofs.laws.NotedTruth.{none_tag, some_is}
-use Rattle.run_law.proofs.laws.TakenCommands.{idle}
+use Rattle.run_law.proofs.laws.FreeTrees.{idle}
 use Rattle.run_law.specs.Progress.{HasBegun, Progress}
 use Rattle.run_law.specs.Growth.{AreInPhase, AreOfBegun, IsKept}
 

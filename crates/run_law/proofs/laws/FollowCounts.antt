@@ -8,7 +8,7 @@ use Rattle.std.proofs.lemmas.List.FromFn.{length-map-range_with_len, map-range_w
 use Rattle.std.proofs.lemmas.List.Sums.{sum_by-cons}
 use Rattle.machine.specs.Slices.{slice_number}
 use Rattle.machine.specs.declared.parameters.Parameters.{Parameters}
-use Rattle.run_law.proofs.laws.FoundLooks.{length_mapped}
+use Rattle.run_law.proofs.laws.LookPositions.{length_mapped}
 use Rattle.run_law.proofs.laws.JobKinds.{looks_count}
 use Rattle.run_law.proofs.laws.Positions.{At-append_front, At-last}
 use Rattle.run_law.specs.FoundLooks.{look_pairs, pairs_of}

@@ -16,9 +16,10 @@ use Rattle.script_ops.specs.declared.op.Op.TheVariants.{Access}
 use Rattle.run_law.proofs.laws.DoneCommands.{begun_back}
 use Rattle.run_law.proofs.laws.MovedThreads.{phase_moved, where_moved}
 use Rattle.run_law.proofs.laws.NotedTruth.{none_tag, one_op, other_op}
-use Rattle.run_law.proofs.laws.OpMarks.{NoMarksLater, entries_entry, marks_more, marks_of_access, no_marks_later, nothing_later, still_behind}
+use Rattle.run_law.proofs.laws.OpMarks.{NoMarksLater, entries_entry, marks_more, no_marks_later, nothing_later, still_behind}
+use Rattle.run_law.proofs.laws.NewMarks.{marks_of_access}
 use Rattle.run_law.proofs.laws.GrownLists.{made_as_before, stood, with_slices}
-use Rattle.run_law.proofs.laws.TakenCommands.{idle, tagged_apart}
+use Rattle.run_law.proofs.laws.FreeTrees.{idle, tagged_apart}
 use Rattle.run_law.specs.Growth.{AreInOrderSoFar, AreInPhase, AreOfBegun, HasMade, IsBehindAll, IsKept, IsTagOf}
 use Rattle.run_law.specs.Progress.{HasBegun, Progress, moved}
 use Rattle.run_law.proofs.laws.MadeTruth.{IsTouched, touch_holds, other_where, touch_alone, touch_begun, touch_true, touch_makes}

@@ -23,7 +23,8 @@ use Rattle.run_law.proofs.laws.Pairs.{both_eqb-true, both_eqb-same}
 use Rattle.run_law.proofs.laws.Positions.{filter-none_at}
 use Rattle.run_law.proofs.laws.GrownLists.{Adds, made_one_more, only, stood, with_slices}
 use Rattle.run_law.proofs.laws.ReadTags.{outside}
-use Rattle.run_law.proofs.laws.TakenCommands.{fails, idle, idle_not_begun}
+use Rattle.run_law.proofs.laws.TakenCommands.{fails}
+use Rattle.run_law.proofs.laws.FreeTrees.{idle, idle_not_begun}
 use Rattle.run_law.specs.Growth.{PaysJob, AreOfBegun, IsAlone, IsFree}
 use Rattle.run_law.specs.Progress.{HasBegun, IsUnderWay, Progress, moved}
 

@@ -11,7 +11,8 @@ use Rattle.script_ops.specs.Values.{ScriptValue, op_at}
 use Rattle.script_ops.specs.declared.op.Op.{Op}
 use Rattle.script_ops.specs.declared.op.Op.TheVariants.{Access}
 use Rattle.run_law.proofs.laws.MovedThreads.{moved-held, moved-own, phase_moved, moved-holds}
-use Rattle.run_law.proofs.laws.OpMarks.{entries_entry, marks_of_command, nothing_later}
+use Rattle.run_law.proofs.laws.OpMarks.{entries_entry, nothing_later}
+use Rattle.run_law.proofs.laws.NewMarks.{marks_of_command}
 use Rattle.run_law.proofs.laws.GrownLists.{made_as_before, stood, with_slices}
 use Rattle.run_law.specs.Jobs.{Job}
 use Rattle.run_law.specs.Growth.{AreInOrderSoFar, AreInPhase, AreOfBegun, HasMade, IsAlone, IsKept, IsTagOf}

@@ -1,23 +1,16 @@
 -- How many entries a command makes in a slice.
-use Rattle.std.proofs.Common.{◌≡◌, ◌≢◌, ℕ, ◌+◌, ◌*◌, ◌/◌, ◌%◌, ◌<◌, ◌≤◌, Bool, true, false, cond, List, [], ◌∷◌, ◌++◌, length, map, filter, take, get_or, Option, None, Some, is_some, Result, Ok, Err, refl, sym, ap, ◌∙◌, subst, inl, inr, arith}
+use Rattle.std.proofs.Common.{◌≡◌, ◌≢◌, ℕ, ◌+◌, ◌/◌, ◌%◌, ◌<◌, ◌≤◌, Bool, true, false, List, [], ◌∷◌, ◌++◌, length, map, filter, take, Option, None, Some, is_some, Result, Ok, Err, refl, sym, ap, ◌∙◌, subst, inl, inr, arith}
 use Rattle.std.specs.Prelude.{◌==◌, if◌then◌else◌}
 use Rattle.std.specs.List.{All, AllPairs, flat_map, range_with_len}
 use Rattle.std.specs.Option.{option_map_or, option_to_list}
 use Rattle.std.proofs.lemmas.Bool.{cases_Bool, eq-eqb, eqb-true}
-use Rattle.std.proofs.Math.Nat.{mul-add-mod_self_right}
-use Rattle.std.proofs.lemmas.Nat.{div-add-mod'}
-use Rattle.std.proofs.lemmas.Grind.{flat_map-append}
-use Rattle.std.proofs.lemmas.List.{length-append, length-map}
-use Rattle.std.proofs.lemmas.List.Elements.{All-filter, All-map}
-use Rattle.std.proofs.lemmas.List.Kept.{AllPairs-filter}
-use Rattle.cache_core.specs.declared.entry.What.TheVariants as whats
+use Rattle.std.proofs.lemmas.List.{length-append}
 use Rattle.group_tree.specs.declared.group.Group.{Group}
 use Rattle.lists.proofs.Choices.{cond-both}
-use Rattle.lists.proofs.Pairs.{AllPairs-map, length-distinct}
 use Rattle.lists.specs.Sums.{one_if}
-use Rattle.machine.specs.Maps.{domain_of, line_of, slice_of}
+use Rattle.machine.specs.Maps.{domain_of, line_of}
 use Rattle.machine.specs.Ranges.{InRange}
-use Rattle.machine.specs.Slices.{domain_in, slice_number, slice_of_line}
+use Rattle.machine.specs.Slices.{domain_in, slice_of_line}
 use Rattle.machine.specs.declared.parameters.Parameters.{Parameters}
 use Rattle.path_names.specs.declared.dirs.DirRef.TheVariants.{MonDomain}
 use Rattle.path_names.specs.declared.files.FileKind.TheVariants as kinds
@@ -36,7 +29,7 @@ use Rattle.script_ops.specs.declared.op.Op.TheVariants as ops
 use Rattle.run_law.specs.Quotas.{line_quota, quota, read_quota, write_quota}
 use Rattle.tree_law.proofs.laws.Counts.{needs-exist}
 use Rattle.tree_law.proofs.laws.DistinctCounts.{needs-distinct}
-use Rattle.tree_law.proofs.laws.Follows.{region_in-touched}
+use Rattle.tree_law.proofs.laws.TouchedRegions.{region_in-touched}
 use Rattle.tree_law.proofs.laws.Lines.{first_line-whole}
 use Rattle.tree_law.specs.Freeing.{counts_of, rmids_of}
 use Rattle.tree_law.specs.LawsCounts.{CanLook, NamesDomain}
@@ -54,63 +47,10 @@ use Rattle.tree_law.specs.commands.Reads as read
 use Rattle.tree_law.specs.commands.Schemata as schemata
 use Rattle.tree_law.specs.commands.Touch as touch
 use Rattle.tree_law.specs.commands.Write as write
-use Rattle.run_law.proofs.laws.ListCounts.{same_length, All-filtered, length-if, length-flat_map_if, length-flat_map_map, range-once, filter-all, range-once_of_all}
+use Rattle.run_law.proofs.laws.ListCounts.{same_length, length-if, length-flat_map_map, range-once, filter-all, range-once_of_all}
+use Rattle.run_law.proofs.laws.LookQuotas.{looks-few, looks-counts_of}
+use Rattle.run_law.proofs.laws.LineSlices.{slice_of_line-whole, length-filter_within}
 use Rattle.machine.proofs.laws.Slices.{domain_in-slice_of_line}
-use Rattle.run_law.proofs.laws.Pairs.{pair-same}
-
--- ---- looks
-
--- the counts of distinct RMIDs need as many looks in a slice as there are RMIDs at most
-pub looks-few : (m : Parameters) (i k : ℕ) (needs : List (ℕ × ℕ)) → All (CanLook m) needs → AllPairs (λ (a b : ℕ × ℕ). a ≢ b) needs → length (flat_map (look_in m i k) needs) ≤ m.rmids
-looks-few m i k needs exist distinct =
-    let here : ℕ × ℕ → Bool = λ need. need.0 == domain_in m i in
-    let kept : List (ℕ × ℕ) = filter here needs in
-    let count : length (flat_map (look_in m i k) needs) ≡ length kept = length-flat_map_if here (λ need. record { epoch = k; what = whats.Look need.1 0 }) needs in
-    let passes : All (λ need. here need ≡ true) kept = All-filtered here needs in
-    let inside : All (CanLook m) kept = All-filter here (CanLook m) needs exist in
-    let apart : AllPairs (λ (a b : ℕ × ℕ). a ≢ b) kept = AllPairs-filter (λ (a b : ℕ × ℕ). a ≢ b) here needs distinct in
-    let rmids : AllPairs (λ (a b : ℕ). a ≢ b) (map (λ (need : ℕ × ℕ). need.1) kept) = AllPairs-map (λ (a b : ℕ). a ≢ b) (λ (need : ℕ × ℕ). need.1) kept
-    (λ p q d less within same. apart p q d less within
-    (pair-same (get_or kept p d) (get_or kept q d) (eqb-true (get_or kept p d).0 (domain_in m i) (passes p d (omega (arith, less, within))) ∙ sym (eqb-true (get_or kept q d).0 (domain_in m i) (passes q d within))) same)) in
-    let below : All (λ id. id < m.rmids) (map (λ (need : ℕ × ℕ). need.1) kept) = All-map (λ id. id < m.rmids) (λ (need : ℕ × ℕ). need.1) kept (λ p d within. (inside p d within).1) in
-    let few : length (map (λ (need : ℕ × ℕ). need.1) kept) ≤ m.rmids = length-distinct m.rmids (map (λ (need : ℕ × ℕ). need.1) kept) rmids below in
-    omega (arith, count, few, length-map kept (λ (need : ℕ × ℕ). need.1))
-
--- those of each RMID in each domain need one for each RMID at most
-pub looks-counts_of : (m : Parameters) (i k : ℕ) (rmids : List ℕ) → length (flat_map (look_in m i k) (counts_of m rmids)) ≤ length rmids
-looks-counts_of m i k [] = omega arith
-looks-counts_of m i k (r ∷ rs) =
-    let domains : List (ℕ × ℕ) = map (λ domain. (domain, r)) (range_with_len 0 m.domains) in
-    let first : length (flat_map (look_in m i k) domains) ≤ 1 = omega (
-      arith,
-      range-once_of_all (domain_in m i) 0 m.domains,
-      length-flat_map_map (λ d. d == domain_in m i) (λ (domain : ℕ). (domain, r)) (look_in m i k) (λ d. same_length (d == domain_in m i) (record { epoch = k; what = whats.Look r 0 }) d) (range_with_len 0 m.domains),
-    ) in
-    let rest = looks-counts_of m i k rs in
-    let all : flat_map (look_in m i k) (domains ++ counts_of m rs) ≡ flat_map (look_in m i k) domains ++ flat_map (look_in m i k) (counts_of m rs) = flat_map-append (look_in m i k) domains (counts_of m rs) in
-    let count : length (flat_map (look_in m i k) (domains ++ counts_of m rs)) ≡ length (flat_map (look_in m i k) domains) + length (flat_map (look_in m i k) (counts_of m rs)) = ap length all ∙ length-append (flat_map (look_in m i k) domains) (flat_map (look_in m i k) (counts_of m rs)) in
-    omega (arith, count, first, rest)
-
--- ---- follow-ups
-
--- after a line of set 0 the slices of lines are those of the lines after line 0
-slice_of_line-whole : (m : Parameters) (domain first line : ℕ) → first % m.sets ≡ 0 → slice_of_line m domain (first + line) ≡ slice_of_line m domain line
-slice_of_line-whole m domain first line whole =
-    let turns : first ≡ first / m.sets * m.sets = omega (arith, div-add-mod' first m.sets, whole) in
-    let same : (first + line) % m.sets ≡ line % m.sets = ap (λ x. (x + line) % m.sets) turns ∙ mul-add-mod_self_right (first / m.sets) m.sets line in
-    ap (λ set. slice_number m domain (slice_of m set)) same
-
--- numbers that pass a test which only one number can pass
-length-filter_within : (p : ℕ → Bool) (c : ℕ) → ((d : ℕ) → p d ≡ true → (d == c) ≡ true) → (xs : List ℕ) → length (filter p xs) ≤ length (filter (λ d. d == c) xs)
-length-filter_within p c one [] = omega arith
-length-filter_within p c one (x ∷ xs) = elim (cases_Bool (p x)) [
-  | inl is ↦ rw (is, one x is) (omega (arith, length-filter_within p c one xs))
-  | inr not ↦ rw not (at (x == c) (length-filter_within p c one xs))
-]
-  where
-    at : (b : Bool) → length (filter p xs) ≤ length (filter (λ d. d == c) xs) → length (filter p xs) ≤ length (cond b (x ∷ filter (λ d. d == c) xs) (filter (λ d. d == c) xs))
-    at true le = omega (arith, le)
-    at false le = le
 
 module _ (m : Parameters) (s : State) (i k : ℕ) where
   -- what a follow-up owes

@@ -13,7 +13,7 @@ use Rattle.script_ops.specs.declared.op.Op.TheVariants.{Access}
 use Rattle.run_law.proofs.laws.MovedThreads.{moved-held, phase_moved, moved-holds, where_moved}
 use Rattle.run_law.proofs.laws.NotedTruth.{none_tag}
 use Rattle.run_law.proofs.laws.OpMarks.{all_behind, not_some}
-use Rattle.run_law.proofs.laws.TakenCommands.{idle}
+use Rattle.run_law.proofs.laws.FreeTrees.{idle}
 use Rattle.run_law.specs.Growth.{tag_of, HasMade, IsBehindAll, IsFree, IsKept, IsTagOf}
 use Rattle.run_law.specs.Progress.{HasBegun, IsUnderWay, Progress, moved}
 
