@@ -1,3 +1,4 @@
+pub mod AskedModes
 pub mod Assignments
 pub mod Changes
 pub mod Commands
@@ -26,6 +27,7 @@ pub mod ReadCounts
 pub mod Refusals
 pub mod ReadyFollows
 pub mod RegionDrops
+pub mod RegionPlaces
 pub mod RemovablePaths
 pub mod RemovedControl
 pub mod RemovedGroups

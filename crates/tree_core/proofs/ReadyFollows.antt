@@ -27,7 +27,8 @@ use Rattle.script_ops.specs.declared.op.Op.TheVariants as ops
 use Rattle.tree_core.proofs.Assignments.{mask-valid}
 use Rattle.tree_core.specs.Follows.{IsReady}
 use Rattle.tree_law.proofs.laws.Access.{resolve-good}
-use Rattle.tree_law.proofs.laws.Follows.{IsLineOf-offset, after-good, region_in-touched}
+use Rattle.tree_law.proofs.laws.Follows.{IsLineOf-offset, after-good}
+use Rattle.tree_law.proofs.laws.TouchedRegions.{region_in-touched}
 use Rattle.tree_law.proofs.laws.Lines.{first_line-bounded}
 use Rattle.tree_law.specs.LawsFollows.{IsLawful}
 use Rattle.tree_law.specs.Masks.{IsValid}

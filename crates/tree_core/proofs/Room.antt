@@ -1,9 +1,9 @@
 -- How many groups there are, and that one more has a place.
-use Rattle.std.proofs.Common.{◌≡◌, ◌≢◌, ℕ, zero, suc, ◌+◌, ◌<◌, ◌≤◌, Bool, true, false, cond, List, [], ◌∷◌, length, filter, get_or, Option, None, Some, IsSome, IfSome, refl, sym, subst, ap, ◌∙◌, arith, length-append}
+use Rattle.std.proofs.Common.{◌≡◌, ◌≢◌, ℕ, zero, suc, ◌+◌, ◌<◌, ◌≤◌, Bool, true, false, cond, List, [], ◌∷◌, length, get_or, Option, None, Some, IsSome, IfSome, refl, sym, subst, ap, arith, length-append}
 use Rattle.std.specs.Prelude.{IsSomeAnd}
 use Rattle.std.specs.List.{All, AllPairs, flat_map, slice_get}
-use Rattle.std.specs.Option.{option_map, option_to_list}
-use Rattle.std.proofs.lemmas.Bool.{eqb-true, ne_eqb}
+use Rattle.std.specs.Option.{option_to_list}
+use Rattle.std.proofs.lemmas.Bool.{ne_eqb}
 use Rattle.std.proofs.lemmas.List.Folds.{list_any_none}
 use Rattle.group_tree.specs.Lists.{has_group}
 use Rattle.group_tree.specs.Records.{has_gid, has_mode}
@@ -18,11 +18,10 @@ use Rattle.rc_base.specs.declared.names.Mode.{Mode}
 use Rattle.rc_base.specs.declared.names.Mode.TheVariants.{Shareable, Exclusive, LockSetup, Locked}
 use Rattle.tree_core.specs.Kept.{Keeps}
 use Rattle.tree_core.specs.Tables.{Tables}
+use Rattle.tree_core.proofs.RegionPlaces.{place_of, place_of-some, region_place, IsPlaceOf, region_place-passes, region_place-differ}
 use Rattle.tree_law.specs.Regions.{HasOneRegion, has_region_of}
 use Rattle.tree_law.specs.Sound.{Differ, HasIds, HasIdsOf, IsDefault, IsUsed}
 use Rattle.tree_law.specs.State.{State}
-
--- ---- ids that differ
 
 -- the ids of these groups
 abbrev pub ids_of : (Group → Option ℕ) → List Group → List ℕ
@@ -55,67 +54,6 @@ length-ids_of of n groups pairs below = length-distinct n (ids_of of groups)
         at : (k d : ℕ) → k < 1 → get_or (id ∷ []) k d < n
         at zero d within = is
         at (suc k) d within = absurd (omega arith)
-
--- ---- the place of a region
-
--- the first place at which a test passes
-abbrev place_of : {X : Type 0} → (X → Bool) → List X → Option ℕ
-place_of p [] = None
-place_of p (x ∷ xs) = cond (p x) (Some 0) (option_map suc (place_of p xs))
-
--- it passes there
-abbrev Passes : {X : Type 0} → (X → Bool) → List X → ℕ → Type 0
-Passes {X = X} p xs k = (k < length xs) × ((d : X) → p (get_or xs k d) ≡ true)
-
-place_of-passes : {X : Type 0} (p : X → Bool) (xs : List X) → IfSome (place_of p xs) (Passes p xs)
-place_of-passes p [] = tt
-place_of-passes p (x ∷ xs) = at (p x) (place_of p xs) refl (place_of-passes p xs)
-  where
-    at : (b : Bool) (o : Option ℕ) → p x ≡ b → IfSome o (Passes p xs) → IfSome (cond b (Some 0) (option_map suc o)) (Passes p (x ∷ xs))
-    at true o is rest = (omega arith, λ d. is)
-    at false None is rest = tt
-    at false (Some k) is rest = (let less = rest.0 in omega arith, λ d. rest.1 d)
-
--- and there is such a place where one passes
-place_of-some : {X : Type 0} (p : X → Bool) (xs : List X) → 0 < length (filter p xs) → IsSome (place_of p xs)
-place_of-some p [] some = absurd (omega arith)
-place_of-some p (x ∷ xs) some = at (p x) (place_of-some p xs) some
-  where
-    mapped : (o : Option ℕ) → IsSome o → IsSome (option_map suc o)
-    mapped None is = is
-    mapped (Some k) is = refl
-
-    at : (b : Bool) → (0 < length (filter p xs) → IsSome (place_of p xs)) → 0 < length (cond b (x ∷ filter p xs) (filter p xs)) → IsSome (cond b (Some 0) (option_map suc (place_of p xs)))
-    at true rest some = refl
-    at false rest some = mapped (place_of p xs) (rest some)
-
--- the first domain whose region is a pseudo-locked group's
-abbrev region_place : List (Option Region) → Group → Option ℕ
-region_place regions g = cond (has_mode Locked g) (place_of (has_region_of g.gid) regions) None
-
--- it is that group's
-abbrev IsPlaceOf : List (Option Region) → Group → ℕ → Type 0
-IsPlaceOf regions g = Passes (has_region_of g.gid) regions
-
-region_place-passes : (regions : List (Option Region)) (g : Group) → IfSome (region_place regions g) (IsPlaceOf regions g)
-region_place-passes regions g = at (has_mode Locked g)
-  where
-    at : (b : Bool) → IfSome (cond b (place_of (has_region_of g.gid) regions) None) (IsPlaceOf regions g)
-    at true = place_of-passes (has_region_of g.gid) regions
-    at false = tt
-
--- no two groups have the same region
-region_place-differ : (regions : List (Option Region)) (a b : Group) → a.gid.0 ≢ b.gid.0 → Differ (region_place regions a) (region_place regions b)
-region_place-differ regions a b differ = at (region_place regions a) (region_place regions b) (region_place-passes regions a) (region_place-passes regions b)
-  where
-    of_one : (r : Option Region) → has_region_of a.gid r ≡ true → has_region_of b.gid r ≡ true → ⊥
-    of_one None is is' = let f : false ≡ true = is in cc
-    of_one (Some r) is is' = differ (sym (eqb-true r.gid.0 a.gid.0 is) ∙ eqb-true r.gid.0 b.gid.0 is')
-
-    at : (x y : Option ℕ) → IfSome x (IsPlaceOf regions a) → IfSome y (IsPlaceOf regions b) → Differ x y
-    at None y is is' = tt
-    at (Some k) None is is' = tt
-    at (Some k) (Some j) is is' = λ same. of_one (get_or regions k None) (is.1 None) (ap (λ (n : ℕ). has_region_of b.gid (get_or regions n None)) same ∙ is'.1 None)
 
 -- ---- the groups
 

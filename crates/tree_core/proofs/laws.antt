@@ -1,3 +1,4 @@
 -- Lemmas that the crates above cite.
 pub mod KnownNames
+pub mod NamedCommands
 pub mod Unions

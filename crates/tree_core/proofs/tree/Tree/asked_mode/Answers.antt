@@ -1,7 +1,7 @@
 use Rattle.std.proofs.Common.{◌≡◌, Some, sym, ◌∙◌}
 use Rattle.lists.proofs.Options.{option_map-none, option_map-some}
 use Rattle.rc_base.specs.declared.replies.Why.TheVariants.{GroupLocked, UnknownMode}
-use Rattle.tree_core.proofs.WrittenModes.{is_present-is, refusal-locked, refusal-turn_some, refusal-unknown}
+use Rattle.tree_core.proofs.AskedModes.{is_present-is, refusal-locked, refusal-turn_some, refusal-unknown}
 use Rattle.tree_core.specs.Modes.{against_turn}
 use Rattle.command_parts.specs.Replies.{reply_to}
 use Rattle.tree_law.specs.Refusals.{plain}

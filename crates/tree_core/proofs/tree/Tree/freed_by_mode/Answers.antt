@@ -1,5 +1,6 @@
 use Rattle.std.proofs.Common.{Option, Ok, sym, subst, ap, ◌∙◌}
 use Rattle.rc_base.specs.declared.names.Mode.{Mode}
+use Rattle.tree_core.proofs.AskedModes as asked
 use Rattle.tree_core.proofs.WrittenModes as written
 use Rattle.tree_core.specs.Modes.{AsksMode, Stays, TurnsTo}
 use Rattle.tree_law.specs.Freeing.{counts_of}
@@ -20,7 +21,7 @@ pub returns-in-Ok-None : goal.returns-in-Ok-None
 returns-in-Ok-None c =
     let m = c.args.self.now.machine in let s = c.args.self.now.state in let g = c.in-Some.group in
     let stays : Stays g c.args.text.now = subst (λ (o : Option Mode). AsksMode m s g c.args.text.now (Ok o)) c.in-Ok-None.field-0-is c.in-Ok-None.ensures in
-    written.needs-mode_none m s c.args.at.dir c.args.text.now c.requires.writable g (sym c.in-Some.ensures) (written.freed-stays m s g c.args.text.now stays)
+    written.needs-mode_none m s c.args.at.dir c.args.text.now c.requires.writable g (sym c.in-Some.ensures) (asked.freed-stays m s g c.args.text.now stays)
 
 pub returns-in-Err : goal.returns-in-Err
 returns-in-Err c =
