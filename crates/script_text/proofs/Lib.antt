@@ -10,5 +10,6 @@ pub mod OrderNumbers
 pub mod PathNames
 pub mod Places
 pub mod Readiness
+pub mod ReadyOps
 pub mod SweepOps
 pub mod TakenLines
