@@ -1,9 +1,8 @@
 -- The printed path of a file of a control group reads back, and adds no name.
-use Rattle.std.proofs.Common.{◌≡◌, ℕ, ◌<◌, ◌≤◌, Bool, true, false, List, [], ◌∷◌, ◌++◌, length, Some, refl, ap, ◌∙◌, arith, append_assoc, length-append, leb}
+use Rattle.std.proofs.Common.{◌≡◌, ℕ, ◌<◌, ◌≤◌, Bool, true, false, List, [], ◌∷◌, ◌++◌, length, Some, refl, ap, ◌∙◌, arith, append_assoc, length-append}
 use Rattle.std.specs.Prelude.{codes}
-use Rattle.std.specs.List.{list_all, list_any, slice_split}
+use Rattle.std.specs.List.{list_any, slice_split}
 use Rattle.std.specs.Str.{bytes_eq}
-use Rattle.std.proofs.lemmas.Bool.{and_parts, leb-true, le-ltb, ne_eqb}
 use Rattle.std.proofs.lemmas.List.Folds.{list_any-append}
 use Rattle.lists.proofs.Cuts.{slice_split-none, slice_split-some}
 use Rattle.num_text.proofs.laws.Pieces.{Cut-append}
@@ -24,10 +23,9 @@ use Rattle.path_names.specs.declared.files.FileKind.TheVariants as kinds
 use Rattle.path_names.specs.declared.names.NameId.{NameId}
 use Rattle.path_names.specs.declared.path_ref.PathRef.TheVariants.{Dir, File}
 use Rattle.script_ops.specs.declared.limits.TheConstants.{MOST_PATH_BYTES}
-use Rattle.write_lines.proofs.laws.GroupNames.{list_any-known}
+use Rattle.write_lines.proofs.laws.InternedNames.{list_any-known}
 use Rattle.write_lines.specs.GroupWrites.{IsGroupDir, IsGroupName, is_group_file}
-
--- ---- the files of a group
+use Rattle.write_lines.proofs.laws.ComponentBytes.{list_any-component, some-component, is_blank-visible, is_bad-visible}
 
 -- the names of its files
 is_component-file : (kind : FileKind) → is_group_file kind ≡ true → is_component (file_name kind) ≡ true
@@ -70,35 +68,6 @@ entry_of-Ctrl domains id kinds.Schemata is = refl
 entry_of-Ctrl domains id kinds.Size is = refl
 entry_of-Ctrl domains id kinds.Tasks is = refl
 entry_of-Ctrl domains id kind is = absurd cc
-
--- ---- the bytes of components
-
--- what no visible byte is, no byte of a component is
-list_any-component : (q : ℕ → Bool) → ((b : ℕ) → is_visible b ≡ true → q b ≡ false) → (name : List ℕ) → is_component name ≡ true → list_any q name ≡ false
-unfolding is_component
-list_any-component q none name is = go name (and_parts _ _ (and_parts _ _ is).0).1
-  where
-    go : (bytes : List ℕ) → list_all is_visible bytes ≡ true → list_any q bytes ≡ false
-    go [] all = refl
-    go (b ∷ bs) all = let both = and_parts (is_visible b) (list_all is_visible bs) all in rw (none b both.0) (go bs both.1)
-
--- a component has some byte
-some-component : (name : List ℕ) → is_component name ≡ true → 0 < length name
-unfolding is_component
-some-component name is = let one = leb-true 1 (length name) (and_parts _ _ (and_parts _ _ (and_parts _ _ is).0).0).0 in omega (arith, one)
-
--- no visible byte is a blank, or a bad byte
-is_blank-visible : (b : ℕ) → is_visible b ≡ true → is_blank b ≡ false
-is_blank-visible b is =
-    let low = leb-true 33 b (and_parts (leb 33 b) (leb b 126) is).0 in
-    rw (ne_eqb b 32 (λ e. absurd (omega (arith, e, low))), ne_eqb b 9 (λ e. absurd (omega (arith, e, low)))) refl
-
-is_bad-visible : (b : ℕ) → is_visible b ≡ true → is_bad b ≡ false
-is_bad-visible b is =
-    let both = and_parts (leb 33 b) (leb b 126) is in
-    let low = leb-true 33 b both.0 in
-    let high = leb-true b 126 both.1 in
-    rw (le-ltb b 32 (omega (arith, low)), le-ltb 126 b (omega (arith, high))) refl
 
 -- ---- the components of the paths
 
