@@ -9,6 +9,7 @@ pub mod EndedThreads
 pub mod Ends
 pub mod Filters
 pub mod FollowStages
+pub mod HeldTrees
 pub mod JobQuotas
 pub mod KeptLooks
 pub mod LaterViews

@@ -12,7 +12,8 @@ use Rattle.run_law.specs.Quotas.{quota}
 use Rattle.run_law.specs.Truth.{is_made_by, is_taken_from}
 use Rattle.run_law.proofs.laws.GrownLists.{Adds, made_one_more, only, with_slices}
 use Rattle.run_law.proofs.laws.NotedTruth.{one_op}
-use Rattle.run_law.proofs.laws.OpMarks.{HadMarks, marks_of_access}
+use Rattle.run_law.proofs.laws.OpMarks.{HadMarks}
+use Rattle.run_law.proofs.laws.NewMarks.{marks_of_access}
 use Rattle.run_law.proofs.laws.Pairs.{both_eqb-same, both_eqb-true}
 use Rattle.run_law.proofs.laws.Positions.{filter-none_at}
 use Rattle.run_law.proofs.laws.TakenCommands.{fails}

@@ -9,7 +9,7 @@ use Rattle.run_law.specs.Owed.{owed_by_access, paid_by}
 use Rattle.run_law.proofs.laws.GrownLists.{Adds, with_slices}
 use Rattle.run_law.proofs.laws.NotedTruth.{one_op}
 use Rattle.run_law.proofs.laws.OpKinds.{of_command}
-use Rattle.run_law.proofs.laws.OpMarks.{marks_of_command}
+use Rattle.run_law.proofs.laws.NewMarks.{marks_of_command}
 use Rattle.script_ops.specs.Values.{ScriptValue, op_at}
 use Rattle.script_ops.specs.declared.op.Op.{Op}
 use Rattle.live_law.specs.DoneOps.{IsTrueIfAccess}

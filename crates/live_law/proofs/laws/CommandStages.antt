@@ -1,101 +1,40 @@
 -- A thread whose command holds the tree: it takes it, looks, and is decided.
-use Rattle.std.proofs.Common.{◌≡◌, ℕ, zero, suc, ◌+◌, ◌-◌, ◌≤◌, true, false, inl, inr, List, [], ◌∷◌, ◌++◌, length, map, take, Some, refl, sym, ap, ◌∙◌, subst, arith}
-use Rattle.std.specs.Prelude.{◌==◌, if◌then◌else◌, IsTrue}
+use Rattle.std.proofs.Common.{◌≡◌, ℕ, zero, suc, ◌+◌, ◌-◌, ◌≤◌, false, List, [], ◌∷◌, ◌++◌, length, map, take, Some, refl, sym, ap, ◌∙◌, subst, arith}
+use Rattle.std.specs.Prelude.{IsTrue}
 use Rattle.std.proofs.Math.Seq.{take-append_seam}
-use Rattle.std.proofs.lemmas.Bool.{cases_Bool}
-use Rattle.std.proofs.lemmas.List.{length_push, map-append}
+use Rattle.std.proofs.lemmas.List.{length_push}
 use Rattle.cache_core.specs.declared.entry.SliceEntry.{SliceEntry}
 use Rattle.cache_core.specs.declared.entry.What.TheVariants as whats
 use Rattle.run_law.specs.FoundLooks.{pairs_for}
-use Rattle.run_law.specs.Growth.{HasMade, PaysJob}
+use Rattle.run_law.specs.Growth.{PaysJob}
 use Rattle.run_law.specs.Jobs.{Job, follows_of, in_slice, jobs_of, looks_of}
 use Rattle.run_law.specs.Journals.{At, JournalsValue, slice_at}
 use Rattle.run_law.specs.Ops.{is_command}
-use Rattle.run_law.specs.Owed.{Owed, paid_by}
+use Rattle.run_law.specs.Owed.{paid_by}
 use Rattle.run_law.specs.Quotas.{quota}
 use Rattle.run_law.specs.TreeHistory.{IsLegalTree, TreeEntryValue, tree_after}
 use Rattle.run_law.specs.Truth.{is_made_by, is_taken_from}
 use Rattle.run_law.proofs.laws.FoundLooks.{found_more, none_found}
-use Rattle.run_law.proofs.laws.GrownLists.{Adds, filter_push_true, made_one_more, only, with_slices}
-use Rattle.run_law.proofs.laws.JobKinds.{follow_epoch, look_epoch, look_of, looks_are}
-use Rattle.run_law.proofs.laws.JobLists.{in_slice_more}
+use Rattle.run_law.proofs.laws.GrownLists.{Adds, filter_push_true, with_slices}
+use Rattle.run_law.proofs.laws.JobKinds.{look_of, looks_are}
 use Rattle.run_law.proofs.laws.LongerHistories.{jobs_front}
 use Rattle.run_law.proofs.laws.Pairs.{both_eqb-same, both_eqb-true}
-use Rattle.run_law.proofs.laws.Positions.{At-append, At-append_front, At-last, filter-none_at}
+use Rattle.run_law.proofs.laws.Positions.{At-append_front, At-last, filter-none_at}
 use Rattle.run_law.proofs.laws.TakenCommands.{fails}
 use Rattle.script_ops.specs.Values.{IsLawful, ScriptValue, op_at}
 use Rattle.script_ops.specs.declared.op.Op.{Op}
 use Rattle.tree_law.specs.Steps.{needs}
 use Rattle.live_law.specs.Cells.{AreMade}
 use Rattle.live_law.specs.Passes.{AreBelow, PassesKeepFrom}
-use Rattle.live_law.specs.SeenJournals.{AddsEntry, SeesMore, made_in, taken_in}
+use Rattle.live_law.specs.SeenJournals.{AddsEntry, SeesMore, taken_in}
 use Rattle.live_law.specs.Stages.{HoldsTree, IsFollowing, IsLooking, IsNextLook, WasGiven}
-use Rattle.live_law.proofs.laws.AddedEntries.{Adds-before, HasGrown-adds, SeesMore-before, before_adding}
-use Rattle.live_law.proofs.laws.CommandEntries.{PassesKeepFrom-note}
+use Rattle.live_law.proofs.laws.AddedEntries.{Adds-before, SeesMore-before, before_adding}
 use Rattle.live_law.proofs.laws.DecidedCommands.{HasGrown-command, HasMade-command, PassesKeepFrom-command, with_command}
 use Rattle.live_law.proofs.laws.JobQuotas.{in_slice-few}
 use Rattle.live_law.proofs.laws.KeptLooks.{HasFound-more}
-use Rattle.live_law.proofs.laws.LaterViews.{PassesKeepFrom-more}
 use Rattle.live_law.proofs.laws.MadeEntries.{AreMade-grown}
-use Rattle.live_law.proofs.laws.SeenJournals.{HasGrown-more, made_in-more}
+use Rattle.live_law.proofs.laws.HeldTrees.{HoldsTree-more, HoldsTree-note}
 use Rattle.seen_journal.proofs.laws.Prefixes.{length-prefix}
-
--- ---- it holds the tree
-
-module _ (script : ScriptValue) (start : JournalsValue) (t n taken k : ℕ) (c : Op) (made : ℕ) (v : JournalsValue)
-    (slices : List (List SliceEntry)) where
-  -- when it has seen more of the slices
-  pub HoldsTree-more : SeesMore t v (with_slices v slices) → k ≤ length v.tree
-      → HoldsTree script start t n taken k c made v
-      → HoldsTree script start t n taken k c made (with_slices v slices)
-  HoldsTree-more more fits holds = record {
-    is_op = holds.is_op;
-    command = holds.command;
-    keeps = PassesKeepFrom-more script start t n taken (n + 1) v (with_slices v slices) more holds.keeps;
-    has = λ i within. ap (map paid_by) (made_in-more t n v (with_slices v slices) i more) ∙ holds.has i within;
-    few = holds.few;
-    others = AreMade-grown script v (with_slices v slices) k (HasGrown-more t v (with_slices v slices) more) fits holds.others;
-  }
-
-  -- what it has made, with the next entry
-  HasMade-next : (job : Job) (e : SliceEntry) (i : ℕ)
-      → Adds v slices job.slice e → At (jobs_of script v.tree k c) made job → PaysJob t n job e → HasMade script v i t n k c made
-      → HasMade script (with_slices v slices) i t n k c (made + 1)
-  HasMade-next job e i adds is_job pays had =
-      let mine : is_made_by t n e ≡ true = both_eqb-same e.thread t e.op n pays.thread pays.op in
-      let before : List Owed = in_slice i (take made (jobs_of script v.tree k c)) in
-      let one : map paid_by (only job.slice e i) ≡ (if i == job.slice then job.owed ∷ [] else []) = elim (cases_Bool (i == job.slice)) [
-        | inl here ↦ rw here (ap (λ (o : Owed). o ∷ []) pays.owed)
-        | inr away ↦ rw away refl
-      ] in
-      ap (map paid_by) (made_one_more v slices job.slice e adds i t n mine)
-      ∙ (map-append paid_by (made_in v i t n) (only job.slice e i)
-      ∙ (ap (λ os. os ++ map paid_by (only job.slice e i)) had
-      ∙ (ap (λ os. before ++ os) one ∙ sym (in_slice_more i (jobs_of script v.tree k c) made job is_job))))
-
-  -- the epoch of a job is at least the position of its command
-  epoch-job : (job : Job) → At (jobs_of script v.tree k c) made job → k ≤ job.owed.epoch
-  epoch-job job at = elim (At-append (looks_of script v.tree k c) (follows_of script v.tree k c) made job at) [
-    | inl front ↦ omega (arith, look_epoch script v.tree k c made job front)
-    | inr back ↦ omega (arith, follow_epoch script v.tree k c (made - length (looks_of script v.tree k c)) job back.1)
-  ]
-
-  -- when it has made the next entry
-  pub HoldsTree-note : (job : Job) (e : SliceEntry)
-      → Adds v slices job.slice e → At (jobs_of script v.tree k c) made job → PaysJob t n job e → length start.tree ≤ k → k ≤ length v.tree
-      → HoldsTree script start t n taken k c made v
-      → HoldsTree script start t n taken k c (made + 1) (with_slices v slices)
-  HoldsTree-note job e adds is_job pays late fits holds = record {
-    is_op = holds.is_op;
-    command = holds.command;
-    keeps = PassesKeepFrom-note script start t n taken c v slices job.slice e adds pays.thread pays.op holds.is_op holds.command
-        (omega (arith, late, epoch-job job is_job, ap (λ (o : Owed). o.epoch) pays.owed)) holds.keeps;
-    has = λ i within. HasMade-next job e i adds is_job pays (holds.has i within);
-    few = holds.few;
-    others = AreMade-grown script v (with_slices v slices) k (HasGrown-adds v slices job.slice e adds) fits holds.others;
-  }
-
--- ---- Take
 
 -- a thread between two ops has no entry of the next
 is_made_by-next : (t n : ℕ) (v : JournalsValue) (i p : ℕ) (e : SliceEntry)

@@ -8,7 +8,8 @@ use Rattle.run_law.specs.TreeHistory.{TreeEntryValue}
 use Rattle.run_law.specs.Truth.{is_taken_from}
 use Rattle.run_law.proofs.laws.GrownLists.{at_push, filter_push_false, with_tree}
 use Rattle.run_law.proofs.laws.LongerHistories.{jobs_front, makes_command}
-use Rattle.run_law.proofs.laws.OpMarks.{HadMarks, marks_of_taken}
+use Rattle.run_law.proofs.laws.OpMarks.{HadMarks}
+use Rattle.run_law.proofs.laws.NewMarks.{marks_of_taken}
 use Rattle.run_law.proofs.laws.Pairs.{both_eqb-true}
 use Rattle.run_law.proofs.laws.TakenCommands.{fails}
 use Rattle.script_ops.specs.Values.{ScriptValue, op_at}

@@ -30,7 +30,7 @@ use Rattle.live_law.specs.Passes.{PassesKeepFrom}
 use Rattle.live_law.specs.SeenJournals.{AddsEntry, SeesMore, made_in, taken_in}
 use Rattle.live_law.specs.Stages.{HoldsTree, IsFollowing, slice_reached}
 use Rattle.live_law.proofs.laws.AddedEntries.{Adds-before, HasGrown-adds, SeesMore-before, before_adding}
-use Rattle.live_law.proofs.laws.CommandStages.{HoldsTree-more, HoldsTree-note}
+use Rattle.live_law.proofs.laws.HeldTrees.{HoldsTree-more, HoldsTree-note}
 use Rattle.live_law.proofs.laws.Filters.{At-once}
 use Rattle.live_law.proofs.laws.KeptLooks.{WasGiven-grown}
 use Rattle.live_law.proofs.laws.SeenJournals.{HasGrown-more}
