@@ -21,7 +21,7 @@ use Rattle.run_law.proofs.laws.NotedEntries.{note_keeps}
 use Rattle.run_law.proofs.laws.Positions.{At-append}
 use Rattle.run_law.proofs.laws.GrownLists.{with_slices, with_tree}
 use Rattle.step_world.proofs.laws.MachineStates.{at_can_be, can_be_at, can_be_tree, holder_off, holder_on, IsKept-same, place_behind-ready, place_behind-following, progress_moved, where_now}
-use Rattle.run_law.proofs.laws.TakenCommands.{idle}
+use Rattle.run_law.proofs.laws.FreeTrees.{idle}
 use Rattle.run_law.specs.Jobs.{Job, follows_of, jobs_of, looks_of}
 use Rattle.step_world.specs.Machine.{Decides, Moves, Follows, MachineValue, thread_at}
 use Rattle.step_world.specs.declared.place.Place.{Place}

@@ -1,3 +1,4 @@
+pub mod AgreeingStates
 pub mod CommandRooms
 pub mod CommandSteps
 pub mod DecidedCounts

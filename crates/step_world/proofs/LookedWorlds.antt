@@ -12,7 +12,7 @@ use Rattle.cache_core.specs.declared.entry.What.TheVariants as whats
 use Rattle.machine.specs.Slices.{slice_number}
 use Rattle.rc_base.specs.Buffers.{Looks as LooksValue}
 use Rattle.run_law.proofs.laws.DistinctLooks.{distinct_pairs}
-use Rattle.run_law.proofs.laws.FoundLooks.{pair_at}
+use Rattle.run_law.proofs.laws.LookPositions.{pair_at}
 use Rattle.run_law.proofs.laws.FoundSums.{AreDistinct-pairs, At-map, found_at-last, found_at-push, get-push_front, get-push_last}
 use Rattle.run_law.proofs.laws.JobKinds.{look_of, looks_are}
 use Rattle.run_law.proofs.laws.Lines.{lines_of-few}

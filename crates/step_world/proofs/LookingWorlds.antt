@@ -7,7 +7,7 @@ use Rattle.std.proofs.lemmas.Option.{get_or_from_slice_get, slice_get_within, sa
 use Rattle.cache_core.specs.History.{lines_of}
 use Rattle.machine.specs.Slices.{slice_number}
 use Rattle.rc_base.specs.Buffers.{Looks}
-use Rattle.run_law.proofs.laws.FoundLooks.{pair_at}
+use Rattle.run_law.proofs.laws.LookPositions.{pair_at}
 use Rattle.run_law.proofs.laws.FoundSums.{At-map}
 use Rattle.run_law.proofs.laws.JobKinds.{look_of, looks_are}
 use Rattle.run_law.proofs.laws.Lines.{lines_of-few}

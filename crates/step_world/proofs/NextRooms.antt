@@ -13,7 +13,7 @@ use Rattle.run_law.proofs.laws.CountedOps.{length-quotas}
 use Rattle.run_law.proofs.laws.JobLists.{in_slice_append, in_slice_more, owed_are}
 use Rattle.run_law.proofs.laws.Pairs.{both_eqb-true}
 use Rattle.run_law.proofs.laws.Positions.{At-append, At-one}
-use Rattle.run_law.proofs.laws.TakenCommands.{idle_not_begun}
+use Rattle.run_law.proofs.laws.FreeTrees.{idle_not_begun}
 use Rattle.run_law.specs.Growth.{HasMade, IsKept}
 use Rattle.run_law.specs.Jobs.{Job, in_slice, jobs_of}
 use Rattle.run_law.specs.Journals.{At, slice_at}

@@ -2,7 +2,6 @@
 use Rattle.std.proofs.Common.{◌≡◌, ℕ, ◌+◌, ◌<◌, inl, inr, List, [], ◌∷◌, ◌++◌, length, map, get_or, Option, Some, None, refl, sym, ap, ◌∙◌, subst, arith}
 use Rattle.std.specs.Prelude.{◌==◌, if◌then◌else◌, nat_lt}
 use Rattle.std.proofs.lemmas.Bool.{MatchBool-at_false, MatchBool-at_true, cases_Bool, eqb-false, eqb-true}
-use Rattle.std.proofs.lemmas.List.{ext_get_or}
 use Rattle.std.proofs.lemmas.Option.{same_Some}
 use Rattle.cache_core.specs.History.{EntryMayFollow}
 use Rattle.cache_core.specs.declared.entry.SliceEntry.{SliceEntry}
@@ -12,7 +11,7 @@ use Rattle.rc_base.specs.declared.names.Tag.{Tag}
 use Rattle.rc_base.specs.declared.replies.Reply.{Reply}
 use Rattle.run_law.specs.Growth.{PaysJob, tag_of}
 use Rattle.run_law.specs.Jobs.{Job, jobs_of, looks_of}
-use Rattle.run_law.specs.Journals.{At, JournalsValue, slice_at}
+use Rattle.run_law.specs.Journals.{At, slice_at}
 use Rattle.run_law.specs.Looks.{lines_looked}
 use Rattle.run_law.specs.Ops.{phase_in}
 use Rattle.run_law.specs.Owed.{Owed, owed_by_access}
@@ -27,32 +26,8 @@ use Rattle.step_world.specs.Machine.{Begins, Decides, Follows, Looks, MachineVal
 use Rattle.step_world.specs.declared.place.Place.{Place}
 use Rattle.step_world.specs.declared.place.Place.TheVariants.{Following, Looking, Ready, Tagged}
 use Rattle.step_world.specs.declared.place.Thread.{Thread}
+use Rattle.step_world.proofs.AgreeingStates.{Agree, same_journals, same_numbers}
 use Rattle.tree_law.specs.Steps.{needs, next}
-
--- ---- states that agree
-
--- two states are the same, but that their lists of threads may be of different lengths: each thread is at the same place
-pub record Agree (a b : MachineValue) : Type 0 where
-  pub journals : a.journals ≡ b.journals
-  pub phase : a.phase ≡ b.phase
-  pub holder : a.holder ≡ b.holder
-  pub threads : (u : ℕ) → thread_at a u ≡ thread_at b u
-
--- journals are the same where the tree's history and each slice's are
-pub same_journals : (a b : JournalsValue) → a.tree ≡ b.tree → length a.slices ≡ length b.slices → ((i : ℕ) → slice_at a i ≡ slice_at b i) → a ≡ b
-same_journals a b tree count slices =
-    let all : a.slices ≡ b.slices = ext_get_or [] a.slices b.slices count (λ i within. slices i) in
-    ap (λ es. record { tree = es; slices = a.slices }) tree ∙ ap (λ ss. record { tree = b.tree; slices = ss }) all
-
--- lists of numbers are the same where those of options of them are
-same_numbers : (xs ys : List ℕ) → map (λ n. Some n) xs ≡ map (λ n. Some n) ys → xs ≡ ys
-same_numbers [] [] same = refl
-same_numbers [] (y ∷ ys) same = absurd cc
-same_numbers (x ∷ xs) [] same = absurd cc
-same_numbers (x ∷ xs) (y ∷ ys) same =
-    let first : x ≡ y = cc in
-    let rest : map (λ n. Some n) xs ≡ map (λ n. Some n) ys = cc in
-    ap (λ n. n ∷ xs) first ∙ ap (λ ns. y ∷ ns) (same_numbers xs ys rest)
 
 module _ (script : ScriptValue) (t : ℕ) (a : MachineValue) (vs : List Thread) (same : (u : ℕ) → thread_at a u ≡ get_or vs u opening_thread)
     (once : (i : ℕ) → i < length a.journals.slices → HoldsOnce (shape_in script.machine i) (slice_at a.journals i)) where

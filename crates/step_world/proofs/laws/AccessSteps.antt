@@ -21,7 +21,7 @@ use Rattle.run_law.proofs.laws.OpMarks.{not_some}
 use Rattle.run_law.proofs.laws.GrownLists.{Adds, with_tree}
 use Rattle.step_world.proofs.laws.MachineStates.{can_be_is, can_be_same, can_be_tree, IsKept-same, nobody_holds, progress_moved, tree_can_be, where_now}
 use Rattle.run_law.proofs.laws.ReadTags.{outside, tag_keeps, untag_keeps}
-use Rattle.run_law.proofs.laws.TakenCommands.{idle}
+use Rattle.run_law.proofs.laws.FreeTrees.{idle}
 use Rattle.run_law.proofs.laws.MadeAccesses.{touch_keeps}
 use Rattle.step_world.specs.Machine.{Moves, MachineValue, Tags, TagsAgain, Touches, thread_at}
 use Rattle.step_world.specs.declared.place.Place.{Place}

@@ -12,7 +12,8 @@ use Rattle.run_law.proofs.laws.OpQuotas.{owed_by_command-few}
 use Rattle.run_law.proofs.laws.Pairs.{both_eqb-true}
 use Rattle.run_law.proofs.laws.Positions.{filter-none_at}
 use Rattle.run_law.proofs.laws.SoundHistories.{Fits-op_at, IsSound-take}
-use Rattle.run_law.proofs.laws.TakenCommands.{fails, idle_not_begun}
+use Rattle.run_law.proofs.laws.TakenCommands.{fails}
+use Rattle.run_law.proofs.laws.FreeTrees.{idle_not_begun}
 use Rattle.run_law.specs.Growth.{HasMade, IsKept}
 use Rattle.run_law.specs.Jobs.{in_slice, jobs_of}
 use Rattle.run_law.specs.Journals.{At, JournalsValue, slice_at}

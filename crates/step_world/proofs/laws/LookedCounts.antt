@@ -9,7 +9,8 @@ use Rattle.cache_core.specs.declared.entry.SliceEntry.{SliceEntry}
 use Rattle.cache_core.specs.declared.entry.What.{What}
 use Rattle.cache_core.specs.declared.entry.What.TheVariants as whats
 use Rattle.rc_base.specs.declared.names.Tag.{Tag}
-use Rattle.run_law.proofs.laws.TakenCommands.{fails, idle_not_begun}
+use Rattle.run_law.proofs.laws.TakenCommands.{fails}
+use Rattle.run_law.proofs.laws.FreeTrees.{idle_not_begun}
 use Rattle.run_law.specs.FoundLooks.{AreDistinct, HasFound, pairs_for}
 use Rattle.run_law.specs.Growth.{IsKept}
 use Rattle.run_law.specs.Ops.{phase_in}

@@ -2,7 +2,7 @@
 use Rattle.std.proofs.Common.{◌≡◌, ℕ, ◌+◌, ◌<◌, ◌≤◌, List, [], ◌∷◌, length, get_or, Option, Some, None, refl, sym, ap, ◌∙◌, subst, arith}
 use Rattle.std.specs.Prelude.{IsSome}
 use Rattle.cache_core.specs.History.{IsLegal}
-use Rattle.run_law.proofs.laws.TakenCommands.{idle}
+use Rattle.run_law.proofs.laws.FreeTrees.{idle}
 use Rattle.run_law.specs.Growth.{AreLegal}
 use Rattle.run_law.specs.Jobs.{looks_of}
 use Rattle.run_law.specs.Ops.{phase_in}
