@@ -16,8 +16,10 @@ pub mod Growth
 pub mod HeldTrees
 pub mod Meetings
 pub mod MetThreads
+pub mod NumberedParts
 pub mod Openings
 pub mod PhaseEnds
+pub mod PhaseParts
 pub mod PhaseTurns
 pub mod Readings
 pub mod Room

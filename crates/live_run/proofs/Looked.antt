@@ -23,7 +23,7 @@ use Rattle.live_run.specs.Steps.{HasAdded}
 use Rattle.live_run.specs.Visits.{MayLook}
 use Rattle.machine.specs.Slices.{slice_count, slice_number}
 use Rattle.run_law.proofs.laws.DistinctLooks.{distinct_pairs}
-use Rattle.run_law.proofs.laws.FoundLooks.{pair_at}
+use Rattle.run_law.proofs.laws.LookPositions.{pair_at}
 use Rattle.run_law.proofs.laws.FoundSums.{At-map, found_at-last, found_at-push, get-push_front, get-push_last}
 use Rattle.run_law.proofs.laws.JobKinds.{look_of, looks_are}
 use Rattle.run_law.proofs.laws.Positions.{At-append_front}

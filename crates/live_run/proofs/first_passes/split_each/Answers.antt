@@ -1,5 +1,6 @@
 use Rattle.std.proofs.Common.{◌+◌, subst, sym}
-use Rattle.live_run.proofs.FirstShares.{AreApart-numbered, AreNumbered-drop, AreSplit-next}
+use Rattle.live_run.proofs.FirstShares.{AreSplit-next}
+use Rattle.live_run.proofs.NumberedParts.{AreApart-numbered, AreNumbered-drop}
 use Rattle.live_run.proofs.first_passes.split_each.Goals as goal
 use Rattle.live_run.specs.Openings.{AreNumbered, AreSplit}
 

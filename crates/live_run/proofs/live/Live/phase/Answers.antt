@@ -1,5 +1,6 @@
 use Rattle.std.proofs.Common.{◌≡◌, ◌+◌, List, [], ◌∷◌, ap, arith, length, subst, sym}
-use Rattle.live_run.proofs.PhaseEnds.{AreBefore-next, AreParts, AreParts-split, HasGrown-phase, all_are, all_ended, ended_in, may_work, of_phase, worked_own}
+use Rattle.live_run.proofs.PhaseEnds.{AreBefore-next, HasGrown-phase, all_are, all_ended, ended_in, may_work, of_phase, worked_own}
+use Rattle.live_run.proofs.PhaseParts.{AreParts, AreParts-split}
 use Rattle.live_run.proofs.PhaseTurns.{is_next, may_pass}
 use Rattle.live_run.proofs.laws.Phases.{first_thread-next}
 use Rattle.live_run.proofs.live.Live.phase.Goals as goal
