@@ -4,7 +4,7 @@ use Rattle.std.proofs.lemmas.Bool.{false≢true}
 use Rattle.std.proofs.lemmas.List.{length_push}
 use Rattle.cache_core.specs.declared.entry.What.TheVariants.{Raise, Flush, Lock, Look}
 use Rattle.cache_core.specs.declared.entry.SliceEntry.{SliceEntry}
-use Rattle.cache_core.specs.declared.place.Place.{Place}
+use Rattle.cache_core.specs.declared.cached_line.CachedLine.{CachedLine}
 use Rattle.cache_core.specs.Fills.{Resident}
 use Rattle.cache_core.specs.History.{IsOwn, Shape, lines_of, decides, uses, used, sets_floor, floor_of, ways_below, EntryMayFollow}
 use Rattle.cache_core.specs.Loads.{loaded, loaded_place}
@@ -37,7 +37,7 @@ Adds-look old epoch rmid lines counts thread op history stands =
     StandsFor-quiet old history (entry thread op epoch (Look rmid lines)) old.floor old.clock (λ _ _. refl) (λ _ _. refl) (counts history stands) (omega (arith, stands.floor)) (omega (arith, stands.clock)) stands
 
 -- a flush empties every place
-pub Adds-flush : (old : CacheValue) (places : List (List (Option Place))) (epoch : ℕ) → old.floor ≤ epoch → ((s w : ℕ) → place_in (set_in places s) w ≡ None)
+pub Adds-flush : (old : CacheValue) (places : List (List (Option CachedLine))) (epoch : ℕ) → old.floor ≤ epoch → ((s w : ℕ) → place_in (set_in places s) w ≡ None)
     → Adds old (record { shape = old.shape; rmids = old.rmids; places = places; floor = epoch; clock = old.clock + 1 }) epoch Flush
 Adds-flush old places epoch late empty thread op history stands =
     let e : SliceEntry = entry thread op epoch Flush in
@@ -56,7 +56,7 @@ stamp-loaded true line now some = (refl, refl)
 stamp-loaded false line now some = elim (false≢true some) [ ]
 
 -- a lock empties every place, and loads its region
-pub Adds-lock : (old : CacheValue) (places : List (List (Option Place))) (epoch mask first_line : ℕ) → old.floor ≤ epoch
+pub Adds-lock : (old : CacheValue) (places : List (List (Option CachedLine))) (epoch mask first_line : ℕ) → old.floor ≤ epoch
     → ((s w : ℕ) → IsOwn old.shape s → w < old.shape.ways → place_in (set_in places s) w ≡ loaded_place old.shape mask first_line old.clock s w)
     → Adds old (record { shape = old.shape; rmids = old.rmids; places = places; floor = epoch; clock = old.clock + 1 }) epoch (Lock mask first_line)
 Adds-lock old places epoch mask first_line late holds thread op history stands =

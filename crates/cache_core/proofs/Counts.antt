@@ -5,7 +5,7 @@ use Rattle.std.proofs.lemmas.Bool.{cases_Bool, cases_lt, cond-true, eqb-true, eq
 use Rattle.std.proofs.Math.ListN.{get_or-eq_default}
 use Rattle.std.proofs.Math.Nat.{mul-le-mul_right, mul-le-mul_left}
 use Rattle.cache_core.specs.declared.entry.SliceEntry.{SliceEntry}
-use Rattle.cache_core.specs.declared.place.Place.{Place}
+use Rattle.cache_core.specs.declared.cached_line.CachedLine.{CachedLine}
 use Rattle.cache_core.specs.RmidCounts.{IsCounted}
 use Rattle.cache_core.specs.Filled.{places_with}
 use Rattle.cache_core.specs.Fills.{Resident}
@@ -59,16 +59,16 @@ lt-places_with m p holds set way own inside fails passes =
 -- ---- the counts of a cache
 
 -- the line of a place has its RMID
-IfSome-resident : (o : Option Place) (n : ℕ) → IfSome o (λ p. p.rmid < n) → IfSome (res o) (λ r. r.rmid < n)
+IfSome-resident : (o : Option CachedLine) (n : ℕ) → IfSome o (λ p. p.rmid < n) → IfSome (res o) (λ r. r.rmid < n)
 IfSome-resident None n h = tt
 IfSome-resident (Some p) n h = h
 
 -- each line has an RMID of the machine
-IfSome-residents : (m : Shape) (rmids clock : ℕ) (places : List (List (Option Place))) (set way : ℕ) → IsFormed m rmids clock places → IfSome (residents places set way) (λ r. r.rmid < rmids)
+IfSome-residents : (m : Shape) (rmids clock : ℕ) (places : List (List (Option CachedLine))) (set way : ℕ) → IsFormed m rmids clock places → IfSome (residents places set way) (λ r. r.rmid < rmids)
 IfSome-residents m rmids clock places set way formed = IfSome-resident (place_in (set_in places set) way) rmids (formed.named set way)
 
 -- the counts, added up
-pub sum_below-counts : (m : Shape) (rmids clock : ℕ) (own : List (List (Option Place))) (counts : List ℕ) (shift : ℕ) → IsKept m rmids clock own counts shift
+pub sum_below-counts : (m : Shape) (rmids clock : ℕ) (own : List (List (Option CachedLine))) (counts : List ℕ) (shift : ℕ) → IsKept m rmids clock own counts shift
     → sum_below (length counts) (slice_index counts) ≡ places_with m (λ o. is_some o) (residents (spread m own))
 sum_below-counts m rmids clock own counts shift kept =
     ap (λ n. sum_below n (slice_index counts)) kept.known
@@ -76,7 +76,7 @@ sum_below-counts m rmids clock own counts shift kept =
     ∙ sum_below-places_with m (residents (spread m own)) rmids (λ s w _ _ _. IfSome-residents m rmids clock (spread m own) s w kept.formed))
 
 -- they are far below what a word holds
-pub sum_below-counts_lt : (m : Shape) (rmids clock : ℕ) (own : List (List (Option Place))) (counts : List ℕ) (shift : ℕ) → IsKept m rmids clock own counts shift → m.sets ≤ 65536 → m.ways ≤ 32
+pub sum_below-counts_lt : (m : Shape) (rmids clock : ℕ) (own : List (List (Option CachedLine))) (counts : List ℕ) (shift : ℕ) → IsKept m rmids clock own counts shift → m.sets ≤ 65536 → m.ways ≤ 32
     → sum_below (length counts) (slice_index counts) < 2 ^ 64 - 1
 sum_below-counts_lt m rmids clock own counts shift kept sets ways =
     let most : places_with m (λ o. is_some o) (residents (spread m own)) ≤ m.sets * m.ways = places_with-le m (λ o. is_some o) (residents (spread m own)) in
@@ -85,11 +85,11 @@ sum_below-counts_lt m rmids clock own counts shift kept sets ways =
     omega (arith, sum_below-counts m rmids clock own counts shift kept, most, rows, all)
 
 -- a line of an own set is counted
-pub IsCounted-place : (m : Shape) (rmids clock : ℕ) (own : List (List (Option Place))) (counts : List ℕ) (shift set way : ℕ) → IsKept m rmids clock own counts shift → IsOwn m set → way < m.ways
+pub IsCounted-place : (m : Shape) (rmids clock : ℕ) (own : List (List (Option CachedLine))) (counts : List ℕ) (shift set way : ℕ) → IsKept m rmids clock own counts shift → IsOwn m set → way < m.ways
     → IfSome (place_in (set_in (spread m own) set) way) (λ p. IsCounted counts p.rmid)
 IsCounted-place m rmids clock own counts shift set way kept is inside = go (place_in (set_in (spread m own) set) way) refl (kept.formed.named set way)
   where
-    go : (o : Option Place) → place_in (set_in (spread m own) set) way ≡ o → IfSome o (λ p. p.rmid < rmids) → IfSome o (λ p. IsCounted counts p.rmid)
+    go : (o : Option CachedLine) → place_in (set_in (spread m own) set) way ≡ o → IfSome o (λ p. p.rmid < rmids) → IfSome o (λ p. IsCounted counts p.rmid)
     go None here named = tt
     go (Some p) here named = record {
       known = omega (arith, named, kept.known);
@@ -97,20 +97,20 @@ IsCounted-place m rmids clock own counts shift set way kept is inside = go (plac
     }
 
 -- so is each line of such a set
-pub IsCounted-kept_place : (m : Shape) (rmids clock : ℕ) (own : List (List (Option Place))) (counts : List ℕ) (shift set way : ℕ) → IsKept m rmids clock own counts shift → IsOwn m set
+pub IsCounted-kept_place : (m : Shape) (rmids clock : ℕ) (own : List (List (Option CachedLine))) (counts : List ℕ) (shift set way : ℕ) → IsKept m rmids clock own counts shift → IsOwn m set
     → IfSome (place_in (set_in (spread m own) set) way) (λ p. IsCounted counts p.rmid)
 IsCounted-kept_place m rmids clock own counts shift set way kept is = elim (cases_lt way m.ways) [
   | inl less ↦ IsCounted-place m rmids clock own counts shift set way kept is less
   | inr past ↦
       let width : length (set_in (spread m own) set) ≡ m.ways = kept.formed.widths set is.0 ∙ cond-true (is_own m set) m.ways 0 (eq-eqb (set % m.slices) m.slice is.1) in
       let none : place_in (set_in (spread m own) set) way ≡ None = get_or-eq_default (set_in (spread m own) set) None (omega arith) in
-      subst (λ (o : Option Place). IfSome o (λ p. IsCounted counts p.rmid)) (sym none) tt
+      subst (λ (o : Option CachedLine). IfSome o (λ p. IsCounted counts p.rmid)) (sym none) tt
 ]
 
 -- ---- the counts of a history
 
 -- the kept lines of an RMID are those of the history
-pub slice_index-lines_of : (cache : CacheValue) (own : List (List (Option Place))) (counts : List ℕ) (shift rmid : ℕ) (history : List SliceEntry) → cache.places ≡ spread cache.shape own
+pub slice_index-lines_of : (cache : CacheValue) (own : List (List (Option CachedLine))) (counts : List ℕ) (shift rmid : ℕ) (history : List SliceEntry) → cache.places ≡ spread cache.shape own
     → IsKept cache.shape cache.rmids cache.clock own counts shift → rmid < cache.rmids → StandsFor cache history → slice_index counts rmid ≡ lines_of cache.shape history rmid
 slice_index-lines_of cache own counts shift rmid history is kept known stands =
     kept.counted rmid known
@@ -118,7 +118,7 @@ slice_index-lines_of cache own counts shift rmid history is kept known stands =
     ∙ places_with-same cache.shape (is_of rmid) (residents cache.places) (held cache.shape history) stands.holds)
 
 -- the kept lines of all RMIDs are those of the history
-pub sum_below-valid_of : (cache : CacheValue) (own : List (List (Option Place))) (counts : List ℕ) (shift : ℕ) (history : List SliceEntry) → cache.places ≡ spread cache.shape own
+pub sum_below-valid_of : (cache : CacheValue) (own : List (List (Option CachedLine))) (counts : List ℕ) (shift : ℕ) (history : List SliceEntry) → cache.places ≡ spread cache.shape own
     → IsKept cache.shape cache.rmids cache.clock own counts shift → StandsFor cache history → sum_below (length counts) (slice_index counts) ≡ valid_of cache.shape history
 sum_below-valid_of cache own counts shift history is kept stands =
     sum_below-counts cache.shape cache.rmids cache.clock own counts shift kept

@@ -4,7 +4,7 @@ use Rattle.std.proofs.lemmas.Bool.{cases_Bool, eqb-true, false≢true}
 use Rattle.std.proofs.lemmas.List.{length_push}
 use Rattle.cache_core.specs.declared.entry.What.TheVariants.{Drop}
 use Rattle.cache_core.specs.declared.entry.SliceEntry.{SliceEntry}
-use Rattle.cache_core.specs.declared.place.Place.{Place}
+use Rattle.cache_core.specs.declared.cached_line.CachedLine.{CachedLine}
 use Rattle.cache_core.specs.Fills.{Holds, Resident}
 use Rattle.cache_core.specs.History.{Shape, IsOwn}
 use Rattle.cache_core.specs.Places.{IsFormed, set_in, place_in, resident_in, CacheValue}
@@ -14,11 +14,11 @@ use Rattle.cache_core.proofs.KeptPlaces.{cond-under, get_or-set, length-set_in_o
 use Rattle.cache_core.proofs.laws.Histories.{IsLegal-push, floor_of-push, held-push, used-push}
 
 -- where a place is full, it is not the one that was emptied
-full-kept : (b : Bool) (o : Option Place) → IsSome (res (cond b None o)) → b ≡ false
+full-kept : (b : Bool) (o : Option CachedLine) → IsSome (res (cond b None o)) → b ≡ false
 full-kept true o full = elim (false≢true full) [ ]
 full-kept false o full = refl
 
-module _ (old : CacheValue) (now : List (List (Option Place))) (epoch line : ℕ) (formed : IsFormed old.shape old.rmids old.clock old.places) (own : IsOwn old.shape (line % old.shape.sets)) (late : old.floor ≤ epoch) where
+module _ (old : CacheValue) (now : List (List (Option CachedLine))) (epoch line : ℕ) (formed : IsFormed old.shape old.rmids old.clock old.places) (own : IsOwn old.shape (line % old.shape.sets)) (late : old.floor ≤ epoch) where
   abbrev m : Shape
   m = old.shape
 
@@ -38,7 +38,7 @@ module _ (old : CacheValue) (now : List (List (Option Place))) (epoch line : ℕ
       → Adds old (record { shape = old.shape; rmids = old.rmids; places = now; floor = old.floor; clock = old.clock + 1 }) epoch (Drop line (Some way))
   Adds-one_drop way inside holds is thread op history stands =
       let e : SliceEntry = entry thread op epoch (Drop line (Some way)) in
-      let row : List (Option Place) = set_in old.places s0 in
+      let row : List (Option CachedLine) = set_in old.places s0 in
       let width : length row ≡ m.ways = length-set_in_own old s0 formed own in
       let there : s0 < length old.places = omega (arith, own.0, formed.count) in
       let within : way < m.ways = omega (arith, inside, width) in
@@ -49,7 +49,7 @@ module _ (old : CacheValue) (now : List (List (Option Place))) (epoch line : ℕ
         | inl e ↦ rw e (get_or-set row way w None None inside ∙ ap (λ t. cond (way == w) None (place_in (set_in old.places t) w)) (eqb-true s0 s e))
         | inr e ↦ rw e refl
       ])) in
-      let was : (s w : ℕ) → IsSome (resident_in (set_in now s) w) → ((s0 == s) && (way == w)) ≡ false = λ s w full. full-kept ((s0 == s) && (way == w)) (place_in (set_in old.places s) w) (subst (λ (o : Option Place). IsSome (res o)) (read s w) full) in
+      let was : (s w : ℕ) → IsSome (resident_in (set_in now s) w) → ((s0 == s) && (way == w)) ≡ false = λ s w full. full-kept ((s0 == s) && (way == w)) (place_in (set_in old.places s) w) (subst (λ (o : Option CachedLine). IsSome (res o)) (read s w) full) in
       let same : (s w : ℕ) → IsSome (resident_in (set_in now s) w) → place_in (set_in now s) w ≡ place_in (set_in old.places s) w = λ s w full. read s w ∙ ap (λ b. cond b None (place_in (set_in old.places s) w)) (was s w full) in
       record {
         legal = IsLegal-push m history e stands.legal (omega (arith, late, stands.floor), (within, subst (λ (o : Option Resident). Holds (λ _. o) line way) (stands.holds s0 way own within) holds));
@@ -58,7 +58,7 @@ module _ (old : CacheValue) (now : List (List (Option Place))) (epoch line : ℕ
             ∙ (cond-under res ((s0 == s) && (way == w)) None (place_in (set_in old.places s) w)
             ∙ (ap (λ (o : Option Resident). cond ((s0 == s) && (way == w)) None o) (stands.holds s w ls lw) ∙ sym (held-push m history e s w)));
         ages = λ s v w ls lv lw fv fw.
-            let before : (k : ℕ) → IsSome (resident_in (set_in now s) k) → IsSome (resident_in (set_in old.places s) k) = λ k full. subst (λ (o : Option Place). IsSome (res o)) (same s k full) full in
+            let before : (k : ℕ) → IsSome (resident_in (set_in now s) k) → IsSome (resident_in (set_in old.places s) k) = λ k full. subst (λ (o : Option CachedLine). IsSome (res o)) (same s k full) full in
             rw (ap stamp (same s v fv), ap stamp (same s w fw), used-push m history e s v, used-push m history e s w) (stands.ages s v w ls lv lw (before v fv) (before w fw));
         floor = stands.floor ∙ (omega arith ∙ sym (floor_of-push history e));
         clock = rw length_push (omega (arith, stands.clock));

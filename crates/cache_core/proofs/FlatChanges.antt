@@ -7,7 +7,7 @@ use Rattle.std.proofs.lemmas.List.{get_or-set_same, get_or-set_other, get_or-rep
 use Rattle.std.proofs.Math.ListN.{get_or-eq_default}
 use Rattle.std.proofs.lemmas.Nat.Bits.{bit_at-zero}
 use Rattle.cbm.specs.Masks.{has_way}
-use Rattle.cache_core.specs.declared.place.Place.{Place}
+use Rattle.cache_core.specs.declared.cached_line.CachedLine.{CachedLine}
 use Rattle.cache_core.specs.Flat.{Flat, IsFlat, flat_place, flat_set, flat_sets}
 use Rattle.cache_core.specs.Places.{set_in, place_in}
 use Rattle.cache_core.proofs.FlatPlaces.{lt-place, place-apart, length-flat_sets, length-flat_set, set_in-flat_sets, here_in, place_in-flat_set, flat_set-same, flat_sets-changed, flat_sets-replaced}
@@ -21,27 +21,27 @@ no_place f set way lacks = ap (λ b. cond b (Some (here_in f set way)) None) lac
 -- a new stamp of one way
 pub flat_sets-marked : (f : Flat) (at way stamp : ℕ) → length f.used ≡ length f.valid * f.ways → at < length f.valid → way < f.ways
     → flat_sets (record { ways = f.ways; valid = f.valid; lines = f.lines; used = slice_set f.used (at * f.ways + way) stamp; rmids = f.rmids })
-    ≡ slice_set (flat_sets f) at (slice_set (set_in (flat_sets f) at) way (option_map (λ (p : Place). record p { used = stamp }) (place_in (set_in (flat_sets f) at) way)))
+    ≡ slice_set (flat_sets f) at (slice_set (set_in (flat_sets f) at) way (option_map (λ (p : CachedLine). record p { used = stamp }) (place_in (set_in (flat_sets f) at) way)))
 flat_sets-marked f at way stamp count within inside =
     let g : Flat = record { ways = f.ways; valid = f.valid; lines = f.lines; used = slice_set f.used (at * f.ways + way) stamp; rmids = f.rmids } in
     let place : at * f.ways + way < length f.used = subst (λ n. at * f.ways + way < n) (sym count) (lt-place (length f.valid) f.ways at way within inside) in
     let was : place_in (set_in (flat_sets f) at) way ≡ flat_place f at way = ap (λ ps. place_in ps way) (set_in-flat_sets f at within) ∙ place_in-flat_set f at way inside in
-    flat_sets-changed f g at way (option_map (λ (p : Place). record p { used = stamp }) (place_in (set_in (flat_sets f) at) way)) refl refl within inside
+    flat_sets-changed f g at way (option_map (λ (p : CachedLine). record p { used = stamp }) (place_in (set_in (flat_sets f) at) way)) refl refl within inside
     (now (has_way (slice_index f.valid at) way) (slice_index f.lines (at * f.ways + way)) (slice_index f.rmids (at * f.ways + way)) (slice_index f.used (at * f.ways + way)) (slice_index (slice_set f.used (at * f.ways + way) stamp) (at * f.ways + way))
     (get_or-set_same f.used (at * f.ways + way) stamp 0 place)
-    ∙ ap (option_map (λ (p : Place). record p { used = stamp })) (sym was))
+    ∙ ap (option_map (λ (p : CachedLine). record p { used = stamp })) (sym was))
     (λ t v lv apart. ap (λ n. cond (has_way (slice_index f.valid t) v) (Some (record { line = slice_index f.lines (t * f.ways + v); rmid = slice_index f.rmids (t * f.ways + v); used = n })) None)
     (get_or-set_other f.used (at * f.ways + way) (t * f.ways + v) stamp 0 (place-apart f.ways at way t v inside lv apart)))
   where
     now : (b : Bool) (line rmid used read : ℕ) → read ≡ stamp
-        → cond b (Some (record { line = line; rmid = rmid; used = read })) None ≡ option_map (λ (p : Place). record p { used = stamp }) (cond b (Some (let p : Place = record { line = line; rmid = rmid; used = used } in p)) None)
+        → cond b (Some (record { line = line; rmid = rmid; used = read })) None ≡ option_map (λ (p : CachedLine). record p { used = stamp }) (cond b (Some (let p : CachedLine = record { line = line; rmid = rmid; used = used } in p)) None)
     now true line rmid used read is = ap (λ n. Some (record { line = line; rmid = rmid; used = n })) is
     now false line rmid used read is = refl
 
 -- ---- a fill
 
 -- the flat vectors with a line put in one way, and another word of valid ways
-abbrev pub put_in : Flat → ℕ → ℕ → Place → ℕ → Flat
+abbrev pub put_in : Flat → ℕ → ℕ → CachedLine → ℕ → Flat
 put_in f at way place word = record {
   ways = f.ways;
   valid = slice_set f.valid at word;
@@ -51,7 +51,7 @@ put_in f at way place word = record {
 }
 
 -- the place is in that way, and the others are as they were
-pub flat_sets-put : (f : Flat) (at way word : ℕ) (place : Place) → IsFlat f → at < length f.valid → way < f.ways
+pub flat_sets-put : (f : Flat) (at way word : ℕ) (place : CachedLine) → IsFlat f → at < length f.valid → way < f.ways
     → has_way word way ≡ true → ((w : ℕ) → w ≢ way → has_way word w ≡ has_way (slice_index f.valid at) w)
     → flat_sets (put_in f at way place word) ≡ slice_set (flat_sets f) at (slice_set (set_in (flat_sets f) at) way (Some place))
 flat_sets-put f at way word place flat within inside is others =
@@ -118,7 +118,7 @@ flat_sets-cleared f at within =
 -- ---- the form
 
 -- a fill keeps the vectors in order
-pub IsFlat-put : (f : Flat) (at way word : ℕ) (place : Place) → IsFlat f → IsFlat (put_in f at way place word)
+pub IsFlat-put : (f : Flat) (at way word : ℕ) (place : CachedLine) → IsFlat f → IsFlat (put_in f at way place word)
 IsFlat-put f at way word place flat =
     let count : length (slice_set f.valid at word) ≡ length f.valid = length-set f.valid at word in
     record {

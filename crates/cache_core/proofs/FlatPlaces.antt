@@ -5,7 +5,7 @@ use Rattle.std.proofs.lemmas.Bool.{cases_Bool, cases_lt, eqb-true, eqb-false}
 use Rattle.std.proofs.Math.Nat.{mul-le-mul_right}
 use Rattle.std.proofs.lemmas.List.{ext_get_or, length-set}
 use Rattle.std.proofs.lemmas.List.FromFn.{get_or-map-range_with_len, length-map-range_with_len}
-use Rattle.cache_core.specs.declared.place.Place.{Place}
+use Rattle.cache_core.specs.declared.cached_line.CachedLine.{CachedLine}
 use Rattle.cache_core.specs.Flat.{Flat, flat_place, flat_set, flat_sets}
 use Rattle.cache_core.specs.Places.{set_in, place_in}
 use Rattle.cache_core.proofs.KeptPlaces.{get_or-set}
@@ -33,7 +33,7 @@ place-apart ways s w t v within inside apart same = elim (cases_lt s t) [
 -- ---- reads
 
 -- what a way of the flat vectors has
-abbrev pub here_in : Flat → ℕ → ℕ → Place
+abbrev pub here_in : Flat → ℕ → ℕ → CachedLine
 here_in f set way = record { line = slice_index f.lines (set * f.ways + way); rmid = slice_index f.rmids (set * f.ways + way); used = slice_index f.used (set * f.ways + way) }
 
 -- how many sets there are
@@ -68,7 +68,7 @@ flat_set-same f g set ways same =
     place_in-flat_set g set i within ∙ (same i inside ∙ sym (place_in-flat_set f set i inside)))
 
 -- a set of which one way is another
-flat_set-changed : (f g : Flat) (set way : ℕ) (o : Option Place) → g.ways ≡ f.ways → way < f.ways → flat_place g set way ≡ o
+flat_set-changed : (f g : Flat) (set way : ℕ) (o : Option CachedLine) → g.ways ≡ f.ways → way < f.ways → flat_place g set way ≡ o
     → ((v : ℕ) → v < f.ways → v ≢ way → flat_place g set v ≡ flat_place f set v) → flat_set g set ≡ slice_set (flat_set f set) way o
 flat_set-changed f g set way o ways within here same =
     let inside : way < length (flat_set f set) = subst (λ n. way < n) (sym (length-flat_set f set)) within in
@@ -83,7 +83,7 @@ flat_set-changed f g set way o ways within here same =
     ]) ∙ sym (get_or-set (flat_set f set) way i o None inside)))
 
 -- the sets, of which one is another
-pub flat_sets-replaced : (f g : Flat) (set : ℕ) (row : List (Option Place)) → length g.valid ≡ length f.valid → set < length f.valid → flat_set g set ≡ row
+pub flat_sets-replaced : (f g : Flat) (set : ℕ) (row : List (Option CachedLine)) → length g.valid ≡ length f.valid → set < length f.valid → flat_set g set ≡ row
     → ((t : ℕ) → t ≢ set → flat_set g t ≡ flat_set f t) → flat_sets g ≡ slice_set (flat_sets f) set row
 flat_sets-replaced f g set row count within here same =
     let at : set < length (flat_sets f) = subst (λ n. set < n) (sym (length-flat_sets f)) within in
@@ -98,7 +98,7 @@ flat_sets-replaced f g set row count within here same =
     ]) ∙ sym (get_or-set (flat_sets f) set i row [] at)))
 
 -- the sets, of which one way is another
-pub flat_sets-changed : (f g : Flat) (set way : ℕ) (o : Option Place) → length g.valid ≡ length f.valid → g.ways ≡ f.ways → set < length f.valid → way < f.ways → flat_place g set way ≡ o
+pub flat_sets-changed : (f g : Flat) (set way : ℕ) (o : Option CachedLine) → length g.valid ≡ length f.valid → g.ways ≡ f.ways → set < length f.valid → way < f.ways → flat_place g set way ≡ o
     → ((t v : ℕ) → v < f.ways → ((t ≡ set) × (v ≡ way) → ⊥) → flat_place g t v ≡ flat_place f t v)
     → flat_sets g ≡ slice_set (flat_sets f) set (slice_set (set_in (flat_sets f) set) way o)
 flat_sets-changed f g set way o count ways within inside here same =

@@ -4,7 +4,7 @@ use Rattle.std.specs.Prelude.{IsTrue, IsSome, slice_index, MatchOption}
 use Rattle.std.proofs.lemmas.Bool.{cases_lt, false≢true}
 use Rattle.std.proofs.Math.ListN.{get_or-eq_default}
 use Rattle.cbm.specs.Masks.{has_way}
-use Rattle.cache_core.specs.declared.place.Place.{Place}
+use Rattle.cache_core.specs.declared.cached_line.CachedLine.{CachedLine}
 use Rattle.cache_core.specs.Fills.{Resident, Holds, IsVictim}
 use Rattle.cache_core.specs.Flat.{Flat, flat_set, flat_sets}
 use Rattle.cache_core.specs.Places.{set_in, place_in, resident_in, stamp_in}
@@ -13,7 +13,7 @@ use Rattle.cache_core.proofs.FlatPlaces.{here_in, length-flat_set, set_in-flat_s
 use Rattle.cache_core.proofs.KeptPlaces.{res, stamp}
 
 -- A set whose places are told by a word of valid ways and by what each way has.
-pub record IsRow (row : List (Option Place)) (ways valid : ℕ) (here : ℕ → Place) : Type 0 where
+pub record IsRow (row : List (Option CachedLine)) (ways valid : ℕ) (here : ℕ → CachedLine) : Type 0 where
   pub count : length row ≡ ways
   pub reads : (w : ℕ) → w < ways → place_in row w ≡ cond (has_way valid w) (Some (here w)) None
 
@@ -29,20 +29,20 @@ IsRow-flat_sets f set within =
 -- ---- a line
 
 -- a place that holds a line is valid, and has it
-some-line : (b : Bool) (p : Place) (line : ℕ) → option_map (λ (r : Resident). r.line) (res (cond b (Some p) None)) ≡ Some line → (b ≡ true) × (p.line ≡ line)
+some-line : (b : Bool) (p : CachedLine) (line : ℕ) → option_map (λ (r : Resident). r.line) (res (cond b (Some p) None)) ≡ Some line → (b ≡ true) × (p.line ≡ line)
 some-line true p line h = (refl, grind (arith, h))
 some-line false p line h = absurd cc
 
 -- a way past the last holds none
-beyond : (row : List (Option Place)) (way line : ℕ) → length row ≤ way → Holds (resident_in row) line way → ⊥
+beyond : (row : List (Option CachedLine)) (way line : ℕ) → length row ≤ way → Holds (resident_in row) line way → ⊥
 beyond row way line past h = let none : place_in row way ≡ None = get_or-eq_default row None past in absurd (no_line (place_in row way) none h)
   where
-    no_line : (o : Option Place) → o ≡ None → option_map (λ (r : Resident). r.line) (res o) ≡ Some line → ⊥
+    no_line : (o : Option CachedLine) → o ≡ None → option_map (λ (r : Resident). r.line) (res o) ≡ Some line → ⊥
     no_line None is h = absurd cc
     no_line (Some p) is h = absurd cc
 
 -- a way that holds the line by its place holds it by the lists
-pub HoldsLine-from_Holds : (row : List (Option Place)) (ways valid : ℕ) (here : ℕ → Place) (lines : List ℕ) (line way : ℕ) → IsRow row ways valid here → ((w : ℕ) → w < ways → slice_index lines w ≡ (here w).line)
+pub HoldsLine-from_Holds : (row : List (Option CachedLine)) (ways valid : ℕ) (here : ℕ → CachedLine) (lines : List ℕ) (line way : ℕ) → IsRow row ways valid here → ((w : ℕ) → w < ways → slice_index lines w ≡ (here w).line)
     → Holds (resident_in row) line way → (way < ways) × HoldsLine lines valid line way
 HoldsLine-from_Holds row ways valid here lines line way is reads h = elim (cases_lt way ways) [
   | inl less ↦
@@ -54,7 +54,7 @@ HoldsLine-from_Holds row ways valid here lines line way is reads h = elim (cases
 -- a way of the flat vectors that holds a line has it
 pub line-from_Holds : (f : Flat) (set line way : ℕ) → set < length f.valid → Holds (resident_in (set_in (flat_sets f) set)) line way → slice_index f.lines (set * f.ways + way) ≡ line
 line-from_Holds f set line way within h =
-    let row : List (Option Place) = set_in (flat_sets f) set in
+    let row : List (Option CachedLine) = set_in (flat_sets f) set in
     let is : IsRow row f.ways (slice_index f.valid set) (here_in f set) = IsRow-flat_sets f set within in
     elim (cases_lt way f.ways) [
       | inl less ↦ (some-line (has_way (slice_index f.valid set) way) (here_in f set way) line (ap (λ o. option_map (λ (r : Resident). r.line) (res o)) (sym (is.reads way less)) ∙ h)).1
@@ -62,14 +62,14 @@ line-from_Holds f set line way within h =
     ]
 
 -- and the other way round
-pub Holds-from_HoldsLine : (row : List (Option Place)) (ways valid : ℕ) (here : ℕ → Place) (lines : List ℕ) (line way : ℕ) → IsRow row ways valid here → ((w : ℕ) → w < ways → slice_index lines w ≡ (here w).line)
+pub Holds-from_HoldsLine : (row : List (Option CachedLine)) (ways valid : ℕ) (here : ℕ → CachedLine) (lines : List ℕ) (line way : ℕ) → IsRow row ways valid here → ((w : ℕ) → w < ways → slice_index lines w ≡ (here w).line)
     → way < ways → HoldsLine lines valid line way → Holds (resident_in row) line way
 Holds-from_HoldsLine row ways valid here lines line way is reads less h =
     ap (λ o. option_map (λ (r : Resident). r.line) (res o)) (is.reads way less)
     ∙ (ap (λ b. option_map (λ (r : Resident). r.line) (res (cond b (Some (here way)) None))) h.0 ∙ ap (λ n. Some n) (sym (reads way less) ∙ h.1))
 
 -- what a search by the lists finds
-pub MatchOption-find : (row : List (Option Place)) (ways valid : ℕ) (here : ℕ → Place) (lines : List ℕ) (line : ℕ) (found : Option ℕ) → IsRow row ways valid here → length lines ≡ ways → ((w : ℕ) → w < ways → slice_index lines w ≡ (here w).line)
+pub MatchOption-find : (row : List (Option CachedLine)) (ways valid : ℕ) (here : ℕ → CachedLine) (lines : List ℕ) (line : ℕ) (found : Option ℕ) → IsRow row ways valid here → length lines ≡ ways → ((w : ℕ) → w < ways → slice_index lines w ≡ (here w).line)
     → MatchOption found ((way : ℕ) → way < length lines → HoldsLine lines valid line way → ⊥) (λ way. (way < length lines) × HoldsLine lines valid line way)
     → MatchOption found ((way : ℕ) → Holds (resident_in row) line way → ⊥) (λ way. (way < length row) × Holds (resident_in row) line way)
 MatchOption-find row ways valid here lines line None is count reads h = λ way holds. let both = HoldsLine-from_Holds row ways valid here lines line way is reads holds in h way (let less : way < ways = both.0 in omega arith) both.1
@@ -78,19 +78,19 @@ MatchOption-find row ways valid here lines line (Some way) is count reads h = le
 -- ---- a victim
 
 -- a valid way is full
-full : (row : List (Option Place)) (ways valid : ℕ) (here : ℕ → Place) (w : ℕ) → IsRow row ways valid here → w < ways → IsTrue (has_way valid w) → IsSome (resident_in row w)
-full row ways valid here w is less some = subst (λ (o : Option Place). IsSome (res o)) (sym (is.reads w less ∙ ap (λ b. cond b (Some (here w)) None) some)) refl
+full : (row : List (Option CachedLine)) (ways valid : ℕ) (here : ℕ → CachedLine) (w : ℕ) → IsRow row ways valid here → w < ways → IsTrue (has_way valid w) → IsSome (resident_in row w)
+full row ways valid here w is less some = subst (λ (o : Option CachedLine). IsSome (res o)) (sym (is.reads w less ∙ ap (λ b. cond b (Some (here w)) None) some)) refl
 
 -- and the other way round
-valid_way : (row : List (Option Place)) (ways valid : ℕ) (here : ℕ → Place) (w : ℕ) → IsRow row ways valid here → w < ways → IsSome (resident_in row w) → IsTrue (has_way valid w)
-valid_way row ways valid here w is less some = go (has_way valid w) (subst (λ (o : Option Place). IsSome (res o)) (is.reads w less) some)
+valid_way : (row : List (Option CachedLine)) (ways valid : ℕ) (here : ℕ → CachedLine) (w : ℕ) → IsRow row ways valid here → w < ways → IsSome (resident_in row w) → IsTrue (has_way valid w)
+valid_way row ways valid here w is less some = go (has_way valid w) (subst (λ (o : Option CachedLine). IsSome (res o)) (is.reads w less) some)
   where
     go : (b : Bool) → IsSome (res (cond b (Some (here w)) None)) → IsTrue b
     go true h = refl
     go false h = elim (false≢true h) [ ]
 
 -- an empty way is not valid
-empty_way : (row : List (Option Place)) (ways valid : ℕ) (here : ℕ → Place) (w : ℕ) → IsRow row ways valid here → w < ways → resident_in row w ≡ None → has_way valid w ≡ false
+empty_way : (row : List (Option CachedLine)) (ways valid : ℕ) (here : ℕ → CachedLine) (w : ℕ) → IsRow row ways valid here → w < ways → resident_in row w ≡ None → has_way valid w ≡ false
 empty_way row ways valid here w is less none = go (has_way valid w) (ap res (sym (is.reads w less)) ∙ none)
   where
     go : (b : Bool) → res (cond b (Some (here w)) None) ≡ None → b ≡ false
@@ -98,11 +98,11 @@ empty_way row ways valid here w is less none = go (has_way valid w) (ap res (sym
     go false h = refl
 
 -- the stamp of a valid way
-stamp_in-valid : (row : List (Option Place)) (ways valid : ℕ) (here : ℕ → Place) (w : ℕ) → IsRow row ways valid here → w < ways → IsTrue (has_way valid w) → stamp_in row w ≡ (here w).used
+stamp_in-valid : (row : List (Option CachedLine)) (ways valid : ℕ) (here : ℕ → CachedLine) (w : ℕ) → IsRow row ways valid here → w < ways → IsTrue (has_way valid w) → stamp_in row w ≡ (here w).used
 stamp_in-valid row ways valid here w is less some = ap stamp (is.reads w less) ∙ ap (λ b. stamp (cond b (Some (here w)) None)) some
 
 -- a way that is chosen by the lists is the victim by the places
-pub IsVictim-chosen : (row : List (Option Place)) (ways valid : ℕ) (here : ℕ → Place) (used : List ℕ) (mask way : ℕ) → IsRow row ways valid here → length used ≡ ways → ((w : ℕ) → w < ways → slice_index used w ≡ (here w).used)
+pub IsVictim-chosen : (row : List (Option CachedLine)) (ways valid : ℕ) (here : ℕ → CachedLine) (used : List ℕ) (mask way : ℕ) → IsRow row ways valid here → length used ≡ ways → ((w : ℕ) → w < ways → slice_index used w ≡ (here w).used)
     → IsChosen used valid mask way → IsVictim (length row) mask (resident_in row) (stamp_in row) way
 IsVictim-chosen row ways valid here used mask way is count reads v =
     let size : length row ≡ ways = is.count in
@@ -127,12 +127,12 @@ IsVictim-chosen row ways valid here used mask way is count reads v =
 
 -- the RMID of a way
 pub option_map-rmid : (f : Flat) (set way valid rmid : ℕ) → set < length f.valid → way < f.ways → valid ≡ slice_index f.valid set → rmid ≡ slice_index f.rmids (set * f.ways + way)
-    → cond (has_way valid way) (Some rmid) None ≡ option_map (λ (p : Place). p.rmid) (place_in (set_in (flat_sets f) set) way)
+    → cond (has_way valid way) (Some rmid) None ≡ option_map (λ (p : CachedLine). p.rmid) (place_in (set_in (flat_sets f) set) way)
 option_map-rmid f set way valid rmid within inside word is =
     rw (word, is)
     (go (has_way (slice_index f.valid set) way) (here_in f set way)
-    ∙ ap (option_map (λ (p : Place). p.rmid)) (sym ((IsRow-flat_sets f set within).reads way inside)))
+    ∙ ap (option_map (λ (p : CachedLine). p.rmid)) (sym ((IsRow-flat_sets f set within).reads way inside)))
   where
-    go : (b : Bool) (p : Place) → cond b (Some p.rmid) None ≡ option_map (λ (p : Place). p.rmid) (cond b (Some p) None)
+    go : (b : Bool) (p : CachedLine) → cond b (Some p.rmid) None ≡ option_map (λ (p : CachedLine). p.rmid) (cond b (Some p) None)
     go true p = refl
     go false p = refl

@@ -1,7 +1,7 @@
 -- What a drop and a flush leave of the places and the counts of a slice.
 use Rattle.std.proofs.Common.{◌≡◌, ℕ, ◌+◌, ◌/◌, ◌^◌, ◌<◌, Bool, true, false, cond, List, [], length, Option, Some, None, option_map, slice_set, refl, sym, ◌∙◌, ap, subst, arith, add-zero}
 use Rattle.std.specs.Prelude.{IfSome, slice_index}
-use Rattle.cache_core.specs.declared.place.Place.{Place}
+use Rattle.cache_core.specs.declared.cached_line.CachedLine.{CachedLine}
 use Rattle.cache_core.specs.RmidCounts.{Uncounts, is_rmid}
 use Rattle.cache_core.specs.Filled.{places_with}
 use Rattle.cache_core.specs.Fills.{Holds}
@@ -17,12 +17,12 @@ use Rattle.cache_core.proofs.Spread.{length-spread, set_in-spread, set_in-spread
 use Rattle.cache_core.proofs.Keeping.{length-kept_set, lt-kept_set, counts-changed}
 
 -- a place that was used before now was used before later
-IfSome-later : (o : Option Place) (clock : ℕ) → IfSome o (λ p. p.used < clock) → IfSome o (λ p. p.used < clock + 1)
+IfSome-later : (o : Option CachedLine) (clock : ℕ) → IfSome o (λ p. p.used < clock) → IfSome o (λ p. p.used < clock + 1)
 IfSome-later None clock h = tt
 IfSome-later (Some p) clock h = omega (arith, h)
 
 -- a drop leaves them so
-pub IsKept-dropped : (m : Shape) (rmids clock : ℕ) (own now : List (List (Option Place))) (counts new : List ℕ) (shift s line : ℕ) (answer : Option ℕ)
+pub IsKept-dropped : (m : Shape) (rmids clock : ℕ) (own now : List (List (Option CachedLine))) (counts new : List ℕ) (shift s line : ℕ) (answer : Option ℕ)
     → IsKept m rmids clock own counts shift → IsOwn m s → 0 < m.ways → Drops own now (s / m.slices) line answer
     → length new ≡ length counts → Uncounts counts new (set_in own (s / m.slices)) answer → IsKept m rmids (clock + 1) now new shift
 IsKept-dropped m rmids clock own now counts new shift s line None kept is some drops size uncounts = record {
@@ -39,16 +39,16 @@ IsKept-dropped m rmids clock own now counts new shift s line None kept is some d
   counted = λ rmid l. ap (λ cs. slice_index cs rmid) uncounts ∙ (kept.counted rmid l ∙ ap (λ ps. places_with m (is_of rmid) (residents (spread m ps))) (sym drops.1));
 }
 IsKept-dropped m rmids clock own now counts new shift s line (Some way) kept is some drops size uncounts =
-    let places : List (List (Option Place)) = spread m own in
+    let places : List (List (Option CachedLine)) = spread m own in
     let row : set_in places s ≡ set_in own (s / m.slices) = set_in-spread_own m own s is in
     let width : length (set_in places s) ≡ m.ways = ap length row ∙ length-kept_set m rmids clock own counts shift s kept is in
     let here : way < length (set_in places s) = subst (λ ps. way < length ps) (sym row) drops.0 in
-    let changed : List (Option Place) = slice_set (set_in places s) way None in
+    let changed : List (Option CachedLine) = slice_set (set_in places s) way None in
     let all : spread m now ≡ slice_set places s changed =
     ap (spread m) drops.2 ∙ (spread-slice_set m own s (slice_set (set_in own (s / m.slices)) way None) is (lt-kept_set m rmids clock own counts shift s kept is some) ∙ ap (λ ps. slice_set places s (slice_set ps way None)) (sym row)) in
     let within : s < length places = omega (arith, is.0, length-spread m own) in
-    let counted : (r : ℕ) → slice_index new r + one_if (is_rmid (option_map (λ (p : Place). p.rmid) (place_in (set_in places s) way)) r) ≡ slice_index counts r + 0 = λ r.
-    ap (λ ps. slice_index new r + one_if (is_rmid (option_map (λ (p : Place). p.rmid) (place_in ps way)) r)) row ∙ (uncounts r ∙ sym (add-zero (slice_index counts r))) in
+    let counted : (r : ℕ) → slice_index new r + one_if (is_rmid (option_map (λ (p : CachedLine). p.rmid) (place_in (set_in places s) way)) r) ≡ slice_index counts r + 0 = λ r.
+    ap (λ ps. slice_index new r + one_if (is_rmid (option_map (λ (p : CachedLine). p.rmid) (place_in ps way)) r)) row ∙ (uncounts r ∙ sym (add-zero (slice_index counts r))) in
     record {
       formed = subst (IsFormed m rmids (clock + 1)) (sym all) (IsFormed-emptied m rmids clock places s way kept.formed is.0 here);
       narrow = kept.narrow;
@@ -59,7 +59,7 @@ IsKept-dropped m rmids clock own now counts new shift s line (Some way) kept is 
     }
 
 -- the same of the domain's sets
-pub Drops-spread : (m : Shape) (rmids clock : ℕ) (own now : List (List (Option Place))) (counts : List ℕ) (shift s line : ℕ) (answer : Option ℕ) → IsKept m rmids clock own counts shift → IsOwn m s → 0 < m.ways
+pub Drops-spread : (m : Shape) (rmids clock : ℕ) (own now : List (List (Option CachedLine))) (counts : List ℕ) (shift s line : ℕ) (answer : Option ℕ) → IsKept m rmids clock own counts shift → IsOwn m s → 0 < m.ways
     → Drops own now (s / m.slices) line answer → Drops (spread m own) (spread m now) s line answer
 Drops-spread m rmids clock own now counts shift s line None kept is some drops =
     let row : set_in (spread m own) s ≡ set_in own (s / m.slices) = set_in-spread_own m own s is in
@@ -72,7 +72,7 @@ Drops-spread m rmids clock own now counts shift s line (Some way) kept is some d
     )
 
 -- places and counts that are empty
-pub IsKept-empty : (m : Shape) (rmids clock : ℕ) (own : List (List (Option Place))) (counts : List ℕ) (shift : ℕ) → shift < 32 → m.slice < m.slices → m.slices ≡ 2 ^ shift → length counts ≡ rmids → ((r : ℕ) → slice_index counts r ≡ 0)
+pub IsKept-empty : (m : Shape) (rmids clock : ℕ) (own : List (List (Option CachedLine))) (counts : List ℕ) (shift : ℕ) → shift < 32 → m.slice < m.slices → m.slices ≡ 2 ^ shift → length counts ≡ rmids → ((r : ℕ) → slice_index counts r ≡ 0)
     → ((set : ℕ) → set < m.sets → length (set_in (spread m own) set) ≡ cond (is_own m set) m.ways 0) → ((s w : ℕ) → place_in (set_in own s) w ≡ None) → IsKept m rmids clock own counts shift
 IsKept-empty m rmids clock own counts shift narrow inside power known zeros widths none =
     let empty : (s w : ℕ) → place_in (set_in (spread m own) s) w ≡ None = place_in-spread_empty m own none in
@@ -80,8 +80,8 @@ IsKept-empty m rmids clock own counts shift narrow inside power known zeros widt
       formed = record {
         count = length-spread m own;
         widths = widths;
-        stamped = λ s w. subst (λ (o : Option Place). IfSome o (λ p. p.used < clock)) (sym (empty s w)) tt;
-        named = λ s w. subst (λ (o : Option Place). IfSome o (λ p. p.rmid < rmids)) (sym (empty s w)) tt;
+        stamped = λ s w. subst (λ (o : Option CachedLine). IfSome o (λ p. p.used < clock)) (sym (empty s w)) tt;
+        named = λ s w. subst (λ (o : Option CachedLine). IfSome o (λ p. p.rmid < rmids)) (sym (empty s w)) tt;
       };
       narrow = narrow;
       inside = inside;
@@ -91,7 +91,7 @@ IsKept-empty m rmids clock own counts shift narrow inside power known zeros widt
     }
 
 -- the width of each set of the domain, by that of the kept ones
-pub length-set_in_spread : (m : Shape) (own : List (List (Option Place))) → ((set : ℕ) → set < m.sets → length (set_in own (set / m.slices)) ≡ m.ways)
+pub length-set_in_spread : (m : Shape) (own : List (List (Option CachedLine))) → ((set : ℕ) → set < m.sets → length (set_in own (set / m.slices)) ≡ m.ways)
     → (set : ℕ) → set < m.sets → length (set_in (spread m own) set) ≡ cond (is_own m set) m.ways 0
 length-set_in_spread m own widths set l = ap length (set_in-spread m own set l) ∙ go (is_own m set)
   where
@@ -100,7 +100,7 @@ length-set_in_spread m own widths set l = ap length (set_in-spread m own set l) 
     go false = refl
 
 -- where each set keeps its ways
-pub length-set_in_spread_same : (m : Shape) (rmids clock : ℕ) (own now : List (List (Option Place))) (counts : List ℕ) (shift : ℕ) → IsKept m rmids clock own counts shift
+pub length-set_in_spread_same : (m : Shape) (rmids clock : ℕ) (own now : List (List (Option CachedLine))) (counts : List ℕ) (shift : ℕ) → IsKept m rmids clock own counts shift
     → ((set : ℕ) → length (set_in now set) ≡ length (set_in own set)) → (set : ℕ) → set < m.sets → length (set_in (spread m now) set) ≡ cond (is_own m set) m.ways 0
 length-set_in_spread_same m rmids clock own now counts shift kept widths set l =
     ap length (set_in-spread m now set l) ∙ (go (is_own m set) ∙ (sym (ap length (set_in-spread m own set l)) ∙ kept.formed.widths set l))
@@ -110,7 +110,7 @@ length-set_in_spread_same m rmids clock own now counts shift kept widths set l =
     go false = refl
 
 -- a flush leaves them so
-pub IsKept-emptied : (m : Shape) (rmids clock : ℕ) (own now : List (List (Option Place))) (counts new : List ℕ) (shift : ℕ) → IsKept m rmids clock own counts shift
+pub IsKept-emptied : (m : Shape) (rmids clock : ℕ) (own now : List (List (Option CachedLine))) (counts new : List ℕ) (shift : ℕ) → IsKept m rmids clock own counts shift
     → ((set : ℕ) → length (set_in now set) ≡ length (set_in own set)) → ((s w : ℕ) → place_in (set_in now s) w ≡ None) → length new ≡ length counts → ((r : ℕ) → slice_index new r ≡ 0)
     → IsKept m rmids (clock + 1) now new shift
 IsKept-emptied m rmids clock own now counts new shift kept widths none size zeros =

@@ -5,7 +5,7 @@ use Rattle.std.proofs.lemmas.Bool.{cases_Bool, cond-true, eqb-true, eqb-false, e
 use Rattle.std.proofs.lemmas.List.{get_or-set_same, get_or-set_other}
 use Rattle.machine.specs.declared.machine.Machine.{Machine}
 use Rattle.machine.specs.Maps.{parameters_of}
-use Rattle.cache_core.specs.declared.place.Place.{Place}
+use Rattle.cache_core.specs.declared.cached_line.CachedLine.{CachedLine}
 use Rattle.cache_core.specs.Fills.{Resident}
 use Rattle.cache_core.specs.History.{IsOwn, shape_of, is_own}
 use Rattle.cache_core.specs.Places.{IsFormed, set_in, CacheValue}
@@ -28,13 +28,13 @@ pub length-set_in_own : (cache : CacheValue) (set : ℕ) → IsFormed cache.shap
 length-set_in_own cache set formed own = formed.widths set own.0 ∙ cond-true (is_own cache.shape set) cache.shape.ways 0 (eq-eqb (set % cache.shape.slices) cache.shape.slice own.1)
 
 -- the line and RMID of a place
-abbrev pub res : Option Place → Option Resident
-res o = option_map (λ (p : Place). record { line = p.line; rmid = p.rmid }) o
+abbrev pub res : Option CachedLine → Option Resident
+res o = option_map (λ (p : CachedLine). record { line = p.line; rmid = p.rmid }) o
 
 -- when a place was used
-abbrev pub stamp : Option Place → ℕ
-stamp o = option_map_or (λ (p : Place). p.used) o 0
+abbrev pub stamp : Option CachedLine → ℕ
+stamp o = option_map_or (λ (p : CachedLine). p.used) o 0
 
 -- the state of a slice of a machine's cache that keeps these places
-abbrev pub kept : Machine → ℕ → List (List (Option Place)) → ℕ → ℕ → CacheValue
+abbrev pub kept : Machine → ℕ → List (List (Option CachedLine)) → ℕ → ℕ → CacheValue
 kept machine slice places floor clock = record { shape = shape_of (parameters_of machine) slice; rmids = machine.rmids; places = places; floor = floor; clock = clock }

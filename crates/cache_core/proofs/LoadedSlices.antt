@@ -4,7 +4,7 @@ use Rattle.std.specs.Prelude.{IfSome, slice_index}
 use Rattle.std.proofs.lemmas.Bool.{cases_Bool, cases_lt, eqb-true}
 use Rattle.std.proofs.Math.ListN.{get_or-eq_default}
 use Rattle.cbm.specs.Masks.{has_way}
-use Rattle.cache_core.specs.declared.place.Place.{Place}
+use Rattle.cache_core.specs.declared.cached_line.CachedLine.{CachedLine}
 use Rattle.cache_core.specs.Filled.{places_with}
 use Rattle.cache_core.specs.History.{Shape, IsOwn, is_own, is_of, ways_below}
 use Rattle.cache_core.specs.Kept.{IsKept, residents, spread}
@@ -60,7 +60,7 @@ places_with-loaded m rmid mask first_line stamp inside whole =
 -- ---- places
 
 -- what is loaded into each set by its number among those of its slice
-pub AreLoaded-numbered : (m : Shape) (rmids clock : ℕ) (own now : List (List (Option Place))) (counts : List ℕ) (shift mask first_line start stamp : ℕ) → IsKept m rmids clock own counts shift → start ≡ first_line + m.slice
+pub AreLoaded-numbered : (m : Shape) (rmids clock : ℕ) (own now : List (List (Option CachedLine))) (counts : List ℕ) (shift mask first_line start stamp : ℕ) → IsKept m rmids clock own counts shift → start ≡ first_line + m.slice
     → ((set way : ℕ) → way < length (set_in own set) → place_in (set_in now set) way ≡ cond (has_way mask way) (loaded (start + set * m.slices + ways_below mask way * m.sets) stamp) None)
     → AreLoaded m mask first_line stamp now
 AreLoaded-numbered m rmids clock own now counts shift mask first_line start stamp kept first each set way is inside =
@@ -68,7 +68,7 @@ AreLoaded-numbered m rmids clock own now counts shift mask first_line start stam
     ∙ ap (λ n. cond (has_way mask way) (loaded (n + ways_below mask way * m.sets) stamp) None) (omega (arith, first, number-own m set is))
 
 -- what is true of no line, and of each that is loaded, is true of each place
-each_place : (m : Shape) (mask first_line stamp : ℕ) (now : List (List (Option Place))) (P : Option Place → Type 0) → AreLoaded m mask first_line stamp now → ((s : ℕ) → IsOwn m s → length (set_in now (s / m.slices)) ≡ m.ways)
+each_place : (m : Shape) (mask first_line stamp : ℕ) (now : List (List (Option CachedLine))) (P : Option CachedLine → Type 0) → AreLoaded m mask first_line stamp now → ((s : ℕ) → IsOwn m s → length (set_in now (s / m.slices)) ≡ m.ways)
     → P None → ((line : ℕ) → P (loaded line stamp)) → (s w : ℕ) → P (place_in (set_in (spread m now) s) w)
 each_place m mask first_line stamp now P load widths none some s w = elim (cases_lt s m.sets) [
   | inl inside ↦ elim (cases_Bool (is_own m s)) [
@@ -91,7 +91,7 @@ each_place m mask first_line stamp now P load widths none some s w = elim (cases
 -- ---- a lock
 
 -- a lock leaves the places in order, and the counts theirs
-pub IsKept-loaded : (m : Shape) (rmids clock : ℕ) (own now : List (List (Option Place))) (counts new : List ℕ) (shift mask first_line : ℕ) → IsKept m rmids clock own counts shift → 0 < rmids → m.sets % m.slices ≡ 0
+pub IsKept-loaded : (m : Shape) (rmids clock : ℕ) (own now : List (List (Option CachedLine))) (counts new : List ℕ) (shift mask first_line : ℕ) → IsKept m rmids clock own counts shift → 0 < rmids → m.sets % m.slices ≡ 0
     → ((set : ℕ) → length (set_in now set) ≡ length (set_in own set)) → AreLoaded m mask first_line clock now → length new ≡ length counts → ((r : ℕ) → slice_index new r ≡ cond (0 == r) (m.sets / m.slices * ways_below mask m.ways) 0)
     → IsKept m rmids (clock + 1) now new shift
 IsKept-loaded m rmids clock own now counts new shift mask first_line kept some whole widths load size counted =

@@ -7,7 +7,7 @@ use Rattle.std.proofs.Math.Nat.{div-add-mod, mul-le-mul_right}
 use Rattle.cbm.specs.Masks.{has_way}
 use Rattle.cache_core.specs.declared.emptied.Emptied.TheVariants.{Flushed, Locked}
 use Rattle.cache_core.specs.declared.loading.RegionLoad.{RegionLoad}
-use Rattle.cache_core.specs.declared.place.Place.{Place}
+use Rattle.cache_core.specs.declared.cached_line.CachedLine.{CachedLine}
 use Rattle.cache_core.specs.History.{Shape, IsOwn, ways_below}
 use Rattle.cache_core.specs.Lazy.{left_set, region_place}
 use Rattle.cache_core.specs.Loads.{loaded}
@@ -55,7 +55,7 @@ nat_lt-next k limit apart = elim (cases_lt k limit) [
 ]
 
 -- a way more is loaded
-pub place_in-loaded : (r : RegionLoad) (set way line : ℕ) (row : List (Option Place)) → way < length row → has_way r.mask way ≡ true → line ≡ r.first_line + set * r.set_step + ways_below r.mask way * r.way_step
+pub place_in-loaded : (r : RegionLoad) (set way line : ℕ) (row : List (Option CachedLine)) → way < length row → has_way r.mask way ≡ true → line ≡ r.first_line + set * r.set_step + ways_below r.mask way * r.way_step
     → ((w : ℕ) → place_in row w ≡ cond (nat_lt w way) (region_place r set w) None) → (w : ℕ) → place_in (slice_set row way (loaded line r.stamp)) w ≡ cond (nat_lt w (way + 1)) (region_place r set w) None
 place_in-loaded r set way line row inside has is below w =
     get_or-set row way w (loaded line r.stamp) None inside
@@ -71,7 +71,7 @@ place_in-loaded r set way line row inside has is below w =
     ])
 
 -- a way is passed over
-pub place_in-passed : (r : RegionLoad) (set way : ℕ) (row : List (Option Place)) → has_way r.mask way ≡ false
+pub place_in-passed : (r : RegionLoad) (set way : ℕ) (row : List (Option CachedLine)) → has_way r.mask way ≡ false
     → ((w : ℕ) → place_in row w ≡ cond (nat_lt w way) (region_place r set w) None) → (w : ℕ) → place_in row w ≡ cond (nat_lt w (way + 1)) (region_place r set w) None
 place_in-passed r set way row lacks below w =
     below w
@@ -85,14 +85,14 @@ place_in-passed r set way row lacks below w =
     ])
 
 -- all is loaded
-pub left_set-loaded : (r : RegionLoad) (set way : ℕ) (row : List (Option Place)) → length row ≤ way → ((w : ℕ) → place_in row w ≡ cond (nat_lt w way) (region_place r set w) None) → row ≡ left_set (Locked r) set (length row)
+pub left_set-loaded : (r : RegionLoad) (set way : ℕ) (row : List (Option CachedLine)) → length row ≤ way → ((w : ℕ) → place_in row w ≡ cond (nat_lt w way) (region_place r set w) None) → row ≡ left_set (Locked r) set (length row)
 left_set-loaded r set way row all below =
     left_set-ways (Locked r) set row (λ w l. below w ∙ cond-true (nat_lt w way) (region_place r set w) None (lt-ltb w way (omega arith)))
 
 -- nothing is loaded
 pub left_set-flushed : (set ways : ℕ) → replicate ways None ≡ left_set Flushed set ways
 left_set-flushed set ways =
-    let row : List (Option Place) = replicate ways None in
+    let row : List (Option CachedLine) = replicate ways None in
     let size : length row ≡ ways = length-replicate ways None in
     left_set-ways Flushed set row (λ w l. get_or-replicate ways w None None (omega arith)) ∙ ap (left_set Flushed set) size
 

@@ -5,28 +5,28 @@ use Rattle.std.proofs.lemmas.List.{ext_get_or, get_or-set_same, get_or-set_other
 use Rattle.std.proofs.lemmas.List.FromFn.{get_or-map-range_with_len, length-map-range_with_len}
 use Rattle.std.proofs.Math.ListN.{get_or-eq_default}
 use Rattle.std.proofs.Math.Nat.{div-add-mod, div-lt_iff_lt-mul, mod-lt}
-use Rattle.cache_core.specs.declared.place.Place.{Place}
+use Rattle.cache_core.specs.declared.cached_line.CachedLine.{CachedLine}
 use Rattle.cache_core.specs.History.{Shape, IsOwn, is_own}
 use Rattle.cache_core.specs.Kept.{spread}
 use Rattle.cache_core.specs.Places.{place_in, set_in}
 use Rattle.cache_core.proofs.KeptPlaces.{get_or-set}
 
 -- how many sets the domain has
-pub length-spread : (m : Shape) (own : List (List (Option Place))) → length (spread m own) ≡ m.sets
+pub length-spread : (m : Shape) (own : List (List (Option CachedLine))) → length (spread m own) ≡ m.sets
 unfolding spread
 length-spread m own = length-map-range_with_len (λ s. cond (is_own m s) (set_in own (s / m.slices)) []) 0 m.sets
 
 -- a set, which is kept or has no way
-pub set_in-spread : (m : Shape) (own : List (List (Option Place))) (s : ℕ) → s < m.sets → set_in (spread m own) s ≡ cond (is_own m s) (set_in own (s / m.slices)) []
+pub set_in-spread : (m : Shape) (own : List (List (Option CachedLine))) (s : ℕ) → s < m.sets → set_in (spread m own) s ≡ cond (is_own m s) (set_in own (s / m.slices)) []
 unfolding spread
 set_in-spread m own s within = get_or-map-range_with_len (λ s. cond (is_own m s) (set_in own (s / m.slices)) []) 0 m.sets s s [] within (omega arith)
 
 -- an own set
-pub set_in-spread_own : (m : Shape) (own : List (List (Option Place))) (s : ℕ) → IsOwn m s → set_in (spread m own) s ≡ set_in own (s / m.slices)
+pub set_in-spread_own : (m : Shape) (own : List (List (Option CachedLine))) (s : ℕ) → IsOwn m s → set_in (spread m own) s ≡ set_in own (s / m.slices)
 set_in-spread_own m own s is = set_in-spread m own s is.0 ∙ cond-true (is_own m s) (set_in own (s / m.slices)) [] (eq-eqb (s % m.slices) m.slice is.1)
 
 -- where no kept set holds a line, no set does
-pub place_in-spread_empty : (m : Shape) (own : List (List (Option Place))) → ((s w : ℕ) → place_in (set_in own s) w ≡ None) → (s w : ℕ) → place_in (set_in (spread m own) s) w ≡ None
+pub place_in-spread_empty : (m : Shape) (own : List (List (Option CachedLine))) → ((s w : ℕ) → place_in (set_in own s) w ≡ None) → (s w : ℕ) → place_in (set_in (spread m own) s) w ≡ None
 place_in-spread_empty m own none s w = elim (cases_lt s m.sets) [
   | inl inside ↦ ap (λ ps. place_in ps w) (set_in-spread m own s inside) ∙ go (is_own m s)
   | inr past ↦ ap (λ ps. place_in ps w) (get_or-eq_default (spread m own) [] (let count : length (spread m own) ≡ m.sets = length-spread m own in omega arith))
@@ -41,10 +41,10 @@ div-apart : (m : Shape) (s t : ℕ) → s % m.slices ≡ t % m.slices → t ≢ 
 div-apart m s t same apart e = apart (let both : m.slices * (t / m.slices) ≡ m.slices * (s / m.slices) = ap (λ k. m.slices * k) e in omega (arith, both, same, div-add-mod t m.slices, div-add-mod s m.slices))
 
 -- a change of an own set
-pub spread-slice_set : (m : Shape) (own : List (List (Option Place))) (s : ℕ) (changed : List (Option Place)) → IsOwn m s → s / m.slices < length own
+pub spread-slice_set : (m : Shape) (own : List (List (Option CachedLine))) (s : ℕ) (changed : List (Option CachedLine)) → IsOwn m s → s / m.slices < length own
     → spread m (slice_set own (s / m.slices) changed) ≡ slice_set (spread m own) s changed
 spread-slice_set m own s changed is within =
-    let new : List (List (Option Place)) = slice_set own (s / m.slices) changed in
+    let new : List (List (Option CachedLine)) = slice_set own (s / m.slices) changed in
     let at : s < length (spread m own) = subst (λ n. s < n) (sym (length-spread m own)) is.0 in
     ext_get_or [] (spread m new) (slice_set (spread m own) s changed) (length-spread m new ∙ (sym (length-spread m own) ∙ sym (length-set (spread m own) s changed)))
     (λ t l.

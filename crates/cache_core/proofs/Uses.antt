@@ -7,7 +7,7 @@ use Rattle.std.proofs.lemmas.Bool.{true≢false, false≢true, cases_lt, cases_B
 use Rattle.std.proofs.lemmas.List.{length_push}
 use Rattle.cache_core.specs.declared.entry.What.TheVariants.{Access}
 use Rattle.cache_core.specs.declared.entry.SliceEntry.{SliceEntry}
-use Rattle.cache_core.specs.declared.place.Place.{Place}
+use Rattle.cache_core.specs.declared.cached_line.CachedLine.{CachedLine}
 use Rattle.cache_core.specs.Fills.{Resident, IsVictim}
 use Rattle.cache_core.specs.History.{Shape, IsOwn, held, used, MayHappen}
 use Rattle.cache_core.specs.Places.{IsFormed, set_in, resident_in, stamp_in, CacheValue}
@@ -62,12 +62,12 @@ IsSome-before true false new old r is some none = subst (λ (o : Option Resident
 IsSome-before false false new old r is some none = subst (λ (o : Option Resident). IsSome o) is some
 
 -- a full place was used before now
-option_map_or-lt_clock : (o : Option Place) (clock : ℕ) → IsSome (option_map (λ (p : Place). let r : Resident = record { line = p.line; rmid = p.rmid } in r) o) → IfSome o (λ p. p.used < clock) → option_map_or (λ (p : Place). p.used) o 0 < clock
+option_map_or-lt_clock : (o : Option CachedLine) (clock : ℕ) → IsSome (option_map (λ (p : CachedLine). let r : Resident = record { line = p.line; rmid = p.rmid } in r) o) → IfSome o (λ p. p.used < clock) → option_map_or (λ (p : CachedLine). p.used) o 0 < clock
 option_map_or-lt_clock (Some p) clock some h = h
 option_map_or-lt_clock None clock some h = elim (false≢true some) [ ]
 
 -- a use of a way of one set adds its entry
-pub StandsFor-use : (old : CacheValue) (changed : List (Option Place)) (history : List SliceEntry) (thread op epoch : ℕ) (owner : Gid) (rmid mask line way : ℕ) (hit : Bool)
+pub StandsFor-use : (old : CacheValue) (changed : List (Option CachedLine)) (history : List SliceEntry) (thread op epoch : ℕ) (owner : Gid) (rmid mask line way : ℕ) (hit : Bool)
     → IsFormed old.shape old.rmids old.clock old.places → IsOwn old.shape (line % old.shape.sets)
     → ((w : ℕ) → resident_in changed w ≡ cond (not hit && (way == w)) (Some (record { line = line; rmid = rmid })) (resident_in (set_in old.places (line % old.shape.sets)) w))
     → ((w : ℕ) → stamp_in changed w ≡ cond (way == w) old.clock (stamp_in (set_in old.places (line % old.shape.sets)) w))

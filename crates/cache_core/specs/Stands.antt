@@ -6,7 +6,7 @@ use Rattle.cache_core.specs.declared.entry.What.TheVariants.{Access}
 use Rattle.cache_core.specs.declared.entry.SliceEntry.{SliceEntry}
 use Rattle.cache_core.specs.declared.touched.Touched.{Touched}
 use Rattle.cache_core.specs.declared.touched.Touched.TheVariants.{Hit, Filled, Stale}
-use Rattle.cache_core.specs.declared.place.Place.{Place}
+use Rattle.cache_core.specs.declared.cached_line.CachedLine.{CachedLine}
 use Rattle.rc_base.specs.declared.names.Tag.{Tag}
 use Rattle.cache_core.specs.Fills.{Holds, IsVictim}
 use Rattle.cache_core.specs.History.{IsOwn, held, used, floor_of, IsLegal}
@@ -51,17 +51,17 @@ clock_after clock (Filled way) = clock + 1
 clock_after clock (Stale floor) = clock
 
 -- What an access does to its set: a hit marks the way that holds the line, and a fill puts the line into the victim's way.
-abbrev pub Touches : List (Option Place) → List (Option Place) → ℕ → Place → Touched → Type 0
+abbrev pub Touches : List (Option CachedLine) → List (Option CachedLine) → ℕ → CachedLine → Touched → Type 0
 Touches old new mask place (Hit way) =
     (way < length old) × Holds (resident_in old) place.line way
-    × (new ≡ slice_set old way (option_map (λ (p : Place). record p { used = place.used }) (place_in old way)))
+    × (new ≡ slice_set old way (option_map (λ (p : CachedLine). record p { used = place.used }) (place_in old way)))
 Touches old new mask place (Filled way) =
     ((w : ℕ) → Holds (resident_in old) place.line w → ⊥) × IsVictim (length old) mask (resident_in old) (stamp_in old) way
     × (new ≡ slice_set old way (Some place))
 Touches old new mask place (Stale floor) = ⊥
 
 -- What a drop does to the sets: the way that holds the line is emptied, where there is one.
-abbrev pub Drops : List (List (Option Place)) → List (List (Option Place)) → ℕ → ℕ → Option ℕ → Type 0
+abbrev pub Drops : List (List (Option CachedLine)) → List (List (Option CachedLine)) → ℕ → ℕ → Option ℕ → Type 0
 Drops old new set line (Some way) =
     (way < length (set_in old set)) × Holds (resident_in (set_in old set)) line way
     × (new ≡ slice_set old set (slice_set (set_in old set) way None))

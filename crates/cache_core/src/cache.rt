@@ -8,10 +8,10 @@ ghost use Rattle.cache_core.specs.Places.{set_in, place_in};
 ghost use Rattle.cache_core.specs.Stands.{Accesses, Adds, StandsFor, IsStale, Touches, clock_after, entry};
 ghost use Rattle.lists.specs.Sums.{sum_below};
 
+use crate::cached_line::CachedLine;
 use crate::lazy_sets::LazySets;
 use crate::loading::{REGION_RMID, RegionLoad};
 use crate::own_sets::{own_set, own_sets, region_lines};
-use crate::place::Place;
 use crate::touched::Touched;
 use machine::Machine;
 use occupancy::Counts;
@@ -188,7 +188,7 @@ impl Cache {
         if tag.epoch < self.floor {
             return Touched::Stale { floor: self.floor };
         }
-        let place = Place {
+        let place = CachedLine {
             line,
             rmid: tag.rmid,
             used: self.clock as u32,

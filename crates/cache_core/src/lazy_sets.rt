@@ -6,9 +6,9 @@ ghost use Rattle.cache_core.specs.Lazy.{HoldsRegion, IsLazy, KeepsWidths, lazy_s
 ghost use Rattle.cache_core.specs.Places.{set_in, place_in};
 ghost use Rattle.cache_core.specs.Stands.{Drops, Touches};
 
+use crate::cached_line::CachedLine;
 use crate::emptied::Emptied;
 use crate::loading::RegionLoad;
-use crate::place::Place;
 use crate::sets::Sets;
 use crate::touched::Touched;
 use crate::touching::{drop_line, touch};
@@ -81,7 +81,7 @@ impl LazySets {
 
     /// Looks for the line of a place in its set, and fills the place into a way of the mask where no way holds the line.
     #[inline(always)]
-    pub fn touch(&mut self, counts: &mut Counts, set: u32, mask: u32, place: Place) -> Touched
+    pub fn touch(&mut self, counts: &mut Counts, set: u32, mask: u32, place: CachedLine) -> Touched
         requires set { set < length self.old.places }
         requires mask { 0 < mask % 2 ^ length (set_in self.old.places set) }
         requires rmid { place.rmid < length counts.old }

@@ -2,19 +2,19 @@
 #![tactic(auto)]
 
 pub mod cache;
+pub mod cached_line;
 mod emptied;
 pub mod entry;
 mod lazy_sets;
 mod line_table;
 mod loading;
 mod own_sets;
-pub mod place;
 mod sets;
 pub mod touched;
 mod touching;
 mod way_bits;
 
 pub use cache::Cache;
+pub use cached_line::CachedLine;
 pub use entry::{SliceEntry, What};
-pub use place::Place;
 pub use touched::Touched;

@@ -1,7 +1,7 @@
 //! The load of a region into the sets of a slice.
 ghost use Rattle.std.specs.Prelude.{◌≡◌, ℕ, ◌^◌, ◌<◌, length, None, slice_set};
 
-use crate::place::Place;
+use crate::cached_line::CachedLine;
 use crate::sets::Sets;
 use crate::way_bits::holds;
 
@@ -51,10 +51,10 @@ impl RegionLoad {
     }
 
     // A line of the region in its place.
-    fn place(&self, line: u64) -> Place
+    fn place(&self, line: u64) -> CachedLine
         ensures { result ≡ record { line = line; rmid = 0; used = self.now.stamp } }
     {
-        Place {
+        CachedLine {
             line,
             rmid: REGION_RMID,
             used: self.stamp,

@@ -4,8 +4,8 @@ ghost use Rattle.cbm.specs.Masks.{has_way};
 ghost use Rattle.cache_core.specs.Fills.{Holds, IsVictim};
 ghost use Rattle.cache_core.specs.Places.{resident_in, stamp_in, place_in, set_in};
 
+use crate::cached_line::CachedLine;
 use crate::line_table::LineTable;
-use crate::place::Place;
 use crate::way_bits::{holds, with_way, without_way};
 use rc_base::NoMemory;
 use std::alloc::Global;
@@ -26,10 +26,10 @@ pub struct Sets {
 
 impl Model for Sets {
     ghost use Rattle.std.specs.Prelude.{List, Option};
-    ghost use Rattle.cache_core.specs.declared.place.Place.{Place};
+    ghost use Rattle.cache_core.specs.declared.cached_line.CachedLine.{CachedLine};
     ghost use Rattle.cache_core.specs.Flat.{IsFlat, flat_sets};
 
-    ghost Value = { List (List (Option Place)) };
+    ghost Value = { List (List (Option CachedLine)) };
 
     ghost view = { λ s. flat_sets (record { ways = s.ways; valid = s.valid.items; lines = s.lines; used = s.used.items; rmids = s.rmids.items }) };
 
@@ -92,16 +92,16 @@ impl Sets {
     pub fn mark(&mut self, set: u32, way: u8, stamp: u32)
         requires set { set < length self.old }
         requires way { way < length (set_in self.old set) }
-        ensures { self.new ≡ slice_set self.old set (slice_set (set_in self.old set) way (option_map (λ (p : Place). record p { used = stamp }) (place_in (set_in self.old set) way))) }
+        ensures { self.new ≡ slice_set self.old set (slice_set (set_in self.old set) way (option_map (λ (p : CachedLine). record p { used = stamp }) (place_in (set_in self.old set) way))) }
     {
         self.used[set as usize * self.ways as usize + way as usize] = stamp;
     }
 
     /// Puts a line in a way, and gives the RMID of the line that leaves it.
-    pub fn put(&mut self, set: u32, way: u8, place: Place) -> Option<u16>
+    pub fn put(&mut self, set: u32, way: u8, place: CachedLine) -> Option<u16>
         requires set { set < length self.old }
         requires way { way < length (set_in self.old set) }
-        ensures left { result ≡ option_map (λ (p : Place). p.rmid) (place_in (set_in self.old set) way) }
+        ensures left { result ≡ option_map (λ (p : CachedLine). p.rmid) (place_in (set_in self.old set) way) }
         ensures put { self.new ≡ slice_set self.old set (slice_set (set_in self.old set) way (Some place)) }
     {
         let at = set as usize * self.ways as usize + way as usize;
@@ -118,7 +118,7 @@ impl Sets {
     pub fn empty(&mut self, set: u32, way: u8) -> Option<u16>
         requires set { set < length self.old }
         requires way { way < length (set_in self.old set) }
-        ensures left { result ≡ option_map (λ (p : Place). p.rmid) (place_in (set_in self.old set) way) }
+        ensures left { result ≡ option_map (λ (p : CachedLine). p.rmid) (place_in (set_in self.old set) way) }
         ensures emptied { self.new ≡ slice_set self.old set (slice_set (set_in self.old set) way None) }
     {
         let at = set as usize * self.ways as usize + way as usize;

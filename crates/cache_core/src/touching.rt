@@ -6,14 +6,20 @@ ghost use Rattle.cache_core.specs.Places.{set_in, place_in};
 ghost use Rattle.cache_core.specs.Stands.{Drops, Touches};
 ghost use Rattle.cache_core.specs.declared.touched.Touched.TheVariants.{Filled};
 
-use crate::place::Place;
+use crate::cached_line::CachedLine;
 use crate::sets::Sets;
 use crate::touched::Touched;
 use occupancy::Counts;
 
 /// Looks for the line of a place in its set, and fills the place into a way of the mask where no way holds the line.
 #[inline(always)]
-pub fn touch(sets: &mut Sets, counts: &mut Counts, set: u32, mask: u32, place: Place) -> Touched
+pub fn touch(
+    sets: &mut Sets,
+    counts: &mut Counts,
+    set: u32,
+    mask: u32,
+    place: CachedLine,
+) -> Touched
     requires set { set < length sets.old }
     requires mask { 0 < mask % 2 ^ length (set_in sets.old set) }
     requires rmid { place.rmid < length counts.old }
@@ -38,7 +44,7 @@ pub fn touch(sets: &mut Sets, counts: &mut Counts, set: u32, mask: u32, place: P
 }
 
 // Fills a place into a way of a set, in place of the line that the way held.
-fn fill(sets: &mut Sets, counts: &mut Counts, set: u32, way: u8, place: Place)
+fn fill(sets: &mut Sets, counts: &mut Counts, set: u32, way: u8, place: CachedLine)
     requires set { set < length sets.old }
     requires way { way < length (set_in sets.old set) }
     requires rmid { place.rmid < length counts.old }

@@ -1,7 +1,7 @@
 use Rattle.std.proofs.Common.{◌≡◌, ◌+◌, ◌/◌, ◌%◌, ◌^◌, ◌<◌, ℕ, List, Option, length, slice_set, subst, sym, ap, arith, refl}
 use Rattle.std.specs.Prelude.{IfSome}
 use Rattle.machine.specs.Maps.{parameters_of}
-use Rattle.cache_core.specs.declared.place.Place.{Place}
+use Rattle.cache_core.specs.declared.cached_line.CachedLine.{CachedLine}
 use Rattle.cache_core.specs.RmidCounts.{IsCounted, Recounts}
 use Rattle.cache_core.specs.History.{IsOwn, Shape, shape_of}
 use Rattle.cache_core.specs.Kept.{spread}
@@ -41,7 +41,7 @@ touch-requires-clause-counted c way =
     let shape : Shape = shape_of (parameters_of i.machine) i.slice in
     let own : IsOwn shape (c.args.line % shape.sets) = subst (λ (s : CacheValue). IsOwn s.shape (c.args.line % s.shape.sets)) (sym c.self.view_is) c.requires.own in
     subst (λ k. IfSome (place_in (set_in i.sets.places k) way) (λ p. IsCounted i.counts p.rmid)) (sym c.own_set-set.ensures)
-    (subst (λ (ps : List (Option Place)). IfSome (place_in ps way) (λ p. IsCounted i.counts p.rmid)) (set_in-spread_own shape i.sets.places (c.args.line % shape.sets) own)
+    (subst (λ (ps : List (Option CachedLine)). IfSome (place_in ps way) (λ p. IsCounted i.counts p.rmid)) (set_in-spread_own shape i.sets.places (c.args.line % shape.sets) own)
     (IsCounted-kept_place shape i.machine.rmids i.clock i.sets.places i.counts i.shift (c.args.line % shape.sets) way c.self.invariant.0 own))
 
 pub returns-clause-entry : goal.returns-clause-entry
@@ -49,8 +49,8 @@ returns-clause-entry c =
     let i = c.self.inside in
     let shape : Shape = shape_of (parameters_of i.machine) i.slice in
     let s : ℕ = c.args.line % shape.sets in
-    let places : List (List (Option Place)) = spread shape i.sets.places in
-    let changed : List (Option Place) = set_in c.touch.new.self.places (s / shape.slices) in
+    let places : List (List (Option CachedLine)) = spread shape i.sets.places in
+    let changed : List (Option CachedLine) = set_in c.touch.new.self.places (s / shape.slices) in
     let old : CacheValue = kept i.machine i.slice places i.floor i.clock in
     let new : CacheValue = kept i.machine i.slice (spread shape c.touch.new.self.places) i.floor (i.clock + 1) in
     let own : IsOwn shape s = subst (λ (v : CacheValue). IsOwn v.shape (c.args.line % v.shape.sets)) (sym c.self.view_is) c.requires.own in
@@ -61,7 +61,7 @@ returns-clause-entry c =
     let touched : Touches (set_in places s) changed c.args.tag.now.mask (touching c.args.tag.now c.args.line i.clock) c.touch.result =
     subst (λ ps. Touches ps changed c.args.tag.now.mask (touching c.args.tag.now c.args.line i.clock) c.touch.result) (sym (set_in-spread_own shape i.sets.places s own)) there in
     let P : CacheValue → Type 0 = λ v. Accesses v new c.args.tag.now c.args.line c.touch.result in
-    let Q : List (List (Option Place)) → Type 0 = λ ps. Accesses old (kept i.machine i.slice ps i.floor (i.clock + 1)) c.args.tag.now c.args.line c.touch.result in
+    let Q : List (List (Option CachedLine)) → Type 0 = λ ps. Accesses old (kept i.machine i.slice ps i.floor (i.clock + 1)) c.args.tag.now c.args.line c.touch.result in
     subst P c.self.view_is (subst Q (sym all) (Accesses-touches old c.args.tag.now c.args.line changed c.touch.result c.self.invariant.0.formed own c.if-tag-self.false touched))
 
 pub invariant_of-self : goal.invariant_of-self
@@ -71,7 +71,7 @@ invariant_of-self c =
     let s : ℕ = c.args.line % shape.sets in
     let own : IsOwn shape s = subst (λ (v : CacheValue). IsOwn v.shape (c.args.line % v.shape.sets)) (sym c.self.view_is) c.requires.own in
     let named : c.args.tag.now.rmid < i.machine.rmids = omega (arith, c.requires.rmid, ap (λ (v : CacheValue). v.rmids) c.self.view_is) in
-    let place : Place = touching c.args.tag.now c.args.line i.clock in (
+    let place : CachedLine = touching c.args.tag.now c.args.line i.clock in (
       IsKept-touched shape i.machine.rmids i.clock i.sets.places c.touch.new.self.places i.counts c.touch.new.counts i.shift s c.args.tag.now.mask place c.touch.result c.self.invariant.0 own i.machine.in_range.some_way refl named
           (subst (λ k. c.touch.new.self.places ≡ slice_set i.sets.places k (set_in c.touch.new.self.places k)) c.own_set-set.ensures c.touch.ensures.sets)
           (subst (λ k. Touches (set_in i.sets.places k) (set_in c.touch.new.self.places k) c.args.tag.now.mask place c.touch.result) c.own_set-set.ensures c.touch.ensures.touched)

@@ -2,7 +2,7 @@ use Rattle.std.proofs.Common.{arith, ◌+◌, ◌%◌, ◌<◌, ◌≤◌, ℕ, 
 use Rattle.std.specs.Prelude.{IfSome}
 use Rattle.machine.specs.Maps.{parameters_of}
 use Rattle.cache_core.specs.declared.entry.What.TheVariants.{Drop}
-use Rattle.cache_core.specs.declared.place.Place.{Place}
+use Rattle.cache_core.specs.declared.cached_line.CachedLine.{CachedLine}
 use Rattle.cache_core.specs.RmidCounts.{IsCounted, Uncounts}
 use Rattle.cache_core.specs.History.{IsOwn, Shape, shape_of}
 use Rattle.cache_core.specs.Kept.{spread}
@@ -29,7 +29,7 @@ drop_line-requires-clause-counted c way =
     let shape : Shape = shape_of (parameters_of i.machine) i.slice in
     let own : IsOwn shape (c.args.line % shape.sets) = subst (λ (s : CacheValue). IsOwn s.shape (c.args.line % s.shape.sets)) (sym c.self.view_is) c.requires.own in
     subst (λ k. IfSome (place_in (set_in i.sets.places k) way) (λ p. IsCounted i.counts p.rmid)) (sym c.own_set-set.ensures)
-    (subst (λ (ps : List (Option Place)). IfSome (place_in ps way) (λ p. IsCounted i.counts p.rmid)) (set_in-spread_own shape i.sets.places (c.args.line % shape.sets) own)
+    (subst (λ (ps : List (Option CachedLine)). IfSome (place_in ps way) (λ p. IsCounted i.counts p.rmid)) (set_in-spread_own shape i.sets.places (c.args.line % shape.sets) own)
     (IsCounted-kept_place shape i.machine.rmids i.clock i.sets.places i.counts i.shift (c.args.line % shape.sets) way c.self.invariant.0 own))
 
 pub invariant_of-self : goal.invariant_of-self

@@ -1,7 +1,7 @@
 use Rattle.std.proofs.Common.{arith, ◌+◌, ◌≤◌, subst, List, Option}
 use Rattle.machine.specs.Maps.{parameters_of}
 use Rattle.cache_core.specs.declared.entry.What.TheVariants.{Flush}
-use Rattle.cache_core.specs.declared.place.Place.{Place}
+use Rattle.cache_core.specs.declared.cached_line.CachedLine.{CachedLine}
 use Rattle.cache_core.specs.History.{Shape, shape_of}
 use Rattle.cache_core.specs.Kept.{spread}
 use Rattle.cache_core.specs.Places.{CacheValue}
@@ -16,7 +16,7 @@ pub returns-clause-entry : goal.returns-clause-entry
 returns-clause-entry c =
     let inside = c.self.inside in
     let shape : Shape = shape_of (parameters_of inside.machine) inside.slice in
-    let now : List (List (Option Place)) = spread shape c.flush.new.self.places in
+    let now : List (List (Option CachedLine)) = spread shape c.flush.new.self.places in
     let old : CacheValue = kept inside.machine inside.slice (spread shape inside.sets.places) inside.floor inside.clock in
     let new : CacheValue = kept inside.machine inside.slice now c.args.epoch (inside.clock + 1) in
     let P : CacheValue → Type 0 = λ s. s.floor ≤ c.args.epoch → Adds s new c.args.epoch Flush in

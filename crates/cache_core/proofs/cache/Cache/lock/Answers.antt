@@ -4,7 +4,7 @@ use Rattle.lists.proofs.Sums.{sum_below-zero}
 use Rattle.machine.specs.Maps.{parameters_of}
 use Rattle.machine.proofs.laws.WholeSets.{mod-sets_slices}
 use Rattle.cache_core.specs.declared.entry.What.TheVariants.{Lock}
-use Rattle.cache_core.specs.declared.place.Place.{Place}
+use Rattle.cache_core.specs.declared.cached_line.CachedLine.{CachedLine}
 use Rattle.cache_core.specs.History.{IsOwn, Shape, shape_of, ways_below}
 use Rattle.cache_core.specs.Kept.{spread}
 use Rattle.cache_core.specs.Loads.{AreLoaded, loaded_place}
@@ -23,7 +23,7 @@ pub returns-clause-entry : goal.returns-clause-entry
 returns-clause-entry c =
     let i = c.self.inside in
     let shape : Shape = shape_of (parameters_of i.machine) i.slice in
-    let now : List (List (Option Place)) = spread shape c.lock.new.self.places in
+    let now : List (List (Option CachedLine)) = spread shape c.lock.new.self.places in
     let old : CacheValue = kept i.machine i.slice (spread shape i.sets.places) i.floor i.clock in
     let new : CacheValue = kept i.machine i.slice now c.args.epoch (i.clock + 1) in
     let load : AreLoaded shape c.args.mask c.args.first_line i.clock c.lock.new.self.places =

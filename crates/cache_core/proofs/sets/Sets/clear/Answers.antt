@@ -1,5 +1,5 @@
 use Rattle.std.proofs.Common.{◌≡◌, ◌<◌, List, Option, None, length, replicate, slice_set, subst, arith}
-use Rattle.cache_core.specs.declared.place.Place.{Place}
+use Rattle.cache_core.specs.declared.cached_line.CachedLine.{CachedLine}
 use Rattle.cache_core.specs.Flat.{Flat, flat_sets}
 use Rattle.cache_core.specs.Places.{set_in}
 use Rattle.cache_core.proofs.FlatChanges.{IsFlat-emptied, flat_sets-cleared}
@@ -23,6 +23,6 @@ returns c =
     let i = c.self.inside in
     let f : Flat = record { ways = i.ways; valid = i.valid.items; lines = i.lines; used = i.used.items; rmids = i.rmids.items } in
     let within : c.args.set < length f.valid = lt-sets f c.args.self.now c.args.set c.self.view_is c.requires in
-    subst (λ (now : List (List (Option Place))). flat_sets (record { ways = f.ways; valid = slice_set f.valid c.args.set 0; lines = f.lines; used = f.used; rmids = f.rmids }) ≡ slice_set now c.args.set (replicate (length (set_in now c.args.set)) None))
+    subst (λ (now : List (List (Option CachedLine))). flat_sets (record { ways = f.ways; valid = slice_set f.valid c.args.set 0; lines = f.lines; used = f.used; rmids = f.rmids }) ≡ slice_set now c.args.set (replicate (length (set_in now c.args.set)) None))
     c.self.view_is
     (flat_sets-cleared f c.args.set within)

@@ -1,7 +1,7 @@
 use Rattle.std.proofs.Common.{◌≡◌, ◌≢◌, ℕ, ◌<◌, ◌+◌, ◌*◌, List, Option, None, length, subst, ◌∙◌, ap, arith, slice_set, slice_index, option_map}
 use Rattle.std.proofs.lemmas.List.{get_or_default}
 use Rattle.cbm.specs.Masks.{has_way}
-use Rattle.cache_core.specs.declared.place.Place.{Place}
+use Rattle.cache_core.specs.declared.cached_line.CachedLine.{CachedLine}
 use Rattle.cache_core.specs.Flat.{Flat, flat_sets}
 use Rattle.cache_core.specs.Places.{set_in, place_in}
 use Rattle.cache_core.proofs.FlatPlaces.{lt-place}
@@ -59,7 +59,7 @@ returns-clause-left c =
     let rmid : c.index.result.now ≡ slice_index f.rmids (c.args.set * f.ways + c.args.way) = c.index.ensures ∙ get_or_default f.rmids (c.args.set * f.ways + c.args.way) c.index.result.now 0 place in
     c.rmid_at.ensures
     ∙ (option_map-rmid f c.args.set c.args.way c.index-valid.result.now c.index.result.now within inside value rmid
-    ∙ ap (λ (now : List (List (Option Place))). option_map (λ (p : Place). p.rmid) (place_in (set_in now c.args.set) c.args.way)) c.self.view_is)
+    ∙ ap (λ (now : List (List (Option CachedLine))). option_map (λ (p : CachedLine). p.rmid) (place_in (set_in now c.args.set) c.args.way)) c.self.view_is)
 
 pub returns-clause-emptied : goal.returns-clause-emptied
 returns-clause-emptied c =
@@ -69,6 +69,6 @@ returns-clause-emptied c =
     let inside : c.args.way < f.ways = lt-ways f c.args.self.now c.args.set c.args.way c.self.view_is c.requires.set c.requires.way in
     let value : c.index-valid.result.now ≡ slice_index f.valid c.args.set = c.index-valid.ensures ∙ get_or_default f.valid c.args.set c.index-valid.result.now 0 within in
     let others : (w : ℕ) → w < 32 → w ≢ c.args.way → has_way c.without_way.result w ≡ has_way (slice_index f.valid c.args.set) w = λ w below apart. c.without_way.ensures.others w below apart ∙ ap (λ n. has_way n w) value in
-    subst (λ (now : List (List (Option Place))). flat_sets (record { ways = f.ways; valid = slice_set f.valid c.args.set c.without_way.result; lines = f.lines; used = f.used; rmids = f.rmids }) ≡ slice_set now c.args.set (slice_set (set_in now c.args.set) c.args.way None))
+    subst (λ (now : List (List (Option CachedLine))). flat_sets (record { ways = f.ways; valid = slice_set f.valid c.args.set c.without_way.result; lines = f.lines; used = f.used; rmids = f.rmids }) ≡ slice_set now c.args.set (slice_set (set_in now c.args.set) c.args.way None))
     c.self.view_is
     (flat_sets-emptied f c.args.set c.args.way c.without_way.result c.self.invariant.limit within inside c.without_way.ensures.way others)

@@ -1,7 +1,7 @@
 use Rattle.std.proofs.Common.{◌≡◌, ◌≢◌, ℕ, ◌<◌, ◌+◌, ◌*◌, List, Option, Some, length, subst, sym, ◌∙◌, ap, arith, slice_set, slice_index, option_map}
 use Rattle.std.proofs.lemmas.List.{get_or_default}
 use Rattle.cbm.specs.Masks.{has_way}
-use Rattle.cache_core.specs.declared.place.Place.{Place}
+use Rattle.cache_core.specs.declared.cached_line.CachedLine.{CachedLine}
 use Rattle.cache_core.specs.Flat.{Flat, IsFlat, flat_sets}
 use Rattle.cache_core.specs.Places.{set_in, place_in}
 use Rattle.cache_core.proofs.FlatPlaces.{lt-place}
@@ -83,7 +83,7 @@ returns-clause-left c =
     let rmid : c.index.result.now ≡ slice_index f.rmids (c.args.set * f.ways + c.args.way) = c.index.ensures ∙ get_or_default f.rmids (c.args.set * f.ways + c.args.way) c.index.result.now 0 place in
     c.rmid_at-left.ensures
     ∙ (option_map-rmid f c.args.set c.args.way c.index-valid.result.now c.index.result.now within inside value rmid
-    ∙ ap (λ (now : List (List (Option Place))). option_map (λ (p : Place). p.rmid) (place_in (set_in now c.args.set) c.args.way)) c.self.view_is)
+    ∙ ap (λ (now : List (List (Option CachedLine))). option_map (λ (p : CachedLine). p.rmid) (place_in (set_in now c.args.set) c.args.way)) c.self.view_is)
 
 pub returns-clause-put : goal.returns-clause-put
 returns-clause-put c =
@@ -94,6 +94,6 @@ returns-clause-put c =
     let value : c.index-valid.result.now ≡ slice_index f.valid c.args.set = c.index-valid.ensures ∙ get_or_default f.valid c.args.set c.index-valid.result.now 0 within in
     let others : (w : ℕ) → w ≢ c.args.way → has_way c.with_way.result w ≡ has_way (slice_index f.valid c.args.set) w = λ w apart. c.with_way.ensures.others w apart ∙ ap (λ n. has_way n w) value in
     subst (λ (ls : List ℕ). flat_sets (record (put_in f c.args.set c.args.way c.args.place c.with_way.result) { lines = ls }) ≡ slice_set c.args.self.now c.args.set (slice_set (set_in c.args.self.now c.args.set) c.args.way (Some c.args.place))) (sym c.put.ensures)
-    (subst (λ (now : List (List (Option Place))). flat_sets (put_in f c.args.set c.args.way c.args.place c.with_way.result) ≡ slice_set now c.args.set (slice_set (set_in now c.args.set) c.args.way (Some c.args.place)))
+    (subst (λ (now : List (List (Option CachedLine))). flat_sets (put_in f c.args.set c.args.way c.args.place c.with_way.result) ≡ slice_set now c.args.set (slice_set (set_in now c.args.set) c.args.way (Some c.args.place)))
     c.self.view_is
     (flat_sets-put f c.args.set c.args.way c.with_way.result c.args.place c.self.invariant within inside c.with_way.ensures.way others))

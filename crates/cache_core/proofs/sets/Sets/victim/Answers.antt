@@ -1,6 +1,6 @@
 use Rattle.std.proofs.Common.{◌≡◌, ℕ, ◌+◌, ◌*◌, ◌%◌, ◌^◌, ◌<◌, List, Option, length, slice_index, subst, sym, ◌∙◌, ap, arith}
 use Rattle.std.proofs.lemmas.List.{get_or_default}
-use Rattle.cache_core.specs.declared.place.Place.{Place}
+use Rattle.cache_core.specs.declared.cached_line.CachedLine.{CachedLine}
 use Rattle.cache_core.specs.Fills.{IsVictim}
 use Rattle.cache_core.specs.Flat.{Flat, flat_sets}
 use Rattle.cache_core.specs.Places.{resident_in, set_in, stamp_in}
@@ -37,6 +37,6 @@ returns c =
     let value : c.index.result.now ≡ slice_index f.valid set = c.index.ensures ∙ get_or_default f.valid set c.index.result.now 0 within in
     let row : IsRow (set_in (flat_sets f) set) f.ways c.index.result.now (here_in f set) = subst (λ v. IsRow (set_in (flat_sets f) set) f.ways v (here_in f set)) (sym value) (IsRow-flat_sets f set within) in
     let reads : (w : ℕ) → w < f.ways → slice_index c.stamps_of_set-used.result.now w ≡ slice_index f.used (set * f.ways + w) = λ w l. c.stamps_of_set-used.ensures.items w l ∙ ap (λ ps. slice_index ps (set * f.ways + w)) c.deref.ensures.value in
-    subst (λ (now : List (List (Option Place))). IsVictim (length (set_in now set)) c.args.mask (resident_in (set_in now set)) (stamp_in (set_in now set)) c.victim.result)
+    subst (λ (now : List (List (Option CachedLine))). IsVictim (length (set_in now set)) c.args.mask (resident_in (set_in now set)) (stamp_in (set_in now set)) c.victim.result)
     c.self.view_is
     (IsVictim-chosen (set_in (flat_sets f) set) f.ways c.index.result.now (here_in f set) c.stamps_of_set-used.result.now c.args.mask c.victim.result row c.stamps_of_set-used.ensures.count reads c.victim.ensures)

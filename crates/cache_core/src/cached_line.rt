@@ -2,7 +2,7 @@
 
 /// A line in a way.
 #[derive(Clone, Copy, Debug, PartialEq, Eq)]
-pub struct Place {
+pub struct CachedLine {
     /// The number of the line, that is its address divided by 64.
     pub line: u64,
     /// The RMID for which it was filled.
