@@ -4,7 +4,7 @@ use Rattle.std.specs.Prelude.{filter, find, is_some, nat_eq}
 use Rattle.std.specs.Cmp.Lexicographic.{pointwise, bytes_decides}
 use Rattle.std.specs.List.{list_all}
 use Rattle.std.proofs.lemmas.Bool.{cases_Bool, and_parts, not-true}
-use Rattle.policy_law.specs.Policies.{Policy, Place, CacheSet, Event, Access, Drop, has_way, way_of, is_empty, fill_way, after_access, after_drop, set_after, hits_of, empty_set}
+use Rattle.policy_law.specs.Policies.{Policy, HeldLine, CacheSet, Event, Access, Drop, has_way, way_of, is_empty, fill_way, after_access, after_drop, set_after, hits_of, empty_set}
 use Rattle.policy_law.specs.Isolation.{KeepsMasks, is_apart, keeps_apart, private_events, Respects, IsIsolated}
 use Rattle.policy_law.proofs.laws.Places.{way_of-within_other, has_way-filled}
 use Rattle.policy_law.proofs.Play.{IsPrivate, way_of-private, find-private, fill_way-same, IsPrivate-own, IsPrivate-other, IsPrivate-drop, IsPrivate-drop_other, agree-own, agree-other, agree-drop, agree-drop_other}
@@ -70,7 +70,7 @@ IsIsolated-respected policy m s t some keeps r agree own events h = hits_of-priv
 -- ---- the ways of a private cache
 
 -- each of them stays in the mask
-list_all-filter : (p q : Place → Bool) (ps : List Place) → list_all p ps ≡ true → list_all p (filter q ps) ≡ true
+list_all-filter : (p q : HeldLine → Bool) (ps : List HeldLine) → list_all p ps ≡ true → list_all p (filter q ps) ≡ true
 list_all-filter p q [] h = refl
 list_all-filter p q (x ∷ xs) h =
     let parts = and_parts (p x) (list_all p xs) h in
@@ -78,21 +78,21 @@ list_all-filter p q (x ∷ xs) h =
     elim (cases_Bool (q x)) [ inl k ↦ rw k (rw parts.0 ih) | inr k ↦ rw k ih ]
 
 -- after an access
-list_all-after_access : {S : Type 0} (policy : Policy S) (m : List ℕ) (x : ℕ) (d : CacheSet S) (o : Option ℕ) → 0 < length m → KeepsMasks policy → list_all (λ (p : Place). has_way m p.way) d.places ≡ true
-    → list_all (λ (p : Place). has_way m p.way) (after_access policy m x d o).places ≡ true
+list_all-after_access : {S : Type 0} (policy : Policy S) (m : List ℕ) (x : ℕ) (d : CacheSet S) (o : Option ℕ) → 0 < length m → KeepsMasks policy → list_all (λ (p : HeldLine). has_way m p.way) d.places ≡ true
+    → list_all (λ (p : HeldLine). has_way m p.way) (after_access policy m x d o).places ≡ true
 list_all-after_access policy m x d (Some w) some keeps h = h
 list_all-after_access policy m x d None some keeps h =
     let its : has_way m (fill_way policy m d) ≡ true = has_way-filled policy m d keeps some (find (is_empty d.places) m) refl in
-    rw its (list_all-filter (λ (p : Place). has_way m p.way) (λ (p : Place). not (p.way == fill_way policy m d)) d.places h)
+    rw its (list_all-filter (λ (p : HeldLine). has_way m p.way) (λ (p : HeldLine). not (p.way == fill_way policy m d)) d.places h)
 
 -- after a drop
-list_all-after_drop : {S : Type 0} (policy : Policy S) (m : List ℕ) (x : ℕ) (d : CacheSet S) (o : Option ℕ) → list_all (λ (p : Place). has_way m p.way) d.places ≡ true → list_all (λ (p : Place). has_way m p.way) (after_drop policy x d o).places ≡ true
+list_all-after_drop : {S : Type 0} (policy : Policy S) (m : List ℕ) (x : ℕ) (d : CacheSet S) (o : Option ℕ) → list_all (λ (p : HeldLine). has_way m p.way) d.places ≡ true → list_all (λ (p : HeldLine). has_way m p.way) (after_drop policy x d o).places ≡ true
 list_all-after_drop policy m x d None h = h
-list_all-after_drop policy m x d (Some w) h = list_all-filter (λ (p : Place). has_way m p.way) (λ (p : Place). not (p.line == x)) d.places h
+list_all-after_drop policy m x d (Some w) h = list_all-filter (λ (p : HeldLine). has_way m p.way) (λ (p : HeldLine). not (p.line == x)) d.places h
 
 -- after all that it sees
 pub list_all-set_after : {S : Type 0} (policy : Policy S) (m : List ℕ) (own : ℕ → Bool) → 0 < length m → KeepsMasks policy → (events : List Event) (d : CacheSet S) → list_all (keeps_apart m own) events ≡ true
-    → list_all (λ (p : Place). has_way m p.way) d.places ≡ true → list_all (λ (p : Place). has_way m p.way) (set_after policy d (private_events events)).places ≡ true
+    → list_all (λ (p : HeldLine). has_way m p.way) d.places ≡ true → list_all (λ (p : HeldLine). has_way m p.way) (set_after policy d (private_events events)).places ≡ true
 list_all-set_after policy m own some keeps [] d h its = its
 list_all-set_after policy m own some keeps (Access true mask x ∷ es) d h its =
     let parts = and_parts (keeps_apart m own (Access true mask x)) (list_all (keeps_apart m own) es) h in

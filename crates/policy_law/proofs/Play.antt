@@ -3,7 +3,7 @@ use Rattle.std.proofs.Common.{◌≡◌, ℕ, ◌<◌, Bool, true, false, not, �
 use Rattle.std.specs.Prelude.{filter, find, nat_lt}
 use Rattle.std.specs.List.{list_all}
 use Rattle.std.proofs.lemmas.Bool.{cases_Bool, eqb-true, true≢false, and_parts, ltb-true}
-use Rattle.policy_law.specs.Policies.{Policy, Place, CacheSet, has_way, way_of, is_empty, fill_way, after_access, after_drop}
+use Rattle.policy_law.specs.Policies.{Policy, HeldLine, CacheSet, has_way, way_of, is_empty, fill_way, after_access, after_drop}
 use Rattle.policy_law.specs.Isolation.{KeepsMasks, is_apart, Respects}
 use Rattle.policy_law.proofs.laws.Places.{within, AreOwned, way_of-within, has_way-way_of, is_empty-within, find-same, has_way-filled, filter-swap, within-filter, AreOwned-filter, has_way-owned, has_way-apart}
 
@@ -34,10 +34,10 @@ IsPrivate-own policy m own x c d None p mine some keeps same =
     let its : has_way m (fill_way policy m c) ≡ true = has_way-filled policy m c keeps some (find (is_empty c.places) m) refl in
     record {
       places =
-          ap (λ (w : ℕ). record { way = w; line = x } ∷ filter (λ (r : Place). not (r.way == w)) d.places) (sym (same refl))
-          ∙ (ap (λ ps. record { way = fill_way policy m c; line = x } ∷ filter (λ (r : Place). not (r.way == fill_way policy m c)) ps) p.places
-          ∙ rw its (ap (λ ps. record { way = fill_way policy m c; line = x } ∷ ps) (filter-swap (λ (r : Place). not (r.way == fill_way policy m c)) (λ (r : Place). has_way m r.way) c.places)));
-      owned = (its ∙ sym mine, AreOwned-filter m own (λ (r : Place). not (r.way == fill_way policy m c)) c.places p.owned);
+          ap (λ (w : ℕ). record { way = w; line = x } ∷ filter (λ (r : HeldLine). not (r.way == w)) d.places) (sym (same refl))
+          ∙ (ap (λ ps. record { way = fill_way policy m c; line = x } ∷ filter (λ (r : HeldLine). not (r.way == fill_way policy m c)) ps) p.places
+          ∙ rw its (ap (λ ps. record { way = fill_way policy m c; line = x } ∷ ps) (filter-swap (λ (r : HeldLine). not (r.way == fill_way policy m c)) (λ (r : HeldLine). has_way m r.way) c.places)));
+      owned = (its ∙ sym mine, AreOwned-filter m own (λ (r : HeldLine). not (r.way == fill_way policy m c)) c.places p.owned);
     }
 
 -- a way that is taken out
@@ -57,25 +57,25 @@ IsPrivate-other policy m its own x c d (Some w) p other apart keeps = record { p
 IsPrivate-other policy m its own x c d None p other apart keeps =
     let away : has_way m (fill_way policy its c) ≡ false = has_way-filled_other policy m its c apart keeps in
     record {
-      places = p.places ∙ rw away (sym (within-filter m (λ (r : Place). not (r.way == fill_way policy its c)) c.places
+      places = p.places ∙ rw away (sym (within-filter m (λ (r : HeldLine). not (r.way == fill_way policy its c)) c.places
           (λ r h gone. ap (has_way m) (eqb-from_not r.way (fill_way policy its c) gone) ∙ away)));
-      owned = (away ∙ sym other, AreOwned-filter m own (λ (r : Place). not (r.way == fill_way policy its c)) c.places p.owned);
+      owned = (away ∙ sym other, AreOwned-filter m own (λ (r : HeldLine). not (r.way == fill_way policy its c)) c.places p.owned);
     }
 
 -- after a drop of a line of the group
 pub IsPrivate-drop : {S : Type 0} (policy : Policy S) (m : List ℕ) (own : ℕ → Bool) (x : ℕ) (c d : CacheSet S) (o : Option ℕ) → IsPrivate m own c d → IsPrivate m own (after_drop policy x c o) (after_drop policy x d o)
 IsPrivate-drop policy m own x c d None p = p
 IsPrivate-drop policy m own x c d (Some w) p = record {
-  places = ap (λ ps. filter (λ (r : Place). not (r.line == x)) ps) p.places ∙ filter-swap (λ (r : Place). not (r.line == x)) (λ (r : Place). has_way m r.way) c.places;
-  owned = AreOwned-filter m own (λ (r : Place). not (r.line == x)) c.places p.owned;
+  places = ap (λ ps. filter (λ (r : HeldLine). not (r.line == x)) ps) p.places ∙ filter-swap (λ (r : HeldLine). not (r.line == x)) (λ (r : HeldLine). has_way m r.way) c.places;
+  owned = AreOwned-filter m own (λ (r : HeldLine). not (r.line == x)) c.places p.owned;
 }
 
 -- after a drop of a line of another
 pub IsPrivate-drop_other : {S : Type 0} (policy : Policy S) (m : List ℕ) (own : ℕ → Bool) (x : ℕ) (c d : CacheSet S) (o : Option ℕ) → IsPrivate m own c d → own x ≡ false → IsPrivate m own (after_drop policy x c o) d
 IsPrivate-drop_other policy m own x c d None p other = p
 IsPrivate-drop_other policy m own x c d (Some w) p other = record {
-  places = p.places ∙ sym (within-filter m (λ (r : Place). not (r.line == x)) c.places (λ r h gone. has_way-owned m own r c.places p.owned h ∙ (ap own (eqb-from_not r.line x gone) ∙ other)));
-  owned = AreOwned-filter m own (λ (r : Place). not (r.line == x)) c.places p.owned;
+  places = p.places ∙ sym (within-filter m (λ (r : HeldLine). not (r.line == x)) c.places (λ r h gone. has_way-owned m own r c.places p.owned h ∙ (ap own (eqb-from_not r.line x gone) ∙ other)));
+  owned = AreOwned-filter m own (λ (r : HeldLine). not (r.line == x)) c.places p.owned;
 }
 
 -- the agreement of states after an access of the group

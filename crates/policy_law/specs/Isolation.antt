@@ -2,7 +2,7 @@
 use Rattle.std.specs.Prelude.{◌≡◌, ◌≢◌, ℕ, ◌<◌, Bool, true, false, not, ◌&&◌, nat_eq, nat_lt, List, [], ◌∷◌, None, find, length, slice_get, take}
 use Rattle.std.specs.Cmp.Lexicographic.{pointwise}
 use Rattle.std.specs.List.{list_all}
-use Rattle.policy_law.specs.Policies.{Policy, Place, Event, Access, Drop, has_way, way_of, is_empty, hits_of, set_after, empty_set}
+use Rattle.policy_law.specs.Policies.{Policy, HeldLine, Event, Access, Drop, has_way, way_of, is_empty, hits_of, set_after, empty_set}
 
 -- whether it is a mask with a way, and with none of these
 abbrev pub is_apart : List ℕ → List ℕ → Bool
@@ -28,7 +28,7 @@ IsIsolated policy mask s t =
     (own : ℕ → Bool) (events : List Event) → list_all (keeps_apart mask own) events ≡ true → hits_of policy (empty_set s) events ≡ hits_of policy (empty_set t) (private_events events)
 
 -- a line of the group is nowhere in the set, and no way of the mask is empty
-abbrev pub NeedsVictim : List ℕ → (ℕ → Bool) → ℕ → List Place → Type 0
+abbrev pub NeedsVictim : List ℕ → (ℕ → Bool) → ℕ → List HeldLine → Type 0
 NeedsVictim mask own x places = (own x ≡ true) × (way_of x places ≡ None) × (find (is_empty places) mask ≡ None)
 
 -- Wherever a line of the group needs a victim, after whatever events, it is the one that the private cache has.

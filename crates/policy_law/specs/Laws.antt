@@ -1,7 +1,7 @@
 -- The laws of any policy.
 use Rattle.std.specs.Prelude.{◌≡◌, ◌≢◌, ◌↔◌, ℕ, ◌<◌, Bool, true, List, length}
 use Rattle.std.specs.List.{list_all}
-use Rattle.policy_law.specs.Policies.{Policy, Place, Event, has_way, set_after, hits_of, empty_set}
+use Rattle.policy_law.specs.Policies.{Policy, HeldLine, Event, has_way, set_after, hits_of, empty_set}
 use Rattle.policy_law.specs.Isolation.{keeps_apart, private_events, IsIsolated, NeedsVictim, VictimsAgree, KeepsMasks, Respects}
 
 -- A group is isolated on each mask that the policy respects.
@@ -15,7 +15,7 @@ abbrev pub PrivateWays : Type 0 → Type 0
 PrivateWays S =
     (policy : Policy S) (mask : List ℕ) (s : S) (own : ℕ → Bool) (events : List Event)
     → 0 < length mask → KeepsMasks policy → list_all (keeps_apart mask own) events ≡ true
-    → list_all (λ (p : Place). has_way mask p.way) (set_after policy (empty_set s) (private_events events)).places ≡ true
+    → list_all (λ (p : HeldLine). has_way mask p.way) (set_after policy (empty_set s) (private_events events)).places ≡ true
 
 -- A group is isolated exactly where its victims are those of its private cache.
 abbrev pub VictimsDecide : Type 0 → Type 0

@@ -12,13 +12,13 @@ pub record Policy (S : Type 0) : Type 0 where
   pub victim : List ℕ → S → ℕ
 
 -- a line, and the way that holds it
-pub record Place : Type 0 where
+pub record HeldLine : Type 0 where
   pub way : ℕ
   pub line : ℕ
 
 -- a set: the lines by way, and the policy's state
 pub record CacheSet (S : Type 0) : Type 0 where
-  pub places : List Place
+  pub places : List HeldLine
   pub state : S
 
 -- What happens in a set: an access, by the group that is looked at or by another, with its mask and its line; or a line is dropped.
@@ -31,12 +31,12 @@ abbrev pub has_way : List ℕ → ℕ → Bool
 has_way mask way = list_any (λ (w : ℕ). w == way) mask
 
 -- the way that holds the line, whatever the masks say
-abbrev pub way_of : ℕ → List Place → Option ℕ
-way_of x places = option_map (λ (p : Place). p.way) (find (λ (p : Place). p.line == x) places)
+abbrev pub way_of : ℕ → List HeldLine → Option ℕ
+way_of x places = option_map (λ (p : HeldLine). p.way) (find (λ (p : HeldLine). p.line == x) places)
 
 -- whether the way holds no line
-abbrev pub is_empty : List Place → ℕ → Bool
-is_empty places way = not (list_any (λ (p : Place). p.way == way) places)
+abbrev pub is_empty : List HeldLine → ℕ → Bool
+is_empty places way = not (list_any (λ (p : HeldLine). p.way == way) places)
 
 -- the way that a fill takes: the first of the mask that is empty, or else the policy's victim
 abbrev pub fill_way : {S : Type 0} → Policy S → List ℕ → CacheSet S → ℕ
@@ -45,7 +45,7 @@ fill_way policy mask c = unwrap_or (find (is_empty c.places) mask) (policy.victi
 -- after a fill of this way
 abbrev pub after_fill : {S : Type 0} → Policy S → List ℕ → ℕ → CacheSet S → ℕ → CacheSet S
 after_fill policy mask x c way = record {
-  places = record { way = way; line = x } ∷ filter (λ (p : Place). not (p.way == way)) c.places;
+  places = record { way = way; line = x } ∷ filter (λ (p : HeldLine). not (p.way == way)) c.places;
   state = policy.on_fill mask way c.state;
 }
 
@@ -56,7 +56,7 @@ after_access policy mask x c None = after_fill policy mask x c (fill_way policy 
 
 -- after a drop of a line, which this way holds or no way does
 abbrev pub after_drop : {S : Type 0} → Policy S → ℕ → CacheSet S → Option ℕ → CacheSet S
-after_drop policy x c (Some way) = record { places = filter (λ (p : Place). not (p.line == x)) c.places; state = policy.on_drop way c.state }
+after_drop policy x c (Some way) = record { places = filter (λ (p : HeldLine). not (p.line == x)) c.places; state = policy.on_drop way c.state }
 after_drop policy x c None = c
 
 -- the set after an event

@@ -12,7 +12,7 @@ use Rattle.cache_core.specs.declared.entry.SliceEntry.{SliceEntry}
 use Rattle.cache_core.specs.Fills.{IsOutcome}
 use Rattle.cache_core.specs.History.{Shape, held, used, MayHappen}
 use Rattle.private_lru.specs.Covered.{is_other_use, is_use, uses_line}
-use Rattle.policy_law.specs.Policies.{CacheSet, Place, way_of, set_after, is_empty, fill_way, after_access, after_drop, has_way as has}
+use Rattle.policy_law.specs.Policies.{CacheSet, HeldLine, way_of, set_after, is_empty, fill_way, after_access, after_drop, has_way as has}
 use Rattle.policy_law.specs.Policies.Event.{Access as Accessed}
 use Rattle.policy_law.specs.Isolation.{is_apart, keeps_apart}
 use Rattle.policy_law.specs.KnownPolicies.{Stamps, lru, some_or}
@@ -30,7 +30,7 @@ use Rattle.slice_sets.proofs.SetEntries.{IsSetOf}
 AreOwned-own : (m : List ℕ) (own : ℕ → Bool) (x : ℕ) (c : CacheSet Stamps) (o : Option ℕ) → own x ≡ true → 0 < length m → AreOwned m own c.places → AreOwned m own (after_access lru m x c o).places
 AreOwned-own m own x c (Some w) mine some owned = owned
 AreOwned-own m own x c None mine some owned =
-    (has_way-filled lru m c has_way-victim some (find (is_empty c.places) m) refl ∙ sym mine, AreOwned-filter m own (λ (r : Place). not (r.way == fill_way lru m c)) c.places owned)
+    (has_way-filled lru m c has_way-victim some (find (is_empty c.places) m) refl ∙ sym mine, AreOwned-filter m own (λ (r : HeldLine). not (r.way == fill_way lru m c)) c.places owned)
 
 -- an access of another
 pub AreOwned-other : (m its : List ℕ) (own : ℕ → Bool) (x : ℕ) (c : CacheSet Stamps) (o : Option ℕ) → own x ≡ false → is_apart m its ≡ true → AreOwned m own c.places → AreOwned m own (after_access lru its x c o).places
@@ -38,12 +38,12 @@ AreOwned-other m its own x c (Some w) foreign apart owned = owned
 AreOwned-other m its own x c None foreign apart owned =
     let parts = and_parts (nat_lt 0 (length its)) (list_all (λ (w : ℕ). not (has m w)) its) apart in
     let away : has m (fill_way lru its c) ≡ false = has_way-apart_ways m its (fill_way lru its c) parts.1 (has_way-filled lru its c has_way-victim (ltb-true 0 (length its) parts.0) (find (is_empty c.places) its) refl) in
-    (away ∙ sym foreign, AreOwned-filter m own (λ (r : Place). not (r.way == fill_way lru its c)) c.places owned)
+    (away ∙ sym foreign, AreOwned-filter m own (λ (r : HeldLine). not (r.way == fill_way lru its c)) c.places owned)
 
 -- a drop
 AreOwned-drop : (m : List ℕ) (own : ℕ → Bool) (x : ℕ) (c : CacheSet Stamps) (o : Option ℕ) → AreOwned m own c.places → AreOwned m own (after_drop lru x c o).places
 AreOwned-drop m own x c None owned = owned
-AreOwned-drop m own x c (Some w) owned = AreOwned-filter m own (λ (r : Place). not (r.line == x)) c.places owned
+AreOwned-drop m own x c (Some w) owned = AreOwned-filter m own (λ (r : HeldLine). not (r.line == x)) c.places owned
 
 -- ---- masks
 

@@ -5,7 +5,7 @@ use Rattle.std.proofs.lemmas.Bool.{cases_Bool, cases_order, eqb-true, eqb-false,
 use Rattle.std.proofs.lemmas.Option.{none-some, same_Some}
 use Rattle.cbm.specs.Masks.{has_way}
 use Rattle.cache_core.specs.Fills.{Resident, Holds, IsVictim}
-use Rattle.policy_law.specs.Policies.{Place, CacheSet, way_of, is_empty, fill_way}
+use Rattle.policy_law.specs.Policies.{HeldLine, CacheSet, way_of, is_empty, fill_way}
 use Rattle.policy_law.specs.KnownPolicies.{Stamps, first_way, lru}
 use Rattle.policy_law.proofs.laws.Masks.{has_way-first_way}
 use Rattle.policy_law.proofs.laws.LinesOnce.{AreOnce, way_of-held}
@@ -25,7 +25,7 @@ pub record IsSet (n : ℕ) (residents : ℕ → Option Resident) (age : ℕ → 
 -- ---- places
 
 -- a way that is found holds a line
-is_empty-found : (y w : ℕ) (ps : List Place) → way_of y ps ≡ Some w → is_empty ps w ≡ false
+is_empty-found : (y w : ℕ) (ps : List HeldLine) → way_of y ps ≡ Some w → is_empty ps w ≡ false
 is_empty-found y w [] e = absurd (none-some w e)
 is_empty-found y w (p ∷ ps) e = elim (cases_Bool (p.way == w)) [
   | inl k ↦ rw k refl
@@ -36,7 +36,7 @@ is_empty-found y w (p ∷ ps) e = elim (cases_Bool (p.way == w)) [
 ]
 
 -- what holds a line among fewer places holds one
-pub is_empty-filter : (q : Place → Bool) (v : ℕ) (ps : List Place) → is_empty (filter q ps) v ≡ false → is_empty ps v ≡ false
+pub is_empty-filter : (q : HeldLine → Bool) (v : ℕ) (ps : List HeldLine) → is_empty (filter q ps) v ≡ false → is_empty ps v ≡ false
 is_empty-filter q v [] h = h
 is_empty-filter q v (p ∷ ps) h = elim (cases_Bool (p.way == v)) [
   | inl k ↦ rw k refl
@@ -47,11 +47,11 @@ is_empty-filter q v (p ∷ ps) h = elim (cases_Bool (p.way == v)) [
 ]
 
 -- what is found when a way was taken was found before, elsewhere
-pub way_of-untaken : (y v w : ℕ) (ps : List Place) → AreOnce ps → way_of y (filter (λ (p : Place). not (p.way == w)) ps) ≡ Some v → (way_of y ps ≡ Some v) × ((v == w) ≡ false)
+pub way_of-untaken : (y v w : ℕ) (ps : List HeldLine) → AreOnce ps → way_of y (filter (λ (p : HeldLine). not (p.way == w)) ps) ≡ Some v → (way_of y ps ≡ Some v) × ((v == w) ≡ false)
 way_of-untaken y v w [] once e = absurd (none-some v e)
 way_of-untaken y v w (p ∷ ps) once e = elim (cases_Bool (p.way == w)) [
   | inl k ↦
-      let rest : way_of y (filter (λ (q : Place). not (q.way == w)) ps) ≡ Some v = rw k at e in
+      let rest : way_of y (filter (λ (q : HeldLine). not (q.way == w)) ps) ≡ Some v = rw k at e in
       let r = way_of-untaken y v w ps once.1 rest in
       elim (cases_Bool (p.line == y)) [
         | inl t ↦ absurd (none-some v (sym once.0 ∙ (ap (λ z. way_of z ps) (eqb-true p.line y t) ∙ r.0)))
@@ -62,16 +62,16 @@ way_of-untaken y v w (p ∷ ps) once e = elim (cases_Bool (p.way == w)) [
         let there : Some p.way ≡ Some v = rw t at (rw k at e) in
         (rw t there, ap (λ u. u == w) (sym (same_Some p.way v there)) ∙ k)
     | inr t ↦
-        let rest : way_of y (filter (λ (q : Place). not (q.way == w)) ps) ≡ Some v = rw t at (rw k at e) in
+        let rest : way_of y (filter (λ (q : HeldLine). not (q.way == w)) ps) ≡ Some v = rw t at (rw k at e) in
         let r = way_of-untaken y v w ps once.1 rest in (rw t r.0, r.1)
   ]
 ]
 
 -- another line is where it was
-pub way_of-undropped : (x y : ℕ) (ps : List Place) → (y == x) ≡ false → way_of y (filter (λ (p : Place). not (p.line == x)) ps) ≡ way_of y ps
+pub way_of-undropped : (x y : ℕ) (ps : List HeldLine) → (y == x) ≡ false → way_of y (filter (λ (p : HeldLine). not (p.line == x)) ps) ≡ way_of y ps
 way_of-undropped x y [] other = refl
 way_of-undropped x y (p ∷ ps) other =
-    let ih : way_of y (filter (λ (q : Place). not (q.line == x)) ps) ≡ way_of y ps = way_of-undropped x y ps other in
+    let ih : way_of y (filter (λ (q : HeldLine). not (q.line == x)) ps) ≡ way_of y ps = way_of-undropped x y ps other in
     elim (cases_Bool (p.line == x)) [
       | inl k ↦
           let away : (p.line == y) ≡ false = ne_eqb p.line y (λ e. true≢false (sym (eq-eqb y x (sym e ∙ eqb-true p.line x k)) ∙ other)) in
@@ -80,7 +80,7 @@ way_of-undropped x y (p ∷ ps) other =
     ]
 
 -- the line is gone
-pub way_of-dropped : (x : ℕ) (ps : List Place) → way_of x (filter (λ (p : Place). not (p.line == x)) ps) ≡ None
+pub way_of-dropped : (x : ℕ) (ps : List HeldLine) → way_of x (filter (λ (p : HeldLine). not (p.line == x)) ps) ≡ None
 way_of-dropped x [] = refl
 way_of-dropped x (p ∷ ps) = elim (cases_Bool (p.line == x)) [
   | inl k ↦ rw k (way_of-dropped x ps)

@@ -4,7 +4,7 @@ use Rattle.std.specs.Prelude.{filter, option_map}
 use Rattle.std.proofs.lemmas.Bool.{cases_Bool, eqb-true, eqb-false, eq-eqb, ne_eqb, true≢false}
 use Rattle.std.proofs.lemmas.Option.{none-some, same_Some}
 use Rattle.cache_core.specs.Fills.{Resident, Holds}
-use Rattle.policy_law.specs.Policies.{Place, CacheSet, way_of, is_empty, fill_way, after_access, after_drop}
+use Rattle.policy_law.specs.Policies.{HeldLine, CacheSet, way_of, is_empty, fill_way, after_access, after_drop}
 use Rattle.policy_law.specs.KnownPolicies.{Stamps, with_stamp, with_at, lru}
 use Rattle.policy_law.proofs.laws.Stamped.{past-with_stamp}
 use Rattle.policy_law.proofs.laws.LinesOnce.{AreOnce, AreOnce-after_access, AreOnce-after_drop, way_of-kept}
@@ -75,11 +75,11 @@ pub IsSet-fill : (n x way now : ℕ) (mask : List ℕ) (residents residents' : �
     → Holds residents' x way → ((v : ℕ) → (v == way) ≡ false → residents' v ≡ residents v) → ((w : ℕ) → age w < now)
     → ((w : ℕ) → age' w ≡ with_at age way now w) → IsSet n residents age c → IsSet n residents' age' (after_access lru mask x c None)
 IsSet-fill n x way now mask residents residents' age age' c within missed filled holds same before aged is =
-    let places : List Place = record { way = way; line = x } ∷ filter (λ (p : Place). not (p.way == way)) c.places in
+    let places : List HeldLine = record { way = way; line = x } ∷ filter (λ (p : HeldLine). not (p.way == way)) c.places in
     let stays : (v : ℕ) → is_empty places v ≡ false → (v == way) ≡ false → is_empty c.places v ≡ false = λ v h k.
     let away : (way == v) ≡ false = ne_eqb way v (λ e. true≢false (sym (eq-eqb v way (sym e)) ∙ k)) in
-    is_empty-filter (λ (p : Place). not (p.way == way)) v c.places (rw away at h) in
-    let Result : ℕ → Type 0 = λ w. IsSet n residents' age' (record { places = record { way = w; line = x } ∷ filter (λ (p : Place). not (p.way == w)) c.places; state = with_stamp w c.state }) in
+    is_empty-filter (λ (p : HeldLine). not (p.way == way)) v c.places (rw away at h) in
+    let Result : ℕ → Type 0 = λ w. IsSet n residents' age' (record { places = record { way = w; line = x } ∷ filter (λ (p : HeldLine). not (p.way == w)) c.places; state = with_stamp w c.state }) in
     let at_way : Result way = record {
       sound = λ y v e. elim (cases_Bool (x == y)) [
         | inl k ↦
@@ -87,7 +87,7 @@ IsSet-fill n x way now mask residents residents' age age' c within missed filled
             let is_way : way ≡ v = same_Some way v there in
             (subst (λ w. w < n) is_way within, subst (λ w. Holds residents' y w) is_way (subst (λ z. Holds residents' z way) (eqb-true x y k) holds))
         | inr k ↦
-            let rest : way_of y (filter (λ (p : Place). not (p.way == way)) c.places) ≡ Some v = rw k at e in
+            let rest : way_of y (filter (λ (p : HeldLine). not (p.way == way)) c.places) ≡ Some v = rw k at e in
             let r = way_of-untaken y v way c.places is.once rest in
             let h = is.sound y v r.0 in
             (h.0, subst (λ (o : Option Resident). option_map (λ (q : Resident). q.line) o ≡ Some y) (sym (same v r.1)) h.1)
@@ -103,7 +103,7 @@ IsSet-fill n x way now mask residents residents' age age' c within missed filled
             let test : (x == y) ≡ false = ne_eqb x y (λ e. none-some v (sym missed ∙ (ap (λ z. way_of z c.places) e ∙ old))) in
             rw test (way_of-kept y v way c.places old k)
       ];
-      once = subst (λ w. AreOnce (record { way = w; line = x } ∷ filter (λ (p : Place). not (p.way == w)) c.places)) filled (AreOnce-after_access lru mask x c None missed is.once);
+      once = subst (λ w. AreOnce (record { way = w; line = x } ∷ filter (λ (p : HeldLine). not (p.way == w)) c.places)) filled (AreOnce-after_access lru mask x c None missed is.once);
       older = λ v u a b less. older-use c.state age age' now way v u before is.past aged (λ k l. is.older v u (stays v a k) (stays u b l)) less;
       tied = λ v u a b e less. tied-use c.state age age' now way v u before is.past aged (λ k l f. is.tied v u (stays v a k) (stays u b l) f less) e less;
       past = λ v. past-with_stamp c.state way v (is.past v);
@@ -115,10 +115,10 @@ pub IsSet-drop : (n x way : ℕ) (residents residents' : ℕ → Option Resident
     → ((v : ℕ) → age' v ≡ age v) → IsSet n residents age c → IsSet n residents' age' (after_drop lru x c (Some way))
 IsSet-drop n x way residents residents' age age' c within holds gone same same_age is =
     let here : way_of x c.places ≡ Some way = is.whole x way within holds in
-    let stays : (v : ℕ) → is_empty (filter (λ (p : Place). not (p.line == x)) c.places) v ≡ false → is_empty c.places v ≡ false = λ v h. is_empty-filter (λ (p : Place). not (p.line == x)) v c.places h in
+    let stays : (v : ℕ) → is_empty (filter (λ (p : HeldLine). not (p.line == x)) c.places) v ≡ false → is_empty c.places v ≡ false = λ v h. is_empty-filter (λ (p : HeldLine). not (p.line == x)) v c.places h in
     record {
       sound = λ y v e. elim (cases_Bool (y == x)) [
-        | inl k ↦ absurd (none-some v (sym (way_of-dropped x c.places) ∙ (ap (λ z. way_of z (filter (λ (p : Place). not (p.line == x)) c.places)) (sym (eqb-true y x k)) ∙ e)))
+        | inl k ↦ absurd (none-some v (sym (way_of-dropped x c.places) ∙ (ap (λ z. way_of z (filter (λ (p : HeldLine). not (p.line == x)) c.places)) (sym (eqb-true y x k)) ∙ e)))
         | inr k ↦
             let h = is.sound y v (sym (way_of-undropped x y c.places k) ∙ e) in
             let away : (v == way) ≡ false = ne_eqb v way (λ q. eqb-false y x k (same_Some y x (sym h.1 ∙ (ap (λ w. option_map (λ (r : Resident). r.line) (residents w)) q ∙ holds)))) in

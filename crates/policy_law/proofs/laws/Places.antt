@@ -4,20 +4,20 @@ use Rattle.std.specs.Prelude.{filter, find, unwrap_or}
 use Rattle.std.specs.List.{list_any, list_all}
 use Rattle.std.proofs.lemmas.Bool.{cases_Bool, eqb-true, eqb-false, eq-eqb, ne_eqb, false≢true, true≢false, and_parts, not-true}
 use Rattle.std.proofs.lemmas.Option.{none-some, same_Some}
-use Rattle.policy_law.specs.Policies.{Policy, Place, CacheSet, has_way, way_of, is_empty}
+use Rattle.policy_law.specs.Policies.{Policy, HeldLine, CacheSet, has_way, way_of, is_empty}
 use Rattle.policy_law.specs.Isolation.{KeepsMasks}
 
 -- the places in ways of the mask
-abbrev pub within : List ℕ → List Place → List Place
-within m ps = filter (λ (p : Place). has_way m p.way) ps
+abbrev pub within : List ℕ → List HeldLine → List HeldLine
+within m ps = filter (λ (p : HeldLine). has_way m p.way) ps
 
 -- the ways of the mask, and no others, hold lines of the group
-abbrev pub AreOwned : List ℕ → (ℕ → Bool) → List Place → Type 0
+abbrev pub AreOwned : List ℕ → (ℕ → Bool) → List HeldLine → Type 0
 AreOwned m own [] = Unit {0}
 AreOwned m own (p ∷ ps) = (has_way m p.way ≡ own p.line) × AreOwned m own ps
 
 -- a line of the group is found among them
-pub way_of-within : (m : List ℕ) (own : ℕ → Bool) (x : ℕ) (ps : List Place) → AreOwned m own ps → own x ≡ true → way_of x (within m ps) ≡ way_of x ps
+pub way_of-within : (m : List ℕ) (own : ℕ → Bool) (x : ℕ) (ps : List HeldLine) → AreOwned m own ps → own x ≡ true → way_of x (within m ps) ≡ way_of x ps
 way_of-within m own x [] owned mine = refl
 way_of-within m own x (p ∷ ps) owned mine =
     let ih : way_of x (within m ps) ≡ way_of x ps = way_of-within m own x ps owned.1 mine in
@@ -30,7 +30,7 @@ way_of-within m own x (p ∷ ps) owned mine =
     ]
 
 -- a line of another is not
-pub way_of-within_other : (m : List ℕ) (own : ℕ → Bool) (x : ℕ) (ps : List Place) → AreOwned m own ps → own x ≡ false → way_of x (within m ps) ≡ None
+pub way_of-within_other : (m : List ℕ) (own : ℕ → Bool) (x : ℕ) (ps : List HeldLine) → AreOwned m own ps → own x ≡ false → way_of x (within m ps) ≡ None
 way_of-within_other m own x [] owned other = refl
 way_of-within_other m own x (p ∷ ps) owned other =
     let ih : way_of x (within m ps) ≡ None = way_of-within_other m own x ps owned.1 other in
@@ -42,7 +42,7 @@ way_of-within_other m own x (p ∷ ps) owned other =
     ]
 
 -- the way of a line is the mask's just where the line is the group's
-pub has_way-way_of : (m : List ℕ) (own : ℕ → Bool) (x w : ℕ) (ps : List Place) → AreOwned m own ps → way_of x ps ≡ Some w → has_way m w ≡ own x
+pub has_way-way_of : (m : List ℕ) (own : ℕ → Bool) (x w : ℕ) (ps : List HeldLine) → AreOwned m own ps → way_of x ps ≡ Some w → has_way m w ≡ own x
 has_way-way_of m own x w [] owned e = elim (none-some w e) [ ]
 has_way-way_of m own x w (p ∷ ps) owned e =
     elim (cases_Bool (p.line == x)) [
@@ -53,7 +53,7 @@ has_way-way_of m own x w (p ∷ ps) owned e =
     ]
 
 -- whether a way of the mask is empty
-pub is_empty-within : (m : List ℕ) (w : ℕ) (ps : List Place) → has_way m w ≡ true → is_empty (within m ps) w ≡ is_empty ps w
+pub is_empty-within : (m : List ℕ) (w : ℕ) (ps : List HeldLine) → has_way m w ≡ true → is_empty (within m ps) w ≡ is_empty ps w
 is_empty-within m w [] here = refl
 is_empty-within m w (p ∷ ps) here =
     let ih : is_empty (within m ps) w ≡ is_empty ps w = is_empty-within m w ps here in
@@ -105,7 +105,7 @@ has_way-filled policy mask c keeps some None e = keeps mask c.state some
 has_way-filled policy mask c keeps some (Some w) e = has_way-find (is_empty c.places) mask w e
 
 -- filters in either order
-pub filter-swap : (p q : Place → Bool) (ps : List Place) → filter p (filter q ps) ≡ filter q (filter p ps)
+pub filter-swap : (p q : HeldLine → Bool) (ps : List HeldLine) → filter p (filter q ps) ≡ filter q (filter p ps)
 filter-swap p q [] = refl
 filter-swap p q (x ∷ xs) =
     let ih : filter p (filter q xs) ≡ filter q (filter p xs) = filter-swap p q xs in
@@ -115,7 +115,7 @@ filter-swap p q (x ∷ xs) =
     ]
 
 -- taking out what is not in the ways of the mask changes nothing there
-pub within-filter : (m : List ℕ) (q : Place → Bool) (ps : List Place) → ((p : Place) → list_any (λ (r : Place). (r.way == p.way) && (r.line == p.line)) ps ≡ true → q p ≡ false → has_way m p.way ≡ false) → within m (filter q ps) ≡ within m ps
+pub within-filter : (m : List ℕ) (q : HeldLine → Bool) (ps : List HeldLine) → ((p : HeldLine) → list_any (λ (r : HeldLine). (r.way == p.way) && (r.line == p.line)) ps ≡ true → q p ≡ false → has_way m p.way ≡ false) → within m (filter q ps) ≡ within m ps
 within-filter m q [] away = refl
 within-filter m q (p ∷ ps) away =
     let ih : within m (filter q ps) ≡ within m ps = within-filter m q ps (λ r h. away r (elim (cases_Bool ((p.way == r.way) && (p.line == r.line))) [ inl k ↦ rw k refl | inr k ↦ rw k h ])) in
@@ -127,7 +127,7 @@ within-filter m q (p ∷ ps) away =
     ]
 
 -- the same with fewer places
-pub AreOwned-filter : (m : List ℕ) (own : ℕ → Bool) (q : Place → Bool) (ps : List Place) → AreOwned m own ps → AreOwned m own (filter q ps)
+pub AreOwned-filter : (m : List ℕ) (own : ℕ → Bool) (q : HeldLine → Bool) (ps : List HeldLine) → AreOwned m own ps → AreOwned m own (filter q ps)
 AreOwned-filter m own q [] owned = tt
 AreOwned-filter m own q (p ∷ ps) owned = elim (cases_Bool (q p)) [
   | inl k ↦ rw k (owned.0, AreOwned-filter m own q ps owned.1)
@@ -135,13 +135,13 @@ AreOwned-filter m own q (p ∷ ps) owned = elim (cases_Bool (q p)) [
 ]
 
 -- the line of a place of theirs
-pub has_way-owned : (m : List ℕ) (own : ℕ → Bool) (r : Place) (ps : List Place) → AreOwned m own ps → list_any (λ (p : Place). (p.way == r.way) && (p.line == r.line)) ps ≡ true → has_way m r.way ≡ own r.line
+pub has_way-owned : (m : List ℕ) (own : ℕ → Bool) (r : HeldLine) (ps : List HeldLine) → AreOwned m own ps → list_any (λ (p : HeldLine). (p.way == r.way) && (p.line == r.line)) ps ≡ true → has_way m r.way ≡ own r.line
 has_way-owned m own r [] owned h = elim (false≢true h) [ ]
 has_way-owned m own r (p ∷ ps) owned h = elim (cases_Bool ((p.way == r.way) && (p.line == r.line))) [
   | inl k ↦
       let parts = and_parts (p.way == r.way) (p.line == r.line) k in
       ap (has_way m) (sym (eqb-true p.way r.way parts.0)) ∙ (owned.0 ∙ ap own (eqb-true p.line r.line parts.1))
-  | inr k ↦ let rest : list_any (λ (q : Place). (q.way == r.way) && (q.line == r.line)) ps ≡ true = rw k at h in has_way-owned m own r ps owned.1 rest
+  | inr k ↦ let rest : list_any (λ (q : HeldLine). (q.way == r.way) && (q.line == r.line)) ps ≡ true = rw k at h in has_way-owned m own r ps owned.1 rest
 ]
 
 -- a mask apart from these ways

@@ -5,7 +5,7 @@ use Rattle.std.specs.Cmp.Lexicographic.{pointwise, bytes_decides}
 use Rattle.std.specs.List.{list_all}
 use Rattle.std.proofs.lemmas.Bool.{and_from, cases_Bool, cases_eq, ne_eqb, true≢false, and_parts}
 use Rattle.std.proofs.lemmas.Option.{none-some}
-use Rattle.policy_law.specs.Policies.{Policy, Place, CacheSet, Event, Access, Drop, has_way, way_of, is_empty, fill_way, after_access, after_drop, after_event, set_after, hits_of, empty_set}
+use Rattle.policy_law.specs.Policies.{Policy, HeldLine, CacheSet, Event, Access, Drop, has_way, way_of, is_empty, fill_way, after_access, after_drop, after_event, set_after, hits_of, empty_set}
 use Rattle.policy_law.specs.Isolation.{KeepsMasks, keeps_apart, private_events, IsIsolated, NeedsVictim, VictimsAgree}
 use Rattle.policy_law.proofs.laws.Places.{AreOwned, AreOwned-filter, find-none, has_way-way_of}
 use Rattle.policy_law.proofs.Play.{IsPrivate, way_of-private, find-private, fill_way-same, IsPrivate-own, IsPrivate-other, IsPrivate-drop, IsPrivate-drop_other}
@@ -29,7 +29,7 @@ is_some-way_of_kept : {S : Type 0} (policy : Policy S) (m : List ℕ) (x y v : �
     → is_some (way_of y (after_event policy c (Access true m x)).places) ≡ true
 is_some-way_of_kept policy m x y v c missed full here away other =
     let filled : fill_way policy m c ≡ policy.victim m c.state = rw full refl in
-    let kept : way_of y (filter (λ (p : Place). not (p.way == fill_way policy m c)) c.places) ≡ Some v = way_of-kept y v (fill_way policy m c) c.places here (ap (λ w. v == w) filled ∙ away) in
+    let kept : way_of y (filter (λ (p : HeldLine). not (p.way == fill_way policy m c)) c.places) ≡ Some v = way_of-kept y v (fill_way policy m c) c.places here (ap (λ w. v == w) filled ∙ away) in
     rw (missed, other) (ap is_some kept)
 
 -- the fill takes the way of this line
@@ -37,7 +37,7 @@ is_some-way_of_taken : {S : Type 0} (policy : Policy S) (m : List ℕ) (x y : �
     → is_some (way_of y (after_event policy d (Access true m x)).places) ≡ false
 is_some-way_of_taken policy m x y d missed full here once other =
     let filled : fill_way policy m d ≡ policy.victim m d.state = rw full refl in
-    let gone : way_of y (filter (λ (p : Place). not (p.way == fill_way policy m d)) d.places) ≡ None = way_of-taken y (fill_way policy m d) d.places (here ∙ ap (λ (w : ℕ). Some w) (sym filled)) once in
+    let gone : way_of y (filter (λ (p : HeldLine). not (p.way == fill_way policy m d)) d.places) ≡ None = way_of-taken y (fill_way policy m d) d.places (here ∙ ap (λ (w : ℕ). Some w) (sym filled)) once in
     rw (missed, other) (ap is_some gone)
 
 -- events from two sets on in which the group's hits differ
@@ -50,8 +50,8 @@ Heard-victim : {S : Type 0} (policy : Policy S) (m : List ℕ) (own : ℕ → Bo
 Heard-victim policy m own x c d some keeps p once needs differ =
     let v : ℕ = policy.victim m d.state in
     let full_there : find (is_empty d.places) m ≡ None = sym (find-private m own c d p) ∙ needs.2 in
-    let once_there : AreOnce d.places = subst AreOnce (sym p.places) (AreOnce-filter (λ (q : Place). has_way m q.way) c.places once) in
-    let owned_there : AreOwned m own d.places = subst (AreOwned m own) (sym p.places) (AreOwned-filter m own (λ (q : Place). has_way m q.way) c.places p.owned) in
+    let once_there : AreOnce d.places = subst AreOnce (sym p.places) (AreOnce-filter (λ (q : HeldLine). has_way m q.way) c.places once) in
+    let owned_there : AreOwned m own d.places = subst (AreOwned m own) (sym p.places) (AreOwned-filter m own (λ (q : HeldLine). has_way m q.way) c.places p.owned) in
     let held = way_of-held v d.places (find-none (is_empty d.places) m v full_there (keeps m d.state some)) once_there in
     let yours : own held.0 ≡ true = sym (has_way-way_of m own held.0 v d.places owned_there held.1) ∙ keeps m d.state some in
     let here : way_of held.0 c.places ≡ Some v = sym (way_of-private m own held.0 c d p yours) ∙ held.1 in
