@@ -16,7 +16,7 @@ use Rattle.num_text.proofs.laws.Digits.{number_of-digits, has_prefix-digits, All
 use Rattle.num_text.proofs.laws.Pieces.{Cut-append}
 use Rattle.machine.specs.declared.parameters.Parameters.{Parameters}
 use Rattle.script_lines.specs.declared.arguments.Use.{Use}
-use Rattle.script_text.specs.declared.kind.Place.TheVariants.{Thread}
+use Rattle.script_text.specs.declared.kind.LinePosition.TheVariants.{Thread}
 use Rattle.rc_base.specs.Texts.{is_text}
 use Rattle.script_lines.specs.Arguments.{access_of, use_of}
 use Rattle.script_text.specs.Kinds.{part_kind, command_kind, access_kind, kind_of}

@@ -9,8 +9,8 @@ use Rattle.script_lines.specs.declared.fault.LineFault.TheVariants.{BadByte, NoM
 use Rattle.script_ops.specs.declared.op.Op.TheVariants as ops
 use Rattle.script_text.specs.declared.kind.Kind.{Kind}
 use Rattle.script_text.specs.declared.kind.Kind.TheVariants as kinds
-use Rattle.script_text.specs.declared.kind.Place.{Place}
-use Rattle.script_text.specs.declared.kind.Place.TheVariants as places
+use Rattle.script_text.specs.declared.kind.LinePosition.{LinePosition}
+use Rattle.script_text.specs.declared.kind.LinePosition.TheVariants as places
 use Rattle.script_lines.specs.Arguments.{access_of, flush_of, sweep_of, touch_of, has_path, order_of, first_of}
 use Rattle.script_lines.specs.Escapes.{unescaped, text_behind}
 use Rattle.script_lines.specs.Keys.{machine_of}
@@ -44,7 +44,7 @@ pub IsFit-closed : (s closed : ReaderState) → Means (Ok tt) closed (Ok (close_
 IsFit-closed s closed e ready = subst (λ (r : Result ReaderState LineFault). IfOk r IsFit) e (IsFit-close_phase s ready.fit)
 
 -- the same ops at a place after the first phase
-IsReady-moved : (s : ReaderState) (place : Place) (order : List ℕ) → is_early place ≡ false → IsFit s → IsReady (record s { place = place; order = order })
+IsReady-moved : (s : ReaderState) (place : LinePosition) (order : List ℕ) → is_early place ≡ false → IsFit s → IsReady (record s { place = place; order = order })
 IsReady-moved s place order is_early-thread fit = record {
   bare = λ h. absurd cc;
   fit = record {

@@ -2,7 +2,7 @@
 use Rattle.std.proofs.Common.{◌≡◌, ℕ, List, Bor, Option, Some, None, Result, Ok, Err, sym, subst, ◌∙◌}
 use Rattle.script_lines.specs.declared.fault.LineError.{LineError}
 use Rattle.script_lines.specs.declared.fault.LineFault.{LineFault}
-use Rattle.script_text.specs.declared.kind.Place.TheVariants.{Thread}
+use Rattle.script_text.specs.declared.kind.LinePosition.TheVariants.{Thread}
 use Rattle.script_text.specs.Meaning.{Fails}
 use Rattle.script_text.specs.States.{ReaderState}
 use Rattle.script_text.specs.Usual.{BeginsWithAccess, use_by, access_means, TakesLine, TakesUsual}

@@ -2,8 +2,8 @@
 use Rattle.std.specs.Prelude.{ℕ, Bool, true, false, ◌==◌, List, codes, Option, Some, None, if◌then◌else◌}
 use Rattle.std.specs.Option.{option_or}
 use Rattle.rc_base.specs.Texts.{is_text}
-use Rattle.script_text.specs.declared.kind.Place.{Place}
-use Rattle.script_text.specs.declared.kind.Place.TheVariants as places
+use Rattle.script_text.specs.declared.kind.LinePosition.{LinePosition}
+use Rattle.script_text.specs.declared.kind.LinePosition.TheVariants as places
 use Rattle.script_text.specs.declared.kind.Kind.{Kind}
 use Rattle.script_text.specs.declared.kind.Kind.TheVariants as kinds
 use Rattle.script_text.specs.States.{is_thread}
@@ -82,7 +82,7 @@ kind_with first second =
 
 -- Where a line may stand: the machine line first, tasks after it, an order directly after `phase`, a thread in a phase, and
 -- an op in a thread.
-abbrev pub may_stand : Kind → Place → Bool
+abbrev pub may_stand : Kind → LinePosition → Bool
 may_stand kinds.Machine places.Start = true
 may_stand kinds.Machine place = false
 may_stand kinds.Tasks places.Head = true

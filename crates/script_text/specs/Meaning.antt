@@ -12,7 +12,7 @@ use Rattle.script_lines.specs.declared.fault.LineError.TheVariants as errors
 use Rattle.script_lines.specs.declared.arguments.Sweep.{Sweep}
 use Rattle.script_ops.specs.declared.op.Op.{Op}
 use Rattle.script_ops.specs.declared.op.Op.TheVariants as ops
-use Rattle.script_text.specs.declared.kind.Place.TheVariants as places
+use Rattle.script_text.specs.declared.kind.LinePosition.TheVariants as places
 use Rattle.script_text.specs.declared.kind.Kind.{Kind}
 use Rattle.script_text.specs.declared.kind.Kind.TheVariants as kinds
 use Rattle.line_words.specs.Lines.{is_bad, is_comment, words, behind_word}

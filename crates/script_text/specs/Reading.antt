@@ -9,7 +9,7 @@ use Rattle.script_lines.specs.declared.fault.LineError.TheVariants as line_error
 use Rattle.script_lines.specs.declared.fault.ScriptFault.{ScriptFault}
 use Rattle.script_lines.specs.declared.fault.ScriptError.{ScriptError}
 use Rattle.script_lines.specs.declared.fault.ScriptError.TheVariants as errors
-use Rattle.script_text.specs.declared.kind.Place.TheVariants.{Start}
+use Rattle.script_text.specs.declared.kind.LinePosition.TheVariants.{Start}
 use Rattle.script_ops.specs.Values.{ScriptValue}
 use Rattle.script_text.specs.States.{ReaderState, close_phase, is_start}
 use Rattle.script_text.specs.Meaning.{line_meaning}

@@ -5,8 +5,8 @@ use Rattle.machine.specs.Maps.{parameters_of}
 use Rattle.script_ops.specs.declared.op.Op.{Op}
 use Rattle.script_lines.specs.declared.tasks.TaskRange.{TaskRange}
 use Rattle.script_text.specs.declared.reader.Reader.{Reader}
-use Rattle.script_text.specs.declared.kind.Place.{Place}
-use Rattle.script_text.specs.declared.kind.Place.TheVariants.{Start, Head, Thread}
+use Rattle.script_text.specs.declared.kind.LinePosition.{LinePosition}
+use Rattle.script_text.specs.declared.kind.LinePosition.TheVariants.{Start, Head, Thread}
 use Rattle.script_lines.specs.Tasks.{RiseFrom, count_of, ids_of}
 use Rattle.script_ops.specs.Values.{PhaseValue, threads_in}
 use Rattle.script_ops.specs.Canonical.{AreAllShort, AreNamed}
@@ -17,7 +17,7 @@ use Rattle.script_ops.specs.declared.limits.TheConstants.{MOST_PHASES, MOST_PHAS
 
 -- The lines so far: the closed phases, the order and the closed threads of the open phase, and the ops of the open thread.
 pub record ReaderState : Type 0 where
-  pub place : Place
+  pub place : LinePosition
   pub machine : Parameters
   pub tasks : List TaskRange
   pub names : List (List ℕ)
@@ -28,17 +28,17 @@ pub record ReaderState : Type 0 where
   pub weight : ℕ
 
 -- whether no machine line was read
-abbrev pub is_start : Place → Bool
+abbrev pub is_start : LinePosition → Bool
 is_start Start = true
 is_start place = false
 
 -- whether a machine line was read and no phase was
-abbrev pub is_head : Place → Bool
+abbrev pub is_head : LinePosition → Bool
 is_head Head = true
 is_head place = false
 
 -- whether a thread is open
-abbrev pub is_thread : Place → Bool
+abbrev pub is_thread : LinePosition → Bool
 is_thread Thread = true
 is_thread place = false
 
@@ -72,7 +72,7 @@ abbrev pub IsSound : ReaderState → Type 0
 IsSound s = InLimits 1 1 0 s
 
 -- (For proofs.) before the first phase
-abbrev pub is_early : Place → Bool
+abbrev pub is_early : LinePosition → Bool
 is_early Start = true
 is_early Head = true
 is_early place = false

@@ -6,7 +6,7 @@ use rc_base::is_text;
 
 /// Where the next line stands.
 #[derive(Clone, Copy, Debug, PartialEq, Eq)]
-pub enum Place {
+pub enum LinePosition {
     /// Before the machine line.
     Start,
     /// After the machine line, before the first phase.
@@ -134,21 +134,21 @@ pub fn kind_named(word: &[u8]) -> Option<Kind>
 }
 
 /// Whether such a line may stand here.
-pub fn may_stand(kind: Kind, place: Place) -> bool
+pub fn may_stand(kind: Kind, place: LinePosition) -> bool
     ensures { result ≡ may_stand kind place }
 {
     match (kind, place) {
-        (Kind::Machine, Place::Start) => true,
+        (Kind::Machine, LinePosition::Start) => true,
         (Kind::Machine, _) => false,
-        (Kind::Tasks, Place::Head) => true,
+        (Kind::Tasks, LinePosition::Head) => true,
         (Kind::Tasks, _) => false,
-        (Kind::Phase, Place::Start) => false,
+        (Kind::Phase, LinePosition::Start) => false,
         (Kind::Phase, _) => true,
-        (Kind::Order, Place::Opened) => true,
+        (Kind::Order, LinePosition::Opened) => true,
         (Kind::Order, _) => false,
-        (Kind::Thread, Place::Opened | Place::Ordered | Place::Thread) => true,
+        (Kind::Thread, LinePosition::Opened | LinePosition::Ordered | LinePosition::Thread) => true,
         (Kind::Thread, _) => false,
-        (_, Place::Thread) => true,
+        (_, LinePosition::Thread) => true,
         (_, _) => false,
     }
 }

@@ -4,7 +4,7 @@ ghost use Rattle.script_text.specs.States.{state_of, IsSound};
 ghost use Rattle.script_text.specs.Meaning.{means, word_means, says, line_meaning, Means};
 ghost use Rattle.script_text.specs.Usual.{use_by, access_means, TakesLine, TakesUsual};
 
-use crate::kind::{Kind, Place, kind_named, may_stand};
+use crate::kind::{Kind, LinePosition, kind_named, may_stand};
 use crate::reader::Reader;
 use crate::usual::{usual_access, usual_use};
 use line_words::{has_bad_byte, is_comment, next_word};
@@ -49,7 +49,7 @@ impl Reader {
         let Some((word, rest)) = next_word(text) else {
             return Ok(());
         };
-        if self.place == Place::Start && !is_text(word, b"machine") {
+        if self.place == LinePosition::Start && !is_text(word, b"machine") {
             return Err(LineError::Fault(LineFault::NoMachine));
         }
         let Some(kind) = kind_named(word) else {
@@ -118,7 +118,7 @@ impl Reader {
         ensures said { TakesLine result (state_of self.old) (state_of self.new) text.now }
         ensures sound { OnOk result (IsSound (state_of self.new)) }
     {
-        if self.place == Place::Thread {
+        if self.place == LinePosition::Thread {
             if let Some((task, cpu, addr, rest)) = usual_access(text) {
                 return self.usual_line(task, cpu, addr, rest);
             }

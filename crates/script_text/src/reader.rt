@@ -10,7 +10,7 @@ ghost use Rattle.script_text.specs.Meaning.{with_op, with_ops, sweep_ops, Means}
 ghost use Rattle.path_names.specs.declared.paths.TheConstants.{MOST_PATH_NAMES};
 
 use crate::accesses::push_accesses;
-use crate::kind::Place;
+use crate::kind::LinePosition;
 use machine::Machine;
 use path_names::Names;
 use rc_base::NoMemory;
@@ -28,7 +28,7 @@ const ACCESS_WEIGHT: u64 = 1;
 #[derive(Drop)]
 pub struct Reader {
     pub(crate) alloc: Global,
-    pub(crate) place: Place,
+    pub(crate) place: LinePosition,
     pub(crate) machine: Machine,
     pub(crate) tasks: Vec<TaskRange>,
     pub(crate) names: Names,
@@ -50,7 +50,7 @@ impl Reader {
         let names = Names::create(alloc)?;
         Ok(Reader {
             alloc,
-            place: Place::Start,
+            place: LinePosition::Start,
             machine: Machine::default(),
             tasks: Vec::new(alloc),
             names,
@@ -70,7 +70,7 @@ impl Reader {
         ensures { Reads result (finished lines (state_of self)) }
     {
         let mut reader = self;
-        if reader.place == Place::Start {
+        if reader.place == LinePosition::Start {
             return Err(ScriptError::Bad(ScriptFault {
                 line: lines + 1,
                 what: LineFault::NoMachine,
@@ -166,7 +166,7 @@ impl Reader {
         ensures said { Means result (state_of self.new) (Ok (close_thread (state_of self.old))) }
         ensures limits { OnOk result (InLimits 1 0 0 (state_of self.new)) }
     {
-        if self.place == Place::Thread {
+        if self.place == LinePosition::Thread {
             let ops = mem::replace(&mut self.ops, Ops::create(self.alloc));
             self.threads.push(ops)?;
         }
@@ -180,7 +180,7 @@ impl Reader {
         ensures said { Means result (state_of self.new) (Ok (close_phase (state_of self.old))) }
         ensures limits { OnOk result (InLimits 0 1 0 (state_of self.new)) }
     {
-        if self.place == Place::Head {
+        if self.place == LinePosition::Head {
             return Ok(());
         }
         match self.close_thread() {

@@ -4,7 +4,7 @@ ghost use Rattle.script_text.specs.States.{state_of, IsSound};
 ghost use Rattle.script_text.specs.Meaning.{means, Means};
 ghost use Rattle.script_text.specs.declared.kind.Kind.TheVariants as kinds;
 
-use crate::kind::Place;
+use crate::kind::LinePosition;
 use crate::orders::read_order;
 use crate::reader::Reader;
 use line_words::no_word;
@@ -25,7 +25,7 @@ impl Reader {
             return Err(LineError::Fault(LineFault::BadMachine));
         };
         self.machine = machine;
-        self.place = Place::Head;
+        self.place = LinePosition::Head;
         Ok(())
     }
 
@@ -63,7 +63,7 @@ impl Reader {
         if self.phases.len() >= MOST_PHASES {
             return Err(LineError::Fault(LineFault::TooLarge));
         }
-        self.place = Place::Opened;
+        self.place = LinePosition::Opened;
         Ok(())
     }
 
@@ -83,7 +83,7 @@ impl Reader {
             return Err(LineError::Fault(LineFault::TooLarge));
         }
         self.order = order;
-        self.place = Place::Ordered;
+        self.place = LinePosition::Ordered;
         Ok(())
     }
 
@@ -104,7 +104,7 @@ impl Reader {
         if self.threads.len() >= MOST_PHASE_THREADS {
             return Err(LineError::Fault(LineFault::TooLarge));
         }
-        self.place = Place::Thread;
+        self.place = LinePosition::Thread;
         Ok(())
     }
 }

@@ -10,8 +10,8 @@ use Rattle.path_names.specs.PathTable.{entry_of}
 use Rattle.rc_base.specs.Texts.{is_text}
 use Rattle.script_ops.specs.declared.op.Op.{Op}
 use Rattle.script_ops.specs.Values.{PhaseValue}
-use Rattle.script_text.specs.declared.kind.Place.{Place}
-use Rattle.script_text.specs.declared.kind.Place.TheVariants.{Head, Opened}
+use Rattle.script_text.specs.declared.kind.LinePosition.{LinePosition}
+use Rattle.script_text.specs.declared.kind.LinePosition.TheVariants.{Head, Opened}
 use Rattle.script_lines.specs.declared.tasks.TaskRange.{TaskRange}
 use Rattle.script_lines.specs.Escapes.{unescaped}
 use Rattle.script_lines.specs.Keys.{cache_key, id_key, keys_from, mask_key, with_key}
@@ -65,7 +65,7 @@ abbrev pub opening_phase : PhaseValue
 opening_phase = record { order = []; threads = opening_ops ∷ [] }
 
 -- the state in the second phase
-abbrev pub second : Place → List ℕ → List (List Op) → List Op → ℕ → ReaderState
+abbrev pub second : LinePosition → List ℕ → List (List Op) → List Op → ℕ → ReaderState
 second place order threads ops weight = record { place = place; machine = trace_machine; tasks = trace_ranges; names = codes "g1" ∷ codes "g2" ∷ []; phases = opening_phase ∷ []; order = order; threads = threads; ops = ops; weight = weight }
 
 -- the state after the machine line

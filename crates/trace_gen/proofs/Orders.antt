@@ -8,7 +8,7 @@ use Rattle.num_text.specs.Numbers.{below, dec_of}
 use Rattle.num_text.proofs.laws.Prints.{decimal_reads_back}
 use Rattle.rc_base.specs.Texts.{is_text}
 use Rattle.script_ops.specs.declared.limits.TheConstants.{MOST_ORDER}
-use Rattle.script_text.specs.declared.kind.Place.TheVariants.{Opened, Ordered}
+use Rattle.script_text.specs.declared.kind.LinePosition.TheVariants.{Opened, Ordered}
 use Rattle.script_lines.specs.Arguments.{order_from, order_of}
 use Rattle.script_text.specs.Kinds.{access_kind, command_kind, kind_of, part_kind}
 use Rattle.line_words.specs.Lines.{behind_word, words}

@@ -5,7 +5,7 @@ use Rattle.std.specs.List.{AllByRecursion}
 use Rattle.std.proofs.lemmas.List.FromFn.{length-map-range_with_len}
 use Rattle.rc_base.specs.Texts.{is_text}
 use Rattle.script_ops.specs.declared.op.Op.{Op}
-use Rattle.script_text.specs.declared.kind.Place.TheVariants.{Opened, Ordered, Thread}
+use Rattle.script_text.specs.declared.kind.LinePosition.TheVariants.{Opened, Ordered, Thread}
 use Rattle.script_text.specs.Kinds.{kind_of, part_kind}
 use Rattle.script_text.specs.Meaning.{line_meaning, means, word_means}
 use Rattle.script_text.specs.Reading.{nothing_read, reading_from}

@@ -10,7 +10,7 @@ use Rattle.num_text.proofs.laws.Prints.{decimal_reads_back}
 use Rattle.rc_base.specs.Texts.{is_text}
 use Rattle.script_ops.specs.declared.limits.TheConstants.{MOST_WEIGHT}
 use Rattle.script_ops.specs.declared.op.Op.{Op}
-use Rattle.script_text.specs.declared.kind.Place.TheVariants.{Thread}
+use Rattle.script_text.specs.declared.kind.LinePosition.TheVariants.{Thread}
 use Rattle.script_lines.specs.Arguments.{access_of, use_of}
 use Rattle.script_text.specs.Kinds.{access_kind, command_kind, kind_of, part_kind}
 use Rattle.line_words.specs.Lines.{behind_word, words}

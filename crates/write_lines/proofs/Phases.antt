@@ -16,7 +16,7 @@ use Rattle.script_text.specs.Kinds.{kind_of, part_kind}
 use Rattle.script_text.specs.Meaning.{line_meaning, means, with_op, word_means}
 use Rattle.script_text.specs.Reading.{nothing_read, reading_from, script_in, script_of}
 use Rattle.script_text.specs.States.{ReaderState, close_phase, is_start}
-use Rattle.script_text.specs.declared.kind.Place.TheVariants as places
+use Rattle.script_text.specs.declared.kind.LinePosition.TheVariants as places
 use Rattle.write_lines.proofs.Meanings.{AllGood-script_of, AreRead-script_of, meaning_of, meaning_of-append, meaning_of-cons, reading_from-meaning_of}
 use Rattle.write_lines.proofs.Places.{may_stand-phase}
 use Rattle.write_lines.proofs.Tallies.{IsShut}

@@ -16,8 +16,8 @@ use Rattle.script_ops.specs.declared.op.Op.TheVariants as ops
 use Rattle.write_lines.proofs.Places.{is_early-head}
 use Rattle.script_text.specs.Reading.{nothing_read}
 use Rattle.script_text.specs.States.{ReaderState, close_phase, close_thread, is_early, is_head, is_thread}
-use Rattle.script_text.specs.declared.kind.Place.{Place}
-use Rattle.script_text.specs.declared.kind.Place.TheVariants as places
+use Rattle.script_text.specs.declared.kind.LinePosition.{LinePosition}
+use Rattle.script_text.specs.declared.kind.LinePosition.TheVariants as places
 use Rattle.write_lines.proofs.laws.GroupNames.{IsNamedPath}
 use Rattle.write_lines.proofs.laws.InternedNames.{IsGroupName-kept}
 
@@ -175,7 +175,7 @@ IsTold-opened s shut =
     }
 
 -- a place with an order, or one in a thread
-pub IsTold-moved : (s : ReaderState) (place : Place) (order : List ℕ) → is_early place ≡ false → s.ops ≡ [] → IsTallied s → IsTold (record s { place = place; order = order })
+pub IsTold-moved : (s : ReaderState) (place : LinePosition) (order : List ℕ) → is_early place ≡ false → s.ops ≡ [] → IsTallied s → IsTold (record s { place = place; order = order })
 IsTold-moved s place order late none told = record {
   ops = told.ops;
   threads = told.threads;

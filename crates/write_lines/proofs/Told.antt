@@ -21,7 +21,7 @@ use Rattle.script_text.specs.Meaning.{access_at, line_meaning, means, named_in, 
 use Rattle.script_text.specs.States.{ReaderState, close_phase, close_thread, is_start}
 use Rattle.script_text.specs.declared.kind.Kind.{Kind}
 use Rattle.script_text.specs.declared.kind.Kind.TheVariants as kinds
-use Rattle.script_text.specs.declared.kind.Place.TheVariants as places
+use Rattle.script_text.specs.declared.kind.LinePosition.TheVariants as places
 use Rattle.write_lines.proofs.Tallies.{MakesNamed, IsTold, tallied, IsTold-no_ops, IsTallied-close_thread, no_ops-close_thread, IsShut-close_phase, IsTold-opened, IsTold-moved}
 use Rattle.write_lines.proofs.ToldOps.{IsTold-with_ops, IsTold-with_op, AddsNamed-named, IsTold-with_path, IsTold-path_alone, IsTold-clflush, weights_of-accesses}
 

@@ -10,7 +10,7 @@ use Rattle.script_ops.specs.declared.op.Op.{Op}
 use Rattle.script_text.specs.Meaning.{line_meaning, with_op}
 use Rattle.script_text.specs.Reading.{script_of}
 use Rattle.script_text.specs.States.{ReaderState}
-use Rattle.script_text.specs.declared.kind.Place.TheVariants.{Thread}
+use Rattle.script_text.specs.declared.kind.LinePosition.TheVariants.{Thread}
 use Rattle.write_lines.specs.GroupWrites.{IsGroupDir, IsGroupWrite, IsMadeDir}
 
 -- In a thread the line of a write is read as the write, among the same names.

@@ -27,7 +27,7 @@ use Rattle.script_text.specs.Kinds.{command_kind, kind_of, part_kind}
 use Rattle.script_text.specs.Meaning.{line_meaning, means, named_in, with_names, with_op, word_means}
 use Rattle.script_text.specs.States.{ReaderState}
 use Rattle.script_text.specs.declared.kind.Kind.TheVariants as kinds
-use Rattle.script_text.specs.declared.kind.Place.TheVariants.{Thread}
+use Rattle.script_text.specs.declared.kind.LinePosition.TheVariants.{Thread}
 use Rattle.write_lines.proofs.laws.Escapes.{list_any-text_after, unescaped-flat_map}
 use Rattle.write_lines.proofs.laws.TextLines.{IsGoodLine}
 use Rattle.write_lines.proofs.laws.GroupPaths.{IsPlainPath, IsPlainPath-group_file, path_of-group_file}

@@ -1,7 +1,7 @@
 use Rattle.std.proofs.Common.{◌≡◌, rules}
 use Rattle.script_text.specs.States.{state_of}
 use Rattle.script_text.proofs.TakenLines.{TakesLine-usual}
-use Rattle.script_text.specs.declared.kind.Place.TheVariants.{Thread}
+use Rattle.script_text.specs.declared.kind.LinePosition.TheVariants.{Thread}
 use Rattle.script_text.proofs.reader.Reader.take_line.Goals as goal
 
 pub returns-in-Some-clause-said : goal.returns-in-Some-clause-said
