@@ -32,7 +32,7 @@ use Rattle.seen_journal.specs.Entries.{list_of}
 use Rattle.seen_journal.specs.Journals.{JournalName}
 use Rattle.shared_parts.specs.Parts.{parts_after}
 use Rattle.shared_parts.specs.Shares.{ShareValue}
-use Rattle.step_world.specs.declared.place.Place.TheVariants.{Looking}
+use Rattle.step_world.specs.declared.thread_state.ThreadState.TheVariants.{Looking}
 use Rattle.tree_law.specs.State.{State}
 use Rattle.tree_law.specs.Steps.{after as after_command, needs, next}
 use Rattle.tree_law.specs.declared.follow.Follow.{Follow}

@@ -18,7 +18,7 @@ use Rattle.seen_journal.specs.Entries.{list_of}
 use Rattle.shared_parts.specs.Parts.{parts_after}
 use Rattle.shared_parts.specs.Shares.{ShareValue}
 use Rattle.shared_parts.specs.Words.{word_of}
-use Rattle.step_world.specs.declared.place.Place.TheVariants.{Following, Looking}
+use Rattle.step_world.specs.declared.thread_state.ThreadState.TheVariants.{Following, Looking}
 
 -- it is decided, and follows, or has let the tree go
 pub following-decide : (history : List TreeEntry) (h : TreeEntry) (t n made all : ℕ) (found : List ℕ) (last : Bool) → last ≡ not (nat_lt made all)

@@ -43,7 +43,7 @@ use Rattle.seen_journal.specs.Journals.{JournalName}
 use Rattle.seen_journal.specs.Passes.{PassValue}
 use Rattle.shared_parts.specs.Parts.{parts_after}
 use Rattle.shared_parts.specs.Shares.{ShareValue}
-use Rattle.step_world.specs.declared.place.Place.TheVariants.{Looking}
+use Rattle.step_world.specs.declared.thread_state.ThreadState.TheVariants.{Looking}
 use Rattle.run_law.proofs.laws.SoundHistories.{Fits-op_at, IsSound-take}
 use Rattle.run_law.specs.Quotas.{most_counts}
 use Rattle.file_view.specs.Texts.{is_reading}

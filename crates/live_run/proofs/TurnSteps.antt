@@ -17,7 +17,7 @@ use Rattle.script_ops.specs.Values.{ScriptValue, op_at}
 use Rattle.script_ops.specs.declared.op.Op.TheVariants.{Access}
 use Rattle.shared_parts.specs.Parts.{parts_after}
 use Rattle.shared_parts.specs.Shares.{ShareValue}
-use Rattle.step_world.specs.declared.place.Place.TheVariants.{Tagged}
+use Rattle.step_world.specs.declared.thread_state.ThreadState.TheVariants.{Tagged}
 
 -- it has its tag
 pub tagged_turn : (script : ScriptValue) (table : TableId) (i op task cpu addr : ℕ) (tag : Tag) (s met : SeenValue) (worker now : ShareValue Part) → IsResting table s.thread op true worker → op_at script s.thread op ≡ Some (Access task cpu addr)

@@ -18,7 +18,7 @@ use Rattle.script_ops.specs.Values.{ScriptValue}
 use Rattle.script_ops.specs.declared.op.Op.{Op}
 use Rattle.seen_journal.specs.Entries.{list_of}
 use Rattle.shared_parts.specs.Shares.{ShareValue}
-use Rattle.step_world.specs.declared.place.Place.TheVariants.{Looking}
+use Rattle.step_world.specs.declared.thread_state.ThreadState.TheVariants.{Looking}
 use Rattle.tree_law.specs.State.{State}
 use Rattle.tree_law.specs.Steps.{next}
 

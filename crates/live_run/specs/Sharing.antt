@@ -28,8 +28,8 @@ use Rattle.seen_journal.specs.Journals.{JournalValue}
 use Rattle.shared_parts.specs.Parts.{parts_after}
 use Rattle.shared_parts.specs.Shares.{ShareValue}
 use Rattle.shared_parts.specs.Words.{words_for}
-use Rattle.step_world.specs.declared.place.Place.{Place}
-use Rattle.step_world.specs.declared.place.Place.TheVariants.{Looking, Following, Tagged}
+use Rattle.step_world.specs.declared.thread_state.ThreadState.{ThreadState}
+use Rattle.step_world.specs.declared.thread_state.ThreadState.TheVariants.{Looking, Following, Tagged}
 use Rattle.tree_law.specs.declared.follow.Follow.{Follow}
 
 -- how many locks a run has: one for each slice of the greatest machine, and then that of the tree
@@ -67,7 +67,7 @@ pub record IsResting (table : TableId) (t n : ℕ) (begun : Bool) (share : Share
   pub is : IsShareOf table (resting_thread t n begun found ∷ []) share
 
 -- the parts of a thread whose command holds the tree
-abbrev pub holding : List TreeEntry → ℕ → ℕ → Place → List ℕ → List (ℕ × Part)
+abbrev pub holding : List TreeEntry → ℕ → ℕ → ThreadState → List ℕ → List (ℕ × Part)
 holding history t n place found = live_tree history (Some t) ∷ live_thread t n place found ∷ []
 
 -- those of one whose decided command has made so many of all entries that it owes: after the last it has let the tree go

@@ -17,8 +17,8 @@ use Rattle.step_world.proofs.laws.MachineStates.{can_be_is}
 use Rattle.step_world.proofs.laws.StepRows.{step_stale, step_tags, step_touches}
 use Rattle.step_world.specs.Machine.{MachineValue, Tags, TagsAgain, Touches, thread_at}
 use Rattle.step_world.specs.Moments.{progress_by, progress_in}
-use Rattle.step_world.specs.declared.place.Place.TheVariants.{Ready, Tagged}
-use Rattle.step_world.specs.declared.place.Thread.{Thread}
+use Rattle.step_world.specs.declared.thread_state.ThreadState.TheVariants.{Ready, Tagged}
+use Rattle.step_world.specs.declared.thread_state.Thread.{Thread}
 use Rattle.schedule_law.specs.Law.{AgainMayHappen, LabelMayHappen, TouchMayHappen, owed_by_tag}
 use Rattle.schedule_law.specs.Parts.{Again, HappeningValue, IsReached, Label, Touch, slice_part, thread_part, tree_part}
 use Rattle.schedule_law.proofs.StepStates.{Moves-next_state, next_state, Notes-next_state, AreReached-state_after, so_far}
@@ -28,7 +28,7 @@ use Rattle.schedule_law.proofs.PartSets.{HasTurn-op, same_journals, slice_at-par
 pub label_may_happen : (script : ScriptValue) → 0 < script.machine.slices → LabelMayHappen script
 label_may_happen script some t n task cpu addr hs found is at r fit =
     let s = r.state in
-    let v : Thread = record { next = n; place = Ready } in
+    let v : Thread = record { next = n; state = Ready } in
     let e : HappeningValue = Label (tag_of script.machine (tree_after script hs) (length hs) task cpu) in
     let turn = HasTurn-op script some at r t v (Access task cpu addr) found fit.1.0 is in
     let tree = tree-part script at r hs None fit.0 in
@@ -36,8 +36,8 @@ label_may_happen script some t n task cpu addr hs found is at r fit =
     let row : Tags script t task cpu s now = record {
       journals = same_journals e t 0 s refl (λ es. refl);
       holder = refl;
-      moves = Moves-next_state e t 0 s (record { next = (thread_at s t).next; place = Tagged (tag_of script.machine (tree_after script s.journals.tree) (length s.journals.tree) task cpu) }) turn.within
-          (ap (λ (l : List TreeEntryValue). record { next = (thread_at s t).next; place = Tagged (tag_of script.machine (tree_after script l) (length l) task cpu) }) (sym tree.0));
+      moves = Moves-next_state e t 0 s (record { next = (thread_at s t).next; state = Tagged (tag_of script.machine (tree_after script s.journals.tree) (length s.journals.tree) task cpu) }) turn.within
+          (ap (λ (l : List TreeEntryValue). record { next = (thread_at s t).next; state = Tagged (tag_of script.machine (tree_after script l) (length l) task cpu) }) (sym tree.0));
     } in
     AreReached-state_after script some e t 0 (Access task cpu addr) (tree_part hs None ∷ thread_part t v true found ∷ []) at r
     (AreStepParts-tree e t 0 hs None v true found (λ b. refl) (λ es. refl)) turn.is turn.within (inr (λ es. refl))
@@ -45,7 +45,7 @@ label_may_happen script some t n task cpu addr hs found is at r fit =
     (λ op made place _. absurd (let there = row.moves.there in cc))
 
 -- a tag is what the tree of its epoch gives: so the entry pays what is owed by the tag
-owed_by_tag-owed_by_access : (script : ScriptValue) → 0 < script.machine.slices → (s : MachineValue) (t task cpu addr : ℕ) (tag : Tag) → IsReached script s → op_at script t (thread_at s t).next ≡ Some (Access task cpu addr) → (thread_at s t).place ≡ Tagged tag
+owed_by_tag-owed_by_access : (script : ScriptValue) → 0 < script.machine.slices → (s : MachineValue) (t task cpu addr : ℕ) (tag : Tag) → IsReached script s → op_at script t (thread_at s t).next ≡ Some (Access task cpu addr) → (thread_at s t).state ≡ Tagged tag
     → owed_by_tag tag addr ≡ owed_by_access script s.journals.tree tag.epoch task cpu addr
 unfolding owed_by_access
 owed_by_tag-owed_by_access script some s t task cpu addr tag reached is place =
@@ -67,7 +67,7 @@ pub touch_may_happen : (script : ScriptValue) → 0 < script.machine.slices → 
 touch_may_happen script some t n task cpu addr tag list x found is fresh pays low may at r fit =
     let s = r.state in
     let i : ℕ = slice_of_line script.machine tag.domain (line_of addr) in
-    let v : Thread = record { next = n; place = Tagged tag } in
+    let v : Thread = record { next = n; state = Tagged tag } in
     let e : HappeningValue = Touch x in
     let turn = HasTurn-op script some at r t v (Access task cpu addr) found fit.1.0 is in
     let there : slice_at s.journals i ≡ list = slice_at-part script at r i list fit.0 in
@@ -78,7 +78,7 @@ touch_may_happen script some t n task cpu addr tag list x found is fresh pays lo
       pays = record { thread = pays.thread; op = pays.op ∙ sym turn.next; owed = pays.owed ∙ owed_by_tag-owed_by_access script some s t task cpu addr tag r.reached turn.is turn.place };
       notes = Notes-next_state script.machine e x t i s list refl (λ es. refl) there within may;
       holder = refl;
-      moves = Moves-next_state e t i s (record { next = (thread_at s t).next + 1; place = Ready }) turn.within refl;
+      moves = Moves-next_state e t i s (record { next = (thread_at s t).next + 1; state = Ready }) turn.within refl;
     } in
     AreReached-state_after script some e t i (Access task cpu addr) (slice_part i list ∷ thread_part t v true found ∷ []) at r
     (AreStepParts-slice e t i list v true found (λ b. refl) (λ hs holder. (refl, refl))) turn.is turn.within (inl within)
@@ -90,7 +90,7 @@ pub again_may_happen : (script : ScriptValue) → 0 < script.machine.slices → 
 again_may_happen script some t n task cpu addr tag list found is stale at r fit =
     let s = r.state in
     let i : ℕ = slice_of_line script.machine tag.domain (line_of addr) in
-    let v : Thread = record { next = n; place = Tagged tag } in
+    let v : Thread = record { next = n; state = Tagged tag } in
     let e : HappeningValue = Again in
     let turn = HasTurn-op script some at r t v (Access task cpu addr) found fit.1.0 is in
     let there : slice_at s.journals i ≡ list = slice_at-part script at r i list fit.0 in
@@ -98,7 +98,7 @@ again_may_happen script some t n task cpu addr tag list found is stale at r fit 
     let row : TagsAgain t s now = record {
       journals = same_journals e t i s refl (λ es. refl);
       holder = refl;
-      moves = Moves-next_state e t i s (record { next = (thread_at s t).next; place = Ready }) turn.within refl;
+      moves = Moves-next_state e t i s (record { next = (thread_at s t).next; state = Ready }) turn.within refl;
     } in
     AreReached-state_after script some e t i (Access task cpu addr) (slice_part i list ∷ thread_part t v true found ∷ []) at r
     (AreStepParts-slice e t i list v true found (λ b. refl) (λ hs holder. (refl, refl))) turn.is turn.within (inr (λ es. refl))

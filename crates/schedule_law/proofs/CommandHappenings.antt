@@ -13,8 +13,8 @@ use Rattle.step_world.proofs.laws.LookedCounts.{look_looked, looked_given, take_
 use Rattle.step_world.proofs.laws.StepRows.{step_decides, step_follows, step_looks, step_takes}
 use Rattle.step_world.specs.Machine.{Decides, Follows, Looks, MachineValue, Takes, holder_behind, place_behind, thread_at}
 use Rattle.step_world.specs.Looked.{HasLooked}
-use Rattle.step_world.specs.declared.place.Place.TheVariants.{Ready, Looking, Following}
-use Rattle.step_world.specs.declared.place.Thread.{Thread}
+use Rattle.step_world.specs.declared.thread_state.ThreadState.TheVariants.{Ready, Looking, Following}
+use Rattle.step_world.specs.declared.thread_state.Thread.{Thread}
 use Rattle.tree_law.specs.Steps.{needs}
 use Rattle.schedule_law.specs.Law.{DecideMayHappen, FollowMayHappen, LookMayHappen, TakeMayHappen}
 use Rattle.schedule_law.specs.Parts.{Decide, Follow, HappeningValue, Look, Take, found_after, lines_in, slice_part, thread_after, thread_part, tree_part}
@@ -25,7 +25,7 @@ use Rattle.schedule_law.proofs.PartSets.{HasTurn-op, same_journals, same_op, sli
 pub take_may_happen : (script : ScriptValue) → 0 < script.machine.slices → TakeMayHappen script
 take_may_happen script some t n op hs found is command at r fit =
     let s = r.state in
-    let v : Thread = record { next = n; place = Ready } in
+    let v : Thread = record { next = n; state = Ready } in
     let e : HappeningValue = Take t in
     let turn = HasTurn-op script some at r t v op found fit.1.0 is in
     let tree = tree-part script at r hs None fit.0 in
@@ -33,7 +33,7 @@ take_may_happen script some t n op hs found is command at r fit =
     let row : Takes t s now = record {
       journals = same_journals e t 0 s refl (λ es. refl);
       holder = refl;
-      moves = Moves-next_state e t 0 s (record { next = (thread_at s t).next; place = Looking 0 }) turn.within refl;
+      moves = Moves-next_state e t 0 s (record { next = (thread_at s t).next; state = Looking 0 }) turn.within refl;
     } in
     AreReached-state_after script some e t 0 op (tree_part hs None ∷ thread_part t v true found ∷ []) at r
     (AreStepParts-tree e t 0 hs None v true found (λ b. refl) (λ es. refl)) turn.is turn.within (inr (λ es. refl))
@@ -46,7 +46,7 @@ look_may_happen script some t n op hs found job list x is distinct next pays low
     let s = r.state in
     let i : ℕ = job.slice in
     let made : ℕ = length found in
-    let v : Thread = record { next = n; place = Looking made } in
+    let v : Thread = record { next = n; state = Looking made } in
     let e : HappeningValue = Look x in
     let here = thread_at-part script at r t v true found fit.1.1.0 in
     let turn = HasTurn-op script some at r t v op found fit.1.1.0 is in
@@ -64,8 +64,8 @@ look_may_happen script some t n op hs found job list x is distinct next pays low
         notes = Notes-next_state script.machine e x t i s list refl (λ es. refl) there within may;
       };
       holder = refl;
-      moves = Moves-next_state e t i s (record { next = (thread_at s t).next; place = Looking (made + 1) }) turn.within
-          (ap (λ (y : Thread). thread_after e y) here.0 ∙ ap (λ (m : ℕ). record { next = m; place = Looking (made + 1) }) (sym turn.next));
+      moves = Moves-next_state e t i s (record { next = (thread_at s t).next; state = Looking (made + 1) }) turn.within
+          (ap (λ (y : Thread). thread_after e y) here.0 ∙ ap (λ (m : ℕ). record { next = m; state = Looking (made + 1) }) (sym turn.next));
     } in
     AreReached-state_after script some e t i op (slice_part i list ∷ tree_part hs (Some t) ∷ thread_part t v true found ∷ []) at r
     (AreStepParts-both e t i list hs (Some t) v true found (λ b. refl)) turn.is turn.within (inl within)
@@ -80,18 +80,18 @@ look_may_happen script some t n op hs found job list x is distinct next pays low
     (subst (λ l. HasLooked script now t op l) (λ j. sym here.2 j ++ sym lines j ∷ []) more.2))
 
 -- after that it does not look
-place_behind-not_looking : (next made all m : ℕ) → (place_behind next made all).place ≡ Looking m → ⊥
+place_behind-not_looking : (next made all m : ℕ) → (place_behind next made all).state ≡ Looking m → ⊥
 place_behind-not_looking next made all m is = elim (cases_Bool (nat_lt made all)) [
-  | inl h ↦ let there : place_behind next made all ≡ record { next = next; place = Following made } = cond-true (nat_lt made all) (record { next = next; place = Following made }) (record { next = next + 1; place = Ready }) h in cc
-  | inr h ↦ let there : place_behind next made all ≡ record { next = next + 1; place = Ready } = cond-false (nat_lt made all) (record { next = next; place = Following made }) (record { next = next + 1; place = Ready }) h in cc
+  | inl h ↦ let there : place_behind next made all ≡ record { next = next; state = Following made } = cond-true (nat_lt made all) (record { next = next; state = Following made }) (record { next = next + 1; state = Ready }) h in cc
+  | inr h ↦ let there : place_behind next made all ≡ record { next = next + 1; state = Ready } = cond-false (nat_lt made all) (record { next = next; state = Following made }) (record { next = next + 1; state = Ready }) h in cc
 ]
 
 -- where a thread and the holder are after so many entries
 place_behind-last : (n m made all : ℕ) (last : Bool) → last ≡ not (nat_lt made all) → n ≡ m
-    → ((if last then record { next = n + 1; place = Ready } else record { next = n; place = Following made }) ≡ place_behind m made all)
+    → ((if last then record { next = n + 1; state = Ready } else record { next = n; state = Following made }) ≡ place_behind m made all)
 place_behind-last n m made all last is same = elim (cases_Bool (nat_lt made all)) [
-  | inl h ↦ cond-false last (record { next = n + 1; place = Ready }) (record { next = n; place = Following made }) (is ∙ ap not h) ∙ (ap (λ (k : ℕ). record { next = k; place = Following made }) same ∙ sym (cond-true (nat_lt made all) (record { next = m; place = Following made }) (record { next = m + 1; place = Ready }) h))
-  | inr h ↦ cond-true last (record { next = n + 1; place = Ready }) (record { next = n; place = Following made }) (is ∙ ap not h) ∙ (ap (λ (k : ℕ). record { next = k + 1; place = Ready }) same ∙ sym (cond-false (nat_lt made all) (record { next = m; place = Following made }) (record { next = m + 1; place = Ready }) h))
+  | inl h ↦ cond-false last (record { next = n + 1; state = Ready }) (record { next = n; state = Following made }) (is ∙ ap not h) ∙ (ap (λ (k : ℕ). record { next = k; state = Following made }) same ∙ sym (cond-true (nat_lt made all) (record { next = m; state = Following made }) (record { next = m + 1; state = Ready }) h))
+  | inr h ↦ cond-true last (record { next = n + 1; state = Ready }) (record { next = n; state = Following made }) (is ∙ ap not h) ∙ (ap (λ (k : ℕ). record { next = k + 1; state = Ready }) same ∙ sym (cond-false (nat_lt made all) (record { next = m; state = Following made }) (record { next = m + 1; state = Ready }) h))
 ]
 
 holder_behind-last : (t made all : ℕ) (last : Bool) → last ≡ not (nat_lt made all) → (if last then None else Some t) ≡ holder_behind t made all
@@ -105,7 +105,7 @@ pub decide_may_happen : (script : ScriptValue) → 0 < script.machine.slices →
 decide_may_happen script some t n op hs found h last is looked thread number may all count each ends at r fit =
     let s = r.state in
     let made : ℕ = length found in
-    let v : Thread = record { next = n; place = Looking made } in
+    let v : Thread = record { next = n; state = Looking made } in
     let e : HappeningValue = Decide h last made in
     let here = thread_at-part script at r t v true found fit.1.0 in
     let turn = HasTurn-op script some at r t v op found fit.1.0 is in
@@ -130,14 +130,14 @@ decide_may_happen script some t n op hs found h last is looked thread number may
     AreReached-state_after script some e t 0 op (tree_part hs (Some t) ∷ thread_part t v true found ∷ []) at r
     (AreStepParts-tree e t 0 hs (Some t) v true found (λ b. refl) (λ es. refl)) turn.is turn.within (inr (λ es. refl))
     (step_decides script t made op s now turn.phase turn.is turn.place (subst (λ (l : List TreeEntryValue). length (looks_of script l (length l) op) ≤ made) (sym tree.0) looked) row)
-    (λ other m place is_other. absurd (place_behind-not_looking (thread_at s t).next made jobs m (ap (λ (y : Thread). y.place) (sym row.moves.there) ∙ place)))
+    (λ other m place is_other. absurd (place_behind-not_looking (thread_at s t).next made jobs m (ap (λ (y : Thread). y.state) (sym row.moves.there) ∙ place)))
 
 -- what follows it is done
 pub follow_may_happen : (script : ScriptValue) → 0 < script.machine.slices → FollowMayHappen script
 follow_may_happen script some t n made position op hs job list x last found is decided next pays low may ends at r fit =
     let s = r.state in
     let i : ℕ = job.slice in
-    let v : Thread = record { next = n; place = Following made } in
+    let v : Thread = record { next = n; state = Following made } in
     let e : HappeningValue = Follow x last in
     let here = thread_at-part script at r t v true found fit.1.1.0 in
     let turn = HasTurn-op script some at r t v op found fit.1.1.0 is in
@@ -164,4 +164,4 @@ follow_may_happen script some t n made position op hs job list x last found is d
     AreReached-state_after script some e t i op (slice_part i list ∷ tree_part hs (Some t) ∷ thread_part t v true found ∷ []) at r
     (AreStepParts-both e t i list hs (Some t) v true found (λ b. refl)) turn.is turn.within (inl within)
     (step_follows script t made op s now turn.phase turn.is turn.place row)
-    (λ other m place is_other. absurd (place_behind-not_looking (thread_at s t).next (made + 1) jobs m (ap (λ (y : Thread). y.place) (sym row.moves.there) ∙ place)))
+    (λ other m place is_other. absurd (place_behind-not_looking (thread_at s t).next (made + 1) jobs m (ap (λ (y : Thread). y.state) (sym row.moves.there) ∙ place)))

@@ -9,7 +9,7 @@ use Rattle.run_law.specs.Entries.{entry_value}
 use Rattle.run_law.specs.Growth.{tag_of}
 use Rattle.run_law.specs.TreeHistory.{tree_after}
 use Rattle.script_ops.specs.Values.{ScriptValue}
-use Rattle.step_world.specs.declared.place.Place.TheVariants.{Ready, Tagged}
+use Rattle.step_world.specs.declared.thread_state.ThreadState.TheVariants.{Ready, Tagged}
 use Rattle.schedule_law.specs.LiveParts.{after, live_slice, live_thread, live_tree, reached}
 use Rattle.schedule_law.specs.LiveSteps.{MayTag, MayTagAgain, MayTouch, values}
 use Rattle.schedule_law.specs.Parts as p
@@ -29,7 +29,7 @@ tag_happens script tree worker tag may =
     let its : tag ≡ tag_of script.machine (tree_after script (values may.history)) (length (values may.history)) may.task may.cpu =
     may.tag_is ∙ ap (λ n. tag_of script.machine (tree_after script (values may.history)) n may.task may.cpu) (sym (length-map may.history entry_value)) in
     MayHappen-both script (happenings.Label tag) tree worker (live_tree may.history None ∷ []) (live_thread may.t may.n Ready may.found ∷ []) may.tree_is may.worker_is
-    (subst (λ x. MayHappen (AreReached script) part_after (p.Label x) (tree_part (values may.history) None ∷ thread_part may.t (record { next = may.n; place = Ready }) true may.found ∷ [])) (sym its)
+    (subst (λ x. MayHappen (AreReached script) part_after (p.Label x) (tree_part (values may.history) None ∷ thread_part may.t (record { next = may.n; state = Ready }) true may.found ∷ [])) (sym its)
     (label_may_happen script may.some may.t may.n may.task may.cpu may.addr (values may.history) may.found may.is))
 
 -- it touches

@@ -15,7 +15,7 @@ use Rattle.run_law.specs.Owed.{undecided}
 use Rattle.run_law.specs.TreeHistory.{TreeEntryValue}
 use Rattle.run_law.specs.declared.journals.TreeEntry.{TreeEntry}
 use Rattle.script_ops.specs.Values.{ScriptValue}
-use Rattle.step_world.specs.declared.place.Place.TheVariants.{Ready, Looking, Following}
+use Rattle.step_world.specs.declared.thread_state.ThreadState.TheVariants.{Ready, Looking, Following}
 use Rattle.schedule_law.specs.LiveParts.{after, live_slice, live_thread, live_tree, reached, resting_thread}
 use Rattle.schedule_law.specs.LiveSteps.{MayDecide, MayFollow, MayLetGo, MayLook, MayTake, values}
 use Rattle.schedule_law.specs.Parts as p
@@ -28,7 +28,7 @@ use Rattle.schedule_law.proofs.LivePlaces.{last_may_follow}
 use Rattle.shared_parts.specs.Parts.{AreApart, MayHappen, first_of, rest_of}
 use Rattle.schedule_law.proofs.LiveApart.{AreApart-three, AreApart-two}
 use Rattle.schedule_law.proofs.PartNumbers.{thread_not_slice, thread_not_tree, tree_not_slice}
-use Rattle.step_world.specs.declared.place.Place.{Place}
+use Rattle.step_world.specs.declared.thread_state.ThreadState.{ThreadState}
 
 -- it takes the tree
 pub take_happens : (script : ScriptValue) (tree worker : List (ℕ × Part)) (t : ℕ) → MayTake script tree worker t → MayHappen (reached script) after (happenings.Take t) (tree ++ worker)
@@ -58,7 +58,7 @@ decide_happens script worker h last made may =
     may.ends ∙ (ap (λ n. not (nat_lt made (length (jobs_of script hs n may.op)))) (sym (length-map may.history entry_value)) ∙ ap (λ n. not (nat_lt n (length (jobs_of script hs (length hs) may.op)))) may.made_is) in
     subst (λ l. MayHappen (reached script) after (happenings.Decide h last made) l) (sym may.worker_is)
     (MayHappen-live script (happenings.Decide h last made) (live_tree may.history (Some h.thread) ∷ live_thread h.thread h.op (Looking made) may.found ∷ [])
-    (subst (λ n. MayHappen (AreReached script) part_after (p.Decide (entry_value h) last n) (tree_part hs (Some h.thread) ∷ thread_part h.thread (record { next = h.op; place = Looking n }) true may.found ∷ [])) (sym may.made_is)
+    (subst (λ n. MayHappen (AreReached script) part_after (p.Decide (entry_value h) last n) (tree_part hs (Some h.thread) ∷ thread_part h.thread (record { next = h.op; state = Looking n }) true may.found ∷ [])) (sym may.made_is)
     (decide_may_happen script may.some h.thread h.op may.op hs may.found (entry_value h) last may.is many refl refl may.may (sym may.made_is ∙ may.all) may.count may.each ends)))
 
 -- what follows it is done
@@ -72,7 +72,7 @@ follow_happens script slice worker e last may =
 -- ---- the parts at hand are apart
 
 -- those of a slice, and of a thread that holds the tree
-slice_apart : (i t n : ℕ) (slice worker : List (ℕ × Part)) (list : List SliceEntry) (history : List TreeEntry) (place : Place) (found : List ℕ) → slice ≡ live_slice i list ∷ []
+slice_apart : (i t n : ℕ) (slice worker : List (ℕ × Part)) (list : List SliceEntry) (history : List TreeEntry) (place : ThreadState) (found : List ℕ) → slice ≡ live_slice i list ∷ []
     → worker ≡ live_tree history (Some t) ∷ live_thread t n place found ∷ [] → AreApart slice worker
 slice_apart i t n slice worker list history place found is are =
     by_parts AreApart slice worker (live_slice i list ∷ []) (live_tree history (Some t) ∷ live_thread t n place found ∷ []) is are

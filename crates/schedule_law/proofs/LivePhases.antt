@@ -1,7 +1,7 @@
 -- The steps of phases may happen to the parts at hand.
 use Rattle.std.proofs.Common.{◌≡◌, ℕ, Bool, List, [], ◌∷◌, ◌++◌, length, refl, sym, subst}
 use Rattle.script_ops.specs.Values.{ScriptValue, ops_of}
-use Rattle.step_world.specs.declared.place.Place.TheVariants.{Ready}
+use Rattle.step_world.specs.declared.thread_state.ThreadState.TheVariants.{Ready}
 use Rattle.schedule_law.specs.LiveParts.{after, live_phase, reached, resting_thread}
 use Rattle.schedule_law.specs.LiveSteps.{MayBegin, MayEnd, MayPass}
 use Rattle.schedule_law.specs.declared.part.Part.{Part}
@@ -16,13 +16,13 @@ use Rattle.schedule_law.proofs.PartNumbers.{thread_not_phase}
 pub begin_happens : (script : ScriptValue) (phase worker : List (ℕ × Part)) → MayBegin script phase worker → MayHappen (reached script) after happenings.Begin (phase ++ worker)
 begin_happens script phase worker may =
     MayHappen-both script happenings.Begin phase worker (live_phase may.p may.ended ∷ []) (resting_thread may.t may.n may.begun may.found ∷ []) may.phase_is may.worker_is
-    (begin_may_happen script may.p may.ended may.t (record { next = may.n; place = Ready }) may.begun may.found may.low)
+    (begin_may_happen script may.p may.ended may.t (record { next = may.n; state = Ready }) may.begun may.found may.low)
 
 -- a thread is at its end
 pub end_happens : (script : ScriptValue) (phase worker : List (ℕ × Part)) → MayEnd script phase worker → MayHappen (reached script) after happenings.End (phase ++ worker)
 end_happens script phase worker may =
     MayHappen-both script happenings.End phase worker (live_phase may.p may.t ∷ []) (resting_thread may.t (length (ops_of script may.t)) may.begun may.found ∷ []) may.phase_is may.worker_is
-    (end_may_happen script may.p may.t (record { next = length (ops_of script may.t); place = Ready }) may.begun may.found (refl, refl))
+    (end_may_happen script may.p may.t (record { next = length (ops_of script may.t); state = Ready }) may.begun may.found (refl, refl))
 
 -- the next phase begins
 pub pass_happens : (script : ScriptValue) (phase : List (ℕ × Part)) → MayPass script phase → MayHappen (reached script) after happenings.Pass phase

@@ -12,7 +12,7 @@ use Rattle.run_law.specs.TreeHistory.{TreeEntryValue}
 use Rattle.script_ops.specs.Values.{ScriptValue, op_at, threads_of}
 use Rattle.script_ops.specs.declared.op.Op.{Op}
 use Rattle.step_world.specs.Machine.{MachineValue, thread_at}
-use Rattle.step_world.specs.declared.place.Thread.{Thread}
+use Rattle.step_world.specs.declared.thread_state.Thread.{Thread}
 use Rattle.schedule_law.specs.Parts.{AreReached, HappeningValue, PartValue, Slice, Tree, Worker, begun_after, history_after, holder_after, number_of_slice, number_of_thread, list_after, slice_part, thread_part, tree_part}
 use Rattle.schedule_law.proofs.PartNumbers.{slice_not_phase, slice_not_thread, slice_not_tree, slice_same, thread_not_phase, thread_not_slice, thread_same, tree_not_slice, tree_not_thread}
 use Rattle.shared_parts.proofs.laws.Parts.{has-first, has-later}
@@ -95,7 +95,7 @@ pub record HasTurn (script : ScriptValue) (s : MachineValue) (t : ℕ) (v : Thre
   pub within : t < length s.threads
   pub phase : phase_in script.phases t ≡ s.phase
   pub is : op_at script t (thread_at s t).next ≡ Some op
-  pub place : (thread_at s t).place ≡ v.place
+  pub place : (thread_at s t).state ≡ v.state
   pub next : (thread_at s t).next ≡ v.next
 
 pub HasTurn-op : (script : ScriptValue) → 0 < script.machine.slices → (at : ℕ → PartValue) (r : AreReached script at) (t : ℕ) (v : Thread) (op : Op) (f : List ℕ) → at (number_of_thread t) ≡ Worker v true f → op_at script t v.next ≡ Some op → HasTurn script r.state t v op
@@ -106,7 +106,7 @@ HasTurn-op script some at r t v op f fit is =
       within = subst (λ n. t < n) (sym r.count) (thread_within (threads_of script) t v.next (subst (λ (o : Option Op). IsSome o) (sym is) refl));
       phase = phase_in-present script some r.state t op r.reached op_is (r.begins t here.1);
       is = op_is;
-      place = ap (λ (x : Thread). x.place) here.0;
+      place = ap (λ (x : Thread). x.state) here.0;
       next = ap (λ (x : Thread). x.next) here.0;
     }
 

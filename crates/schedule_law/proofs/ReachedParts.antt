@@ -9,7 +9,7 @@ use Rattle.script_ops.specs.Values.{ScriptValue, threads_of}
 use Rattle.run_law.specs.Quotas.{room_of}
 use Rattle.step_world.proofs.laws.EntryRooms.{entries-few}
 use Rattle.step_world.specs.Machine.{MachineValue, opening_thread, thread_at}
-use Rattle.step_world.specs.declared.place.Thread.{Thread}
+use Rattle.step_world.specs.declared.thread_state.Thread.{Thread}
 use Rattle.schedule_law.specs.Law.{SlicesHaveRoom, StatesClose, StatesOpen}
 use Rattle.schedule_law.specs.Parts.{AreReached, PartValue, Phase, Slice, Tree, Worker, number_of_slice, number_of_thread, slice_parts, thread_parts}
 use Rattle.schedule_law.proofs.StepStates.{so_far}

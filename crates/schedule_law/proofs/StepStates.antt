@@ -21,9 +21,9 @@ use Rattle.step_world.specs.Looked.{HasLooked}
 use Rattle.step_world.proofs.laws.StepRows.{moves_set}
 use Rattle.step_world.specs.Machine.{HasEnded, MachineValue, Moves, Notes, Step, Steps, opening_thread, thread_at}
 use Rattle.step_world.specs.Moments.{IsRunSoFar, progress_by}
-use Rattle.step_world.specs.declared.place.Place.{Place}
-use Rattle.step_world.specs.declared.place.Place.TheVariants.{Ready, Looking, Following, Tagged}
-use Rattle.step_world.specs.declared.place.Thread.{Thread}
+use Rattle.step_world.specs.declared.thread_state.ThreadState.{ThreadState}
+use Rattle.step_world.specs.declared.thread_state.ThreadState.TheVariants.{Ready, Looking, Following, Tagged}
+use Rattle.step_world.specs.declared.thread_state.Thread.{Thread}
 use Rattle.schedule_law.specs.Parts.{AreReached, HappeningValue, IsReached, PartValue, Slice, Tree, Worker, begun_after, found_after, history_after, holder_after, number_of_slice, number_of_thread, list_after, part_after, thread_after}
 use Rattle.shared_parts.proofs.laws.Parts.{state_after-else, state_after-there}
 use Rattle.shared_parts.specs.Parts.{has, state_after}
@@ -58,7 +58,7 @@ same_slices e i s id = ap (λ l. set s.journals.slices i l) (id (slice_at s.jour
 -- where the machine takes that step, the parts after it are those of a state that is reached
 pub AreReached-state_after : (script : ScriptValue) → 0 < script.machine.slices → (e : HappeningValue) (t i : ℕ) (op : Op) (xs : List (ℕ × PartValue)) (at : ℕ → PartValue) (r : AreReached script at) → AreStepParts e t i xs
     → op_at script t (thread_at r.state t).next ≡ Some op → t < length r.state.threads → ((i < length r.state.journals.slices) ⊎ ((es : List SliceEntry) → list_after e es ≡ es)) → Steps script t r.state (next_state e t i r.state)
-    → ((op : Op) (made : ℕ) → (thread_at (next_state e t i r.state) t).place ≡ Looking made → op_at script t (thread_at (next_state e t i r.state) t).next ≡ Some op → HasLooked script (next_state e t i r.state) t op (found_after e (r.found t)))
+    → ((op : Op) (made : ℕ) → (thread_at (next_state e t i r.state) t).state ≡ Looking made → op_at script t (thread_at (next_state e t i r.state) t).next ≡ Some op → HasLooked script (next_state e t i r.state) t op (found_after e (r.found t)))
     → AreReached script (state_after part_after e xs at)
 AreReached-state_after script some e t i op xs at r of is there within step own =
     let s = r.state in
@@ -129,17 +129,17 @@ AreReached-state_after script some e t i op xs at r of is there within step own 
           elim (cases_Bool (t == u)) [
             | inl same ↦
                 subst (λ l. HasLooked script now u its l) (sym (cond-true (t == u) (found_after e (r.found u)) (r.found u) same))
-                (subst (λ n. (thread_at now n).place ≡ Looking made → op_at script n (thread_at now n).next ≡ Some its → HasLooked script now n its (found_after e (r.found n))) (eqb-true t u same) (own its made) place is_its)
+                (subst (λ n. (thread_at now n).state ≡ Looking made → op_at script n (thread_at now n).next ≡ Some its → HasLooked script now n its (found_after e (r.found n))) (eqb-true t u same) (own its made) place is_its)
             | inr other ↦
                 let now_at : thread_at now u ≡ thread_at s u = get_or-set_other s.threads t u (thread_after e (thread_at s t)) opening_thread (λ same. eqb-false t u other (sym same)) in
                 subst (λ l. HasLooked script now u its l) (sym (cond-false (t == u) (found_after e (r.found u)) (r.found u) other))
                 (others_looked script u t its s now (r.found u) (λ same. eqb-false t u other (sym same)) (so_far script s some r.reached) step
-                (r.looked u made its (sym (ap (λ (x : Thread). x.place) now_at) ∙ place) (sym (ap (λ (x : Thread). op_at script u x.next) now_at) ∙ is_its)))
+                (r.looked u made its (sym (ap (λ (x : Thread). x.state) now_at) ∙ place) (sym (ap (λ (x : Thread). op_at script u x.next) now_at) ∙ is_its)))
           ];
     }
 
 -- how many ops a thread has done
-next-progress_by : (next : ℕ) (place : Place) → (progress_by next place).next ≡ next
+next-progress_by : (next : ℕ) (place : ThreadState) → (progress_by next place).next ≡ next
 next-progress_by next Ready = refl
 next-progress_by next (Looking made) = refl
 next-progress_by next (Following made) = refl
@@ -151,7 +151,7 @@ phase_in-present script some s t op reached is low = elim (cases_lt (phase_in sc
   | inl before ↦
       let (all, can) = some_can_be s s.holder in
       let ended = ((so_far script s some reached).kept all can).in_phase.earlier t before in
-      let number : (thread_at s t).next ≡ length (ops_of script t) = sym (next-progress_by (thread_at s t).next (thread_at s t).place) ∙ ap (λ (p : Progress). p.next) ended in
+      let number : (thread_at s t).next ≡ length (ops_of script t) = sym (next-progress_by (thread_at s t).next (thread_at s t).state) ∙ ap (λ (p : Progress). p.next) ended in
       let within : (thread_at s t).next < length (ops_of script t) = slice_get_within (ops_of script t) (thread_at s t).next op is in
       absurd (omega (arith, number, within))
   | inr at ↦ omega (arith, low, at)

@@ -18,12 +18,12 @@ use Rattle.run_law.specs.TreeHistory.{CommandMayFollow, TreeEntryValue, tree_aft
 use Rattle.script_ops.specs.Values.{IsLawful, ScriptValue, op_at}
 use Rattle.script_ops.specs.declared.op.Op.{Op}
 use Rattle.script_ops.specs.declared.op.Op.TheVariants.{Access}
-use Rattle.step_world.specs.declared.place.Place.TheVariants.{Ready, Looking, Following, Tagged}
+use Rattle.step_world.specs.declared.thread_state.ThreadState.TheVariants.{Ready, Looking, Following, Tagged}
 use Rattle.tree_law.specs.Steps.{needs}
 use Rattle.schedule_law.specs.Parts.{Again, AreReached, Begin, Decide, End, Follow, Label, Look, PartValue, Pass, Take, Touch, opening_parts, part_after, phase_part, slice_part, thread_part, tree_part}
 use Rattle.schedule_law.specs.Schedules.{IsScheduled}
 use Rattle.step_world.specs.Machine.{HasEnded}
-use Rattle.step_world.specs.declared.place.Thread.{Thread}
+use Rattle.step_world.specs.declared.thread_state.Thread.{Thread}
 use Rattle.shared_parts.specs.Parts.{Fits, MayHappen}
 
 -- what an access of an address owes by its tag
@@ -34,7 +34,7 @@ owed_by_tag tag addr = record { epoch = tag.epoch; what = whats.Access false 0 t
 abbrev pub TakeMayHappen : ScriptValue → Type 0
 TakeMayHappen script =
     (t n : ℕ) (op : Op) (history : List TreeEntryValue) (found : List ℕ) → op_at script t n ≡ Some op → IsTrue (is_command op)
-    → MayHappen (AreReached script) part_after (Take t) (tree_part history None ∷ thread_part t (record { next = n; place = Ready }) true found ∷ [])
+    → MayHappen (AreReached script) part_after (Take t) (tree_part history None ∷ thread_part t (record { next = n; state = Ready }) true found ∷ [])
 
 -- its next look counts what is in a slice
 abbrev pub LookMayHappen : ScriptValue → Type 0
@@ -43,7 +43,7 @@ LookMayHappen script =
     → op_at script t n ≡ Some op → AreDistinct (pairs_for script history op) → At (looks_of script history (length history) op) (length found) job → PaysJob t n job e
     → job.slice < slice_count script.machine → EntryMayFollow (shape_in script.machine job.slice) list e
     → MayHappen (AreReached script) part_after (Look e)
-    (slice_part job.slice list ∷ tree_part history (Some t) ∷ thread_part t (record { next = n; place = Looking (length found) }) true found ∷ [])
+    (slice_part job.slice list ∷ tree_part history (Some t) ∷ thread_part t (record { next = n; state = Looking (length found) }) true found ∷ [])
 
 -- it has looked, and is decided, with the sums of what its looks found
 abbrev pub DecideMayHappen : ScriptValue → Type 0
@@ -56,7 +56,7 @@ DecideMayHappen script =
     → ((q : ℕ) → q < length (needs script.machine (tree_after script history) op) → slice_get h.looks q ≡ Some (found_at script.machine.slices found q script.machine.slices))
     → last ≡ not (nat_lt (length found) (length (jobs_of script history (length history) op)))
     → MayHappen (AreReached script) part_after (Decide h last (length found))
-    (tree_part history (Some t) ∷ thread_part t (record { next = n; place = Looking (length found) }) true found ∷ [])
+    (tree_part history (Some t) ∷ thread_part t (record { next = n; state = Looking (length found) }) true found ∷ [])
 
 -- what follows it is done in a slice
 abbrev pub FollowMayHappen : ScriptValue → Type 0
@@ -66,14 +66,14 @@ FollowMayHappen script =
     → job.slice < slice_count script.machine → EntryMayFollow (shape_in script.machine job.slice) list e
     → last ≡ not (nat_lt (made + 1) (length (jobs_of script history position op)))
     → MayHappen (AreReached script) part_after (Follow e last)
-    (slice_part job.slice list ∷ tree_part history (Some t) ∷ thread_part t (record { next = n; place = Following made }) true found ∷ [])
+    (slice_part job.slice list ∷ tree_part history (Some t) ∷ thread_part t (record { next = n; state = Following made }) true found ∷ [])
 
 -- the tree is free: an access learns its tag
 abbrev pub LabelMayHappen : ScriptValue → Type 0
 LabelMayHappen script =
     (t n task cpu addr : ℕ) (history : List TreeEntryValue) (found : List ℕ) → op_at script t n ≡ Some (Access task cpu addr)
     → MayHappen (AreReached script) part_after (Label (tag_of script.machine (tree_after script history) (length history) task cpu))
-    (tree_part history None ∷ thread_part t (record { next = n; place = Ready }) true found ∷ [])
+    (tree_part history None ∷ thread_part t (record { next = n; state = Ready }) true found ∷ [])
 
 -- its tag is fresh: it touches, and the thread has no part of the tree
 abbrev pub TouchMayHappen : ScriptValue → Type 0
@@ -84,7 +84,7 @@ TouchMayHappen script =
     → slice_of_line script.machine tag.domain (line_of addr) < slice_count script.machine
     → EntryMayFollow (shape_in script.machine (slice_of_line script.machine tag.domain (line_of addr))) list e
     → MayHappen (AreReached script) part_after (Touch e)
-    (slice_part (slice_of_line script.machine tag.domain (line_of addr)) list ∷ thread_part t (record { next = n; place = Tagged tag }) true found ∷ [])
+    (slice_part (slice_of_line script.machine tag.domain (line_of addr)) list ∷ thread_part t (record { next = n; state = Tagged tag }) true found ∷ [])
 
 -- its tag is stale: it is to tag again
 abbrev pub AgainMayHappen : ScriptValue → Type 0
@@ -92,7 +92,7 @@ AgainMayHappen script =
     (t n task cpu addr : ℕ) (tag : Tag) (list : List SliceEntry) (found : List ℕ)
     → op_at script t n ≡ Some (Access task cpu addr) → tag.epoch < floor_of list
     → MayHappen (AreReached script) part_after Again
-    (slice_part (slice_of_line script.machine tag.domain (line_of addr)) list ∷ thread_part t (record { next = n; place = Tagged tag }) true found ∷ [])
+    (slice_part (slice_of_line script.machine tag.domain (line_of addr)) list ∷ thread_part t (record { next = n; state = Tagged tag }) true found ∷ [])
 
 -- the phase of a thread is found to have begun
 abbrev pub BeginMayHappen : ScriptValue → Type 0

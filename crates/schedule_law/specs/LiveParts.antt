@@ -6,8 +6,8 @@ use Rattle.run_law.specs.Entries.{entry_value}
 use Rattle.run_law.specs.declared.journals.TreeEntry.{TreeEntry}
 use Rattle.script_ops.specs.Values.{ScriptValue, threads_of}
 use Rattle.step_world.specs.Machine.{opening_thread}
-use Rattle.step_world.specs.declared.place.Place.{Place}
-use Rattle.step_world.specs.declared.place.Place.TheVariants.{Ready}
+use Rattle.step_world.specs.declared.thread_state.ThreadState.{ThreadState}
+use Rattle.step_world.specs.declared.thread_state.ThreadState.TheVariants.{Ready}
 use Rattle.schedule_law.specs.Parts as p
 use Rattle.schedule_law.specs.Schedules.{IsScheduled}
 use Rattle.schedule_law.specs.Parts.{AreReached, begun_after, ended_after, found_after, holder_after, number_of_slice, number_of_thread, list_after, phase_after, thread_after}
@@ -63,12 +63,12 @@ abbrev pub live_slice : ℕ → List SliceEntry → ℕ × Part
 live_slice i list = (number_of_slice i, parts.Slice list)
 
 -- a thread in its op `next`, whose phase has begun
-abbrev pub live_thread : ℕ → ℕ → Place → List ℕ → ℕ × Part
-live_thread t next place found = (number_of_thread t, parts.Worker (record { next = next; place = place }) true found)
+abbrev pub live_thread : ℕ → ℕ → ThreadState → List ℕ → ℕ × Part
+live_thread t next place found = (number_of_thread t, parts.Worker (record { next = next; state = place }) true found)
 
 -- a thread between two of its ops, whose phase may have begun
 abbrev pub resting_thread : ℕ → ℕ → Bool → List ℕ → ℕ × Part
-resting_thread t next begun found = (number_of_thread t, parts.Worker (record { next = next; place = Ready }) begun found)
+resting_thread t next begun found = (number_of_thread t, parts.Worker (record { next = next; state = Ready }) begun found)
 
 -- ---- the start and the end
 

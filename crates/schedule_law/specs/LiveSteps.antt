@@ -19,7 +19,7 @@ use Rattle.run_law.specs.declared.journals.TreeEntry.{TreeEntry}
 use Rattle.script_ops.specs.Values.{ScriptValue, op_at, ops_of}
 use Rattle.script_ops.specs.declared.op.Op.{Op}
 use Rattle.script_ops.specs.declared.op.Op.TheVariants.{Access}
-use Rattle.step_world.specs.declared.place.Place.TheVariants.{Ready, Looking, Following, Tagged}
+use Rattle.step_world.specs.declared.thread_state.ThreadState.TheVariants.{Ready, Looking, Following, Tagged}
 use Rattle.tree_law.specs.Steps.{needs}
 use Rattle.schedule_law.specs.Law.{owed_by_tag}
 use Rattle.schedule_law.specs.LiveParts.{live_phase, live_slice, live_thread, live_tree, resting_thread}

@@ -12,9 +12,9 @@ use Rattle.script_ops.specs.Values.{ScriptValue, op_at, threads_of}
 use Rattle.script_ops.specs.declared.op.Op.{Op}
 use Rattle.step_world.specs.Looked.{HasLooked}
 use Rattle.step_world.specs.Machine.{Event, HasEnded, IsOpening, MachineValue, Plays, opening_thread, thread_at}
-use Rattle.step_world.specs.declared.place.Place.{Place}
-use Rattle.step_world.specs.declared.place.Place.TheVariants.{Ready, Looking, Following, Tagged}
-use Rattle.step_world.specs.declared.place.Thread.{Thread}
+use Rattle.step_world.specs.declared.thread_state.ThreadState.{ThreadState}
+use Rattle.step_world.specs.declared.thread_state.ThreadState.TheVariants.{Ready, Looking, Following, Tagged}
+use Rattle.step_world.specs.declared.thread_state.Thread.{Thread}
 
 -- a part of the machine's state
 pub data PartValue : Type 0 where
@@ -65,18 +65,18 @@ pub record AreReached (script : ScriptValue) (at : ℕ → PartValue) : Type 0 w
   pub threads : (t : ℕ) → at (number_of_thread t) ≡ Worker (thread_at state t) (begun t) (found t)
   pub begins : (t : ℕ) → begun t ≡ true → phase_in script.phases t ≤ state.phase
   pub ends : (t : ℕ) → t < ended → HasEnded script t (thread_at state t)
-  pub looked : (t made : ℕ) (op : Op) → (thread_at state t).place ≡ Looking made → op_at script t (thread_at state t).next ≡ Some op → HasLooked script state t op (found t)
+  pub looked : (t made : ℕ) (op : Op) → (thread_at state t).state ≡ Looking made → op_at script t (thread_at state t).next ≡ Some op → HasLooked script state t op (found t)
 
 -- ---- what happens to a part
 
-abbrev pub moved : Thread → Place → Thread
-moved v place = record { next = v.next; place = place }
+abbrev pub moved : Thread → ThreadState → Thread
+moved v place = record { next = v.next; state = place }
 
 abbrev pub done : Thread → Thread
-done v = record { next = v.next + 1; place = Ready }
+done v = record { next = v.next + 1; state = Ready }
 
 -- a thread has made one entry more
-abbrev pub one_more : Place → Place
+abbrev pub one_more : ThreadState → ThreadState
 one_more Ready = Ready
 one_more (Looking made) = Looking (made + 1)
 one_more (Following made) = Following (made + 1)
@@ -84,9 +84,9 @@ one_more (Tagged tag) = Tagged tag
 
 abbrev pub thread_after : HappeningValue → Thread → Thread
 thread_after (Take t) v = moved v (Looking 0)
-thread_after (Look e) v = moved v (one_more v.place)
+thread_after (Look e) v = moved v (one_more v.state)
 thread_after (Decide h last made) v = if last then done v else moved v (Following made)
-thread_after (Follow e last) v = if last then done v else moved v (one_more v.place)
+thread_after (Follow e last) v = if last then done v else moved v (one_more v.state)
 thread_after (Label tag) v = moved v (Tagged tag)
 thread_after (Touch e) v = done v
 thread_after Again v = moved v Ready

@@ -3,7 +3,7 @@ use cache_core::SliceEntry;
 use rc_base::Tag;
 use run_law::TreeEntry;
 use std::collections::LinkedList;
-use step_world::place::Thread;
+use step_world::thread_state::Thread;
 
 /// A part of the machine's state. No value of it is made: only proofs see it.
 pub enum Part {

@@ -24,9 +24,9 @@ use Rattle.step_world.proofs.laws.EntryRooms.{found}
 use Rattle.step_world.proofs.laws.MachineStates.{at_can_be}
 use Rattle.step_world.specs.Machine.{MachineValue, thread_at}
 use Rattle.step_world.specs.Moments.{IsRunSoFar, progress_by, progress_in}
-use Rattle.step_world.specs.declared.place.Place.TheVariants.{Looking}
+use Rattle.step_world.specs.declared.thread_state.ThreadState.TheVariants.{Looking}
 
-module _ (script : ScriptValue) (s : MachineValue) (t made : ℕ) (op : Op) (so_far : IsRunSoFar script s) (place : (thread_at s t).place ≡ Looking made) (is : op_at script t (thread_at s t).next ≡ Some op) where
+module _ (script : ScriptValue) (s : MachineValue) (t made : ℕ) (op : Op) (so_far : IsRunSoFar script s) (place : (thread_at s t).state ≡ Looking made) (is : op_at script t (thread_at s t).next ≡ Some op) where
   -- the command as it will be in the tree's history, whatever its reply
   abbrev claim : TreeEntryValue
   claim = record { thread = t; op = (thread_at s t).next; reply = replies.Ok; looks = [] }

@@ -24,9 +24,9 @@ use Rattle.step_world.proofs.laws.MachineStates.{at_can_be, can_be_at, can_be_tr
 use Rattle.run_law.proofs.laws.FreeTrees.{idle}
 use Rattle.run_law.specs.Jobs.{Job, follows_of, jobs_of, looks_of}
 use Rattle.step_world.specs.Machine.{Decides, Moves, Follows, MachineValue, thread_at}
-use Rattle.step_world.specs.declared.place.Place.{Place}
-use Rattle.step_world.specs.declared.place.Place.TheVariants.{Ready, Looking, Following, Tagged}
-use Rattle.step_world.specs.declared.place.Thread.{Thread}
+use Rattle.step_world.specs.declared.thread_state.ThreadState.{ThreadState}
+use Rattle.step_world.specs.declared.thread_state.ThreadState.TheVariants.{Ready, Looking, Following, Tagged}
+use Rattle.step_world.specs.declared.thread_state.Thread.{Thread}
 use Rattle.run_law.specs.Growth.{AreLegal, IsKept}
 use Rattle.run_law.specs.Progress.{Progress, moved}
 use Rattle.step_world.specs.Moments.{IsRunSoFar, progress_by, progress_in}
@@ -36,7 +36,7 @@ use Rattle.step_world.proofs.StepParts.{place_of, IsHeldBy-held, IsHeldBy-free, 
 
 -- one follow-up more
 pub follow_step : (script : ScriptValue) (t made : ℕ) (op : Op) (old new : MachineValue) → 0 < script.machine.slices → phase_in script.phases t ≡ old.phase → op_at script t (thread_at old t).next ≡ Some op
-    → (thread_at old t).place ≡ Following made → Follows script t made op old new → IsRunSoFar script old → IsRunSoFar script new
+    → (thread_at old t).state ≡ Following made → Follows script t made op old new → IsRunSoFar script old → IsRunSoFar script new
 follow_step script t made op old new some here is_op place follows so_far =
     let n : ℕ = (thread_at old t).next in
     let jobs : List Job = jobs_of script old.journals.tree follows.position op in
@@ -64,7 +64,7 @@ follow_step script t made op old new some here is_op place follows so_far =
     let within : made < length jobs = slice_get_within jobs made follows.job follows.there in
     elim (cases_lt (made + 1) (length jobs)) [
       | inl less ↦
-          let now : Thread = record { next = n; place = Following (made + 1) } in
+          let now : Thread = record { next = n; state = Following (made + 1) } in
           let moves : Moves t now old new = subst (λ v. Moves t v old new) (place_behind-following n (made + 1) (length jobs) less) follows.moves in
           let holder : new.holder ≡ Some t = follows.holder ∙ holder_on t (made + 1) (length jobs) less in
           let at : (u : ℕ) → progress_in new u ≡ moved (progress_in old) t (holding n (made + 1)) u = progress_moved old new t now moves in
@@ -80,12 +80,12 @@ follow_step script t made op old new some here is_op place follows so_far =
                 subst (λ x. length (looks_of script old.journals.tree x c) ≤ m) k_is
                 (subst (λ x. length (looks_of script old.journals.tree follows.position x) ≤ m) c_is (omega (arith, count, decided)))) so_far.following;
             kept = λ all can.
-                let same : all ≡ new.journals.tree = can_be_at new new.holder t (Following (made + 1)) all holder (ap (λ (v : Thread). v.place) moves.there) can in
+                let same : all ≡ new.journals.tree = can_be_at new new.holder t (Following (made + 1)) all holder (ap (λ (v : Thread). v.state) moves.there) can in
                 IsKept-same script old.journals.tree all new.journals.slices new.journals.slices (moved (progress_in old) t (holding n (made + 1))) (progress_in new) old.phase new.phase
                 (same ∙ notes.tree) refl at moves.phase noted;
           }
       | inr more ↦
-          let now : Thread = record { next = n + 1; place = Ready } in
+          let now : Thread = record { next = n + 1; state = Ready } in
           let moves : Moves t now old new = subst (λ v. Moves t v old new) (place_behind-ready n (made + 1) (length jobs) more) follows.moves in
           let holder : new.holder ≡ None = follows.holder ∙ holder_off t (made + 1) (length jobs) more in
           let at : (u : ℕ) → progress_in new u ≡ moved (progress_in old) t (idle (n + 1)) u = progress_moved old new t now moves in
@@ -107,7 +107,7 @@ follow_step script t made op old new some here is_op place follows so_far =
 -- ---- Decide
 
 -- no other thread is inside
-pub decide_other : (old : MachineValue) (t u : ℕ) (place : Place) → ((v : ℕ) → IsSome (progress_in old v).made → v ≡ t) → (u ≡ t → ⊥) → (thread_at old u).place ≡ place → IsSome (progress_by 0 place).made → ⊥
+pub decide_other : (old : MachineValue) (t u : ℕ) (place : ThreadState) → ((v : ℕ) → IsSome (progress_in old v).made → v ≡ t) → (u ≡ t → ⊥) → (thread_at old u).state ≡ place → IsSome (progress_by 0 place).made → ⊥
 decide_other old t u Ready only apart is some = absurd cc
 decide_other old t u (Looking m) only apart is some = apart (only u (subst (λ (x : Progress). IsSome x.made) (sym (place_of old u (Looking m) is)) refl))
 decide_other old t u (Following m) only apart is some = apart (only u (subst (λ (x : Progress). IsSome x.made) (sym (place_of old u (Following m) is)) refl))
@@ -115,7 +115,7 @@ decide_other old t u (Tagged tag) only apart is some = absurd cc
 
 -- the command is decided
 pub decide_step : (script : ScriptValue) (t made : ℕ) (op : Op) (old new : MachineValue) → 0 < script.machine.slices → phase_in script.phases t ≡ old.phase → op_at script t (thread_at old t).next ≡ Some op
-    → (thread_at old t).place ≡ Looking made → length (looks_of script old.journals.tree (length old.journals.tree) op) ≤ made → Decides script t made op old new → IsRunSoFar script old → IsRunSoFar script new
+    → (thread_at old t).state ≡ Looking made → length (looks_of script old.journals.tree (length old.journals.tree) op) ≤ made → Decides script t made op old new → IsRunSoFar script old → IsRunSoFar script new
 decide_step script t made op old new some here is_op place looked decides so_far =
     let n : ℕ = (thread_at old t).next in
     let h : TreeEntryValue = decides.entry in
@@ -133,7 +133,7 @@ decide_step script t made op old new some here is_op place looked decides so_far
     let fits : length (looks_of script old.journals.tree k op) ≤ length jobs = omega (arith, length-append (looks_of script old.journals.tree k op) (follows_of script old.journals.tree k op)) in
     elim (cases_lt made (length jobs)) [
       | inl less ↦
-          let now : Thread = record { next = n; place = Following made } in
+          let now : Thread = record { next = n; state = Following made } in
           let moves : Moves t now old new = subst (λ v. Moves t v old new) (place_behind-following n made (length jobs) less) decides.moves in
           let holder : new.holder ≡ Some t = decides.holder ∙ holder_on t made (length jobs) less in
           let at : (u : ℕ) → progress_in new u ≡ moved (progress_in old) t (holding n made) u = progress_moved old new t now moves in
@@ -143,14 +143,14 @@ decide_step script t made op old new some here is_op place looked decides so_far
             held = IsHeldBy-held old new t (holding n made) at refl only holder;
             looking = λ u m c is is_c. absurd
                 (elim (where_now old new t now moves u) [
-                  | inl mine ↦ looking_not m made (sym is ∙ ap (λ (v : Thread). v.place) mine.1)
-                  | inr away ↦ decide_other old t u (Looking m) only away.0 (sym (ap (λ (v : Thread). v.place) away.1) ∙ is) refl
+                  | inl mine ↦ looking_not m made (sym is ∙ ap (λ (v : Thread). v.state) mine.1)
+                  | inr away ↦ decide_other old t u (Looking m) only away.0 (sym (ap (λ (v : Thread). v.state) away.1) ∙ is) refl
                 ]);
             following = λ u m q c is is_c last.
                 elim (where_now old new t now moves u) [
-                  | inr away ↦ absurd (decide_other old t u (Following m) only away.0 (sym (ap (λ (v : Thread). v.place) away.1) ∙ is) refl)
+                  | inr away ↦ absurd (decide_other old t u (Following m) only away.0 (sym (ap (λ (v : Thread). v.state) away.1) ∙ is) refl)
                   | inl mine ↦
-                      let count : made ≡ m = following_is made m (sym (ap (λ (v : Thread). v.place) mine.1) ∙ is) in
+                      let count : made ≡ m = following_is made m (sym (ap (λ (v : Thread). v.state) mine.1) ∙ is) in
                       let c_is : op ≡ c = one_op script t n op c is_op (subst (λ v. op_at script v n ≡ Some c) mine.0 (subst (λ (v : Thread). op_at script u v.next ≡ Some c) mine.1 is_c)) in
                       let q_is : k ≡ q = omega (arith, last, ap length decides.tree, length_push old.journals.tree h) in
                       let front : looks_of script tree k op ≡ looks_of script old.journals.tree k op = looks_front script old.journals.tree (h ∷ []) k op (omega arith) in
@@ -159,11 +159,11 @@ decide_step script t made op old new some here is_op place looked decides so_far
                       (subst (λ x. length (looks_of script new.journals.tree x op) ≤ m) q_is (subst (λ hs. length (looks_of script hs k op) ≤ m) (sym decides.tree) all))
                 ];
             kept = λ all can.
-                let same : all ≡ new.journals.tree = can_be_at new new.holder t (Following made) all holder (ap (λ (v : Thread). v.place) moves.there) can in
+                let same : all ≡ new.journals.tree = can_be_at new new.holder t (Following made) all holder (ap (λ (v : Thread). v.state) moves.there) can in
                 IsKept-same script tree all old.journals.slices new.journals.slices (progress_in old) (progress_in new) old.phase new.phase (same ∙ decides.tree) decides.slices same_at moves.phase was;
           }
       | inr more ↦
-          let now : Thread = record { next = n + 1; place = Ready } in
+          let now : Thread = record { next = n + 1; state = Ready } in
           let moves : Moves t now old new = subst (λ v. Moves t v old new) (place_behind-ready n made (length jobs) more) decides.moves in
           let holder : new.holder ≡ None = decides.holder ∙ holder_off t made (length jobs) more in
           let at : (u : ℕ) → progress_in new u ≡ moved (progress_in old) t (idle (n + 1)) u = progress_moved old new t now moves in
@@ -173,13 +173,13 @@ decide_step script t made op old new some here is_op place looked decides so_far
             held = IsHeldBy-free old new t (idle (n + 1)) at refl only holder;
             looking = λ u m c is is_c. absurd
                 (elim (where_now old new t now moves u) [
-                  | inl mine ↦ not_looking Ready m refl (sym (ap (λ (v : Thread). v.place) mine.1) ∙ is)
-                  | inr away ↦ decide_other old t u (Looking m) only away.0 (sym (ap (λ (v : Thread). v.place) away.1) ∙ is) refl
+                  | inl mine ↦ not_looking Ready m refl (sym (ap (λ (v : Thread). v.state) mine.1) ∙ is)
+                  | inr away ↦ decide_other old t u (Looking m) only away.0 (sym (ap (λ (v : Thread). v.state) away.1) ∙ is) refl
                 ]);
             following = λ u m q c is is_c last. absurd
                 (elim (where_now old new t now moves u) [
-                  | inl mine ↦ not_following Ready m refl (sym (ap (λ (v : Thread). v.place) mine.1) ∙ is)
-                  | inr away ↦ decide_other old t u (Following m) only away.0 (sym (ap (λ (v : Thread). v.place) away.1) ∙ is) refl
+                  | inl mine ↦ not_following Ready m refl (sym (ap (λ (v : Thread). v.state) mine.1) ∙ is)
+                  | inr away ↦ decide_other old t u (Following m) only away.0 (sym (ap (λ (v : Thread). v.state) away.1) ∙ is) refl
                 ]);
             kept = λ all can.
                 let same : all ≡ new.journals.tree = can_be_tree new new.holder all holder can in

@@ -17,11 +17,11 @@ use Rattle.run_law.specs.LookLists.{AreReady}
 use Rattle.step_world.specs.Machine.{thread_at}
 use Rattle.step_world.specs.Moments.{progress_by, progress_in}
 use Rattle.step_world.specs.Worlds.{IsLookingAt, IsWorldOf, machine_of, rooms_from}
-use Rattle.step_world.specs.declared.place.Place.TheVariants.{Looking}
+use Rattle.step_world.specs.declared.thread_state.ThreadState.TheVariants.{Looking}
 use Rattle.step_world.specs.declared.world.World.{World}
 use Rattle.tree_law.specs.Steps.{needs}
 
-module _ (script : ScriptValue) (t made : ℕ) (op : Op) (w : World) (world : IsWorldOf script w) (nexts : HasNext script (machine_of w) t op) (place : (thread_at (machine_of w) t).place ≡ Looking made) where
+module _ (script : ScriptValue) (t made : ℕ) (op : Op) (w : World) (world : IsWorldOf script w) (nexts : HasNext script (machine_of w) t op) (place : (thread_at (machine_of w) t).state ≡ Looking made) where
   abbrev tree : List TreeEntryValue
   tree = (machine_of w).journals.tree
 

@@ -30,8 +30,8 @@ use Rattle.step_world.specs.Machine.{Decides, Moves, Steps, holder_behind, place
 use Rattle.step_world.specs.Slices.{SliceValue}
 use Rattle.step_world.specs.Works.{Settles}
 use Rattle.step_world.specs.Worlds.{AreInPlay, IsFollowing, IsLookingAt, IsTreeOf, IsWorldOf, machine_of, rooms_from}
-use Rattle.step_world.specs.declared.place.Place.TheVariants.{Following, Looking, Ready}
-use Rattle.step_world.specs.declared.place.Thread.{Thread}
+use Rattle.step_world.specs.declared.thread_state.ThreadState.TheVariants.{Following, Looking, Ready}
+use Rattle.step_world.specs.declared.thread_state.Thread.{Thread}
 use Rattle.step_world.specs.declared.world.World.{World}
 use Rattle.tree_core.specs.Follows.{IsReady}
 use Rattle.tree_law.specs.Steps.{after, follow_domain, needs, next}
@@ -58,7 +58,7 @@ pub record HasApplied (t : ℕ) (op : Op) (numbers : List ℕ) (e : TreeEntry) (
   pub closing : new.closing ≡ old.closing
   pub lists : new.lists.items ≡ set old.lists.items t front
 
-module _ (script : ScriptValue) (t made : ℕ) (op : Op) (w : World) (world : IsWorldOf script w) (nexts : HasNext script (machine_of w) t op) (place : (thread_at (machine_of w) t).place ≡ Looking made) where
+module _ (script : ScriptValue) (t made : ℕ) (op : Op) (w : World) (world : IsWorldOf script w) (nexts : HasNext script (machine_of w) t op) (place : (thread_at (machine_of w) t).state ≡ Looking made) where
   abbrev tree : List TreeEntryValue
   tree = (machine_of w).journals.tree
 
@@ -171,7 +171,7 @@ module _ (script : ScriptValue) (t made : ℕ) (op : Op) (w : World) (world : Is
       unfolding row
       decided = elim (cases_lt 0 (length follows)) [
         | inl some ↦
-            let now : Thread = record { next = n; place = Following made } in
+            let now : Thread = record { next = n; state = Following made } in
             let (holder, threads) = settles.goes (omega (arith, some, applied.at)) in
             let mine : new.holder ≡ Some t = holder ∙ (applied.holder ∙ held script t made op w world nexts place) in
             let kept : Leaves t now w new = leaves now (threads ∙ ap (λ ts. set ts.items t now) applied.threads) (λ u apart other. apart (same_Some u t (sym other ∙ mine))) in
@@ -184,7 +184,7 @@ module _ (script : ScriptValue) (t made : ℕ) (op : Op) (w : World) (world : Is
               record { made = made; place = place; looked = omega (arith, looks-all script t made op w world nexts place lists its done); row = decides; told = refl },
             )
         | inr none ↦
-            let now : Thread = record { next = n + 1; place = Ready } in
+            let now : Thread = record { next = n + 1; state = Ready } in
             let (holder, threads) = settles.ends (omega (arith, none, applied.at)) in
             let kept : Leaves t now w new = leaves now (threads ∙ ap (λ ts. set ts.items t now) applied.threads) (λ u apart other. none-some u (sym holder ∙ other)) in
             let moves : Moves t now (machine_of w) (machine_of new) = moves-leaves t now w new (within-next script w t op world nexts) kept in

@@ -10,9 +10,9 @@ use Rattle.script_ops.specs.declared.op.Op.{Op}
 use Rattle.script_ops.specs.declared.op.Op.TheVariants.{Access}
 use Rattle.run_law.specs.Jobs.{looks_of}
 use Rattle.step_world.specs.Machine.{Begins, Decides, HasEnded, Looks, MachineValue, Moves, Reaches, StepFrom, StepOf, Steps, TagsAgain, Touches, floor_for, thread_at}
-use Rattle.step_world.specs.declared.place.Place.{Place}
-use Rattle.step_world.specs.declared.place.Place.TheVariants.{Following, Looking, Ready, Tagged}
-use Rattle.step_world.specs.declared.place.Thread.{Thread}
+use Rattle.step_world.specs.declared.thread_state.ThreadState.{ThreadState}
+use Rattle.step_world.specs.declared.thread_state.ThreadState.TheVariants.{Following, Looking, Ready, Tagged}
+use Rattle.step_world.specs.declared.thread_state.Thread.{Thread}
 
 -- nothing has changed, or this thread is somewhere else now
 abbrev pub HasMoved : ℕ → MachineValue → MachineValue → Type 0
@@ -37,7 +37,7 @@ tagged_moves script t (Access task cpu addr) tag old new reaches = reaches_moves
 tagged_moves script t op tag old new same = inl same
 
 -- at each place
-place_moves : (script : ScriptValue) (t : ℕ) (op : Op) (place : Place) (old new : MachineValue) → StepFrom script t op place old new → HasMoved t old new
+place_moves : (script : ScriptValue) (t : ℕ) (op : Op) (place : ThreadState) (old new : MachineValue) → StepFrom script t op place old new → HasMoved t old new
 place_moves script t op Ready old new begins = begins_moves script t op old.holder old new begins
 place_moves script t op (Looking made) old new step = elim (cases_Bool (nat_lt made (length (looks_of script old.journals.tree (length old.journals.tree) op)))) [
   | inl less ↦ inr (_, (MatchBool-at_true (Looks script t made op old new) (Decides script t made op old new) less step).moves)
@@ -49,7 +49,7 @@ place_moves script t op (Tagged tag) old new step = tagged_moves script t op tag
 -- of each op
 op_moves : (script : ScriptValue) (t : ℕ) (o : Option Op) (old new : MachineValue) → StepOf script t o old new → HasMoved t old new
 op_moves script t None old new same = inl same
-op_moves script t (Some op) old new step = place_moves script t op (thread_at old t).place old new step
+op_moves script t (Some op) old new step = place_moves script t op (thread_at old t).state old new step
 
 -- a step moves its thread, or nothing
 pub step_moves : (script : ScriptValue) (t : ℕ) (old new : MachineValue) → Steps script t old new → HasMoved t old new

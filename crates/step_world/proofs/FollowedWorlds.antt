@@ -25,15 +25,15 @@ use Rattle.step_world.specs.Machine.{Follows, Moves, Notes, Steps, holder_behind
 use Rattle.step_world.specs.Slices.{FollowsUp, SliceValue}
 use Rattle.step_world.specs.Works.{FollowsOn, Settles}
 use Rattle.step_world.specs.Worlds.{AreInPlay, HasLists, IsFollowing, IsTreeOf, IsWorldOf, machine_of, rooms_from}
-use Rattle.step_world.specs.declared.place.Place.TheVariants.{Following, Ready}
-use Rattle.step_world.specs.declared.place.Thread.{Thread}
+use Rattle.step_world.specs.declared.thread_state.ThreadState.TheVariants.{Following, Ready}
+use Rattle.step_world.specs.declared.thread_state.Thread.{Thread}
 use Rattle.step_world.specs.declared.world.World.{World}
 use Rattle.tree_core.specs.Follows.{IsReady}
 use Rattle.tree_law.specs.Steps.{follow_domain}
 use Rattle.tree_law.specs.declared.follow.Follow.{Follow}
 use Rattle.step_world.proofs.FollowingWorlds.{following, held, job, job-there, jobs-all}
 
-module _ (script : ScriptValue) (t made : ℕ) (op : Op) (w : World) (world : IsWorldOf script w) (nexts : HasNext script (machine_of w) t op) (place : (thread_at (machine_of w) t).place ≡ Following made) where
+module _ (script : ScriptValue) (t made : ℕ) (op : Op) (w : World) (world : IsWorldOf script w) (nexts : HasNext script (machine_of w) t op) (place : (thread_at (machine_of w) t).state ≡ Following made) where
   abbrev tree : List TreeEntryValue
   tree = (machine_of w).journals.tree
 
@@ -166,7 +166,7 @@ module _ (script : ScriptValue) (t made : ℕ) (op : Op) (w : World) (world : Is
       pub followed : IsWorldOf script new × HasDone script t op (machine_of w) (machine_of new)
       followed = elim (cases_lt between.work.at (length items)) [
         | inl more ↦
-            let now : Thread = record { next = n; place = Following (made + 1) } in
+            let now : Thread = record { next = n; state = Following (made + 1) } in
             let (holder, threads) = settles.goes (omega (arith, more, ap length items-on)) in
             let mine : new.holder ≡ Some t = holder ∙ (holder_is ∙ held script t made op w world nexts place) in
             let kept : Leaves t now w new = leaves now (threads ∙ ap (λ ts. set ts.items t now) threads_are) (λ u apart other. apart (same_Some u t (sym other ∙ mine))) in
@@ -178,7 +178,7 @@ module _ (script : ScriptValue) (t made : ℕ) (op : Op) (w : World) (world : Is
               record { made = made; place = place; row = follows },
             )
         | inr none ↦
-            let now : Thread = record { next = n + 1; place = Ready } in
+            let now : Thread = record { next = n + 1; state = Ready } in
             let (holder, threads) = settles.ends (omega (arith, none, ap length items-on)) in
             let kept : Leaves t now w new = leaves now (threads ∙ ap (λ ts. set ts.items t now) threads_are) (λ u apart other. none-some u (sym holder ∙ other)) in
             let moves : Moves t now (machine_of w) (machine_of new) = moves-leaves t now w new (within-next script w t op world nexts) kept in

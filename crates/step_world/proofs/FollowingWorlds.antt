@@ -30,7 +30,7 @@ use Rattle.step_world.specs.Machine.{thread_at}
 use Rattle.step_world.specs.Moments.{progress_by, progress_in}
 use Rattle.step_world.specs.Slices.{SliceValue}
 use Rattle.step_world.specs.Worlds.{IsAtWork, IsFollowing, IsWorldOf, machine_of}
-use Rattle.step_world.specs.declared.place.Place.TheVariants.{Following}
+use Rattle.step_world.specs.declared.thread_state.ThreadState.TheVariants.{Following}
 use Rattle.step_world.specs.declared.world.World.{World}
 use Rattle.tree_core.specs.Follows.{IsReady}
 use Rattle.tree_law.specs.Steps.{Target, EachSlice, SliceOf, follow_domain, goes_to}
@@ -48,7 +48,7 @@ slices_at-few m (SliceOf domain line) some = some
 slices-few : (m : Parameters) (f : Follow) → 0 < m.slices → slices_for m f ≤ m.slices
 slices-few m f some = slices_at-few m (goes_to f) some
 
-module _ (script : ScriptValue) (t made : ℕ) (op : Op) (w : World) (world : IsWorldOf script w) (nexts : HasNext script (machine_of w) t op) (place : (thread_at (machine_of w) t).place ≡ Following made) where
+module _ (script : ScriptValue) (t made : ℕ) (op : Op) (w : World) (world : IsWorldOf script w) (nexts : HasNext script (machine_of w) t op) (place : (thread_at (machine_of w) t).state ≡ Following made) where
   abbrev tree : List TreeEntryValue
   tree = (machine_of w).journals.tree
 

@@ -18,7 +18,7 @@ use Rattle.step_world.specs.declared.action.Action.{Action}
 use Rattle.step_world.specs.declared.action.Action.TheVariants as actions
 use Rattle.step_world.specs.declared.action.Stepped.{Stepped}
 use Rattle.step_world.specs.declared.action.Stepped.TheVariants.{Did, Blocked, Ended}
-use Rattle.step_world.specs.declared.place.Place.TheVariants.{Ready, Looking, Following, Tagged}
+use Rattle.step_world.specs.declared.thread_state.ThreadState.TheVariants.{Ready, Looking, Following, Tagged}
 use Rattle.lists.proofs.Options.{not_some-none}
 
 module _ (script : ScriptValue) (t : ℕ) (old new : MachineValue) where
@@ -49,7 +49,7 @@ module _ (script : ScriptValue) (t : ℕ) (old new : MachineValue) where
   tagged-not_ready : (tag : Tag) → Tagged tag ≡ Ready → ⊥
   tagged-not_ready tag wrong = cc
 
-  touched-not_ready : (touched : Touched) (op : Op) → HasTouched script t touched op old new → (thread_at old t).place ≡ Ready → ⊥
+  touched-not_ready : (touched : Touched) (op : Op) → HasTouched script t touched op old new → (thread_at old t).state ≡ Ready → ⊥
   touched-not_ready (Hit way) op its ready = tagged-not_ready its.tag (sym its.place ∙ ready)
   touched-not_ready (Filled way) op its ready = tagged-not_ready its.tag (sym its.place ∙ ready)
   touched-not_ready (Stale floor) op its ready = tagged-not_ready its.tag (sym its.place ∙ ready)

@@ -17,29 +17,29 @@ use Rattle.step_world.proofs.StepParts.{place_of}
 use Rattle.step_world.specs.Machine.{Decides, Follows, Looks, MachineValue, StepFrom, StepOf, Steps, thread_at}
 use Rattle.step_world.specs.Moments.{IsRunSoFar, progress_by, progress_in}
 use Rattle.step_world.specs.Turns.{holding_left, steps_to_go}
-use Rattle.step_world.specs.declared.place.Place.{Place}
-use Rattle.step_world.specs.declared.place.Place.TheVariants.{Ready, Looking, Following, Tagged}
-use Rattle.step_world.specs.declared.place.Thread.{Thread}
+use Rattle.step_world.specs.declared.thread_state.ThreadState.{ThreadState}
+use Rattle.step_world.specs.declared.thread_state.ThreadState.TheVariants.{Ready, Looking, Following, Tagged}
+use Rattle.step_world.specs.declared.thread_state.Thread.{Thread}
 
 -- it goes on holding the tree, or lets go at the end of its command
 pub record HasHeld (script : ScriptValue) (t : ℕ) (old new : MachineValue) : Type 0 where
   pub less : holding_left script new new.holder < holding_left script old (Some t)
-  pub which : ((new.holder ≡ Some t) × ((thread_at new t).next ≡ (thread_at old t).next)) ⊎ ((new.holder ≡ None) × (thread_at new t ≡ (record { next = (thread_at old t).next + 1; place = Ready })))
+  pub which : ((new.holder ≡ Some t) × ((thread_at new t).next ≡ (thread_at old t).next)) ⊎ ((new.holder ≡ None) × (thread_at new t ≡ (record { next = (thread_at old t).next + 1; state = Ready })))
 
 -- the step from a place
-pub step_from_place : (script : ScriptValue) (t : ℕ) (op : Op) (place : Place) (old new : MachineValue) → phase_in script.phases t ≡ old.phase → op_at script t (thread_at old t).next ≡ Some op
-    → (thread_at old t).place ≡ place → Steps script t old new → StepFrom script t op place old new
+pub step_from_place : (script : ScriptValue) (t : ℕ) (op : Op) (place : ThreadState) (old new : MachineValue) → phase_in script.phases t ≡ old.phase → op_at script t (thread_at old t).next ≡ Some op
+    → (thread_at old t).state ≡ place → Steps script t old new → StepFrom script t op place old new
 step_from_place script t op place old new here is at step =
     subst (λ p. StepFrom script t op p old new) at (subst (λ o. StepOf script t o old new) is
     (MatchBool-at_true (StepOf script t (op_at script t (thread_at old t).next) old new) (new ≡ old) (eq-eqb (phase_in script.phases t) old.phase here) step))
 
 -- what is left, told by where the thread is
-left_at : (script : ScriptValue) (s : MachineValue) (t : ℕ) (v : Thread) (o : Option Op) → thread_at s t ≡ v → op_at script t v.next ≡ o → holding_left script s (Some t) ≡ steps_to_go script s.journals.tree v.place o
-left_at script s t v o there is = ap (λ (x : Thread). steps_to_go script s.journals.tree x.place (op_at script t x.next)) there ∙ ap (steps_to_go script s.journals.tree v.place) is
+left_at : (script : ScriptValue) (s : MachineValue) (t : ℕ) (v : Thread) (o : Option Op) → thread_at s t ≡ v → op_at script t v.next ≡ o → holding_left script s (Some t) ≡ steps_to_go script s.journals.tree v.state o
+left_at script s t v o there is = ap (λ (x : Thread). steps_to_go script s.journals.tree x.state (op_at script t x.next)) there ∙ ap (steps_to_go script s.journals.tree v.state) is
 
 -- what is left of it by the place
-left_by : (script : ScriptValue) (s : MachineValue) (t : ℕ) (op : Op) (place : Place) → (thread_at s t).place ≡ place → op_at script t (thread_at s t).next ≡ Some op → holding_left script s (Some t) ≡ steps_to_go script s.journals.tree place (Some op)
-left_by script s t op place at is = ap (steps_to_go script s.journals.tree (thread_at s t).place) is ∙ ap (λ p. steps_to_go script s.journals.tree p (Some op)) at
+left_by : (script : ScriptValue) (s : MachineValue) (t : ℕ) (op : Op) (place : ThreadState) → (thread_at s t).state ≡ place → op_at script t (thread_at s t).next ≡ Some op → holding_left script s (Some t) ≡ steps_to_go script s.journals.tree place (Some op)
+left_by script s t op place at is = ap (steps_to_go script s.journals.tree (thread_at s t).state) is ∙ ap (λ p. steps_to_go script s.journals.tree p (Some op)) at
 
 -- by who holds the tree
 left_of : (script : ScriptValue) (s : MachineValue) (o : Option ℕ) → s.holder ≡ o → holding_left script s s.holder ≡ holding_left script s o
@@ -50,13 +50,13 @@ module _ (script : ScriptValue) (t : ℕ) (old new : MachineValue) (so_far : IsR
   n = (thread_at old t).next
 
   -- a look
-  looks_held : (made : ℕ) (op : Op) → old.holder ≡ Some t → op_at script t n ≡ Some op → (thread_at old t).place ≡ Looking made
+  looks_held : (made : ℕ) (op : Op) → old.holder ≡ Some t → op_at script t n ≡ Some op → (thread_at old t).state ≡ Looking made
       → made < length (looks_of script old.journals.tree (length old.journals.tree) op) → Looks script t made op old new → HasHeld script t old new
   looks_held made op held is at less looks =
       let tree = looks.makes.notes.tree in
       let before : holding_left script old (Some t) ≡ length (jobs_of script old.journals.tree (length old.journals.tree) op) + 1 - made = left_by script old t op (Looking made) at is in
       let now : holding_left script new (Some t) ≡ length (jobs_of script new.journals.tree (length new.journals.tree) op) + 1 - (made + 1) =
-      left_at script new t (record { next = n; place = Looking (made + 1) }) (Some op) looks.moves.there is in
+      left_at script new t (record { next = n; state = Looking (made + 1) }) (Some op) looks.moves.there is in
       let same : length (jobs_of script new.journals.tree (length new.journals.tree) op) ≡ length (jobs_of script old.journals.tree (length old.journals.tree) op) = ap (λ hs. length (jobs_of script hs (length hs) op)) tree in
       let parts = length-append (looks_of script old.journals.tree (length old.journals.tree) op) (follows_of script old.journals.tree (length old.journals.tree) op) in
       let holder : new.holder ≡ Some t = looks.holder ∙ held in
@@ -66,7 +66,7 @@ module _ (script : ScriptValue) (t : ℕ) (old new : MachineValue) (so_far : IsR
       }
 
   -- a decision
-  decides_held : (made : ℕ) (op : Op) → old.holder ≡ Some t → op_at script t n ≡ Some op → (thread_at old t).place ≡ Looking made
+  decides_held : (made : ℕ) (op : Op) → old.holder ≡ Some t → op_at script t n ≡ Some op → (thread_at old t).state ≡ Looking made
       → Decides script t made op old new → HasHeld script t old new
   decides_held made op held is at decides =
       let tree = old.journals.tree in
@@ -76,9 +76,9 @@ module _ (script : ScriptValue) (t : ℕ) (old new : MachineValue) (so_far : IsR
       let within = so_far.looking t made op at is in
       elim (cases_lt made all) [
         | inl more ↦
-            let there : thread_at new t ≡ (record { next = n; place = Following made }) = decides.moves.there ∙ place_behind-following n made all more in
+            let there : thread_at new t ≡ (record { next = n; state = Following made }) = decides.moves.there ∙ place_behind-following n made all more in
             let holder : new.holder ≡ Some t = decides.holder ∙ holder_on t made all more in
-            let now : holding_left script new (Some t) ≡ length (jobs_of script new.journals.tree (length new.journals.tree - 1) op) - made = left_at script new t (record { next = n; place = Following made }) (Some op) there is in
+            let now : holding_left script new (Some t) ≡ length (jobs_of script new.journals.tree (length new.journals.tree - 1) op) - made = left_at script new t (record { next = n; state = Following made }) (Some op) there is in
             let position : length new.journals.tree - 1 ≡ length tree = omega (arith, ap length decides.tree, length_push tree decides.entry) in
             let same : length (jobs_of script new.journals.tree (length new.journals.tree - 1) op) ≡ all =
             ap (λ k. length (jobs_of script new.journals.tree k op)) position ∙ (ap (λ hs. length (jobs_of script hs (length tree) op)) decides.tree ∙ ap length (jobs_front script tree (decides.entry ∷ []) (length tree) op (omega arith))) in
@@ -95,7 +95,7 @@ module _ (script : ScriptValue) (t : ℕ) (old new : MachineValue) (so_far : IsR
       ]
 
   -- a follow-up
-  follows_held : (made : ℕ) (op : Op) → op_at script t n ≡ Some op → (thread_at old t).place ≡ Following made → Follows script t made op old new → HasHeld script t old new
+  follows_held : (made : ℕ) (op : Op) → op_at script t n ≡ Some op → (thread_at old t).state ≡ Following made → Follows script t made op old new → HasHeld script t old new
   follows_held made op is at follows =
       let tree = old.journals.tree in
       let all : ℕ = length (jobs_of script tree follows.position op) in
@@ -105,10 +105,10 @@ module _ (script : ScriptValue) (t : ℕ) (old new : MachineValue) (so_far : IsR
       let within : made < all = slice_get_within (jobs_of script tree follows.position op) made follows.job follows.there in
       elim (cases_lt (made + 1) all) [
         | inl more ↦
-            let there : thread_at new t ≡ (record { next = n; place = Following (made + 1) }) = follows.moves.there ∙ place_behind-following n (made + 1) all more in
+            let there : thread_at new t ≡ (record { next = n; state = Following (made + 1) }) = follows.moves.there ∙ place_behind-following n (made + 1) all more in
             let holder : new.holder ≡ Some t = follows.holder ∙ holder_on t (made + 1) all more in
             let now : holding_left script new (Some t) ≡ length (jobs_of script new.journals.tree (length new.journals.tree - 1) op) - (made + 1) =
-            left_at script new t (record { next = n; place = Following (made + 1) }) (Some op) there is in
+            left_at script new t (record { next = n; state = Following (made + 1) }) (Some op) there is in
             let same : length (jobs_of script new.journals.tree (length new.journals.tree - 1) op) ≡ length (jobs_of script tree (length tree - 1) op) = ap (λ hs. length (jobs_of script hs (length hs - 1) op)) follows.makes.notes.tree in
             record {
               less = omega (arith, left_of script new (Some t) holder, before, now, same, count, within);
@@ -123,7 +123,7 @@ module _ (script : ScriptValue) (t : ℕ) (old new : MachineValue) (so_far : IsR
       ]
 
   -- a place of none that holds the tree
-  idle_place : (place : Place) → (thread_at old t).place ≡ place → (progress_by 0 place).made ≡ None → IsSome (progress_in old t).made → ⊥
+  idle_place : (place : ThreadState) → (thread_at old t).state ≡ place → (progress_by 0 place).made ≡ None → IsSome (progress_in old t).made → ⊥
   idle_place Ready at none some = not_some (progress_in old t).made (ap (λ (x : Progress). x.made) (place_of old t Ready at)) some
   idle_place (Tagged tag) at none some = not_some (progress_in old t).made (ap (λ (x : Progress). x.made) (place_of old t (Tagged tag) at)) some
   idle_place (Looking made) at none some = absurd cc
@@ -149,12 +149,12 @@ module _ (script : ScriptValue) (t : ℕ) (old new : MachineValue) (so_far : IsR
 
   -- a step of it
   pub held_step : old.holder ≡ Some t → Steps script t old new → HasHeld script t old new
-  held_step held step = at (thread_at old t).place refl
+  held_step held step = at (thread_at old t).state refl
     where
       here : phase_in script.phases t ≡ old.phase
       here = holder_phase held
 
-      looking : (made : ℕ) (o : Option Op) → (thread_at old t).place ≡ Looking made → op_at script t n ≡ o → IsSome o → HasHeld script t old new
+      looking : (made : ℕ) (o : Option Op) → (thread_at old t).state ≡ Looking made → op_at script t n ≡ o → IsSome o → HasHeld script t old new
       looking made None place is some = absurd cc
       looking made (Some op) place is some =
           let row = step_from_place script t op (Looking made) old new here is place step in
@@ -163,11 +163,11 @@ module _ (script : ScriptValue) (t : ℕ) (old new : MachineValue) (so_far : IsR
             | inr more ↦ decides_held made op held is place (MatchBool-at_false (Looks script t made op old new) (Decides script t made op old new) more row)
           ]
 
-      following : (made : ℕ) (o : Option Op) → (thread_at old t).place ≡ Following made → op_at script t n ≡ o → IsSome o → HasHeld script t old new
+      following : (made : ℕ) (o : Option Op) → (thread_at old t).state ≡ Following made → op_at script t n ≡ o → IsSome o → HasHeld script t old new
       following made None place is some = absurd cc
       following made (Some op) place is some = follows_held made op is place (step_from_place script t op (Following made) old new here is place step)
 
-      at : (place : Place) → (thread_at old t).place ≡ place → HasHeld script t old new
+      at : (place : ThreadState) → (thread_at old t).state ≡ place → HasHeld script t old new
       at Ready place = absurd (idle_place Ready place refl ((so_far.held t).1 held))
       at (Tagged tag) place = absurd (idle_place (Tagged tag) place refl ((so_far.held t).1 held))
       at (Looking made) place = looking made (op_at script t n) place refl (subst (λ (x : Progress). IsSome (op_at script t x.next)) (place_of old t (Looking made) place) (holder_op held))

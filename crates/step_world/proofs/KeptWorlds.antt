@@ -22,9 +22,9 @@ use Rattle.step_world.specs.Machine.{MachineValue, Moves, Notes, Steps, thread_a
 use Rattle.step_world.specs.Moments.{IsRunSoFar}
 use Rattle.step_world.specs.Slices.{Grows, SliceValue}
 use Rattle.step_world.specs.Worlds.{AreInPlay, HasList, HasLists, IsAtWork, IsFollowing, IsTreeOf, IsWorldOf, journals_of, machine_of}
-use Rattle.step_world.specs.declared.place.Place.{Place}
-use Rattle.step_world.specs.declared.place.Place.TheVariants.{Ready, Looking, Following, Tagged}
-use Rattle.step_world.specs.declared.place.Thread.{Thread}
+use Rattle.step_world.specs.declared.thread_state.ThreadState.{ThreadState}
+use Rattle.step_world.specs.declared.thread_state.ThreadState.TheVariants.{Ready, Looking, Following, Tagged}
+use Rattle.step_world.specs.declared.thread_state.Thread.{Thread}
 use Rattle.step_world.specs.declared.work.Work.{Work}
 use Rattle.step_world.specs.declared.world.World.{World}
 use Rattle.tree_law.specs.Steps.{needs}
@@ -52,8 +52,8 @@ moves-leaves t now old new within leaves = moves_set (machine_of old) (machine_o
 -- ---- the work of another thread
 
 -- it is as it was
-IsAtWork-other : (script : ScriptValue) (old new : MachineValue) (t u : ℕ) (op : Op) (lists : List Looks) (work : Work) (place : Place) → u ≢ t → IsRunSoFar script old → Steps script t old new → old.holder ≡ Some u
-    → (thread_at old u).place ≡ place → IsAtWork script old u op lists work place → IsAtWork script new u op lists work place
+IsAtWork-other : (script : ScriptValue) (old new : MachineValue) (t u : ℕ) (op : Op) (lists : List Looks) (work : Work) (place : ThreadState) → u ≢ t → IsRunSoFar script old → Steps script t old new → old.holder ≡ Some u
+    → (thread_at old u).state ≡ place → IsAtWork script old u op lists work place → IsAtWork script new u op lists work place
 IsAtWork-other script old new t u op lists work Ready apart so_far step held at is = tt
 IsAtWork-other script old new t u op lists work (Tagged tag) apart so_far step held at is = tt
 IsAtWork-other script old new t u op lists work (Looking made) apart so_far step held at is =
@@ -85,8 +85,8 @@ IsAtWork-other script old new t u op lists work (Following made) apart so_far st
 -- A step of thread t that leaves the rest of a world keeps it.
 pub IsWorldOf-step : (script : ScriptValue) (old new : World) (t : ℕ) (now : Thread) → IsWorldOf script old → t < length old.threads.items → Steps script t (machine_of old) (machine_of new) → Leaves t now old new
     → IsTreeOf script (map entry_value new.commands.items) new.tree → AreInPlay script new.slices.items
-    → ((d : List Looks) → HasLists script t now.next now.place (get_or new.lists.items t d))
-    → ((op : Op) (d : List Looks) → new.holder ≡ Some t → op_at script t now.next ≡ Some op → IsAtWork script (machine_of new) t op (get_or new.lists.items t d) new.work now.place)
+    → ((d : List Looks) → HasLists script t now.next now.state (get_or new.lists.items t d))
+    → ((op : Op) (d : List Looks) → new.holder ≡ Some t → op_at script t now.next ≡ Some op → IsAtWork script (machine_of new) t op (get_or new.lists.items t d) new.work now.state)
     → IsWorldOf script new
 IsWorldOf-step script old new t now world within step leaves tree slices lists work =
     let moves = moves-leaves t now old new within leaves in
@@ -105,29 +105,29 @@ IsWorldOf-step script old new t now world within step leaves tree slices lists w
       lists = λ u d below. elim (cases_Bool (u == t)) [
         | inl here ↦
             let same = eqb-true u t here in
-            subst (λ x. HasLists script x (thread_at (machine_of new) x).next (thread_at (machine_of new) x).place (get_or new.lists.items x d)) (sym same)
-            (subst (λ (v : Thread). HasLists script t v.next v.place (get_or new.lists.items t d)) (sym moves.there) (lists d))
+            subst (λ x. HasLists script x (thread_at (machine_of new) x).next (thread_at (machine_of new) x).state (get_or new.lists.items x d)) (sym same)
+            (subst (λ (v : Thread). HasLists script t v.next v.state (get_or new.lists.items t d)) (sym moves.there) (lists d))
         | inr away ↦
             let apart = eqb-false u t away in
-            subst (λ ls. HasLists script u (thread_at (machine_of new) u).next (thread_at (machine_of new) u).place ls) (sym (leaves.others u d apart))
-            (subst (λ (v : Thread). HasLists script u v.next v.place (get_or old.lists.items u d)) (sym (moves.others u apart)) (world.lists u d (omega (arith, below, count))))
+            subst (λ ls. HasLists script u (thread_at (machine_of new) u).next (thread_at (machine_of new) u).state ls) (sym (leaves.others u d apart))
+            (subst (λ (v : Thread). HasLists script u v.next v.state (get_or old.lists.items u d)) (sym (moves.others u apart)) (world.lists u d (omega (arith, below, count))))
       ];
       work = λ u op d held is. elim (cases_Bool (u == t)) [
         | inl here ↦
             let same = eqb-true u t here in
             let mine : new.holder ≡ Some t = held ∙ ap (λ x. Some x) same in
             let its : op_at script t now.next ≡ Some op = subst (λ (v : Thread). op_at script t v.next ≡ Some op) moves.there (subst (λ x. op_at script x (thread_at (machine_of new) x).next ≡ Some op) same is) in
-            subst (λ x. IsAtWork script (machine_of new) x op (get_or new.lists.items x d) new.work (thread_at (machine_of new) x).place) (sym same)
-            (subst (λ (v : Thread). IsAtWork script (machine_of new) t op (get_or new.lists.items t d) new.work v.place) (sym moves.there) (work op d mine its))
+            subst (λ x. IsAtWork script (machine_of new) x op (get_or new.lists.items x d) new.work (thread_at (machine_of new) x).state) (sym same)
+            (subst (λ (v : Thread). IsAtWork script (machine_of new) t op (get_or new.lists.items t d) new.work v.state) (sym moves.there) (work op d mine its))
         | inr away ↦
             let apart = eqb-false u t away in
             let was = leaves.work u apart held in
             let its : op_at script u (thread_at (machine_of old) u).next ≡ Some op = subst (λ (v : Thread). op_at script u v.next ≡ Some op) (moves.others u apart) is in
             let before = world.work u op d was.0 its in
-            let place = (thread_at (machine_of old) u).place in
+            let place = (thread_at (machine_of old) u).state in
             let after : IsAtWork script (machine_of new) u op (get_or old.lists.items u d) old.work place =
             IsAtWork-other script (machine_of old) (machine_of new) t u op (get_or old.lists.items u d) old.work place apart world.so_far step was.0 refl before in
-            subst (λ (v : Thread). IsAtWork script (machine_of new) u op (get_or new.lists.items u d) new.work v.place) (sym (moves.others u apart))
+            subst (λ (v : Thread). IsAtWork script (machine_of new) u op (get_or new.lists.items u d) new.work v.state) (sym (moves.others u apart))
             (subst (λ ls. IsAtWork script (machine_of new) u op ls new.work place) (sym (leaves.others u d apart))
             (subst (λ w. IsAtWork script (machine_of new) u op (get_or old.lists.items u d) w place) (sym was.1) after))
       ];

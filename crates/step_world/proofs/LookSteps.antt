@@ -23,8 +23,8 @@ use Rattle.step_world.proofs.laws.MachineStates.{at_can_be, can_be_at, IsKept-sa
 use Rattle.run_law.proofs.laws.TakenCommands.{fails, take_keeps}
 use Rattle.run_law.specs.Jobs.{follows_of, jobs_of, looks_of}
 use Rattle.step_world.specs.Machine.{Looks, MachineValue, Takes, thread_at}
-use Rattle.step_world.specs.declared.place.Place.TheVariants.{Ready, Looking}
-use Rattle.step_world.specs.declared.place.Thread.{Thread}
+use Rattle.step_world.specs.declared.thread_state.ThreadState.TheVariants.{Ready, Looking}
+use Rattle.step_world.specs.declared.thread_state.Thread.{Thread}
 use Rattle.run_law.specs.Growth.{AreLegal, IsKept}
 use Rattle.run_law.specs.Progress.{Progress, moved}
 use Rattle.step_world.specs.Moments.{IsRunSoFar, progress_in}
@@ -34,23 +34,23 @@ use Rattle.step_world.proofs.StepParts.{place_of, IsHeldBy-held, only_holder, lo
 
 -- a command takes the tree
 pub take_step : (script : ScriptValue) (t : ℕ) (op : Op) (old new : MachineValue) → phase_in script.phases t ≡ old.phase → op_at script t (thread_at old t).next ≡ Some op → IsTrue (is_command op)
-    → (thread_at old t).place ≡ Ready → old.holder ≡ None → Takes t old new → IsRunSoFar script old → IsRunSoFar script new
+    → (thread_at old t).state ≡ Ready → old.holder ≡ None → Takes t old new → IsRunSoFar script old → IsRunSoFar script new
 take_step script t op old new here is_op command place free takes so_far =
     let n : ℕ = (thread_at old t).next in
     let p : Progress = holding n 0 in
     let tree : new.journals.tree ≡ old.journals.tree = ap (λ (j : JournalsValue). j.tree) takes.journals in
     let slices : new.journals.slices ≡ old.journals.slices = ap (λ (j : JournalsValue). j.slices) takes.journals in
     let nobody : (u : ℕ) → IsSome (progress_in old u).made → ⊥ = nobody_holds old so_far.held free in
-    let at : (u : ℕ) → progress_in new u ≡ moved (progress_in old) t p u = progress_moved old new t (record { next = n; place = Looking 0 }) takes.moves in
+    let at : (u : ℕ) → progress_in new u ≡ moved (progress_in old) t p u = progress_moved old new t (record { next = n; state = Looking 0 }) takes.moves in
     record {
       legal = subst (λ j. AreLegal script j) (sym takes.journals) so_far.legal;
       held = IsHeldBy-held old new t p at refl (λ u some. absurd (nobody u some)) takes.holder;
-      looking = looks_same script old new t (record { next = n; place = Looking 0 }) tree (where_now old new t (record { next = n; place = Looking 0 }) takes.moves)
+      looking = looks_same script old new t (record { next = n; state = Looking 0 }) tree (where_now old new t (record { next = n; state = Looking 0 }) takes.moves)
           (λ made c is is_c. (let none : 0 ≡ made = looking_is 0 made is in omega (arith, none))) so_far.looking;
-      following = follows_same script old new t (record { next = n; place = Looking 0 }) tree (where_now old new t (record { next = n; place = Looking 0 }) takes.moves)
+      following = follows_same script old new t (record { next = n; state = Looking 0 }) tree (where_now old new t (record { next = n; state = Looking 0 }) takes.moves)
           (λ made k c is is_c last. absurd (looking_not 0 made is)) so_far.following;
       kept = λ all can.
-          let claim = can_be_at new new.holder t (Looking 0) all takes.holder (ap (λ (v : Thread). v.place) takes.moves.there) can in
+          let claim = can_be_at new new.holder t (Looking 0) all takes.holder (ap (λ (v : Thread). v.state) takes.moves.there) can in
           let h : TreeEntryValue = claim.0 in
           let number : h.op ≡ n = claim.2 ∙ ap (λ (v : Thread). v.next) takes.moves.there in
           let was : IsKept script old.journals (progress_in old) old.phase = so_far.kept old.journals.tree (tree_can_be old old.holder free) in
@@ -63,7 +63,7 @@ take_step script t op old new here is_op command place free takes so_far =
 -- ---- Look
 
 -- no command that was decided is the present one
-pub not_decided : (script : ScriptValue) (old : MachineValue) (t made : ℕ) → (thread_at old t).place ≡ Looking made → old.holder ≡ Some t → IsRunSoFar script old
+pub not_decided : (script : ScriptValue) (old : MachineValue) (t made : ℕ) → (thread_at old t).state ≡ Looking made → old.holder ≡ Some t → IsRunSoFar script old
     → (k : ℕ) (h : TreeEntryValue) → At old.journals.tree k h → IsTrue (is_taken_from t (thread_at old t).next h) → ⊥
 not_decided script old t made place held so_far k h there taken =
     let n : ℕ = (thread_at old t).next in
@@ -78,11 +78,11 @@ not_decided script old t made place held so_far k h there taken =
 
 -- one look more
 pub look_step : (script : ScriptValue) (t made : ℕ) (op : Op) (old new : MachineValue) → 0 < script.machine.slices → phase_in script.phases t ≡ old.phase → op_at script t (thread_at old t).next ≡ Some op
-    → (thread_at old t).place ≡ Looking made → Looks script t made op old new → IsRunSoFar script old → IsRunSoFar script new
+    → (thread_at old t).state ≡ Looking made → Looks script t made op old new → IsRunSoFar script old → IsRunSoFar script new
 look_step script t made op old new some here is_op place looks so_far =
     let n : ℕ = (thread_at old t).next in
     let p : Progress = holding n (made + 1) in
-    let now : Thread = record { next = n; place = Looking (made + 1) } in
+    let now : Thread = record { next = n; state = Looking (made + 1) } in
     let e : SliceEntry = looks.makes.entry in
     let notes = looks.makes.notes in
     let pays = looks.makes.pays in
@@ -108,7 +108,7 @@ look_step script t made op old new some here is_op place looks so_far =
           subst (λ x. m ≤ length (looks_of script old.journals.tree (length old.journals.tree) x)) c_is (omega (arith, count, within))) so_far.looking;
       following = follows_same script old new t now notes.tree (where_now old new t now looks.moves) (λ m k c is is_c last. absurd (looking_not (made + 1) m is)) so_far.following;
       kept = λ all can.
-          let claim = can_be_at new new.holder t (Looking (made + 1)) all (looks.holder ∙ held) (ap (λ (v : Thread). v.place) looks.moves.there) can in
+          let claim = can_be_at new new.holder t (Looking (made + 1)) all (looks.holder ∙ held) (ap (λ (v : Thread). v.state) looks.moves.there) can in
           let h : TreeEntryValue = claim.0 in
           let number : h.op ≡ n = claim.2 ∙ ap (λ (v : Thread). v.next) looks.moves.there in
           let tree : List TreeEntryValue = old.journals.tree ++ h ∷ [] in

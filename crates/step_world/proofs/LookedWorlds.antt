@@ -38,8 +38,8 @@ use Rattle.step_world.specs.Moments.{progress_by}
 use Rattle.step_world.specs.Slices.{CountsLines, SliceValue}
 use Rattle.step_world.specs.Works.{CountsOn}
 use Rattle.step_world.specs.Worlds.{AreInPlay, HasList, IsLookingAt, IsTreeOf, IsWorldOf, machine_of}
-use Rattle.step_world.specs.declared.place.Place.TheVariants.{Looking}
-use Rattle.step_world.specs.declared.place.Thread.{Thread}
+use Rattle.step_world.specs.declared.thread_state.ThreadState.TheVariants.{Looking}
+use Rattle.step_world.specs.declared.thread_state.Thread.{Thread}
 use Rattle.step_world.specs.declared.world.World.{World}
 use Rattle.tree_law.proofs.laws.DistinctCounts.{needs-distinct}
 use Rattle.tree_law.specs.Sound.{IsSound}
@@ -121,15 +121,15 @@ module _ (script : ScriptValue) (t : ℕ) (op : Op) (old : World) (world : IsWor
           mul-le-suc a b c less = let product : suc a * c ≡ a * c + c = omega arith in omega (arith, mul-le (suc a) c b c (omega (arith, less)) (omega arith), product)
 
   -- it has looked
-  pub counted : (new : World) (made n i here : ℕ) (need : ℕ × ℕ) (s : SliceValue) → n ≡ (thread_at (machine_of old) t).next → (thread_at (machine_of old) t).place ≡ Looking made
+  pub counted : (new : World) (made n i here : ℕ) (need : ℕ × ℕ) (s : SliceValue) → n ≡ (thread_at (machine_of old) t).next → (thread_at (machine_of old) t).state ≡ Looking made
       → slice_get now_needs old.work.at ≡ Some need → i ≡ slice_number script.machine need.0 old.work.slice → i < length old.slices.items
       → CountsLines t n (length (machine_of old).journals.tree) need.1 here (get_or old.slices.items i s) s
-      → new.tree ≡ old.tree → new.commands ≡ old.commands → new.slices.items ≡ set old.slices.items i s → new.holder ≡ old.holder → Leaves t (record { next = n; place = Looking (made + 1) }) old new
+      → new.tree ≡ old.tree → new.commands ≡ old.commands → new.slices.items ≡ set old.slices.items i s → new.holder ≡ old.holder → Leaves t (record { next = n; state = Looking (made + 1) }) old new
       → ((d : List LooksValue) → get_or old.lists.items t d ≡ lists) → (now : List LooksValue) → ((d : List LooksValue) → get_or new.lists.items t d ≡ now) → CountsOn script.machine.slices here old.work new.work lists now
       → IsWorldOf script new × HasCounted script t here op (machine_of old) (machine_of new)
   counted new made n i here need s number place there slice inside counts tree commands slices holder leaves lists_are now now_are on =
       let m = script.machine in
-      let thread : Thread = record { next = n; place = Looking (made + 1) } in
+      let thread : Thread = record { next = n; state = Looking (made + 1) } in
       let e : SliceEntry = entry t n (length (machine_of old).journals.tree) (whats.Look need.1 here) in
       let within = within-next script old t op world next in
       let made_is : made ≡ length its.found = looking_is made (length its.found) (sym place ∙ its.looked.place) in
@@ -145,7 +145,7 @@ module _ (script : ScriptValue) (t : ℕ) (op : Op) (old : World) (world : IsWor
         there = at;
         makes = record { entry = e; pays = record { thread = refl; op = number; owed = refl }; notes = notes };
         holder = holder;
-        moves = subst (λ k. Moves t (record { next = k; place = Looking (length its.found + 1) }) (machine_of old) (machine_of new)) number (subst (λ k. Moves t (record { next = n; place = Looking (k + 1) }) (machine_of old) (machine_of new)) made_is moves);
+        moves = subst (λ k. Moves t (record { next = k; state = Looking (length its.found + 1) }) (machine_of old) (machine_of new)) number (subst (λ k. Moves t (record { next = n; state = Looking (k + 1) }) (machine_of old) (machine_of new)) made_is moves);
       } in
       let all : length its.found < length (looks_of script (machine_of old).journals.tree (length (machine_of old).journals.tree) op) = slice_get_within (looks_of script (machine_of old).journals.tree (length (machine_of old).journals.tree) op) (length its.found) job at in
       let step : Steps script t (machine_of old) (machine_of new) = step_looks script t (length its.found) op (machine_of old) (machine_of new) next.present next.is its.looked.place all row in

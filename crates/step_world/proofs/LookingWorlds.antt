@@ -39,13 +39,13 @@ use Rattle.step_world.specs.Moments.{progress_by, progress_in}
 use Rattle.step_world.specs.Slices.{CountsLines, SliceValue}
 use Rattle.step_world.specs.Works.{CountsOn}
 use Rattle.step_world.specs.Worlds.{IsAtWork, IsLookingAt, IsWorldOf, machine_of}
-use Rattle.step_world.specs.declared.place.Place.TheVariants.{Looking}
+use Rattle.step_world.specs.declared.thread_state.ThreadState.TheVariants.{Looking}
 use Rattle.step_world.specs.declared.world.World.{World}
 use Rattle.tree_law.proofs.laws.Counts.{needs-exist, NamesDomain-fits}
 use Rattle.tree_law.specs.LawsCounts.{CanLook}
 use Rattle.tree_law.specs.Steps.{needs}
 
-module _ (script : ScriptValue) (t made : ℕ) (op : Op) (w : World) (world : IsWorldOf script w) (next : HasNext script (machine_of w) t op) (place : (thread_at (machine_of w) t).place ≡ Looking made) where
+module _ (script : ScriptValue) (t made : ℕ) (op : Op) (w : World) (world : IsWorldOf script w) (next : HasNext script (machine_of w) t op) (place : (thread_at (machine_of w) t).state ≡ Looking made) where
   -- how far the thread has come
   progress : progress_in (machine_of w) t ≡ progress_by (thread_at (machine_of w) t).next (Looking made)
   progress = ap (progress_by (thread_at (machine_of w) t).next) place
@@ -133,7 +133,7 @@ module _ (script : ScriptValue) (t made : ℕ) (op : Op) (w : World) (world : Is
       → slices ≡ script.machine.slices → i ≡ slice_number script.machine need.0 w.work.slice → i < length w.slices.items → before ≡ get_or w.slices.items i before → epoch ≡ w.tree.epoch
       → CountsLines t n epoch need.1 here before s → had ≡ get_or w.lists.items t had → CountsOn slices here w.work new.work had now
       → new.tree ≡ w.tree → new.commands ≡ w.commands → new.slices.items ≡ set w.slices.items i s → new.holder ≡ w.holder → new.phase ≡ w.phase → new.closing ≡ w.closing
-      → new.lists.items ≡ set w.lists.items t now → new.threads.items ≡ set w.threads.items t (record { next = n; place = Looking (made + 1) })
+      → new.lists.items ≡ set w.lists.items t now → new.threads.items ≡ set w.threads.items t (record { next = n; state = Looking (made + 1) })
       → IsWorldOf script new × HasCounted script t here op (machine_of w) (machine_of new)
   looked new n i here epoch slices need s before had now number there same slice inside was epoch_is counts had_is on tree commands slices_are holder phase closing lists threads =
       let before_is : before ≡ get_or w.slices.items i s = was ∙ get_or_default w.slices.items i before s inside in

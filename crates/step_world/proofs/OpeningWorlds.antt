@@ -15,7 +15,7 @@ use Rattle.step_world.specs.Machine.{IsOpening, opening_thread}
 use Rattle.step_world.specs.Openings.{AreFirst, AreFresh, AreListed, HasRooms}
 use Rattle.step_world.specs.Slices.{SliceValue}
 use Rattle.step_world.specs.Worlds.{AreInPlay, HasLists, IsTreeOf, IsWithin, IsWorldOf, journals_of, machine_of}
-use Rattle.step_world.specs.declared.place.Thread.{Thread}
+use Rattle.step_world.specs.declared.thread_state.Thread.{Thread}
 use Rattle.step_world.specs.declared.world.World.{World}
 use Rattle.tree_law.specs.State.{opening}
 
@@ -104,6 +104,6 @@ module _ (script : ScriptValue) (w : World) (made : IsMade script w) where
     within = λ t. subst (λ v. IsWithin script t v) (sym (made.threads.each t)) (first_within t);
     lists_count = made.lists.count;
     lists = λ t d within.
-        subst (λ (v : Thread). HasLists script t v.next v.place (get_or w.lists.items t d)) (sym (made.threads.each t)) (made.lists.each t d (omega (arith, within, made.threads.count)));
+        subst (λ (v : Thread). HasLists script t v.next v.state (get_or w.lists.items t d)) (sym (made.threads.each t)) (made.lists.each t d (omega (arith, within, made.threads.count)));
     work = λ t op d held is. absurd (let wrong : None ≡ Some t = sym made.holder ∙ held in cc);
   }

@@ -24,8 +24,8 @@ use Rattle.step_world.specs.Slices.{SliceValue, TouchesLine}
 use Rattle.step_world.specs.Worlds.{IsWorldOf, machine_of}
 use Rattle.step_world.specs.declared.action.Action.TheVariants as actions
 use Rattle.step_world.specs.declared.action.Stepped.TheVariants.{Did}
-use Rattle.step_world.specs.declared.place.Place.TheVariants.{Ready, Tagged}
-use Rattle.step_world.specs.declared.place.Thread.{Thread}
+use Rattle.step_world.specs.declared.thread_state.ThreadState.TheVariants.{Ready, Tagged}
+use Rattle.step_world.specs.declared.thread_state.Thread.{Thread}
 use Rattle.step_world.specs.declared.world.World.{World}
 use Rattle.tree_core.specs.Values.{TreeValue}
 use Rattle.tree_law.specs.Resolving.{resolve}
@@ -45,7 +45,7 @@ resolved-same old new task cpu tag same is = record {
 module _ (script : ScriptValue) (t n addr : ℕ) (tag : Tag) (old : World) (world : IsWorldOf script old) (can : CanPass script old t n addr tag) where
   -- the thread with its tag
   abbrev thread_tagged : Thread
-  thread_tagged = record { next = n; place = Tagged tag }
+  thread_tagged = record { next = n; state = Tagged tag }
 
   -- the world between the two steps
   abbrev between : World
@@ -74,8 +74,8 @@ module _ (script : ScriptValue) (t n addr : ℕ) (tag : Tag) (old : World) (worl
     is = subst (λ k. op_at script t k ≡ Some (ops.Access can.task can.cpu addr)) (sym can.number ∙ number-between) can.next.is;
   }
 
-  place-between : (thread_at (machine_of between) t).place ≡ Tagged tag
-  place-between = ap (λ (v : Thread). v.place) there-between
+  place-between : (thread_at (machine_of between) t).state ≡ Tagged tag
+  place-between = ap (λ (v : Thread). v.state) there-between
 
   -- its domain is there
   pub domain-between : tag.domain < script.machine.domains
@@ -93,10 +93,10 @@ module _ (script : ScriptValue) (t n addr : ℕ) (tag : Tag) (old : World) (worl
       omega (arith, below, is, (world.slices.caches i s there).stands.floor, ap floor_of list, most, can.reads.epoch, world.tree.epoch)
 
   pub passed : (new : World) (i line : ℕ) (s : SliceValue) (result : Touched) → line ≡ line_of addr → i ≡ slice_of_line script.machine tag.domain (line_of addr) → i < length old.slices.items
-      → IsQuiet t (record { next = n + 1; place = Ready }) old new → new.slices.items ≡ set old.slices.items i s → new.holder ≡ old.holder → new.work ≡ old.work
+      → IsQuiet t (record { next = n + 1; state = Ready }) old new → new.slices.items ≡ set old.slices.items i s → new.holder ≡ old.holder → new.work ≡ old.work
       → TouchesLine t n tag line (get_or old.slices.items i s) s result → IsWorldOf script new × HasPassed script t n old new
   passed new i line s result line_is slice there quiet slices holder work touches =
-      let now : Thread = record { next = n + 1; place = Ready } in
+      let now : Thread = record { next = n + 1; state = Ready } in
       let op = ops.Access can.task can.cpu addr in
       let still : IsQuiet t now between new = record {
         tree = quiet.tree;

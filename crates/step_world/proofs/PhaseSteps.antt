@@ -12,8 +12,8 @@ use Rattle.step_world.specs.Machine.{HasEnded, MachineValue, Steps, thread_at}
 use Rattle.step_world.specs.Moments.{IsRunSoFar}
 use Rattle.step_world.specs.Play.{EndInTurn, LetsGo, PlaysPhaseBy, PlaysPhasesBy, StepsHolding, StepsOf, threads_of_phase}
 use Rattle.step_world.specs.Turns.{EndsThread, HasLetGo, IsLettingGo}
-use Rattle.step_world.specs.declared.place.Place.TheVariants.{Ready}
-use Rattle.step_world.specs.declared.place.Thread.{Thread}
+use Rattle.step_world.specs.declared.thread_state.ThreadState.TheVariants.{Ready}
+use Rattle.step_world.specs.declared.thread_state.Thread.{Thread}
 
 module _ (script : ScriptValue) where
   -- ---- one more at the end
@@ -66,7 +66,7 @@ module _ (script : ScriptValue) where
       ]
     where
       place_after : ℕ → Thread
-      place_after n = record { next = n + 1; place = Ready }
+      place_after n = record { next = n + 1; state = Ready }
 
   -- at the end
   pub HasLetGo-end : (holder : Option ℕ) (first last : MachineValue) → last.holder ≡ None → IsLettingGo script holder first last → HasLetGo script holder first last

@@ -14,7 +14,7 @@ use Rattle.step_world.proofs.TakenWorlds.{within-next}
 use Rattle.step_world.specs.Answers.{HasNext, IsAtEnd}
 use Rattle.step_world.specs.Machine.{MachineValue, thread_at}
 use Rattle.step_world.specs.Worlds.{HasLists, IsWorldOf, machine_of}
-use Rattle.step_world.specs.declared.place.Place.TheVariants.{Tagged}
+use Rattle.step_world.specs.declared.thread_state.ThreadState.TheVariants.{Tagged}
 use Rattle.step_world.specs.declared.world.World.{World}
 
 -- a thread past all phases is past all threads
@@ -47,7 +47,7 @@ pub behind-at_end : (script : ScriptValue) (s : MachineValue) (t first count : �
 behind-at_end script s t first count there is counts from behind here = absurd (omega (arith, (of_phase script s.phase t there here).1, from, behind, is, counts))
 
 -- a thread with a tag is at an access
-pub accesses : (script : ScriptValue) (t : ℕ) (tag : Tag) (op : Op) (w : World) → IsWorldOf script w → HasNext script (machine_of w) t op → (thread_at (machine_of w) t).place ≡ Tagged tag
+pub accesses : (script : ScriptValue) (t : ℕ) (tag : Tag) (op : Op) (w : World) → IsWorldOf script w → HasNext script (machine_of w) t op → (thread_at (machine_of w) t).state ≡ Tagged tag
     → ((task cpu addr : ℕ) → op ≡ ops.Access task cpu addr → ⊥) → ⊥
 accesses script t tag op w world next place other =
     let lists : HasLists script t (thread_at (machine_of w) t).next (Tagged tag) (get_or w.lists.items t []) =

@@ -14,7 +14,7 @@ use Rattle.step_world.specs.Answers.{HasNext}
 use Rattle.step_world.specs.Machine.{thread_at}
 use Rattle.step_world.specs.Slices.{SliceValue}
 use Rattle.step_world.specs.Worlds.{IsWorldOf, machine_of}
-use Rattle.step_world.specs.declared.place.Place.TheVariants.{Tagged}
+use Rattle.step_world.specs.declared.thread_state.ThreadState.TheVariants.{Tagged}
 use Rattle.step_world.specs.declared.world.World.{World}
 
 -- what a slice needs for an access
@@ -25,7 +25,7 @@ pub record CanReach (s : SliceValue) (tag : Tag) (line : ℕ) : Type 0 where
   pub clock : s.cache.clock < 2 ^ 32
   pub room : length s.entries < s.room
 
-module _ (script : ScriptValue) (t task cpu addr : ℕ) (tag : Tag) (w : World) (world : IsWorldOf script w) (next : HasNext script (machine_of w) t (ops.Access task cpu addr)) (place : (thread_at (machine_of w) t).place ≡ Tagged tag) where
+module _ (script : ScriptValue) (t task cpu addr : ℕ) (tag : Tag) (w : World) (world : IsWorldOf script w) (next : HasNext script (machine_of w) t (ops.Access task cpu addr)) (place : (thread_at (machine_of w) t).state ≡ Tagged tag) where
   -- the slice of its line has it
   pub can-reach : (i : ℕ) (s : SliceValue) → i < length w.slices.items → i ≡ slice_of_line script.machine tag.domain (line_of addr) → s ≡ get_or w.slices.items i s → CanReach s tag (line_of addr)
   can-reach i s there number value =

@@ -30,7 +30,7 @@ use Rattle.step_world.specs.Machine.{thread_at}
 use Rattle.step_world.specs.Moments.{progress_by, progress_in}
 use Rattle.step_world.specs.Slices.{SliceValue}
 use Rattle.step_world.specs.Worlds.{IsWorldOf, machine_of}
-use Rattle.step_world.specs.declared.place.Place.TheVariants.{Tagged}
+use Rattle.step_world.specs.declared.thread_state.ThreadState.TheVariants.{Tagged}
 use Rattle.step_world.specs.declared.world.World.{World}
 use Rattle.tree_law.proofs.laws.Access.{resolve-good}
 use Rattle.tree_law.specs.LawsAccess.{IsGood}
@@ -68,7 +68,7 @@ op-few script t n op lawful is = omega (arith, slice_get_within (ops_of script t
 
 -- ---- accesses
 
-module _ (script : ScriptValue) (t task cpu addr : ℕ) (tag : Tag) (w : World) (world : IsWorldOf script w) (next : HasNext script (machine_of w) t (ops.Access task cpu addr)) (place : (thread_at (machine_of w) t).place ≡ Tagged tag) where
+module _ (script : ScriptValue) (t task cpu addr : ℕ) (tag : Tag) (w : World) (world : IsWorldOf script w) (next : HasNext script (machine_of w) t (ops.Access task cpu addr)) (place : (thread_at (machine_of w) t).state ≡ Tagged tag) where
   -- its CPU is there
   cpu_there : cpu < script.machine.cpus
   cpu_there = (Fits-op_at script t (thread_at (machine_of w) t).next (ops.Access task cpu addr) world.lawful next.is).1

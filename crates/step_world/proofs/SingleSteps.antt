@@ -23,9 +23,9 @@ use Rattle.script_ops.specs.declared.op.Op.TheVariants.{Access}
 use Rattle.step_world.proofs.HeldLines.{HoldsOnce}
 use Rattle.step_world.proofs.NextEntries.{entry-one}
 use Rattle.step_world.specs.Machine.{Begins, Decides, Follows, Looks, MachineValue, MakesEntry, Moves, Notes, Reaches, StepFrom, StepOf, Steps, Tags, TagsAgain, Takes, Touches, floor_for, holder_behind, opening_thread, place_behind, thread_at}
-use Rattle.step_world.specs.declared.place.Place.{Place}
-use Rattle.step_world.specs.declared.place.Place.TheVariants.{Following, Looking, Ready, Tagged}
-use Rattle.step_world.specs.declared.place.Thread.{Thread}
+use Rattle.step_world.specs.declared.thread_state.ThreadState.{ThreadState}
+use Rattle.step_world.specs.declared.thread_state.ThreadState.TheVariants.{Following, Looking, Ready, Tagged}
+use Rattle.step_world.specs.declared.thread_state.Thread.{Thread}
 use Rattle.step_world.proofs.AgreeingStates.{Agree, same_journals, same_numbers}
 use Rattle.tree_law.specs.Steps.{needs, next}
 
@@ -81,13 +81,13 @@ module _ (script : ScriptValue) (t : ℕ) (a : MachineValue) (vs : List Thread) 
   -- Take
   takes-agree : (x y : MachineValue) → Takes t a x → Takes t b y → Agree x y
   takes-agree x y takes its =
-      moves-agree (record { next = (thread_at a t).next; place = Looking 0 }) (record { next = (thread_at b t).next; place = Looking 0 }) x y takes.moves its.moves (ap (λ n. record { next = n; place = Looking 0 }) number)
+      moves-agree (record { next = (thread_at a t).next; state = Looking 0 }) (record { next = (thread_at b t).next; state = Looking 0 }) x y takes.moves its.moves (ap (λ n. record { next = n; state = Looking 0 }) number)
       (takes.journals ∙ sym its.journals) (takes.holder ∙ sym its.holder)
 
   -- Look
   looks-agree : (made : ℕ) (op : Op) (x y : MachineValue) → Looks script t made op a x → Looks script t made op b y → Agree x y
   looks-agree made op x y looks its =
-      moves-agree (record { next = (thread_at a t).next; place = Looking (made + 1) }) (record { next = (thread_at b t).next; place = Looking (made + 1) }) x y looks.moves its.moves (ap (λ n. record { next = n; place = Looking (made + 1) }) number)
+      moves-agree (record { next = (thread_at a t).next; state = Looking (made + 1) }) (record { next = (thread_at b t).next; state = Looking (made + 1) }) x y looks.moves its.moves (ap (λ n. record { next = n; state = Looking (made + 1) }) number)
       (makes-agree looks.job its.job x y looks.makes its.makes (same_Some looks.job its.job (sym looks.there ∙ its.there))) (looks.holder ∙ sym its.holder)
 
   -- a command's reply is one, by its op and its counts
@@ -135,7 +135,7 @@ module _ (script : ScriptValue) (t : ℕ) (a : MachineValue) (vs : List Thread) 
   tags-agree : (task cpu : ℕ) (x y : MachineValue) → Tags script t task cpu a x → Tags script t task cpu b y → Agree x y
   tags-agree task cpu x y tags its =
       let tag : Tag = tag_of script.machine (tree_after script a.journals.tree) (length a.journals.tree) task cpu in
-      moves-agree (record { next = (thread_at a t).next; place = Tagged tag }) (record { next = (thread_at b t).next; place = Tagged tag }) x y tags.moves its.moves (ap (λ n. record { next = n; place = Tagged tag }) number)
+      moves-agree (record { next = (thread_at a t).next; state = Tagged tag }) (record { next = (thread_at b t).next; state = Tagged tag }) x y tags.moves its.moves (ap (λ n. record { next = n; state = Tagged tag }) number)
       (tags.journals ∙ sym its.journals) (tags.holder ∙ sym its.holder)
 
   -- Touch
@@ -144,13 +144,13 @@ module _ (script : ScriptValue) (t : ℕ) (a : MachineValue) (vs : List Thread) 
       let i : ℕ = slice_of_line script.machine tag.domain (line_of addr) in
       let owed : Owed = owed_by_access script a.journals.tree tag.epoch task cpu addr in
       let entry : touches.entry ≡ its.entry = entry-agree i i (thread_at a t).next (thread_at b t).next owed owed touches.entry its.entry x y touches.notes its.notes refl touches.pays its.pays number refl in
-      moves-agree (record { next = (thread_at a t).next + 1; place = Ready }) (record { next = (thread_at b t).next + 1; place = Ready }) x y touches.moves its.moves (ap (λ n. record { next = n + 1; place = Ready }) number)
+      moves-agree (record { next = (thread_at a t).next + 1; state = Ready }) (record { next = (thread_at b t).next + 1; state = Ready }) x y touches.moves its.moves (ap (λ n. record { next = n + 1; state = Ready }) number)
       (notes-agree i i touches.entry its.entry x y touches.notes its.notes refl entry) (touches.holder ∙ sym its.holder)
 
   -- a stale tag
   again-agree : (x y : MachineValue) → TagsAgain t a x → TagsAgain t b y → Agree x y
   again-agree x y again its =
-      moves-agree (record { next = (thread_at a t).next; place = Ready }) (record { next = (thread_at b t).next; place = Ready }) x y again.moves its.moves (ap (λ n. record { next = n; place = Ready }) number)
+      moves-agree (record { next = (thread_at a t).next; state = Ready }) (record { next = (thread_at b t).next; state = Ready }) x y again.moves its.moves (ap (λ n. record { next = n; state = Ready }) number)
       (again.journals ∙ sym its.journals) (again.holder ∙ sym its.holder)
 
   -- ---- of each kind
@@ -181,7 +181,7 @@ module _ (script : ScriptValue) (t : ℕ) (a : MachineValue) (vs : List Thread) 
   ]
 
   -- at each place
-  place-agree : (op : Op) (place : Place) (x y : MachineValue) → StepFrom script t op place a x → StepFrom script t op place b y → Agree x y
+  place-agree : (op : Op) (place : ThreadState) (x y : MachineValue) → StepFrom script t op place a x → StepFrom script t op place b y → Agree x y
   place-agree op Ready x y step its = begins-agree op a.holder x y step its
   place-agree op (Looking made) x y step its = looking-agree op made x y step its
   place-agree op (Following made) x y step its = follows-agree made op x y step its
@@ -190,7 +190,7 @@ module _ (script : ScriptValue) (t : ℕ) (a : MachineValue) (vs : List Thread) 
   -- of each op
   op-agree : (o : Option Op) (x y : MachineValue) → StepOf script t o a x → StepOf script t o b y → Agree x y
   op-agree None x y rests its = idle-agree x y rests its
-  op-agree (Some op) x y step its = place-agree op (thread_at a t).place x y step (subst (λ (v : Thread). StepFrom script t op v.place b y) (sym (same t)) its)
+  op-agree (Some op) x y step its = place-agree op (thread_at a t).state x y step (subst (λ (v : Thread). StepFrom script t op v.state b y) (sym (same t)) its)
 
   -- of a thread
   thread-agree : (x y : MachineValue) → Steps script t a x → Steps script t b y → Agree x y

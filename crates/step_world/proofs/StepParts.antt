@@ -12,9 +12,9 @@ use Rattle.run_law.proofs.laws.OpMarks.{not_some}
 use Rattle.run_law.proofs.laws.GrownLists.{with_slices, with_tree}
 use Rattle.run_law.specs.Jobs.{looks_of}
 use Rattle.step_world.specs.Machine.{MachineValue, thread_at}
-use Rattle.step_world.specs.declared.place.Place.{Place}
-use Rattle.step_world.specs.declared.place.Place.TheVariants.{Ready, Looking, Following, Tagged}
-use Rattle.step_world.specs.declared.place.Thread.{Thread}
+use Rattle.step_world.specs.declared.thread_state.ThreadState.{ThreadState}
+use Rattle.step_world.specs.declared.thread_state.ThreadState.TheVariants.{Ready, Looking, Following, Tagged}
+use Rattle.step_world.specs.declared.thread_state.Thread.{Thread}
 use Rattle.run_law.specs.Progress.{Progress, moved}
 use Rattle.step_world.specs.Moments.{FollowsBehind, IsHeldBy, LooksWithin, progress_by, progress_in}
 use Rattle.lists.proofs.Options.{not_some-none}
@@ -22,7 +22,7 @@ use Rattle.lists.proofs.Options.{not_some-none}
 -- ---- who holds the tree after a step
 
 -- a thread's progress by its place
-pub place_of : (s : MachineValue) (t : ℕ) (place : Place) → (thread_at s t).place ≡ place → progress_in s t ≡ progress_by (thread_at s t).next place
+pub place_of : (s : MachineValue) (t : ℕ) (place : ThreadState) → (thread_at s t).state ≡ place → progress_in s t ≡ progress_by (thread_at s t).next place
 place_of s t place is = ap (progress_by (thread_at s t).next) is
 
 -- the one that holds the tree goes on holding it, or takes it when nobody did
@@ -73,37 +73,37 @@ only_holder s t held holds u some = same_Some u t (sym ((held u).0 some) ∙ (he
 -- looks stay within those of their commands
 pub looks_same : (script : ScriptValue) (old new : MachineValue) (t : ℕ) (now : Thread) → new.journals.tree ≡ old.journals.tree
     → ((u : ℕ) → ((u ≡ t) × (thread_at new u ≡ now)) ⊎ ((u ≡ t → ⊥) × (thread_at new u ≡ thread_at old u)))
-    → ((made : ℕ) (op : Op) → now.place ≡ Looking made → op_at script t now.next ≡ Some op → made ≤ length (looks_of script old.journals.tree (length old.journals.tree) op))
+    → ((made : ℕ) (op : Op) → now.state ≡ Looking made → op_at script t now.next ≡ Some op → made ≤ length (looks_of script old.journals.tree (length old.journals.tree) op))
     → LooksWithin script old → LooksWithin script new
 looks_same script old new t now tree threads mine within u made op place is =
     subst (λ hs. made ≤ length (looks_of script hs (length hs) op)) (sym tree)
     (elim (threads u) [
-      | inl here ↦ mine made op (sym (ap (λ (v : Thread). v.place) here.1) ∙ place) (subst (λ v. op_at script v now.next ≡ Some op) here.0 (subst (λ (v : Thread). op_at script u v.next ≡ Some op) here.1 is))
-      | inr away ↦ within u made op (sym (ap (λ (v : Thread). v.place) away.1) ∙ place) (subst (λ (v : Thread). op_at script u v.next ≡ Some op) away.1 is)
+      | inl here ↦ mine made op (sym (ap (λ (v : Thread). v.state) here.1) ∙ place) (subst (λ v. op_at script v now.next ≡ Some op) here.0 (subst (λ (v : Thread). op_at script u v.next ≡ Some op) here.1 is))
+      | inr away ↦ within u made op (sym (ap (λ (v : Thread). v.state) away.1) ∙ place) (subst (λ (v : Thread). op_at script u v.next ≡ Some op) away.1 is)
     ])
 
 -- follow-ups come after all looks
 pub follows_same : (script : ScriptValue) (old new : MachineValue) (t : ℕ) (now : Thread) → new.journals.tree ≡ old.journals.tree
     → ((u : ℕ) → ((u ≡ t) × (thread_at new u ≡ now)) ⊎ ((u ≡ t → ⊥) × (thread_at new u ≡ thread_at old u)))
-    → ((made k : ℕ) (op : Op) → now.place ≡ Following made → op_at script t now.next ≡ Some op → k + 1 ≡ length old.journals.tree → length (looks_of script old.journals.tree k op) ≤ made)
+    → ((made k : ℕ) (op : Op) → now.state ≡ Following made → op_at script t now.next ≡ Some op → k + 1 ≡ length old.journals.tree → length (looks_of script old.journals.tree k op) ≤ made)
     → FollowsBehind script old → FollowsBehind script new
 follows_same script old new t now tree threads mine behind u made k op place is last =
     let was : k + 1 ≡ length old.journals.tree = last ∙ ap length tree in
     subst (λ hs. length (looks_of script hs k op) ≤ made) (sym tree)
     (elim (threads u) [
-      | inl here ↦ mine made k op (sym (ap (λ (v : Thread). v.place) here.1) ∙ place) (subst (λ v. op_at script v now.next ≡ Some op) here.0 (subst (λ (v : Thread). op_at script u v.next ≡ Some op) here.1 is)) was
-      | inr away ↦ behind u made k op (sym (ap (λ (v : Thread). v.place) away.1) ∙ place) (subst (λ (v : Thread). op_at script u v.next ≡ Some op) away.1 is) was
+      | inl here ↦ mine made k op (sym (ap (λ (v : Thread). v.state) here.1) ∙ place) (subst (λ v. op_at script v now.next ≡ Some op) here.0 (subst (λ (v : Thread). op_at script u v.next ≡ Some op) here.1 is)) was
+      | inr away ↦ behind u made k op (sym (ap (λ (v : Thread). v.state) away.1) ∙ place) (subst (λ (v : Thread). op_at script u v.next ≡ Some op) away.1 is) was
     ])
 
 -- a thread outside the tree does not look
-pub not_looking : (place : Place) (made : ℕ) → (progress_by 0 place).made ≡ None → place ≡ Looking made → ⊥
+pub not_looking : (place : ThreadState) (made : ℕ) → (progress_by 0 place).made ≡ None → place ≡ Looking made → ⊥
 not_looking Ready made none is = absurd cc
 not_looking (Looking m) made none is = absurd cc
 not_looking (Following m) made none is = absurd cc
 not_looking (Tagged tag) made none is = absurd cc
 
 -- and does not follow
-pub not_following : (place : Place) (made : ℕ) → (progress_by 0 place).made ≡ None → place ≡ Following made → ⊥
+pub not_following : (place : ThreadState) (made : ℕ) → (progress_by 0 place).made ≡ None → place ≡ Following made → ⊥
 not_following Ready made none is = absurd cc
 not_following (Looking m) made none is = absurd cc
 not_following (Following m) made none is = absurd cc

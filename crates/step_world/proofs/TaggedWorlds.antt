@@ -18,8 +18,8 @@ use Rattle.step_world.specs.Answers.{HasNext, HasTagged}
 use Rattle.step_world.specs.Machine.{Moves, Steps, Tags, thread_at}
 use Rattle.step_world.specs.Passing.{IsResolved}
 use Rattle.step_world.specs.Worlds.{AreInPlay, KeepsLists, IsWorldOf, machine_of}
-use Rattle.step_world.specs.declared.place.Place.TheVariants.{Ready, Tagged}
-use Rattle.step_world.specs.declared.place.Thread.{Thread}
+use Rattle.step_world.specs.declared.thread_state.ThreadState.TheVariants.{Ready, Tagged}
+use Rattle.step_world.specs.declared.thread_state.Thread.{Thread}
 use Rattle.step_world.specs.declared.world.World.{World}
 use Rattle.tree_law.specs.Resolving.{Owned, resolve}
 use Rattle.tree_law.specs.State.{tasks_of}
@@ -43,10 +43,10 @@ access-fits script w t task cpu addr world next =
 
 -- its tag is read
 pub tagged : (script : ScriptValue) (t n task cpu addr : ℕ) (tag : Tag) (old new : World) → IsWorldOf script old → HasNext script (machine_of old) t (ops.Access task cpu addr) → n ≡ (thread_at (machine_of old) t).next
-    → (thread_at (machine_of old) t).place ≡ Ready → old.holder ≡ None → IsResolved old task cpu tag → IsQuiet t (record { next = n; place = Tagged tag }) old new → new.slices.items ≡ old.slices.items → new.holder ≡ old.holder
+    → (thread_at (machine_of old) t).state ≡ Ready → old.holder ≡ None → IsResolved old task cpu tag → IsQuiet t (record { next = n; state = Tagged tag }) old new → new.slices.items ≡ old.slices.items → new.holder ≡ old.holder
     → IsWorldOf script new × HasTagged script t tag.epoch (ops.Access task cpu addr) (machine_of old) (machine_of new)
 tagged script t n task cpu addr tag old new world next number place free resolved quiet slices holder =
-    let now : Thread = record { next = n; place = Tagged tag } in
+    let now : Thread = record { next = n; state = Tagged tag } in
     let within = within-next script old t (ops.Access task cpu addr) world next in
     let nobody : (u : ℕ) → new.holder ≡ Some u → ⊥ = λ u held. none-some u (sym (holder ∙ free) ∙ held) in
     let leaves : Leaves t now old new = leaves-quiet script t now old new world within quiet (λ u apart held. absurd (nobody u held)) in
@@ -54,8 +54,8 @@ tagged script t n task cpu addr tag old new world next number place free resolve
     let tags : Tags script t task cpu (machine_of old) (machine_of new) = record {
       journals = journals-quiet script t now old new world within quiet slices;
       holder = holder;
-      moves = subst (λ tag. Moves t (record { next = (thread_at (machine_of old) t).next; place = Tagged tag }) (machine_of old) (machine_of new)) (tag-resolved script old task cpu tag world resolved)
-          (subst (λ k. Moves t (record { next = k; place = Tagged tag }) (machine_of old) (machine_of new)) number moves);
+      moves = subst (λ tag. Moves t (record { next = (thread_at (machine_of old) t).next; state = Tagged tag }) (machine_of old) (machine_of new)) (tag-resolved script old task cpu tag world resolved)
+          (subst (λ k. Moves t (record { next = k; state = Tagged tag }) (machine_of old) (machine_of new)) number moves);
     } in
     let step : Steps script t (machine_of old) (machine_of new) = step_tags script t task cpu addr (machine_of old) (machine_of new) next.present next.is place free tags in (
       IsWorldOf-step script old new t now world within step leaves (tree-quiet script t now old new world within quiet) (subst (λ ss. AreInPlay script ss) (sym slices) world.slices)

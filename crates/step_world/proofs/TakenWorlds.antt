@@ -22,9 +22,9 @@ use Rattle.run_law.specs.LookLists.{AreReady, rooms_of}
 use Rattle.step_world.specs.Looked.{HasLooked}
 use Rattle.step_world.specs.Machine.{Moves, Steps, Takes, thread_at}
 use Rattle.step_world.specs.Worlds.{AreInPlay, HasList, HasLists, IsLookingAt, IsTreeOf, IsWorldOf, journals_of, machine_of, rooms_from}
-use Rattle.step_world.specs.declared.place.Place.{Place}
-use Rattle.step_world.specs.declared.place.Place.TheVariants.{Ready, Looking}
-use Rattle.step_world.specs.declared.place.Thread.{Thread}
+use Rattle.step_world.specs.declared.thread_state.ThreadState.{ThreadState}
+use Rattle.step_world.specs.declared.thread_state.ThreadState.TheVariants.{Ready, Looking}
+use Rattle.step_world.specs.declared.thread_state.Thread.{Thread}
 use Rattle.step_world.specs.declared.world.World.{World}
 use Rattle.tree_law.specs.Steps.{needs}
 
@@ -76,7 +76,7 @@ module _ (script : ScriptValue) (t : ℕ) (now : Thread) (old new : World) (worl
   tree-quiet = subst (λ cs. IsTreeOf script (map entry_value cs.items) new.tree) (sym quiet.commands) (subst (λ tree. IsTreeOf script (map entry_value old.commands.items) tree) (sym quiet.tree) world.tree)
 
   -- the lists of the thread are as they were
-  pub lists-quiet : (place : Place) (d : List Looks) → (thread_at (machine_of old) t).place ≡ place → HasLists script t (thread_at (machine_of old) t).next place (get_or new.lists.items t d)
+  pub lists-quiet : (place : ThreadState) (d : List Looks) → (thread_at (machine_of old) t).state ≡ place → HasLists script t (thread_at (machine_of old) t).next place (get_or new.lists.items t d)
   lists-quiet place d is = subst (λ ls. HasLists script t (thread_at (machine_of old) t).next place (get_or ls.items t d)) (sym quiet.lists) (subst (λ p. HasLists script t (thread_at (machine_of old) t).next p (get_or old.lists.items t d)) is (world.lists t d within))
 
 -- ---- Take
@@ -104,10 +104,10 @@ list-taken script t n op lists is command ready =
     }
 
 pub IsWorldOf-taken : (script : ScriptValue) (t n : ℕ) (op : Op) (old new : World) → IsWorldOf script old → HasNext script (machine_of old) t op → n ≡ (thread_at (machine_of old) t).next
-    → (thread_at (machine_of old) t).place ≡ Ready → old.holder ≡ None → is_command op ≡ true → IsQuiet t (record { next = n; place = Looking 0 }) old new → new.slices.items ≡ old.slices.items → new.holder ≡ Some t → BeginsWork op old new
+    → (thread_at (machine_of old) t).state ≡ Ready → old.holder ≡ None → is_command op ≡ true → IsQuiet t (record { next = n; state = Looking 0 }) old new → new.slices.items ≡ old.slices.items → new.holder ≡ Some t → BeginsWork op old new
     → IsWorldOf script new × HasTaken t op (machine_of old) (machine_of new)
 IsWorldOf-taken script t n op old new world next number place free command quiet slices holder work =
-    let now : Thread = record { next = n; place = Looking 0 } in
+    let now : Thread = record { next = n; state = Looking 0 } in
     let within = within-next script old t op world next in
     let leaves : Leaves t now old new = leaves-quiet script t now old new world within quiet (λ u apart held. absurd (apart (same_Some u t (sym held ∙ holder)))) in
     let journals = journals-quiet script t now old new world within quiet slices in
@@ -115,7 +115,7 @@ IsWorldOf-taken script t n op old new world next number place free command quiet
     let takes : Takes t (machine_of old) (machine_of new) = record {
       journals = journals;
       holder = holder;
-      moves = subst (λ k. Moves t (record { next = k; place = Looking 0 }) (machine_of old) (machine_of new)) number moves;
+      moves = subst (λ k. Moves t (record { next = k; state = Looking 0 }) (machine_of old) (machine_of new)) number moves;
     } in
     let step : Steps script t (machine_of old) (machine_of new) = step_takes script t op (machine_of old) (machine_of new) next.present next.is command place free takes in
     let looked : HasLooked script (machine_of new) t op [] = take_looked script t op (machine_of old) (machine_of new) place free takes world.so_far in

@@ -29,11 +29,11 @@ use Rattle.step_world.specs.Machine.{Moves, Notes, Steps, TagsAgain, Touches, fl
 use Rattle.step_world.specs.Moments.{progress_by, progress_in}
 use Rattle.step_world.specs.Slices.{Grows, SliceValue, TouchesLine}
 use Rattle.step_world.specs.Worlds.{AreInPlay, IsWorldOf, machine_of, rooms_from}
-use Rattle.step_world.specs.declared.place.Place.TheVariants.{Ready, Tagged}
-use Rattle.step_world.specs.declared.place.Thread.{Thread}
+use Rattle.step_world.specs.declared.thread_state.ThreadState.TheVariants.{Ready, Tagged}
+use Rattle.step_world.specs.declared.thread_state.Thread.{Thread}
 use Rattle.step_world.specs.declared.world.World.{World}
 
-module _ (script : ScriptValue) (t task cpu addr : ℕ) (tag : Tag) (old : World) (world : IsWorldOf script old) (next : HasNext script (machine_of old) t (ops.Access task cpu addr)) (place : (thread_at (machine_of old) t).place ≡ Tagged tag) where
+module _ (script : ScriptValue) (t task cpu addr : ℕ) (tag : Tag) (old : World) (world : IsWorldOf script old) (next : HasNext script (machine_of old) t (ops.Access task cpu addr)) (place : (thread_at (machine_of old) t).state ≡ Tagged tag) where
   -- how far the thread has come
   progress : progress_in (machine_of old) t ≡ progress_by (thread_at (machine_of old) t).next (Tagged tag)
   progress = ap (progress_by (thread_at (machine_of old) t).next) place
@@ -81,11 +81,11 @@ module _ (script : ScriptValue) (t task cpu addr : ℕ) (tag : Tag) (old : World
 
   -- a hit or a fill
   pub used : (new : World) (n i line : ℕ) (hit : Bool) (way : ℕ) (s : SliceValue) → n ≡ (thread_at (machine_of old) t).next → line ≡ line_of addr → i ≡ slice_of_line script.machine tag.domain (line_of addr)
-      → i < length old.slices.items → IsQuiet t (record { next = n + 1; place = Ready }) old new → new.slices.items ≡ set old.slices.items i s → new.holder ≡ old.holder → new.work ≡ old.work
+      → i < length old.slices.items → IsQuiet t (record { next = n + 1; state = Ready }) old new → new.slices.items ≡ set old.slices.items i s → new.holder ≡ old.holder → new.work ≡ old.work
       → Grows (entry t n tag.epoch (whats.Access hit way tag.owner tag.rmid tag.mask line)) (get_or old.slices.items i s) s
       → IsWorldOf script new × HasUsed script t hit way (ops.Access task cpu addr) (machine_of old) (machine_of new)
   used new n i line hit way s number line_is slice there quiet slices holder work grows =
-      let now : Thread = record { next = n + 1; place = Ready } in
+      let now : Thread = record { next = n + 1; state = Ready } in
       let e : SliceEntry = entry t n tag.epoch (whats.Access hit way tag.owner tag.rmid tag.mask line) in
       let within = within-next script old t (ops.Access task cpu addr) world next in
       let leaves : Leaves t now old new = leaves-quiet script t now old new world within quiet (λ u apart held. (sym holder ∙ held, work)) in
@@ -96,7 +96,7 @@ module _ (script : ScriptValue) (t task cpu addr : ℕ) (tag : Tag) (old : World
         pays = pays n line hit way number line_is;
         notes = subst (λ k. Notes script.machine k e (machine_of old) (machine_of new)) slice notes;
         holder = holder;
-        moves = subst (λ k. Moves t (record { next = k + 1; place = Ready }) (machine_of old) (machine_of new)) number moves;
+        moves = subst (λ k. Moves t (record { next = k + 1; state = Ready }) (machine_of old) (machine_of new)) number moves;
       } in
       let fresh : floor_for script (machine_of old) tag addr ≤ tag.epoch = subst (λ k. floor_of (slice_at (machine_of old).journals k) ≤ tag.epoch) slice notes.may.0 in
       let step : Steps script t (machine_of old) (machine_of new) = step_touches script t task cpu addr tag (machine_of old) (machine_of new) next.present next.is place fresh touches in (
@@ -110,11 +110,11 @@ module _ (script : ScriptValue) (t task cpu addr : ℕ) (tag : Tag) (old : World
 
   -- a tag that is older than the floor
   pub stale : (new : World) (n i floor : ℕ) (s : SliceValue) → n ≡ (thread_at (machine_of old) t).next → i ≡ slice_of_line script.machine tag.domain (line_of addr)
-      → i < length old.slices.items → IsQuiet t (record { next = n; place = Ready }) old new → new.slices.items ≡ set old.slices.items i s → new.holder ≡ old.holder → new.work ≡ old.work
+      → i < length old.slices.items → IsQuiet t (record { next = n; state = Ready }) old new → new.slices.items ≡ set old.slices.items i s → new.holder ≡ old.holder → new.work ≡ old.work
       → s ≡ get_or old.slices.items i s → floor ≡ (get_or old.slices.items i s).cache.floor → tag.epoch < floor
       → IsWorldOf script new × HasStaleTag script t floor (ops.Access task cpu addr) (machine_of old) (machine_of new)
   stale new n i floor s number slice there quiet slices holder work same floor_is below =
-      let now : Thread = record { next = n; place = Ready } in
+      let now : Thread = record { next = n; state = Ready } in
       let within = within-next script old t (ops.Access task cpu addr) world next in
       let kept : new.slices.items ≡ old.slices.items = slices ∙ (ap (λ x. set old.slices.items i x) same ∙ set-get_or old.slices.items i s) in
       let leaves : Leaves t now old new = leaves-quiet script t now old new world within quiet (λ u apart held. (sym holder ∙ held, work)) in
@@ -122,7 +122,7 @@ module _ (script : ScriptValue) (t task cpu addr : ℕ) (tag : Tag) (old : World
       let again : TagsAgain t (machine_of old) (machine_of new) = record {
         journals = journals-quiet script t now old new world within quiet kept;
         holder = holder;
-        moves = subst (λ k. Moves t (record { next = k; place = Ready }) (machine_of old) (machine_of new)) number moves;
+        moves = subst (λ k. Moves t (record { next = k; state = Ready }) (machine_of old) (machine_of new)) number moves;
       } in
       let list : slice_at (machine_of old).journals i ≡ (get_or old.slices.items i s).entries = slice_at-journals (machine_of old).journals.tree old.slices.items i s there in
       let floors : floor ≡ floor_for script (machine_of old) tag addr = floor_is ∙ ((world.slices.caches i s there).stands.floor ∙ (ap floor_of (sym list) ∙ ap (λ k. floor_of (slice_at (machine_of old).journals k)) slice)) in
@@ -136,7 +136,7 @@ module _ (script : ScriptValue) (t task cpu addr : ℕ) (tag : Tag) (old : World
 
   -- a touch that is not stale
   pub touched : (new : World) (n i line : ℕ) (s : SliceValue) (result : Touched) → n ≡ (thread_at (machine_of old) t).next → line ≡ line_of addr → i ≡ slice_of_line script.machine tag.domain (line_of addr)
-      → i < length old.slices.items → IsQuiet t (record { next = n + 1; place = Ready }) old new → new.slices.items ≡ set old.slices.items i s → new.holder ≡ old.holder → new.work ≡ old.work
+      → i < length old.slices.items → IsQuiet t (record { next = n + 1; state = Ready }) old new → new.slices.items ≡ set old.slices.items i s → new.holder ≡ old.holder → new.work ≡ old.work
       → ((floor : ℕ) → result ≡ Stale floor → ⊥) → TouchesLine t n tag line (get_or old.slices.items i s) s result
       → IsWorldOf script new × HasTouched script t result (ops.Access task cpu addr) (machine_of old) (machine_of new)
   touched new n i line s (Hit way) number line_is slice there quiet slices holder work fresh touches = used new n i line true way s number line_is slice there quiet slices holder work touches
@@ -145,7 +145,7 @@ module _ (script : ScriptValue) (t task cpu addr : ℕ) (tag : Tag) (old : World
 
   -- one that is
   pub stale-touch : (new : World) (n i line floor : ℕ) (s : SliceValue) (result : Touched) → n ≡ (thread_at (machine_of old) t).next → i ≡ slice_of_line script.machine tag.domain (line_of addr)
-      → i < length old.slices.items → IsQuiet t (record { next = n; place = Ready }) old new → new.slices.items ≡ set old.slices.items i s → new.holder ≡ old.holder → new.work ≡ old.work
+      → i < length old.slices.items → IsQuiet t (record { next = n; state = Ready }) old new → new.slices.items ≡ set old.slices.items i s → new.holder ≡ old.holder → new.work ≡ old.work
       → result ≡ Stale floor → TouchesLine t n tag line (get_or old.slices.items i s) s result → IsWorldOf script new × HasTouched script t result (ops.Access task cpu addr) (machine_of old) (machine_of new)
   stale-touch new n i line floor s result number slice there quiet slices holder work is touches =
       let told : TouchesLine t n tag line (get_or old.slices.items i s) s (Stale floor) = subst (λ x. TouchesLine t n tag line (get_or old.slices.items i s) s x) is touches in

@@ -14,9 +14,9 @@ use Rattle.step_world.specs.Moments.{IsRunSoFar}
 use Rattle.step_world.specs.Play.{StepsOf}
 use Rattle.step_world.specs.Turns.{HasLetGo, turns_left}
 use Rattle.step_world.specs.Worlds.{AreWithin, IsIn, IsWithin}
-use Rattle.step_world.specs.declared.place.Place.{Place}
-use Rattle.step_world.specs.declared.place.Place.TheVariants.{Ready, Looking, Following, Tagged}
-use Rattle.step_world.specs.declared.place.Thread.{Thread}
+use Rattle.step_world.specs.declared.thread_state.ThreadState.{ThreadState}
+use Rattle.step_world.specs.declared.thread_state.ThreadState.TheVariants.{Ready, Looking, Following, Tagged}
+use Rattle.step_world.specs.declared.thread_state.Thread.{Thread}
 
 -- a thread with an op steps once, and on until it has let go of the tree: it is nearer to its end
 pub turn : (script : ScriptValue) (t : ℕ) (old mid last : MachineValue) → IsRunSoFar script old → AreWithin script old → old.holder ≡ None → phase_in script.phases t ≡ old.phase
@@ -30,7 +30,7 @@ turn script t old mid last so_far within free here some step gone = with_op (op_
       | inl (took, next, before) ↦
           let its : HasLetGo script (Some t) mid last = subst (λ o. HasLetGo script o mid last) took gone in
           let below : (thread_at old t).next < length (ops_of script t) = slice_get_within (ops_of script t) (thread_at old t).next op is in
-          let there : thread_at last t ≡ (record { next = (thread_at old t).next + 1; place = Ready }) = its.2 ∙ ap after_op next in
+          let there : thread_at last t ≡ (record { next = (thread_at old t).next + 1; state = Ready }) = its.2 ∙ ap after_op next in
           let rest = StepsOf-gone script (Some t) t mid last (inl refl) its in
           (turns_left-after_command script t old mid so_far free last before below there, (suc rest.0, (mid, step, rest.1)))
       | inr (none, less) ↦
@@ -39,10 +39,10 @@ turn script t old mid last so_far within free here some step gone = with_op (op_
     ]
       where
         after_op : ℕ → Thread
-        after_op n = record { next = n + 1; place = Ready }
+        after_op n = record { next = n + 1; state = Ready }
 
 -- a place in no op
-ready-none : (place : Place) (o : Option Op) → o ≡ None → IsIn place o → place ≡ Ready
+ready-none : (place : ThreadState) (o : Option Op) → o ≡ None → IsIn place o → place ≡ Ready
 ready-none Ready o none inside = refl
 ready-none (Looking made) None none inside = absurd cc
 ready-none (Following made) None none inside = absurd cc
@@ -53,7 +53,7 @@ ready-none place (Some op) none inside = absurd cc
 pub ended-none : (script : ScriptValue) (t : ℕ) (v : Thread) → IsWithin script t v → is_some (op_at script t v.next) ≡ false → HasEnded script t v
 ended-none script t v within none =
     let gone : op_at script t v.next ≡ None = is_none (op_at script t v.next) none in
-    (end (ops_of script t) v.next within.0 gone, ready-none v.place (op_at script t v.next) gone within.1)
+    (end (ops_of script t) v.next within.0 gone, ready-none v.state (op_at script t v.next) gone within.1)
   where
     is_none : (o : Option Op) → is_some o ≡ false → o ≡ None
     is_none None h = refl

@@ -14,9 +14,9 @@ use Rattle.script_ops.specs.declared.op.Op.TheVariants.{Access}
 use Rattle.step_world.proofs.laws.MachineStates.{where_now}
 use Rattle.step_world.specs.Machine.{Begins, Decides, Looks, MachineValue, Moves, Reaches, StepFrom, StepOf, Steps, TagsAgain, Touches, floor_for, place_behind, thread_at}
 use Rattle.step_world.specs.Worlds.{AreWithin, IsIn, IsWithin}
-use Rattle.step_world.specs.declared.place.Place.{Place}
-use Rattle.step_world.specs.declared.place.Place.TheVariants.{Following, Looking, Ready, Tagged}
-use Rattle.step_world.specs.declared.place.Thread.{Thread}
+use Rattle.step_world.specs.declared.thread_state.ThreadState.{ThreadState}
+use Rattle.step_world.specs.declared.thread_state.ThreadState.TheVariants.{Following, Looking, Ready, Tagged}
+use Rattle.step_world.specs.declared.thread_state.Thread.{Thread}
 
 -- nothing has changed, or this thread is at a place within its ops
 abbrev MovesWithin : ScriptValue → ℕ → MachineValue → MachineValue → Type 0
@@ -28,11 +28,11 @@ module _ (script : ScriptValue) (t n : ℕ) (op : Op) (is : op_at script t n ≡
   below = slice_get_within (ops_of script t) n op is
 
   -- in the op
-  in_op : (place : Place) → IsIn place (Some op) → IsWithin script t (record { next = n; place = place })
+  in_op : (place : ThreadState) → IsIn place (Some op) → IsWithin script t (record { next = n; state = place })
   in_op place inside = (omega (arith, below), subst (λ o. IsIn place o) (sym is) inside)
 
   -- after it
-  after_op : IsWithin script t (record { next = n + 1; place = Ready })
+  after_op : IsWithin script t (record { next = n + 1; state = Ready })
   after_op = (omega (arith, below), tt)
 
   -- after one of its entries
@@ -62,7 +62,7 @@ module _ (script : ScriptValue) (t : ℕ) (old new : MachineValue) where
   tagged_within op tag is same = inl same
 
   -- at each place
-  place_within : (op : Op) (place : Place) → op_at script t next ≡ Some op → StepFrom script t op place old new → MovesWithin script t old new
+  place_within : (op : Op) (place : ThreadState) → op_at script t next ≡ Some op → StepFrom script t op place old new → MovesWithin script t old new
   place_within op Ready is begins = begins_within op old.holder is begins
   place_within op (Looking made) is step = elim (cases_Bool (nat_lt made (length (looks_of script old.journals.tree (length old.journals.tree) op)))) [
     | inl less ↦ inr (_, (MatchBool-at_true (Looks script t made op old new) (Decides script t made op old new) less step).moves, in_op script t next op is (Looking (made + 1)) refl)
@@ -74,7 +74,7 @@ module _ (script : ScriptValue) (t : ℕ) (old new : MachineValue) where
   -- of each op
   op_within : (o : Option Op) → op_at script t next ≡ o → StepOf script t o old new → MovesWithin script t old new
   op_within None is same = inl same
-  op_within (Some op) is step = place_within op (thread_at old t).place is step
+  op_within (Some op) is step = place_within op (thread_at old t).state is step
 
   -- a step
   step_within : Steps script t old new → MovesWithin script t old new

@@ -17,7 +17,7 @@ use Rattle.step_world.specs.declared.action.Action.{Action}
 use Rattle.step_world.specs.declared.action.Action.TheVariants as actions
 use Rattle.step_world.specs.declared.action.Stepped.{Stepped}
 use Rattle.step_world.specs.declared.action.Stepped.TheVariants.{Did, Blocked, Ended}
-use Rattle.step_world.specs.declared.place.Place.TheVariants.{Ready, Looking, Following, Tagged}
+use Rattle.step_world.specs.declared.thread_state.ThreadState.TheVariants.{Ready, Looking, Following, Tagged}
 
 -- ---- why a thread does no step
 
@@ -34,7 +34,7 @@ IsAtEnd script s t = phase_in script.phases t ≡ s.phase → op_at script t (th
 pub record IsBlocked (script : ScriptValue) (s : MachineValue) (t : ℕ) : Type 0 where
   pub op : Op
   pub next : HasNext script s t op
-  pub place : (thread_at s t).place ≡ Ready
+  pub place : (thread_at s t).state ≡ Ready
   pub holder : ℕ
   pub held : s.holder ≡ Some holder
 
@@ -51,21 +51,21 @@ Uses hit way what = (owner : _) × (rmid mask line : ℕ) × (what ≡ whats.Acc
 -- the thread took the tree
 pub record HasTaken (t : ℕ) (op : Op) (old new : MachineValue) : Type 0 where
   pub command : is_command op ≡ true
-  pub place : (thread_at old t).place ≡ Ready
+  pub place : (thread_at old t).state ≡ Ready
   pub free : old.holder ≡ None
   pub row : Takes t old new
 
 -- the thread looked at a slice, and found these lines
 pub record HasCounted (script : ScriptValue) (t lines : ℕ) (op : Op) (old new : MachineValue) : Type 0 where
   pub made : ℕ
-  pub place : (thread_at old t).place ≡ Looking made
+  pub place : (thread_at old t).state ≡ Looking made
   pub row : Looks script t made op old new
   pub counts : Counts lines row.makes.entry.what
 
 -- all looks of its command were made, and the command was decided, with this reply
 pub record HasDecided (script : ScriptValue) (t : ℕ) (reply : Reply) (op : Op) (old new : MachineValue) : Type 0 where
   pub made : ℕ
-  pub place : (thread_at old t).place ≡ Looking made
+  pub place : (thread_at old t).state ≡ Looking made
   pub looked : length (looks_of script old.journals.tree (length old.journals.tree) op) ≤ made
   pub row : Decides script t made op old new
   pub told : row.entry.reply ≡ reply
@@ -73,7 +73,7 @@ pub record HasDecided (script : ScriptValue) (t : ℕ) (reply : Reply) (op : Op)
 -- a follow-up of its command was done in one slice
 pub record HasDone (script : ScriptValue) (t : ℕ) (op : Op) (old new : MachineValue) : Type 0 where
   pub made : ℕ
-  pub place : (thread_at old t).place ≡ Following made
+  pub place : (thread_at old t).state ≡ Following made
   pub row : Follows script t made op old new
 
 -- an access of the thread read a tag of this epoch
@@ -82,7 +82,7 @@ pub record HasTagged (script : ScriptValue) (t epoch : ℕ) (op : Op) (old new :
   pub cpu : ℕ
   pub addr : ℕ
   pub access : op ≡ ops.Access task cpu addr
-  pub place : (thread_at old t).place ≡ Ready
+  pub place : (thread_at old t).state ≡ Ready
   pub free : old.holder ≡ None
   pub row : Tags script t task cpu old new
   pub told : epoch ≡ length old.journals.tree
@@ -94,7 +94,7 @@ pub record HasUsed (script : ScriptValue) (t : ℕ) (hit : Bool) (way : ℕ) (op
   pub cpu : ℕ
   pub addr : ℕ
   pub access : op ≡ ops.Access task cpu addr
-  pub place : (thread_at old t).place ≡ Tagged tag
+  pub place : (thread_at old t).state ≡ Tagged tag
   pub fresh : floor_for script old tag addr ≤ tag.epoch
   pub row : Touches script t tag task cpu addr old new
   pub uses : Uses hit way row.entry.what
@@ -106,7 +106,7 @@ pub record HasStaleTag (script : ScriptValue) (t floor : ℕ) (op : Op) (old new
   pub cpu : ℕ
   pub addr : ℕ
   pub access : op ≡ ops.Access task cpu addr
-  pub place : (thread_at old t).place ≡ Tagged tag
+  pub place : (thread_at old t).state ≡ Tagged tag
   pub row : TagsAgain t old new
   pub told : floor ≡ floor_for script old tag addr
   pub below : tag.epoch < floor

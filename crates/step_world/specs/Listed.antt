@@ -3,7 +3,7 @@
 use Rattle.std.specs.Prelude.{◌≡◌, ℕ, ◌+◌, ◌≤◌, IfSome, Option, length}
 use Rattle.script_ops.specs.Values.{ScriptValue, first_thread, phase_at, threads_of}
 use Rattle.step_world.specs.Passing.{IsResolved}
-use Rattle.step_world.specs.declared.listed.Known.{Known}
+use Rattle.step_world.specs.declared.listed.CachedTag.{CachedTag}
 use Rattle.step_world.specs.declared.listed.PhaseThreads.{PhaseThreads}
 use Rattle.step_world.specs.declared.world.World.{World}
 
@@ -13,6 +13,6 @@ pub record AreOf (script : ScriptValue) (phase : ℕ) (threads : PhaseThreads) :
   pub count : threads.count ≡ length (phase_at script phase).threads
   pub within : threads.first + threads.count ≤ length (threads_of script)
 
--- the tag that is known, if one is, is the one that the tree of the world answers
-abbrev pub Knows : Option Known → World → Type 0
-Knows known w = IfSome known (λ k. IsResolved w k.task k.cpu k.tag)
+-- the tag that is cached, if one is, is the one that the tree of the world answers
+abbrev pub IsCurrent : Option CachedTag → World → Type 0
+IsCurrent cached w = IfSome cached (λ k. IsResolved w k.task k.cpu k.tag)

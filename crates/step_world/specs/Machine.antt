@@ -16,9 +16,9 @@ use Rattle.run_law.specs.Slices.{shape_in}
 use Rattle.run_law.specs.TreeHistory.{CommandMayFollow, TreeEntryValue, tree_after}
 use Rattle.script_ops.specs.Values.{ScriptValue, op_at, ops_of}
 use Rattle.script_ops.specs.declared.op.Op.{Op}
-use Rattle.step_world.specs.declared.place.Place.{Place}
-use Rattle.step_world.specs.declared.place.Place.TheVariants.{Ready, Looking, Following, Tagged}
-use Rattle.step_world.specs.declared.place.Thread.{Thread}
+use Rattle.step_world.specs.declared.thread_state.ThreadState.{ThreadState}
+use Rattle.step_world.specs.declared.thread_state.ThreadState.TheVariants.{Ready, Looking, Following, Tagged}
+use Rattle.step_world.specs.declared.thread_state.Thread.{Thread}
 use Rattle.tree_law.specs.Steps.{needs}
 
 -- a state of the machine
@@ -30,7 +30,7 @@ pub record MachineValue : Type 0 where
 
 -- where each thread is at first
 abbrev pub opening_thread : Thread
-opening_thread = record { next = 0; place = Ready }
+opening_thread = record { next = 0; state = Ready }
 
 -- where a thread is
 abbrev pub thread_at : MachineValue → ℕ → Thread
@@ -65,7 +65,7 @@ pub record MakesEntry (m : Parameters) (t n : ℕ) (job : Job) (old new : Machin
 pub record Takes (t : ℕ) (old new : MachineValue) : Type 0 where
   pub journals : new.journals ≡ old.journals
   pub holder : new.holder ≡ Some t
-  pub moves : Moves t (record { next = (thread_at old t).next; place = Looking 0 }) old new
+  pub moves : Moves t (record { next = (thread_at old t).next; state = Looking 0 }) old new
 
 -- a command that holds the tree looks at a slice
 pub record Looks (script : ScriptValue) (t made : ℕ) (op : Op) (old new : MachineValue) : Type 0 where
@@ -73,11 +73,11 @@ pub record Looks (script : ScriptValue) (t made : ℕ) (op : Op) (old new : Mach
   pub there : At (looks_of script old.journals.tree (length old.journals.tree) op) made job
   pub makes : MakesEntry script.machine t (thread_at old t).next job old new
   pub holder : new.holder ≡ old.holder
-  pub moves : Moves t (record { next = (thread_at old t).next; place = Looking (made + 1) }) old new
+  pub moves : Moves t (record { next = (thread_at old t).next; state = Looking (made + 1) }) old new
 
 -- where a thread is whose command was decided and has made so many of all its entries
 abbrev pub place_behind : ℕ → ℕ → ℕ → Thread
-place_behind next made all = if nat_lt made all then record { next = next; place = Following made } else record { next = next + 1; place = Ready }
+place_behind next made all = if nat_lt made all then record { next = next; state = Following made } else record { next = next + 1; state = Ready }
 
 -- who holds the tree after so many of all entries
 abbrev pub holder_behind : ℕ → ℕ → ℕ → Option ℕ
@@ -110,7 +110,7 @@ pub record Follows (script : ScriptValue) (t made : ℕ) (op : Op) (old new : Ma
 pub record Tags (script : ScriptValue) (t task cpu : ℕ) (old new : MachineValue) : Type 0 where
   pub journals : new.journals ≡ old.journals
   pub holder : new.holder ≡ old.holder
-  pub moves : Moves t (record { next = (thread_at old t).next; place = Tagged (tag_of script.machine (tree_after script old.journals.tree) (length old.journals.tree) task cpu) }) old new
+  pub moves : Moves t (record { next = (thread_at old t).next; state = Tagged (tag_of script.machine (tree_after script old.journals.tree) (length old.journals.tree) task cpu) }) old new
 
 -- the access hits or fills: its entry pays what the tree of its tag's epoch gives it
 pub record Touches (script : ScriptValue) (t : ℕ) (tag : Tag) (task cpu addr : ℕ) (old new : MachineValue) : Type 0 where
@@ -118,13 +118,13 @@ pub record Touches (script : ScriptValue) (t : ℕ) (tag : Tag) (task cpu addr :
   pub pays : PaysJob t (thread_at old t).next (record { slice = slice_of_line script.machine tag.domain (line_of addr); owed = owed_by_access script old.journals.tree tag.epoch task cpu addr }) entry
   pub notes : Notes script.machine (slice_of_line script.machine tag.domain (line_of addr)) entry old new
   pub holder : new.holder ≡ old.holder
-  pub moves : Moves t (record { next = (thread_at old t).next + 1; place = Ready }) old new
+  pub moves : Moves t (record { next = (thread_at old t).next + 1; state = Ready }) old new
 
 -- the access finds its tag stale, and is to tag again
 pub record TagsAgain (t : ℕ) (old new : MachineValue) : Type 0 where
   pub journals : new.journals ≡ old.journals
   pub holder : new.holder ≡ old.holder
-  pub moves : Moves t (record { next = (thread_at old t).next; place = Ready }) old new
+  pub moves : Moves t (record { next = (thread_at old t).next; state = Ready }) old new
 
 -- the floor of the slice that an access goes to
 abbrev pub floor_for : ScriptValue → MachineValue → Tag → ℕ → ℕ
@@ -141,7 +141,7 @@ Begins script t op (Some holder) old new = new ≡ old
 Begins script t op None old new = ByKind (λ task cpu addr. Tags script t task cpu old new) (Takes t old new) op
 
 -- The step of a thread at this place in this op. At Tagged a command changes nothing.
-abbrev pub StepFrom : ScriptValue → ℕ → Op → Place → MachineValue → MachineValue → Type 0
+abbrev pub StepFrom : ScriptValue → ℕ → Op → ThreadState → MachineValue → MachineValue → Type 0
 StepFrom script t op Ready old new = Begins script t op old.holder old new
 StepFrom script t op (Looking made) old new =
     MatchBool (nat_lt made (length (looks_of script old.journals.tree (length old.journals.tree) op))) (Looks script t made op old new) (Decides script t made op old new)
@@ -151,7 +151,7 @@ StepFrom script t op (Tagged tag) old new = ByKind (λ task cpu addr. Reaches sc
 -- at its end a thread changes nothing
 abbrev pub StepOf : ScriptValue → ℕ → Option Op → MachineValue → MachineValue → Type 0
 StepOf script t None old new = new ≡ old
-StepOf script t (Some op) old new = StepFrom script t op (thread_at old t).place old new
+StepOf script t (Some op) old new = StepFrom script t op (thread_at old t).state old new
 
 -- One step of a thread. A thread of another phase changes nothing.
 abbrev pub Steps : ScriptValue → ℕ → MachineValue → MachineValue → Type 0
@@ -162,7 +162,7 @@ Steps script t old new =
 
 -- a thread is at its end
 abbrev pub HasEnded : ScriptValue → ℕ → Thread → Type 0
-HasEnded script t v = (v.next ≡ length (ops_of script t)) × (v.place ≡ Ready)
+HasEnded script t v = (v.next ≡ length (ops_of script t)) × (v.state ≡ Ready)
 
 -- the state before the first step
 pub record IsOpening (script : ScriptValue) (s : MachineValue) : Type 0 where

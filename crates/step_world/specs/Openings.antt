@@ -8,7 +8,7 @@ use Rattle.script_ops.specs.Values.{ScriptValue, ops_of, threads_of}
 use Rattle.run_law.specs.LookLists.{AreReady, rooms_of}
 use Rattle.step_world.specs.Machine.{opening_thread}
 use Rattle.step_world.specs.Slices.{IsFresh, SliceValue}
-use Rattle.step_world.specs.declared.place.Thread.{Thread}
+use Rattle.step_world.specs.declared.thread_state.Thread.{Thread}
 use Rattle.step_world.specs.declared.world.World.{World}
 
 -- these are the first n slices, empty, each with its room

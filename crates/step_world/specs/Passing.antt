@@ -9,7 +9,7 @@ use Rattle.step_world.specs.Answers.{HasNext}
 use Rattle.step_world.specs.Machine.{MachineValue, thread_at}
 use Rattle.step_world.specs.Play.{StepsOf}
 use Rattle.step_world.specs.Worlds.{machine_of}
-use Rattle.step_world.specs.declared.place.Place.TheVariants.{Ready}
+use Rattle.step_world.specs.declared.thread_state.ThreadState.TheVariants.{Ready}
 use Rattle.step_world.specs.declared.world.World.{World}
 use Rattle.tree_law.specs.Resolving.{resolve}
 
@@ -28,14 +28,14 @@ pub record CanPass (script : ScriptValue) (w : World) (t n addr : ℕ) (tag : Ta
   pub cpu : ℕ
   pub next : HasNext script (machine_of w) t (ops.Access task cpu addr)
   pub number : n ≡ (thread_at (machine_of w) t).next
-  pub place : (thread_at (machine_of w) t).place ≡ Ready
+  pub place : (thread_at (machine_of w) t).state ≡ Ready
   pub free : w.holder ≡ None
   pub reads : IsResolved w task cpu tag
 
 -- access n of the thread is done, in two steps, and the tree is as it was
 pub record HasPassed (script : ScriptValue) (t n : ℕ) (old new : World) : Type 0 where
   pub steps : StepsOf script (replicate 2 t) (machine_of old) (machine_of new)
-  pub there : thread_at (machine_of new) t ≡ (record { next = n + 1; place = Ready })
+  pub there : thread_at (machine_of new) t ≡ (record { next = n + 1; state = Ready })
   pub tree : new.tree ≡ old.tree
   pub holder : new.holder ≡ old.holder
   pub phase : new.phase ≡ old.phase
@@ -44,5 +44,5 @@ pub record HasPassed (script : ScriptValue) (t n : ℕ) (old new : World) : Type
 pub record IsBefore (script : ScriptValue) (t task cpu : ℕ) (s : MachineValue) : Type 0 where
   pub addr : ℕ
   pub next : HasNext script s t (ops.Access task cpu addr)
-  pub place : (thread_at s t).place ≡ Ready
+  pub place : (thread_at s t).state ≡ Ready
   pub free : s.holder ≡ None

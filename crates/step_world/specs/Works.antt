@@ -3,7 +3,7 @@
 use Rattle.std.specs.Prelude.{◌≡◌, ℕ, ◌+◌, ◌<◌, ◌≤◌, List, length, None, slice_set}
 use Rattle.rc_base.specs.Buffers.{Looks}
 use Rattle.run_law.specs.LookLists.{HasNoted}
-use Rattle.step_world.specs.declared.place.Place.TheVariants.{Ready, Following}
+use Rattle.step_world.specs.declared.thread_state.ThreadState.TheVariants.{Ready, Following}
 use Rattle.step_world.specs.declared.work.Work.{Work}
 use Rattle.step_world.specs.declared.world.World.{World}
 
@@ -29,5 +29,5 @@ pub record Settles (t n made : ℕ) (old new : World) : Type 0 where
   pub phase : new.phase ≡ old.phase
   pub work : new.work ≡ old.work
   pub closing : new.closing ≡ old.closing
-  pub goes : old.work.at < length old.work.after.items → (new.holder ≡ old.holder) × (new.threads.items ≡ slice_set old.threads.items t (record { next = n; place = Following made }))
-  pub ends : length old.work.after.items ≤ old.work.at → (new.holder ≡ None) × (new.threads.items ≡ slice_set old.threads.items t (record { next = n + 1; place = Ready }))
+  pub goes : old.work.at < length old.work.after.items → (new.holder ≡ old.holder) × (new.threads.items ≡ slice_set old.threads.items t (record { next = n; state = Following made }))
+  pub ends : length old.work.after.items ≤ old.work.at → (new.holder ≡ None) × (new.threads.items ≡ slice_set old.threads.items t (record { next = n + 1; state = Ready }))

@@ -21,9 +21,9 @@ use Rattle.step_world.specs.Looked.{HasLooked}
 use Rattle.step_world.specs.Machine.{MachineValue, thread_at}
 use Rattle.step_world.specs.Moments.{IsRunSoFar}
 use Rattle.step_world.specs.Slices.{SliceValue}
-use Rattle.step_world.specs.declared.place.Place.{Place}
-use Rattle.step_world.specs.declared.place.Place.TheVariants.{Ready, Looking, Following, Tagged}
-use Rattle.step_world.specs.declared.place.Thread.{Thread}
+use Rattle.step_world.specs.declared.thread_state.ThreadState.{ThreadState}
+use Rattle.step_world.specs.declared.thread_state.ThreadState.TheVariants.{Ready, Looking, Following, Tagged}
+use Rattle.step_world.specs.declared.thread_state.Thread.{Thread}
 use Rattle.step_world.specs.declared.work.Work.{Work}
 use Rattle.step_world.specs.declared.world.World.{World}
 use Rattle.tree_core.specs.Follows.{IsReady}
@@ -48,7 +48,7 @@ pub record AreInPlay (script : ScriptValue) (slices : List SliceValue) : Type 0 
   pub rooms : (i : ℕ) (d : SliceValue) → i < length slices → room_of script i ≤ (slice_index_or slices i d).room
 
 -- a place fits the op, if there is one: only an access is Tagged, and without an op the thread is Ready
-abbrev pub IsIn : Place → Option Op → Type 0
+abbrev pub IsIn : ThreadState → Option Op → Type 0
 IsIn Ready o = Unit {0}
 IsIn (Looking made) o = IsSome o
 IsIn (Following made) o = IsSome o
@@ -57,7 +57,7 @@ IsIn (Tagged tag) o = ⊥
 
 -- a thread is at one of its ops or at its end
 abbrev pub IsWithin : ScriptValue → ℕ → Thread → Type 0
-IsWithin script t v = (v.next ≤ length (ops_of script t)) × IsIn v.place (op_at script t v.next)
+IsWithin script t v = (v.next ≤ length (ops_of script t)) × IsIn v.state (op_at script t v.next)
 
 -- each thread is at one of its ops or at its end
 abbrev pub AreWithin : ScriptValue → MachineValue → Type 0
@@ -88,7 +88,7 @@ pub record KeepsLists (script : ScriptValue) (t n : ℕ) (lists : List Looks) : 
   pub ready : AreReady (rooms_from script t n) lists
 
 -- a thread has a list for each of its commands that is still to be decided
-abbrev pub HasLists : ScriptValue → ℕ → ℕ → Place → List Looks → Type 0
+abbrev pub HasLists : ScriptValue → ℕ → ℕ → ThreadState → List Looks → Type 0
 HasLists script t n Ready lists = AreReady (rooms_from script t n) lists
 HasLists script t n (Looking made) lists = (numbers : List ℕ) × HasList script t n numbers lists
 HasLists script t n (Following made) lists = AreReady (rooms_from script t (n + 1)) lists
@@ -127,7 +127,7 @@ pub record IsFollowing (script : ScriptValue) (tree : List TreeEntryValue) (made
   pub bound : length (looks_of script tree position op) < 2 ^ 40
 
 -- the work is as far as the place of the thread that holds the tree says
-abbrev pub IsAtWork : ScriptValue → MachineValue → ℕ → Op → List Looks → Work → Place → Type 0
+abbrev pub IsAtWork : ScriptValue → MachineValue → ℕ → Op → List Looks → Work → ThreadState → Type 0
 IsAtWork script s t op lists work Ready = Unit {0}
 IsAtWork script s t op lists work (Looking made) = IsLookingAt script s t op lists work
 IsAtWork script s t op lists work (Following made) = IsFollowing script s.journals.tree made op work
@@ -146,9 +146,9 @@ pub record IsWorldOf (script : ScriptValue) (w : World) : Type 0 where
   pub threads : length w.threads.items ≡ length (threads_of script)
   pub within : AreWithin script (machine_of w)
   pub lists_count : length w.lists.items ≡ length (threads_of script)
-  pub lists : (t : ℕ) (d : List Looks) → t < length w.threads.items → HasLists script t (thread_at (machine_of w) t).next (thread_at (machine_of w) t).place (slice_index_or w.lists.items t d)
+  pub lists : (t : ℕ) (d : List Looks) → t < length w.threads.items → HasLists script t (thread_at (machine_of w) t).next (thread_at (machine_of w) t).state (slice_index_or w.lists.items t d)
   pub work : (t : ℕ) (op : Op) (d : List Looks) → w.holder ≡ Some t → op_at script t (thread_at (machine_of w) t).next ≡ Some op
-      → IsAtWork script (machine_of w) t op (slice_index_or w.lists.items t d) w.work (thread_at (machine_of w) t).place
+      → IsAtWork script (machine_of w) t op (slice_index_or w.lists.items t d) w.work (thread_at (machine_of w) t).state
 
 -- there is room for the journals of the slices
 abbrev pub CanClose : World → Type 0

@@ -5,10 +5,10 @@ ghost use Rattle.run_law.specs.LookLists.{spare_in};
 ghost use Rattle.step_world.specs.Machine.{thread_at};
 ghost use Rattle.step_world.specs.Works.{CountsOn, Settles};
 ghost use Rattle.step_world.specs.Worlds.{IsWorldOf, machine_of};
-ghost use Rattle.step_world.specs.declared.place.Place.TheVariants.{Following, Looking};
+ghost use Rattle.step_world.specs.declared.thread_state.ThreadState.TheVariants.{Following, Looking};
 
-use crate::place::Place;
 use crate::steps::move_to;
+use crate::thread_state::ThreadState;
 use crate::work::Work;
 use crate::world::World;
 use rc_base::Reply;
@@ -38,7 +38,7 @@ pub(crate) fn look(world: &mut World, script: &Script, t: u32, n: u32, made: u64
     requires world { IsWorldOf script.now world.old }
     requires next { HasNext script.now (machine_of world.old) t op.now }
     requires number { n ≡ (thread_at (machine_of world.old) t).next }
-    requires place { (thread_at (machine_of world.old) t).place ≡ Looking made }
+    requires place { (thread_at (machine_of world.old) t).state ≡ Looking made }
     requires more { world.old.work.at < world.old.work.count }
     ensures world { IsWorldOf script.now world.new }
     ensures counted { HasCounted script.now t result op.now (machine_of world.old) (machine_of world.new) }
@@ -53,7 +53,12 @@ pub(crate) fn look(world: &mut World, script: &Script, t: u32, n: u32, made: u64
         m.slices,
         lines,
     );
-    move_to(&mut world.threads, t, n, Place::Looking { made: made + 1 });
+    move_to(
+        &mut world.threads,
+        t,
+        n,
+        ThreadState::Looking { made: made + 1 },
+    );
     lines
 }
 
@@ -64,10 +69,10 @@ fn settle(world: &mut World, t: u32, n: u32, made: u64)
     ensures { Settles t n made world.old world.new }
 {
     if (world.work.at as usize) < world.work.after.len() {
-        move_to(&mut world.threads, t, n, Place::Following { made });
+        move_to(&mut world.threads, t, n, ThreadState::Following { made });
     } else {
         world.holder = None;
-        move_to(&mut world.threads, t, n + 1, Place::Ready);
+        move_to(&mut world.threads, t, n + 1, ThreadState::Ready);
     }
 }
 
@@ -83,7 +88,7 @@ pub(crate) fn decide(
     requires world { IsWorldOf script.now world.old }
     requires next { HasNext script.now (machine_of world.old) t op.now }
     requires number { n ≡ (thread_at (machine_of world.old) t).next }
-    requires place { (thread_at (machine_of world.old) t).place ≡ Looking made }
+    requires place { (thread_at (machine_of world.old) t).state ≡ Looking made }
     requires all { world.old.work.count ≤ world.old.work.at }
     ensures world { IsWorldOf script.now world.new }
     ensures decided { HasDecided script.now t result op.now (machine_of world.old) (machine_of world.new) }
@@ -106,7 +111,7 @@ pub(crate) fn follow(world: &mut World, script: &Script, t: u32, n: u32, made: u
     requires world { IsWorldOf script.now world.old }
     requires next { HasNext script.now (machine_of world.old) t op.now }
     requires number { n ≡ (thread_at (machine_of world.old) t).next }
-    requires place { (thread_at (machine_of world.old) t).place ≡ Following made }
+    requires place { (thread_at (machine_of world.old) t).state ≡ Following made }
     ensures world { IsWorldOf script.now world.new }
     ensures done { HasDone script.now t op.now (machine_of world.old) (machine_of world.new) }
 {

@@ -5,8 +5,8 @@ ghost use Rattle.script_ops.specs.Values.{IsLawful, threads_of};
 ghost use Rattle.run_law.specs.Quotas.{AreCounted, AreRooms};
 ghost use Rattle.step_world.specs.Openings.{AreFresh, AreFirst, AreListed};
 
-use crate::place::Thread;
 use crate::slice::Slice;
+use crate::thread_state::Thread;
 use rc_base::NoMemory;
 use run_law::LookLists;
 use script_ops::Script;

@@ -4,15 +4,15 @@ ghost use Rattle.run_law.specs.Ops.{phase_in};
 ghost use Rattle.script_ops.specs.Fits.{Fits};
 ghost use Rattle.script_ops.specs.declared.op.Op.TheVariants as ops;
 ghost use Rattle.step_world.specs.Answers.{HasNext};
-ghost use Rattle.step_world.specs.Listed.{AreOf, Knows};
+ghost use Rattle.step_world.specs.Listed.{AreOf, IsCurrent};
 ghost use Rattle.step_world.specs.Machine.{Steps, thread_at};
 ghost use Rattle.step_world.specs.Passing.{IsResolved};
 ghost use Rattle.step_world.specs.Worlds.{IsWorldOf, machine_of};
-ghost use Rattle.step_world.specs.declared.place.Place.TheVariants.{Ready};
+ghost use Rattle.step_world.specs.declared.thread_state.ThreadState.TheVariants.{Ready};
 ghost use Rattle.tree_law.specs.State.{tasks_of};
 
-use crate::place::Place;
 use crate::steps::{move_to, touch};
+use crate::thread_state::ThreadState;
 use crate::world::World;
 use rc_base::Tag;
 use script_ops::{Op, Script};
@@ -46,22 +46,22 @@ impl PhaseThreads {
 
 /// The tag that the tree gives the accesses of a task on a CPU.
 #[derive(Clone, Copy)]
-pub(crate) struct Known {
+pub(crate) struct CachedTag {
     task: u32,
     cpu: u8,
     tag: Tag,
 }
 
-// The tag of a task on a CPU: the one that is known, or else the one that the tree answers, which is known from then on.
-fn know(world: &World, known: &mut Option<Known>, task: u32, cpu: u8) -> Tag
+// The tag of a task on a CPU: the one that is cached, or else the one that the tree answers, which is cached from then on.
+fn cached_tag(world: &World, cached: &mut Option<CachedTag>, task: u32, cpu: u8) -> Tag
     requires fits { Fits world.now.tree.machine (tasks_of world.now.tree.state) (ops.Access task cpu 0) }
-    requires known { Knows known.old world.now }
+    requires cached { IsCurrent cached.old world.now }
     ensures tag { IsResolved world.now task cpu result }
-    ensures known { Knows known.new world.now }
+    ensures cached { IsCurrent cached.new world.now }
 {
-    match *known {
+    match *cached {
         Some(
-            Known {
+            CachedTag {
                 task: of,
                 cpu: on,
                 tag,
@@ -69,14 +69,14 @@ fn know(world: &World, known: &mut Option<Known>, task: u32, cpu: u8) -> Tag
         ) if of == task && on == cpu => tag,
         _ => {
             let tag = world.tree.resolve(task, cpu);
-            *known = Some(Known { task, cpu, tag });
+            *cached = Some(CachedTag { task, cpu, tag });
             tag
         }
     }
 }
 
-// An access reads its tag, by what is known of the tree.
-fn read_known(
+// An access reads its tag, by the tag that is cached.
+fn read_cached(
     world: &mut World,
     script: &Script,
     t: u32,
@@ -84,63 +84,63 @@ fn read_known(
     task: u32,
     cpu: u8,
     addr: u64,
-    known: &mut Option<Known>,
+    cached: &mut Option<CachedTag>,
 )
     requires world { IsWorldOf script.now world.old }
     requires next { HasNext script.now (machine_of world.old) t (ops.Access task cpu addr) }
     requires number { n ≡ (thread_at (machine_of world.old) t).next }
-    requires place { (thread_at (machine_of world.old) t).place ≡ Ready }
+    requires place { (thread_at (machine_of world.old) t).state ≡ Ready }
     requires free { world.old.holder ≡ None }
-    requires known { Knows known.old world.old }
+    requires cached { IsCurrent cached.old world.old }
     ensures world { IsWorldOf script.now world.new }
     ensures steps { Steps script.now t (machine_of world.old) (machine_of world.new) }
-    ensures known { Knows known.new world.new }
+    ensures cached { IsCurrent cached.new world.new }
 {
-    let tag = know(world, known, task, cpu);
-    move_to(&mut world.threads, t, n, Place::Tagged { tag });
+    let tag = cached_tag(world, cached, task, cpu);
+    move_to(&mut world.threads, t, n, ThreadState::Tagged { tag });
 }
 
-// A thread that has this op to do takes a step. An access leaves the tree as it is, so that what is known of it stays true.
-fn step_op(world: &mut World, script: &Script, t: u32, op: &Op, known: &mut Option<Known>)
+// A thread that has this op to do takes a step. An access leaves the tree as it is, so that a cached tag stays current.
+fn step_op(world: &mut World, script: &Script, t: u32, op: &Op, cached: &mut Option<CachedTag>)
     requires world { IsWorldOf script.now world.old }
     requires next { HasNext script.now (machine_of world.old) t op.now }
     requires thread { t < length world.old.threads.items }
-    requires known { Knows known.old world.old }
+    requires cached { IsCurrent cached.old world.old }
     ensures world { IsWorldOf script.now world.new }
     ensures steps { Steps script.now t (machine_of world.old) (machine_of world.new) }
-    ensures known { Knows known.new world.new }
+    ensures cached { IsCurrent cached.new world.new }
 {
     let thread = world.threads[t as usize];
     let n = thread.next;
-    match (op, thread.place) {
-        (Op::Access { task, cpu, addr }, Place::Ready) if world.holder.is_none() => {
-            read_known(world, script, t, n, *task, *cpu, *addr, known);
+    match (op, thread.state) {
+        (Op::Access { task, cpu, addr }, ThreadState::Ready) if world.holder.is_none() => {
+            read_cached(world, script, t, n, *task, *cpu, *addr, cached);
         }
-        (Op::Access { task, cpu, addr }, Place::Tagged { tag }) => {
+        (Op::Access { task, cpu, addr }, ThreadState::Tagged { tag }) => {
             touch(world, script, t, n, tag, *task, *cpu, *addr);
         }
         _ => {
             world.act(script, t, op);
-            *known = None;
+            *cached = None;
         }
     }
 }
 
 // A thread of the present phase takes a step.
-fn step_present(world: &mut World, script: &Script, t: u32, known: &mut Option<Known>)
+fn step_present(world: &mut World, script: &Script, t: u32, cached: &mut Option<CachedTag>)
     requires world { IsWorldOf script.now world.old }
     requires present { phase_in script.now.phases t ≡ world.old.phase }
     requires thread { t < length world.old.threads.items }
-    requires known { Knows known.old world.old }
+    requires cached { IsCurrent cached.old world.old }
     ensures world { IsWorldOf script.now world.new }
     ensures steps { Steps script.now t (machine_of world.old) (machine_of world.new) }
-    ensures known { Knows known.new world.new }
+    ensures cached { IsCurrent cached.new world.new }
 {
     let n = world.threads[t as usize].next;
     let Some(op) = script.op(t, n) else {
         return;
     };
-    step_op(world, script, t, op.get(), known);
+    step_op(world, script, t, op.get(), cached);
 }
 
 /// The thread of this number takes a step, where it is one of those of the present phase.
@@ -149,17 +149,17 @@ pub(crate) fn step_listed(
     script: &Script,
     present: &PhaseThreads,
     t: u32,
-    known: &mut Option<Known>,
+    cached: &mut Option<CachedTag>,
 )
     requires world { IsWorldOf script.now world.old }
     requires phase { world.old.phase < length script.now.phases }
     requires present { AreOf script.now world.old.phase present.now }
-    requires known { Knows known.old world.old }
+    requires cached { IsCurrent cached.old world.old }
     ensures world { IsWorldOf script.now world.new }
     ensures steps { Steps script.now t (machine_of world.old) (machine_of world.new) }
-    ensures known { Knows known.new world.new }
+    ensures cached { IsCurrent cached.new world.new }
 {
     if present.has(t) {
-        step_present(world, script, t, known);
+        step_present(world, script, t, cached);
     }
 }

@@ -10,7 +10,7 @@ ghost use Rattle.step_world.specs.Worlds.{IsWorldOf, machine_of};
 
 use crate::listed::{PhaseThreads, step_listed};
 use crate::passing::pass_all;
-use crate::place::Place;
+use crate::thread_state::ThreadState;
 use crate::world::World;
 use script_ops::{Op, OpAt, Ops, Script};
 
@@ -23,9 +23,9 @@ fn step_in_order(world: &mut World, script: &Script, order: &[u32])
     ensures phase { world.new.phase ≡ world.old.phase }
 {
     let present = PhaseThreads::of(script, world.phase);
-    let mut known = None;
+    let mut cached = None;
     for t in order {
-        step_listed(world, script, &present, *t, &mut known);
+        step_listed(world, script, &present, *t, &mut cached);
     }
 }
 
@@ -51,8 +51,8 @@ fn take_turn(world: &mut World, script: &Script, t: u32, ops: &Ops, op: &Op)
     ensures world { IsWorldOf script.now world.new }
     ensures turn { TakesTurn script.now t (machine_of world.old) (machine_of world.new) }
 {
-    match (op, world.threads[t as usize].place) {
-        (Op::Access { task, cpu, .. }, Place::Ready) => {
+    match (op, world.threads[t as usize].state) {
+        (Op::Access { task, cpu, .. }, ThreadState::Ready) => {
             pass_all(world, script, t, ops, *task, *cpu);
         }
         _ => {

@@ -6,12 +6,12 @@ ghost use Rattle.step_world.specs.Answers.{Answers, Does, HasNext, IsAtEnd, IsBl
 ghost use Rattle.step_world.specs.Machine.{Steps, thread_at};
 ghost use Rattle.step_world.specs.Worlds.{IsWorldOf, machine_of};
 ghost use Rattle.step_world.specs.declared.action.Stepped.TheVariants as stepped;
-ghost use Rattle.step_world.specs.declared.place.Place.TheVariants.{Looking, Ready, Tagged};
+ghost use Rattle.step_world.specs.declared.thread_state.ThreadState.TheVariants.{Looking, Ready, Tagged};
 
 use crate::action::{Action, Stepped};
 use crate::commands::{decide, follow, look};
-use crate::place::{Place, Thread};
 use crate::steps::{read_tag, take, touch};
+use crate::thread_state::{Thread, ThreadState};
 use crate::world::World;
 use rc_base::Tag;
 use script_ops::{Op, OpAt, Script};
@@ -52,7 +52,7 @@ impl World {
         requires world { IsWorldOf script.now self.old }
         requires next { HasNext script.now (machine_of self.old) t op.now }
         requires number { n ≡ (thread_at (machine_of self.old) t).next }
-        requires place { (thread_at (machine_of self.old) t).place ≡ Ready }
+        requires place { (thread_at (machine_of self.old) t).state ≡ Ready }
         ensures world { IsWorldOf script.now self.new }
         ensures answers { Answers script.now t result (machine_of self.old) (machine_of self.new) }
     {
@@ -80,7 +80,7 @@ impl World {
         requires world { IsWorldOf script.now self.old }
         requires next { HasNext script.now (machine_of self.old) t op.now }
         requires number { n ≡ (thread_at (machine_of self.old) t).next }
-        requires place { (thread_at (machine_of self.old) t).place ≡ Looking made }
+        requires place { (thread_at (machine_of self.old) t).state ≡ Looking made }
         ensures world { IsWorldOf script.now self.new }
         ensures does { Does script.now t result op.now (machine_of self.old) (machine_of self.new) }
     {
@@ -100,7 +100,7 @@ impl World {
         requires world { IsWorldOf script.now self.old }
         requires next { HasNext script.now (machine_of self.old) t op.now }
         requires number { n ≡ (thread_at (machine_of self.old) t).next }
-        requires place { (thread_at (machine_of self.old) t).place ≡ Tagged tag }
+        requires place { (thread_at (machine_of self.old) t).state ≡ Tagged tag }
         ensures world { IsWorldOf script.now self.new }
         ensures does { Does script.now t result op.now (machine_of self.old) (machine_of self.new) }
     {
@@ -119,19 +119,19 @@ impl World {
         ensures world { IsWorldOf script.now self.new }
         ensures answers { Answers script.now t result (machine_of self.old) (machine_of self.new) }
     {
-        let Thread { next, place } = self.threads[t as usize];
-        match place {
-            Place::Ready => self.begin(script, t, next, op),
-            Place::Looking { made } => Stepped::Did {
+        let Thread { next, state } = self.threads[t as usize];
+        match state {
+            ThreadState::Ready => self.begin(script, t, next, op),
+            ThreadState::Looking { made } => Stepped::Did {
                 action: self.look_or_decide(script, t, next, made, op),
             },
-            Place::Following { made } => {
+            ThreadState::Following { made } => {
                 follow(self, script, t, next, made, op);
                 Stepped::Did {
                     action: Action::Followed,
                 }
             }
-            Place::Tagged { tag } => Stepped::Did {
+            ThreadState::Tagged { tag } => Stepped::Did {
                 action: self.touch_line(script, t, next, tag, op),
             },
         }

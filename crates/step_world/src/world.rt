@@ -1,7 +1,7 @@
 //! The tree, the slices and the threads of a script.
 
-use crate::place::Thread;
 use crate::slice::Slice;
+use crate::thread_state::Thread;
 use crate::work::Work;
 use cache_core::SliceEntry;
 use run_law::{LookLists, TreeEntry};

@@ -24,9 +24,9 @@ use Rattle.run_law.proofs.laws.ReadTags.{outside, tag_keeps, untag_keeps}
 use Rattle.run_law.proofs.laws.FreeTrees.{idle}
 use Rattle.run_law.proofs.laws.MadeAccesses.{touch_keeps}
 use Rattle.step_world.specs.Machine.{Moves, MachineValue, Tags, TagsAgain, Touches, thread_at}
-use Rattle.step_world.specs.declared.place.Place.{Place}
-use Rattle.step_world.specs.declared.place.Place.TheVariants.{Ready, Looking, Following, Tagged}
-use Rattle.step_world.specs.declared.place.Thread.{Thread}
+use Rattle.step_world.specs.declared.thread_state.ThreadState.{ThreadState}
+use Rattle.step_world.specs.declared.thread_state.ThreadState.TheVariants.{Ready, Looking, Following, Tagged}
+use Rattle.step_world.specs.declared.thread_state.Thread.{Thread}
 use Rattle.run_law.specs.Growth.{tag_of, AreLegal, IsFree, IsKept}
 use Rattle.run_law.specs.Progress.{Progress, moved}
 use Rattle.step_world.specs.Moments.{CanBe, IsHeldBy, IsRunSoFar, WithClaim, progress_in}
@@ -44,11 +44,11 @@ outside_can_be old new t now all moves tree holder held none can =
 
 -- an access reads its tag
 pub tag_step : (script : ScriptValue) (t task cpu addr : ℕ) (old new : MachineValue) → phase_in script.phases t ≡ old.phase → op_at script t (thread_at old t).next ≡ Some (Access task cpu addr)
-    → (thread_at old t).place ≡ Ready → old.holder ≡ None → Tags script t task cpu old new → IsRunSoFar script old → IsRunSoFar script new
+    → (thread_at old t).state ≡ Ready → old.holder ≡ None → Tags script t task cpu old new → IsRunSoFar script old → IsRunSoFar script new
 tag_step script t task cpu addr old new here is_op place free tags so_far =
     let n : ℕ = (thread_at old t).next in
     let tag : Tag = tag_of script.machine (tree_after script old.journals.tree) (length old.journals.tree) task cpu in
-    let now : Thread = record { next = n; place = Tagged tag } in
+    let now : Thread = record { next = n; state = Tagged tag } in
     let tree : new.journals.tree ≡ old.journals.tree = ap (λ (j : JournalsValue). j.tree) tags.journals in
     let slices : new.journals.slices ≡ old.journals.slices = ap (λ (j : JournalsValue). j.slices) tags.journals in
     let nobody : (u : ℕ) → IsSome (progress_in old u).made → ⊥ = nobody_holds old so_far.held free in
@@ -68,11 +68,11 @@ tag_step script t task cpu addr old new here is_op place free tags so_far =
     }
 
 -- it finds its tag stale
-pub untag_step : (script : ScriptValue) (t : ℕ) (tag : Tag) (old new : MachineValue) → phase_in script.phases t ≡ old.phase → (thread_at old t).place ≡ Tagged tag → TagsAgain t old new
+pub untag_step : (script : ScriptValue) (t : ℕ) (tag : Tag) (old new : MachineValue) → phase_in script.phases t ≡ old.phase → (thread_at old t).state ≡ Tagged tag → TagsAgain t old new
     → IsRunSoFar script old → IsRunSoFar script new
 untag_step script t tag old new here place tags so_far =
     let n : ℕ = (thread_at old t).next in
-    let now : Thread = record { next = n; place = Ready } in
+    let now : Thread = record { next = n; state = Ready } in
     let tree : new.journals.tree ≡ old.journals.tree = ap (λ (j : JournalsValue). j.tree) tags.journals in
     let slices : new.journals.slices ≡ old.journals.slices = ap (λ (j : JournalsValue). j.slices) tags.journals in
     let was_at : progress_in old t ≡ outside n (Some tag) = place_of old t (Tagged tag) place in
@@ -109,7 +109,7 @@ touch_owed script old all epoch task cpu addr can free = elim (can_be_is old old
 ]
 
 -- a history that it can be, at a place
-pub some_claim : (tree : List TreeEntryValue) (t next : ℕ) (place : Place) → (all : List TreeEntryValue) × WithClaim tree t next place all
+pub some_claim : (tree : List TreeEntryValue) (t next : ℕ) (place : ThreadState) → (all : List TreeEntryValue) × WithClaim tree t next place all
 some_claim tree t next Ready = (tree, refl)
 some_claim tree t next (Looking made) = let h : TreeEntryValue = record { thread = t; op = next; reply = replies.Ok; looks = [] } in (tree ++ h ∷ [], (h, refl, refl, refl))
 some_claim tree t next (Following made) = (tree, refl)
@@ -118,7 +118,7 @@ some_claim tree t next (Tagged tag) = (tree, refl)
 -- something that it can be
 pub some_can_be : (s : MachineValue) (holder : Option ℕ) → (all : List TreeEntryValue) × CanBe s holder all
 some_can_be s None = (s.journals.tree, refl)
-some_can_be s (Some t) = some_claim s.journals.tree t (thread_at s t).next (thread_at s t).place
+some_can_be s (Some t) = some_claim s.journals.tree t (thread_at s t).next (thread_at s t).state
 
 -- what an access owes has its epoch
 pub access_epoch : (script : ScriptValue) (tree : List TreeEntryValue) (epoch task cpu addr : ℕ) → (owed_by_access script tree epoch task cpu addr).epoch ≡ epoch
@@ -132,10 +132,10 @@ access_no_look script tree epoch task cpu addr rmid = refl
 
 -- it makes its entry
 pub touch_step : (script : ScriptValue) (t : ℕ) (tag : Tag) (task cpu addr : ℕ) (old new : MachineValue) → phase_in script.phases t ≡ old.phase → op_at script t (thread_at old t).next ≡ Some (Access task cpu addr)
-    → (thread_at old t).place ≡ Tagged tag → Touches script t tag task cpu addr old new → IsRunSoFar script old → IsRunSoFar script new
+    → (thread_at old t).state ≡ Tagged tag → Touches script t tag task cpu addr old new → IsRunSoFar script old → IsRunSoFar script new
 touch_step script t tag task cpu addr old new here is_op place touches so_far =
     let n : ℕ = (thread_at old t).next in
-    let now : Thread = record { next = n + 1; place = Ready } in
+    let now : Thread = record { next = n + 1; state = Ready } in
     let e : SliceEntry = touches.entry in
     let notes = touches.notes in
     let pays = touches.pays in

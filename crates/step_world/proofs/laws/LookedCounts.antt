@@ -32,15 +32,15 @@ use Rattle.run_law.proofs.laws.GrownLists.{Adds, with_slices}
 use Rattle.step_world.proofs.laws.MachineStates.{tree_can_be}
 use Rattle.step_world.specs.Looked.{HasLooked}
 use Rattle.step_world.specs.Machine.{Begins, Looks, MachineValue, Reaches, StepFrom, StepOf, Steps, TagsAgain, Takes, Touches, floor_for, thread_at}
-use Rattle.step_world.specs.declared.place.Place.{Place}
-use Rattle.step_world.specs.declared.place.Place.TheVariants.{Following, Looking, Ready, Tagged}
-use Rattle.step_world.specs.declared.place.Thread.{Thread}
+use Rattle.step_world.specs.declared.thread_state.ThreadState.{ThreadState}
+use Rattle.step_world.specs.declared.thread_state.ThreadState.TheVariants.{Following, Looking, Ready, Tagged}
+use Rattle.step_world.specs.declared.thread_state.Thread.{Thread}
 use Rattle.step_world.specs.Moments.{IsRunSoFar, progress_by, progress_in}
 
 -- ---- a command has taken the tree
 
 -- no look is made yet
-pub take_looked : (script : ScriptValue) (t : ℕ) (op : Op) (old new : MachineValue) → (thread_at old t).place ≡ Ready → old.holder ≡ None → Takes t old new → IsRunSoFar script old → HasLooked script new t op []
+pub take_looked : (script : ScriptValue) (t : ℕ) (op : Op) (old new : MachineValue) → (thread_at old t).state ≡ Ready → old.holder ≡ None → Takes t old new → IsRunSoFar script old → HasLooked script new t op []
 take_looked script t op old new place free takes so_far =
     let n : ℕ = (thread_at old t).next in
     let kept : IsKept script old.journals (progress_in old) old.phase = so_far.kept old.journals.tree (tree_can_be old old.holder free) in
@@ -53,7 +53,7 @@ take_looked script t op old new place free takes so_far =
     (subst (λ v. HasBegun (progress_in old v) n) is.0 (subst (λ o. HasBegun (progress_in old e.thread) o) is.1 (kept.of_begun.entries i p e there)))) in
     let found : HasFound old.journals t n (pairs_for script new.journals.tree op) [] = none_found old.journals t n (pairs_for script new.journals.tree op) none in
     record {
-      place = ap (λ (v : Thread). v.place) takes.moves.there;
+      place = ap (λ (v : Thread). v.state) takes.moves.there;
       numbers = subst (λ m. HasFound new.journals t m (pairs_for script new.journals.tree op) []) (sym (ap (λ (v : Thread). v.next) takes.moves.there))
           (subst (λ j. HasFound j t n (pairs_for script new.journals.tree op) []) (sym takes.journals) found);
     }
@@ -86,7 +86,7 @@ look_looked script t op old new found distinct looked looks =
       lines,
       (pair.1, is),
       record {
-        place = ap (λ (v : Thread). v.place) looks.moves.there ∙ ap Looking (sym (length_push found lines));
+        place = ap (λ (v : Thread). v.state) looks.moves.there ∙ ap Looking (sym (length_push found lines));
         numbers = subst (λ m. HasFound new.journals t m (pairs_for script new.journals.tree op) (found ++ lines ∷ [])) (sym (ap (λ (v : Thread). v.next) looks.moves.there))
             (subst (λ hs. HasFound new.journals t n (pairs_for script hs op) (found ++ lines ∷ [])) (sym notes.tree) more);
       },
@@ -130,7 +130,7 @@ blocked script t u op (Some other) old new is same = nothing t u old new same
 blocked script t u op None old new is begins = absurd cc
 
 -- at each place
-place_other : (script : ScriptValue) (t u : ℕ) (op : Op) (place : Place) (old new : MachineValue) → t ≢ u → old.holder ≡ Some t → IsRunSoFar script old → (thread_at old u).place ≡ place
+place_other : (script : ScriptValue) (t u : ℕ) (op : Op) (place : ThreadState) (old new : MachineValue) → t ≢ u → old.holder ≡ Some t → IsRunSoFar script old → (thread_at old u).state ≡ place
     → StepFrom script u op place old new → IsOtherStep t u old new
 place_other script t u op Ready old new apart held so_far at begins = blocked script t u op old.holder old new held begins
 place_other script t u op (Looking made) old new apart held so_far at step =
@@ -144,7 +144,7 @@ place_other script t u op (Tagged tag) old new apart held so_far at step = tagge
 -- of each op
 op_other : (script : ScriptValue) (t u : ℕ) (o : Option Op) (old new : MachineValue) → t ≢ u → old.holder ≡ Some t → IsRunSoFar script old → StepOf script u o old new → IsOtherStep t u old new
 op_other script t u None old new apart held so_far same = nothing t u old new same
-op_other script t u (Some op) old new apart held so_far step = place_other script t u op (thread_at old u).place old new apart held so_far refl step
+op_other script t u (Some op) old new apart held so_far step = place_other script t u op (thread_at old u).state old new apart held so_far refl step
 
 -- a step of another thread
 pub other_step : (script : ScriptValue) (t u : ℕ) (old new : MachineValue) → t ≢ u → old.holder ≡ Some t → IsRunSoFar script old → Steps script u old new → IsOtherStep t u old new
@@ -169,7 +169,7 @@ others_looked script t u op old new found apart so_far step looked =
           (not_by t n e (fails (is_made_by t n e) (λ mine. apart (sym (both_eqb-true e.thread t e.op n mine).0 ∙ thread)))) looked.numbers
     ] in
     record {
-      place = ap (λ (v : Thread). v.place) other.there ∙ looked.place;
+      place = ap (λ (v : Thread). v.state) other.there ∙ looked.place;
       numbers = subst (λ (v : Thread). HasFound new.journals t v.next (pairs_for script new.journals.tree op) found) (sym other.there)
           (subst (λ hs. HasFound new.journals t n (pairs_for script hs op) found) (sym other.tree) now);
     }

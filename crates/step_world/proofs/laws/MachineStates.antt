@@ -8,9 +8,9 @@ use Rattle.run_law.specs.TreeHistory.{TreeEntryValue}
 use Rattle.script_ops.specs.Values.{ScriptValue}
 use Rattle.run_law.proofs.laws.MovedThreads.{where_moved}
 use Rattle.step_world.specs.Machine.{MachineValue, Moves, holder_behind, place_behind, thread_at}
-use Rattle.step_world.specs.declared.place.Place.{Place}
-use Rattle.step_world.specs.declared.place.Place.TheVariants.{Ready, Looking, Following, Tagged}
-use Rattle.step_world.specs.declared.place.Thread.{Thread}
+use Rattle.step_world.specs.declared.thread_state.ThreadState.{ThreadState}
+use Rattle.step_world.specs.declared.thread_state.ThreadState.TheVariants.{Ready, Looking, Following, Tagged}
+use Rattle.step_world.specs.declared.thread_state.Thread.{Thread}
 use Rattle.run_law.specs.Progress.{Progress, moved}
 use Rattle.step_world.specs.Moments.{CanBe, IsHeldBy, WithClaim, progress_by, progress_in}
 use Rattle.run_law.specs.Growth.{IsKept}
@@ -27,10 +27,10 @@ IsKept-same script all more slices some at then_at phase now a b c d kept =
     (subst (λ x. IsKept script (record { tree = all; slices = slices }) at x) (sym d) kept)))
 
 -- a thread's progress after a step
-pub progress_moved : (old new : MachineValue) (t : ℕ) (now : Thread) → Moves t now old new → (u : ℕ) → progress_in new u ≡ moved (progress_in old) t (progress_by now.next now.place) u
-progress_moved old new t now moves u = elim (where_moved (progress_in old) t (progress_by now.next now.place) u) [
-  | inl here ↦ ap (λ v. progress_in new v) here.0 ∙ (ap (λ (v : Thread). progress_by v.next v.place) moves.there ∙ sym here.1)
-  | inr away ↦ ap (λ (v : Thread). progress_by v.next v.place) (moves.others u away.0) ∙ sym away.1
+pub progress_moved : (old new : MachineValue) (t : ℕ) (now : Thread) → Moves t now old new → (u : ℕ) → progress_in new u ≡ moved (progress_in old) t (progress_by now.next now.state) u
+progress_moved old new t now moves u = elim (where_moved (progress_in old) t (progress_by now.next now.state) u) [
+  | inl here ↦ ap (λ v. progress_in new v) here.0 ∙ (ap (λ (v : Thread). progress_by v.next v.state) moves.there ∙ sym here.1)
+  | inr away ↦ ap (λ (v : Thread). progress_by v.next v.state) (moves.others u away.0) ∙ sym away.1
 ]
 
 -- a thread that is where it was, or the one that moved
@@ -52,12 +52,12 @@ pub tree_can_be : (s : MachineValue) (holder : Option ℕ) → holder ≡ None �
 tree_can_be s holder none = subst (λ o. CanBe s o s.journals.tree) (sym none) refl
 
 -- with a holder at a place
-pub can_be_at : (s : MachineValue) (holder : Option ℕ) (t : ℕ) (place : Place) (all : List TreeEntryValue) → holder ≡ Some t → (thread_at s t).place ≡ place → CanBe s holder all
+pub can_be_at : (s : MachineValue) (holder : Option ℕ) (t : ℕ) (place : ThreadState) (all : List TreeEntryValue) → holder ≡ Some t → (thread_at s t).state ≡ place → CanBe s holder all
     → WithClaim s.journals.tree t (thread_at s t).next place all
 can_be_at s holder t place all is at can = subst (λ p. WithClaim s.journals.tree t (thread_at s t).next p all) at (subst (λ o. CanBe s o all) is can)
 
 -- with a holder at a place, back
-pub at_can_be : (s : MachineValue) (holder : Option ℕ) (t : ℕ) (place : Place) (all : List TreeEntryValue) → holder ≡ Some t → (thread_at s t).place ≡ place
+pub at_can_be : (s : MachineValue) (holder : Option ℕ) (t : ℕ) (place : ThreadState) (all : List TreeEntryValue) → holder ≡ Some t → (thread_at s t).state ≡ place
     → WithClaim s.journals.tree t (thread_at s t).next place all → CanBe s holder all
 at_can_be s holder t place all is at can = subst (λ o. CanBe s o all) (sym is) (subst (λ p. WithClaim s.journals.tree t (thread_at s t).next p all) (sym at) can)
 
@@ -66,11 +66,11 @@ pub can_be_same : (old new : MachineValue) (all : List TreeEntryValue) (holder :
     → CanBe new holder all → CanBe old holder all
 can_be_same old new all None tree same can = can ∙ tree
 can_be_same old new all (Some u) tree same can =
-    subst (λ hs. WithClaim hs u (thread_at old u).next (thread_at old u).place all) tree
-    (subst (λ (v : Thread). WithClaim new.journals.tree u v.next v.place all) (same u refl) can)
+    subst (λ hs. WithClaim hs u (thread_at old u).next (thread_at old u).state all) tree
+    (subst (λ (v : Thread). WithClaim new.journals.tree u v.next v.state all) (same u refl) can)
 
 -- it is the history so far, or the history with a claim
-claim_is : (tree : List TreeEntryValue) (t next : ℕ) (place : Place) (all : List TreeEntryValue) → WithClaim tree t next place all
+claim_is : (tree : List TreeEntryValue) (t next : ℕ) (place : ThreadState) (all : List TreeEntryValue) → WithClaim tree t next place all
     → (all ≡ tree) ⊎ ((h : TreeEntryValue) × (all ≡ tree ++ h ∷ []) × IsSome (progress_by next place).made)
 claim_is tree t next Ready all can = inl can
 claim_is tree t next (Looking made) all can = inr (can.0, can.3, refl)
@@ -81,7 +81,7 @@ claim_is tree t next (Tagged tag) all can = inl can
 pub can_be_is : (s : MachineValue) (holder : Option ℕ) (all : List TreeEntryValue) → CanBe s holder all
     → (all ≡ s.journals.tree) ⊎ ((h : TreeEntryValue) × (t : ℕ) × (all ≡ s.journals.tree ++ h ∷ []) × IsSome (progress_in s t).made)
 can_be_is s None all can = inl can
-can_be_is s (Some t) all can = elim (claim_is s.journals.tree t (thread_at s t).next (thread_at s t).place all can) [
+can_be_is s (Some t) all can = elim (claim_is s.journals.tree t (thread_at s t).next (thread_at s t).state all can) [
   | inl same ↦ inl same
   | inr more ↦ inr (more.0, t, more.1, more.2)
 ]
@@ -89,11 +89,11 @@ can_be_is s (Some t) all can = elim (claim_is s.journals.tree t (thread_at s t).
 -- ---- after the last entry
 
 -- there is more to follow
-pub place_behind-following : (next made all : ℕ) → made < all → place_behind next made all ≡ (record { next = next; place = Following made })
+pub place_behind-following : (next made all : ℕ) → made < all → place_behind next made all ≡ (record { next = next; state = Following made })
 place_behind-following next made all less = rw (lt-ltb made all less) refl
 
 -- all has followed
-pub place_behind-ready : (next made all : ℕ) → all ≤ made → place_behind next made all ≡ (record { next = next + 1; place = Ready })
+pub place_behind-ready : (next made all : ℕ) → all ≤ made → place_behind next made all ≡ (record { next = next + 1; state = Ready })
 place_behind-ready next made all more = rw (le-ltb made all more) refl
 
 -- there is more to follow

@@ -19,9 +19,9 @@ use Rattle.step_world.proofs.laws.MachineStates.{can_be_same, can_be_tree, IsKep
 use Rattle.step_world.proofs.laws.AccessSteps.{some_can_be}
 use Rattle.step_world.proofs.KeptSteps.{step_keeps}
 use Rattle.step_world.specs.Machine.{Event, GoesOn, Happens, IsOpening, IsOver, MachineValue, Next, Plays, Step, opening_thread, thread_at}
-use Rattle.step_world.specs.declared.place.Place.{Place}
-use Rattle.step_world.specs.declared.place.Place.TheVariants.{Ready, Looking, Following}
-use Rattle.step_world.specs.declared.place.Thread.{Thread}
+use Rattle.step_world.specs.declared.thread_state.ThreadState.{ThreadState}
+use Rattle.step_world.specs.declared.thread_state.ThreadState.TheVariants.{Ready, Looking, Following}
+use Rattle.step_world.specs.declared.thread_state.Thread.{Thread}
 use Rattle.step_world.specs.Moments.{CanBe, IsRunSoFar, progress_by, progress_in}
 use Rattle.lists.proofs.Options.{not_some-none}
 
@@ -29,11 +29,11 @@ use Rattle.lists.proofs.Options.{not_some-none}
 
 -- how far each thread is at first
 opening_at : (s : MachineValue) (t : ℕ) → thread_at s t ≡ opening_thread → progress_in s t ≡ idle 0
-opening_at s t is = ap (λ (v : Thread). progress_by v.next v.place) is
+opening_at s t is = ap (λ (v : Thread). progress_by v.next v.state) is
 
 -- where each thread is at first
-opening_place : (s : MachineValue) (t : ℕ) (place : Place) → thread_at s t ≡ opening_thread → (thread_at s t).place ≡ place → Ready ≡ place
-opening_place s t place is at = sym (ap (λ (v : Thread). v.place) is) ∙ at
+opening_place : (s : MachineValue) (t : ℕ) (place : ThreadState) → thread_at s t ≡ opening_thread → (thread_at s t).state ≡ place → Ready ≡ place
+opening_place s t place is at = sym (ap (λ (v : Thread). v.state) is) ∙ at
 
 -- places differ
 ready_not_looking : (made : ℕ) → Ready ≡ Looking made → ⊥
@@ -72,7 +72,7 @@ next_so_far script old new goes so_far =
     let tree : new.journals.tree ≡ old.journals.tree = ap (λ (j : JournalsValue). j.tree) goes.journals in
     let slices : new.journals.slices ≡ old.journals.slices = ap (λ (j : JournalsValue). j.slices) goes.journals in
     let same : (t : ℕ) → thread_at new t ≡ thread_at old t = λ t. ap (λ threads. get_or threads t opening_thread) goes.threads in
-    let at : (t : ℕ) → progress_in new t ≡ progress_in old t = λ t. ap (λ (v : Thread). progress_by v.next v.place) (same t) in
+    let at : (t : ℕ) → progress_in new t ≡ progress_in old t = λ t. ap (λ (v : Thread). progress_by v.next v.state) (same t) in
     record {
       legal = subst (λ j. AreLegal script j) (sym goes.journals) so_far.legal;
       held = λ t. (
@@ -81,10 +81,10 @@ next_so_far script old new goes so_far =
       );
       looking = λ t made op place is.
           subst (λ hs. made ≤ length (looks_of script hs (length hs) op)) (sym tree)
-          (so_far.looking t made op (sym (ap (λ (v : Thread). v.place) (same t)) ∙ place) (subst (λ (v : Thread). op_at script t v.next ≡ Some op) (same t) is));
+          (so_far.looking t made op (sym (ap (λ (v : Thread). v.state) (same t)) ∙ place) (subst (λ (v : Thread). op_at script t v.next ≡ Some op) (same t) is));
       following = λ t made k op place is last.
           subst (λ hs. length (looks_of script hs k op) ≤ made) (sym tree)
-          (so_far.following t made k op (sym (ap (λ (v : Thread). v.place) (same t)) ∙ place) (subst (λ (v : Thread). op_at script t v.next ≡ Some op) (same t) is) (last ∙ ap length tree));
+          (so_far.following t made k op (sym (ap (λ (v : Thread). v.state) (same t)) ∙ place) (subst (λ (v : Thread). op_at script t v.next ≡ Some op) (same t) is) (last ∙ ap length tree));
       kept = λ all can.
           let could : CanBe old old.holder all = can_be_same old new all old.holder tree (λ u is. same u) (subst (λ o. CanBe new o all) goes.holder can) in
           IsKept-same script all all old.journals.slices new.journals.slices (progress_in old) (progress_in new) (old.phase + 1) new.phase refl slices at goes.phase

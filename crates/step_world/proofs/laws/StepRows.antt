@@ -13,9 +13,9 @@ use Rattle.script_ops.specs.declared.op.Op.TheVariants.{Access}
 use Rattle.run_law.proofs.laws.GrownLists.{Adds}
 use Rattle.run_law.specs.Jobs.{looks_of}
 use Rattle.step_world.specs.Machine.{Begins, Decides, Follows, Looks, MachineValue, Moves, StepFrom, StepOf, Steps, Tags, TagsAgain, Takes, Touches, floor_for, opening_thread, thread_at}
-use Rattle.step_world.specs.declared.place.Place.{Place}
-use Rattle.step_world.specs.declared.place.Place.TheVariants.{Following, Looking, Ready, Tagged}
-use Rattle.step_world.specs.declared.place.Thread.{Thread}
+use Rattle.step_world.specs.declared.thread_state.ThreadState.{ThreadState}
+use Rattle.step_world.specs.declared.thread_state.ThreadState.TheVariants.{Following, Looking, Ready, Tagged}
+use Rattle.step_world.specs.declared.thread_state.Thread.{Thread}
 
 -- ---- what a program changes
 
@@ -65,8 +65,8 @@ pub step_at_end : (script : ScriptValue) (t : ℕ) (s : MachineValue) → phase_
 step_at_end script t s here is = in_step script t None s s here is refl
 
 -- by its place
-pub step_from : (script : ScriptValue) (t : ℕ) (op : Op) (place : Place) (old new : MachineValue) → phase_in script.phases t ≡ old.phase → op_at script t (thread_at old t).next ≡ Some op
-    → (thread_at old t).place ≡ place → StepFrom script t op place old new → Steps script t old new
+pub step_from : (script : ScriptValue) (t : ℕ) (op : Op) (place : ThreadState) (old new : MachineValue) → phase_in script.phases t ≡ old.phase → op_at script t (thread_at old t).next ≡ Some op
+    → (thread_at old t).state ≡ place → StepFrom script t op place old new → Steps script t old new
 step_from script t op place old new here is at step = in_step script t (Some op) old new here is (subst (λ p. StepFrom script t op p old new) (sym at) step)
 
 -- by who holds the tree
@@ -75,7 +75,7 @@ begins_at script t op holder old new is begins = subst (λ o. Begins script t op
 
 -- Take or Tag while somebody holds the tree
 pub step_blocked : (script : ScriptValue) (t : ℕ) (op : Op) (holder : ℕ) (s : MachineValue) → phase_in script.phases t ≡ s.phase → op_at script t (thread_at s t).next ≡ Some op
-    → (thread_at s t).place ≡ Ready → s.holder ≡ Some holder → Steps script t s s
+    → (thread_at s t).state ≡ Ready → s.holder ≡ Some holder → Steps script t s s
 step_blocked script t op holder s here is at held = step_from script t op Ready s s here is at (begins_at script t op (Some holder) s s held refl)
 
 -- a command takes the tree
@@ -85,43 +85,43 @@ takes_begins script t op old new command takes = takes
 
 -- Take
 pub step_takes : (script : ScriptValue) (t : ℕ) (op : Op) (old new : MachineValue) → phase_in script.phases t ≡ old.phase → op_at script t (thread_at old t).next ≡ Some op → IsTrue (is_command op)
-    → (thread_at old t).place ≡ Ready → old.holder ≡ None → Takes t old new → Steps script t old new
+    → (thread_at old t).state ≡ Ready → old.holder ≡ None → Takes t old new → Steps script t old new
 step_takes script t op old new here is command at free takes = step_from script t op Ready old new here is at (begins_at script t op None old new free (takes_begins script t op old new command takes))
 
 -- Look
 pub step_looks : (script : ScriptValue) (t made : ℕ) (op : Op) (old new : MachineValue) → phase_in script.phases t ≡ old.phase → op_at script t (thread_at old t).next ≡ Some op
-    → (thread_at old t).place ≡ Looking made → made < length (looks_of script old.journals.tree (length old.journals.tree) op) → Looks script t made op old new → Steps script t old new
+    → (thread_at old t).state ≡ Looking made → made < length (looks_of script old.journals.tree (length old.journals.tree) op) → Looks script t made op old new → Steps script t old new
 step_looks script t made op old new here is at less looks =
     let all : ℕ = length (looks_of script old.journals.tree (length old.journals.tree) op) in
     step_from script t op (Looking made) old new here is at (at_true (nat_lt made all) (Looks script t made op old new) (Decides script t made op old new) (lt-ltb made all less) looks)
 
 -- Decide
 pub step_decides : (script : ScriptValue) (t made : ℕ) (op : Op) (old new : MachineValue) → phase_in script.phases t ≡ old.phase → op_at script t (thread_at old t).next ≡ Some op
-    → (thread_at old t).place ≡ Looking made → length (looks_of script old.journals.tree (length old.journals.tree) op) ≤ made → Decides script t made op old new → Steps script t old new
+    → (thread_at old t).state ≡ Looking made → length (looks_of script old.journals.tree (length old.journals.tree) op) ≤ made → Decides script t made op old new → Steps script t old new
 step_decides script t made op old new here is at all_made decides =
     let all : ℕ = length (looks_of script old.journals.tree (length old.journals.tree) op) in
     step_from script t op (Looking made) old new here is at (at_false (nat_lt made all) (Looks script t made op old new) (Decides script t made op old new) (le-ltb made all all_made) decides)
 
 -- Follow
 pub step_follows : (script : ScriptValue) (t made : ℕ) (op : Op) (old new : MachineValue) → phase_in script.phases t ≡ old.phase → op_at script t (thread_at old t).next ≡ Some op
-    → (thread_at old t).place ≡ Following made → Follows script t made op old new → Steps script t old new
+    → (thread_at old t).state ≡ Following made → Follows script t made op old new → Steps script t old new
 step_follows script t made op old new here is at follows = step_from script t op (Following made) old new here is at follows
 
 -- Tag
 pub step_tags : (script : ScriptValue) (t task cpu addr : ℕ) (old new : MachineValue) → phase_in script.phases t ≡ old.phase → op_at script t (thread_at old t).next ≡ Some (Access task cpu addr)
-    → (thread_at old t).place ≡ Ready → old.holder ≡ None → Tags script t task cpu old new → Steps script t old new
+    → (thread_at old t).state ≡ Ready → old.holder ≡ None → Tags script t task cpu old new → Steps script t old new
 step_tags script t task cpu addr old new here is at free tags = step_from script t (Access task cpu addr) Ready old new here is at (begins_at script t (Access task cpu addr) None old new free tags)
 
 -- a stale tag
 pub step_stale : (script : ScriptValue) (t task cpu addr : ℕ) (tag : Tag) (old new : MachineValue) → phase_in script.phases t ≡ old.phase → op_at script t (thread_at old t).next ≡ Some (Access task cpu addr)
-    → (thread_at old t).place ≡ Tagged tag → tag.epoch < floor_for script old tag addr → TagsAgain t old new → Steps script t old new
+    → (thread_at old t).state ≡ Tagged tag → tag.epoch < floor_for script old tag addr → TagsAgain t old new → Steps script t old new
 step_stale script t task cpu addr tag old new here is at below again =
     step_from script t (Access task cpu addr) (Tagged tag) old new here is at
     (at_true (nat_lt tag.epoch (floor_for script old tag addr)) (TagsAgain t old new) (Touches script t tag task cpu addr old new) (lt-ltb tag.epoch (floor_for script old tag addr) below) again)
 
 -- Touch
 pub step_touches : (script : ScriptValue) (t task cpu addr : ℕ) (tag : Tag) (old new : MachineValue) → phase_in script.phases t ≡ old.phase → op_at script t (thread_at old t).next ≡ Some (Access task cpu addr)
-    → (thread_at old t).place ≡ Tagged tag → floor_for script old tag addr ≤ tag.epoch → Touches script t tag task cpu addr old new → Steps script t old new
+    → (thread_at old t).state ≡ Tagged tag → floor_for script old tag addr ≤ tag.epoch → Touches script t tag task cpu addr old new → Steps script t old new
 step_touches script t task cpu addr tag old new here is at fresh touches =
     step_from script t (Access task cpu addr) (Tagged tag) old new here is at
     (at_false (nat_lt tag.epoch (floor_for script old tag addr)) (TagsAgain t old new) (Touches script t tag task cpu addr old new) (le-ltb tag.epoch (floor_for script old tag addr) fresh) touches)

@@ -11,8 +11,8 @@ use Rattle.step_world.proofs.passing.pass.Goals as goal
 use Rattle.step_world.specs.Machine.{opening_thread, thread_at}
 use Rattle.step_world.specs.Slices.{TouchesLine}
 use Rattle.step_world.specs.Worlds.{machine_of}
-use Rattle.step_world.specs.declared.place.Place.TheVariants.{Ready}
-use Rattle.step_world.specs.declared.place.Thread.{Thread}
+use Rattle.step_world.specs.declared.thread_state.ThreadState.TheVariants.{Ready}
+use Rattle.step_world.specs.declared.thread_state.Thread.{Thread}
 use Rattle.script_ops.specs.declared.op.Op.TheVariants as ops
 
 pub line_slice-slice-requires : goal.line_slice-slice-requires
@@ -51,8 +51,8 @@ returns c =
     let was : before ≡ get_or w.slices.items i s = c.index_mut.ensures.value ∙ get_or_default w.slices.items i before s there in
     let there_too : c.args.t < length w.threads.items = within-next c.args.script.now w c.args.t (ops.Access c.requires.can.task c.requires.can.cpu c.args.addr) c.requires.world c.requires.can.next in
     let ready : c.index_mut-2.result.now.place ≡ Ready =
-    ap (λ (x : Thread). x.place) (c.index_mut-2.ensures.value ∙ get_or_default w.threads.items c.args.t c.index_mut-2.result.now opening_thread there_too) ∙ c.requires.can.place in
+    ap (λ (x : Thread). x.state) (c.index_mut-2.ensures.value ∙ get_or_default w.threads.items c.args.t c.index_mut-2.result.now opening_thread there_too) ∙ c.requires.can.place in
     let its = passed c.args.script.now c.args.t c.args.n c.args.addr c.args.tag.now w c.requires.world c.requires.can _ i line s c.access.result refl number there
-    (record { tree = refl; commands = refl; lists = refl; phase = refl; threads = ap (λ place. slice_set w.threads.items c.args.t (record { next = c.args.n + 1; place = place })) ready; closing = refl }) refl refl refl
+    (record { tree = refl; commands = refl; lists = refl; phase = refl; threads = ap (λ place. slice_set w.threads.items c.args.t (record { next = c.args.n + 1; state = place })) ready; closing = refl }) refl refl refl
     (subst (λ x. TouchesLine c.args.t c.args.n c.args.tag.now line x s c.access.result) was c.access.ensures) in
     record { world = its.0; passed = its.1 }

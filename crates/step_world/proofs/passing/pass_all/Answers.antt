@@ -15,7 +15,7 @@ use Rattle.step_world.proofs.TakenWorlds.{within-next}
 use Rattle.step_world.proofs.passing.pass_all.Goals as goal
 use Rattle.step_world.specs.Machine.{opening_thread, thread_at}
 use Rattle.step_world.specs.Worlds.{machine_of}
-use Rattle.step_world.specs.declared.place.Thread.{Thread}
+use Rattle.step_world.specs.declared.thread_state.Thread.{Thread}
 
 pub resolve-tag-requires-clause-task : goal.resolve-tag-requires-clause-task
 resolve-tag-requires-clause-task c = (access-fits c.args.script.now c.args.world.now c.args.t c.args.task c.args.cpu c.requires.before.addr c.requires.world c.requires.before.next).0
@@ -39,7 +39,7 @@ pass-requires-clause-can c =
         is = subst (λ (v : Thread). op_at c.args.script.now c.args.t v.next ≡ Some (ops.Access c.args.task c.args.cpu c.in-Some.addr)) (sym inv.there) (op_of c.args.script.now c.args.t c.loop-addr.n (ops.Access c.args.task c.args.cpu c.in-Some.addr) c.args.ops.now c.requires.ops c.in-Some.ensures.is);
       };
       number = ap (λ (v : Thread). v.next) (sym inv.there);
-      place = ap (λ (v : Thread). v.place) inv.there;
+      place = ap (λ (v : Thread). v.state) inv.there;
       free = inv.free;
       reads = resolved-same c.args.world.now c.loop-addr.world c.args.task c.args.cpu c.resolve-tag.result inv.tree
           (record { epoch = told.epoch; owner = told.owner; class = told.class; rmid = told.rmid; mask = told.mask; domain = told.domain });

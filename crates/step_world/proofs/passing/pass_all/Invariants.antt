@@ -2,14 +2,14 @@ use Rattle.std.proofs.Common.{◌≡◌, ℕ, ◌-◌, ◌≤◌, length, replic
 use Rattle.step_world.specs.Machine.{thread_at}
 use Rattle.step_world.specs.Play.{StepsOf}
 use Rattle.step_world.specs.Worlds.{IsWorldOf, machine_of}
-use Rattle.step_world.specs.declared.place.Place.TheVariants.{Ready}
+use Rattle.step_world.specs.declared.thread_state.ThreadState.TheVariants.{Ready}
 use Rattle.step_world.proofs.passing.pass_all.Given as goal
 
 abbrev pub invariant-loop-addr : goal.invariant-loop-addr
 invariant-loop-addr l = record {
   world : IsWorldOf l.script l.world;
   steps : (k : ℕ) × StepsOf l.script (replicate k l.t) (machine_of l.initial.world) (machine_of l.world);
-  there : thread_at (machine_of l.world) l.t ≡ (record { next = l.n; place = Ready });
+  there : thread_at (machine_of l.world) l.t ≡ (record { next = l.n; state = Ready });
   free : l.world.holder ≡ None;
   phase : l.world.phase ≡ l.initial.world.phase;
   tree : l.world.tree ≡ l.initial.world.tree;

@@ -7,7 +7,7 @@ use Rattle.step_world.proofs.Turns.{ended-none}
 use Rattle.step_world.proofs.run_phase.end_thread.Goals as goal
 use Rattle.step_world.specs.Machine.{thread_at}
 use Rattle.step_world.specs.Worlds.{machine_of}
-use Rattle.step_world.specs.declared.place.Thread.{Thread}
+use Rattle.step_world.specs.declared.thread_state.Thread.{Thread}
 
 pub take_turn-requires-clause-next : goal.take_turn-requires-clause-next
 take_turn-requires-clause-next c =

@@ -27,5 +27,5 @@ loop-t-preserved c =
       world = told.world;
       steps = subst (λ ts. StepsOf script ts first new) (sym (take_more order k 0 c.loop-t-test.true)) (StepsOf-append script (take k order) (t ∷ []) first now new c.loop-t.invariant.steps (StepsOf-one script t now new told.steps));
       phase = step_phase script t now new told.steps ∙ c.loop-t.invariant.phase;
-      known = told.known;
+      cached = told.cached;
     }

@@ -1,5 +1,5 @@
 use Rattle.std.proofs.Common.{◌≡◌, take}
-use Rattle.step_world.specs.Listed.{Knows}
+use Rattle.step_world.specs.Listed.{IsCurrent}
 use Rattle.step_world.specs.Play.{StepsOf}
 use Rattle.step_world.specs.Worlds.{IsWorldOf, machine_of}
 use Rattle.step_world.proofs.run_phase.step_in_order.Given as goal
@@ -9,5 +9,5 @@ invariant-loop-t l = record {
   world : IsWorldOf l.script l.world;
   steps : StepsOf l.script (take l.t-index l.order) (machine_of l.initial.world) (machine_of l.world);
   phase : l.world.phase ≡ l.initial.world.phase;
-  known : Knows l.known l.world;
+  cached : IsCurrent l.cached l.world;
 }

@@ -8,7 +8,7 @@ use Rattle.step_world.proofs.Turns.{turn}
 use Rattle.step_world.proofs.run_phase.take_turn.Goals as goal
 use Rattle.step_world.specs.Machine.{opening_thread, thread_at}
 use Rattle.step_world.specs.Worlds.{machine_of}
-use Rattle.step_world.specs.declared.place.Thread.{Thread}
+use Rattle.step_world.specs.declared.thread_state.Thread.{Thread}
 
 pub pass_all-requires-clause-before : goal.pass_all-requires-clause-before
 pass_all-requires-clause-before c =
@@ -18,7 +18,7 @@ pass_all-requires-clause-before c =
     record {
       addr = c.in-Access-Ready.addr-0;
       next = record { present = c.requires.next.present; is = c.requires.next.is ∙ ap (λ op. Some op) c.in-Access-Ready.is-0 };
-      place = sym (ap (λ (v : Thread). v.place) same) ∙ c.in-Access-Ready.is-1;
+      place = sym (ap (λ (v : Thread). v.state) same) ∙ c.in-Access-Ready.is-1;
       free = c.requires.free;
     }
 

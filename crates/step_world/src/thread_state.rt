@@ -4,7 +4,7 @@ use rc_base::Tag;
 
 /// Where a thread is in its next op, between two atomic steps.
 #[derive(Clone, Copy)]
-pub enum Place {
+pub enum ThreadState {
     /// Before Take or Tag, or at its end.
     Ready,
     /// After Take and so many looks: it holds the tree.
@@ -21,13 +21,13 @@ pub struct Thread {
     /// The number of its next op, from 0.
     pub next: u32,
     /// Where it is in that op.
-    pub place: Place,
+    pub state: ThreadState,
 }
 
 impl Thread {
     /// Before its first op.
     pub(crate) const FIRST: Thread = Thread {
         next: 0,
-        place: Place::Ready,
+        state: ThreadState::Ready,
     };
 }
