@@ -6,6 +6,7 @@ pub mod Keyed
 pub mod Options
 pub mod Pairs
 pub mod Powers
+pub mod RangeTests
 pub mod Ranges
 pub mod Recursions
 pub mod Sums

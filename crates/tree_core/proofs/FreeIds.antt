@@ -6,7 +6,7 @@ use Rattle.hw_ids.specs.Ids.{contains}
 use Rattle.hw_ids.specs.MonitoringIds as rmid_table
 use Rattle.hw_ids.specs.MonitoringIds.{MonitoringIds}
 use Rattle.machine.specs.declared.parameters.Parameters.{Parameters}
-use Rattle.tree_core.proofs.InitialMasks.{find-least, find-none}
+use Rattle.lists.proofs.RangeTests.{find-least, find-none}
 use Rattle.tree_core.specs.Tables.{AreTaken}
 use Rattle.tree_law.specs.Space.{class_is_free, free_class, free_rmid, rmid_is_free}
 use Rattle.tree_law.specs.State.{State}

@@ -1,11 +1,6 @@
 -- The initial mask of a new group, by the uses that the groups tell.
-use Rattle.std.proofs.Common.{◌≡◌, ℕ, ◌-◌, ◌^◌, ◌<◌, ◌≤◌, Bool, true, false, List, ◌++◌, length, map, find, get_or, replicate, Option, Some, None, IfSome, inl, inr, refl, sym, ap, ◌∙◌, arith, zero-add}
-use Rattle.std.specs.List.{range_with_len}
+use Rattle.std.proofs.Common.{◌≡◌, ℕ, ◌-◌, ◌^◌, ◌<◌, Bool, List, Option, Some, None, IfSome, refl, sym, ap, ◌∙◌, arith}
 use Rattle.std.specs.Option.{option_map}
-use Rattle.std.proofs.lemmas.Bool.{cases_lt}
-use Rattle.std.proofs.lemmas.List.{ext_get_or, get_or-append_right, get_or-replicate, get_or_append_left, length-append, length-replicate}
-use Rattle.std.proofs.lemmas.List.FromFn.{get_or-map-range_with_len, get_or-range_with_len, length-map-range_with_len, length-range_with_len}
-use Rattle.std.proofs.lemmas.List.Recursion.{found_at, found_nowhere}
 use Rattle.lists.proofs.Filters.{filter-same}
 use Rattle.cbm.specs.Masks.{ways_of}
 use Rattle.cbm.specs.declared.geometry.Geometry.{Geometry}
@@ -42,32 +37,3 @@ pub initial_mask-found : (m : Parameters) (s : State) (domain : ℕ) (g : Geomet
 initial_mask-found m s domain g used found len least sparse same small is =
     option_map-mask_of found (initial_ways (geometry_of m) (used_in m s None domain)) small
     (is ∙ ap (λ (shape : Geometry). initial_ways shape used) (geometry_of-parts m g len least sparse) ∙ initial_ways-same (geometry_of m) used (used_in m s None domain) same)
-
--- ---- the first that passes, in a range
-
--- it is this number where none below passes
-pub find-least : (p : ℕ → Bool) (n id : ℕ) → id < n → ((k : ℕ) → k < id → p k ≡ false) → p id ≡ true → find p (range_with_len 0 n) ≡ Some id
-find-least p n id below lower here =
-    found_at (find p) p Some None refl (λ x xs. refl) (range_with_len 0 n) id 0 (omega (arith, length-range_with_len 0 n))
-    (λ k lt. ap p (get_or-range_with_len 0 n k 0 (omega arith) ∙ zero-add k) ∙ lower k lt)
-    (ap p (get_or-range_with_len 0 n id 0 below ∙ zero-add id) ∙ here)
-    ∙ ap Some (get_or-range_with_len 0 n id 0 below ∙ zero-add id)
-
--- and there is none where none passes
-pub find-none : (p : ℕ → Bool) (n : ℕ) → ((k : ℕ) → k < n → p k ≡ false) → find p (range_with_len 0 n) ≡ None
-find-none p n none =
-    found_nowhere (find p) p Some None refl (λ x xs. refl) (range_with_len 0 n) 0
-    (λ k lt. ap p (get_or-range_with_len 0 n k 0 (omega (arith, length-range_with_len 0 n)) ∙ zero-add k) ∙ none k (omega (arith, length-range_with_len 0 n)))
-
--- a list of eight that was filled in front
-pub append-filled : (f : ℕ → ℕ) (xs : List ℕ) (n : ℕ) → n ≤ 8 → length xs ≡ 8 → ((k : ℕ) → k < n → get_or xs k 0 ≡ f k) → ((k : ℕ) → n ≤ k → get_or xs k 0 ≡ 0) → xs ≡ map f (range_with_len 0 n) ++ replicate (8 - n) 0
-append-filled f xs n most count front back = ext_get_or 0 xs (map f (range_with_len 0 n) ++ replicate (8 - n) 0) (omega (arith, count, whole)) each
-  where
-    whole : length (map f (range_with_len 0 n) ++ replicate (8 - n) 0) ≡ 8
-    whole = omega (arith, length-append (map f (range_with_len 0 n)) (replicate (8 - n) 0), length-map-range_with_len f 0 n, length-replicate {A = ℕ} (8 - n) 0)
-
-    each : (k : ℕ) → k < length xs → get_or xs k 0 ≡ get_or (map f (range_with_len 0 n) ++ replicate (8 - n) 0) k 0
-    each k within = elim (cases_lt k n) [
-      | inl lt ↦ front k lt ∙ sym (get_or_append_left (map f (range_with_len 0 n)) (replicate (8 - n) 0) 0 k (omega (arith, length-map-range_with_len f 0 n)) ∙ get_or-map-range_with_len f 0 n k k 0 lt (zero-add k))
-      | inr le ↦ back k le ∙ sym (get_or-append_right (map f (range_with_len 0 n)) (replicate (8 - n) 0) n k 0 (length-map-range_with_len f 0 n) le ∙ get_or-replicate (8 - n) (k - n) 0 0 (omega arith))
-    ]

@@ -1,8 +1,5 @@
 -- What all groups but one use of a cache, as the groups tell it and as the state has it.
-use Rattle.std.proofs.Common.{◌≡◌, ℕ, ◌<◌, Bool, true, false, List, Option, Some, refl, subst, ap, ◌∙◌, arith, zero-add}
-use Rattle.std.specs.List.{list_any, range_with_len}
-use Rattle.std.proofs.lemmas.List.Folds.{list_any_at, list_any_none}
-use Rattle.std.proofs.lemmas.List.FromFn.{get_or-range_with_len, length-range_with_len}
+use Rattle.std.proofs.Common.{◌≡◌, ℕ, List, Option, Some, refl, subst, ap, ◌∙◌}
 use Rattle.cbm.specs.Masks.{has_way, overlaps, ways_of}
 use Rattle.group_tree.specs.Others.{IsUnionOfOthers, IsUseByOthers, masks_of_others}
 use Rattle.group_tree.specs.declared.group.Group.{Group}
@@ -21,8 +18,6 @@ use Rattle.tree_law.specs.Space.{region_mask, used_in}
 use Rattle.tree_law.specs.State.{State}
 use Rattle.tree_law.specs.commands.Schemata.{against_entry, against_overlap}
 use Rattle.lists.proofs.Tests.{list_any-same}
-
--- ---- what is told of a domain
 
 module _ {m : Parameters} {t : Tables} {s : State} {epoch : ℕ} (keeps : Keeps m t s epoch) where
   -- what the groups tell of a domain, with its region, is what the state has there
@@ -63,16 +58,3 @@ is_apart-same mask a b same = rw (overlaps-same mask a.hardware b.hardware same.
 -- what is against an assignment, by a use with the same ways
 pub against_entry-same : (m : Parameters) (s : State) (g : Group) (a : Assignment) (used : DomainUse) → SameUse used (used_in m s (Some g.gid) a.domain) → against_overlap a.domain (write_overlap g.mode a.mask used) ≡ against_entry m s g a
 against_entry-same m s g a used same = ap (against_overlap a.domain) (write_overlap-same g.mode a.mask used (used_in m s (Some g.gid) a.domain) same)
-
--- ---- a test of the domains
-
--- some number of a range passes where this one does
-pub list_any-at : (p : ℕ → Bool) (n id : ℕ) → id < n → p id ≡ true → list_any p (range_with_len 0 n) ≡ true
-list_any-at p n id below here =
-    list_any_at p (range_with_len 0 n) id 0 (omega (arith, length-range_with_len 0 n)) (ap p (get_or-range_with_len 0 n id 0 below ∙ zero-add id) ∙ here)
-
--- none does where no one does
-pub list_any-none : (p : ℕ → Bool) (n : ℕ) → ((k : ℕ) → k < n → p k ≡ false) → list_any p (range_with_len 0 n) ≡ false
-list_any-none p n none = list_any_none p (range_with_len 0 n) (λ k d within.
-    let below : k < n = omega (arith, within, length-range_with_len 0 n) in
-    ap p (get_or-range_with_len 0 n k d below ∙ zero-add k) ∙ none k below)

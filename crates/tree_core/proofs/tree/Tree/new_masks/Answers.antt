@@ -1,5 +1,5 @@
 use Rattle.std.proofs.Common.{◌≡◌, ℕ, true, is_none, unwrap_or, sym, ap, arith}
-use Rattle.tree_core.proofs.InitialMasks.{append-filled, find-least, find-none}
+use Rattle.lists.proofs.RangeTests.{append-filled, find-least, find-none}
 use Rattle.tree_core.specs.Values.{TreeValue}
 use Rattle.tree_law.specs.Space.{initial_mask}
 use Rattle.tree_core.proofs.tree.Tree.new_masks.Goals as goal

@@ -1,5 +1,5 @@
 use Rattle.std.proofs.Common.{◌∙◌, sym, ap, arith}
-use Rattle.tree_core.proofs.Uses.{list_any-at, list_any-none}
+use Rattle.lists.proofs.RangeTests.{list_any-at, list_any-none}
 use Rattle.tree_core.specs.Values.{TreeValue}
 use Rattle.tree_law.specs.commands.Mode.{overlaps_some}
 use Rattle.tree_core.proofs.tree.Tree.overlaps_some.Goals as goal
