@@ -20,7 +20,8 @@ use Rattle.pair_ops.specs.Values.{AreMachines, Machines, class_count, classes_of
 use Rattle.pair_ops.specs.declared.op.PairOp.TheVariants as ops
 use Rattle.pair_ops.specs.declared.side.Side.{Side}
 use Rattle.pair_ops.specs.declared.side.Side.TheVariants.{First, Second}
-use Rattle.pair_tree.proofs.Ranges.{find-append, find-least, find-mapped, find-none}
+use Rattle.lists.proofs.RangeTests.{find-least, find-none}
+use Rattle.pair_tree.proofs.Ranges.{find-append, find-mapped}
 use Rattle.rc_base.specs.declared.replies.Why.TheVariants.{Exists, NoSpace, OutOfClosids}
 use Rattle.tree_law.proofs.laws.WayMasks.{mask_of-ways_of}
 use Rattle.tree_law.specs.Refusals.{plain}
