@@ -36,6 +36,7 @@ pub mod OpQuotas
 pub mod OwedEntries
 pub mod OwnLines
 pub mod Pairs
+pub mod PhaseThreads
 pub mod Positions
 pub mod ReadTags
 pub mod ReadyLists

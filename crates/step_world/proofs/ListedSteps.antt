@@ -3,7 +3,7 @@ use Rattle.std.proofs.Common.{◌≡◌, ℕ, ◌+◌, ◌<◌, ◌≤◌, lengt
 use Rattle.run_law.specs.Ops.{phase_in}
 use Rattle.script_ops.specs.Values.{ScriptValue}
 use Rattle.step_world.proofs.GivenAnswers.{answers-steps}
-use Rattle.step_world.proofs.laws.PhaseThreads.{in_phase, of_phase}
+use Rattle.run_law.proofs.laws.PhaseThreads.{in_phase, of_phase}
 use Rattle.step_world.specs.Listed.{AreOf}
 use Rattle.step_world.specs.Machine.{MachineValue, Steps}
 use Rattle.step_world.specs.declared.action.Stepped.TheVariants.{Ended}

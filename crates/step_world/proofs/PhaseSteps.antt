@@ -7,7 +7,7 @@ use Rattle.run_law.specs.Ops.{phase_in}
 use Rattle.script_ops.specs.Values.{ScriptValue, first_thread, phase_at}
 use Rattle.step_world.proofs.EndedThreads.{ended_stays}
 use Rattle.step_world.proofs.HeldSteps.{held_step}
-use Rattle.step_world.proofs.laws.PhaseThreads.{of_phase}
+use Rattle.run_law.proofs.laws.PhaseThreads.{of_phase}
 use Rattle.step_world.specs.Machine.{HasEnded, MachineValue, Steps, thread_at}
 use Rattle.step_world.specs.Moments.{IsRunSoFar}
 use Rattle.step_world.specs.Play.{EndInTurn, LetsGo, PlaysPhaseBy, PlaysPhasesBy, StepsHolding, StepsOf, threads_of_phase}

@@ -9,7 +9,7 @@ use Rattle.script_ops.specs.Values.{PhaseValue, ScriptValue, first_thread, op_at
 use Rattle.script_ops.specs.declared.op.Op.{Op}
 use Rattle.script_ops.specs.declared.op.Op.TheVariants as ops
 use Rattle.run_law.proofs.laws.CountedOps.{thread_within}
-use Rattle.step_world.proofs.laws.PhaseThreads.{of_phase}
+use Rattle.run_law.proofs.laws.PhaseThreads.{of_phase}
 use Rattle.step_world.proofs.TakenWorlds.{within-next}
 use Rattle.step_world.specs.Answers.{HasNext, IsAtEnd}
 use Rattle.step_world.specs.Machine.{MachineValue, thread_at}

@@ -3,7 +3,6 @@ pub mod AccessSteps
 pub mod EntryRooms
 pub mod LookedCounts
 pub mod MachineStates
-pub mod PhaseThreads
 pub mod Plays
 pub mod Schedules
 pub mod StepRows

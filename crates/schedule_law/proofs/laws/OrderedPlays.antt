@@ -10,7 +10,7 @@ use Rattle.run_law.specs.Progress.{Progress}
 use Rattle.script_ops.specs.Values.{ScriptValue, first_thread, op_at, phase_at}
 use Rattle.script_ops.specs.declared.op.Op.{Op}
 use Rattle.step_world.proofs.laws.AccessSteps.{some_can_be}
-use Rattle.step_world.proofs.laws.PhaseThreads.{in_phase}
+use Rattle.run_law.proofs.laws.PhaseThreads.{in_phase}
 use Rattle.step_world.proofs.laws.Plays.{step_phase}
 use Rattle.step_world.specs.Machine.{Event, GoesOn, HasEnded, IsOver, MachineValue, Next, Plays, Step, StepOf, Steps, thread_at}
 use Rattle.step_world.specs.Moments.{IsRunSoFar, progress_by, progress_in}

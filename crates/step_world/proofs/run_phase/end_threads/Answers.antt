@@ -1,6 +1,6 @@
 use Rattle.std.proofs.Common.{arith, sym, ◌∙◌, ◌+◌}
 use Rattle.step_world.proofs.PhaseSteps.{EndInTurn-suc}
-use Rattle.step_world.proofs.laws.PhaseThreads.{in_phase}
+use Rattle.run_law.proofs.laws.PhaseThreads.{in_phase}
 use Rattle.step_world.proofs.run_phase.end_threads.Goals as goal
 use Rattle.step_world.specs.Worlds.{machine_of}
 

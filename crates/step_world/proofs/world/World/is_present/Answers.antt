@@ -1,6 +1,6 @@
 use Rattle.std.proofs.Common.{◌≡◌, ◌-◌, true, false, inl, inr, sym, ◌∙◌, arith}
 use Rattle.std.proofs.lemmas.Bool.{cases_lt, le-ltb, lt-ltb}
-use Rattle.step_world.proofs.laws.PhaseThreads.{in_phase}
+use Rattle.run_law.proofs.laws.PhaseThreads.{in_phase}
 use Rattle.step_world.proofs.PresentThreads.{before-at_end, behind-at_end, over-at_end}
 use Rattle.step_world.proofs.world.World.is_present.Goals as goal
 use Rattle.step_world.specs.Worlds.{machine_of}
