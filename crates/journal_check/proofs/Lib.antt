@@ -18,7 +18,6 @@ mod Ordered
 mod OwedEntries
 mod PaidAccesses
 mod PaidEntries
-mod PhaseThreads
 mod RestLists
 mod SameOutcomes
 mod StampedCounts

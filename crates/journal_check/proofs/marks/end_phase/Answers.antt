@@ -1,6 +1,6 @@
 use Rattle.std.proofs.Common.{◌≡◌, ℕ, ◌+◌, ◌<◌, ◌≤◌, inl, inr, List, length, sym, subst, arith}
 use Rattle.std.proofs.lemmas.Bool.{cases_lt}
-use Rattle.journal_check.proofs.PhaseThreads.{in_phase, of_phase}
+use Rattle.run_law.proofs.laws.PhaseThreads.{in_phase, of_phase}
 use Rattle.journal_check.proofs.Starts.{IsEndOf-more, IsEndOf-same}
 use Rattle.journal_check.specs.Marks.{IsEndOf, IsThreadEnd, IsThreadInOrder, OfPhase}
 use Rattle.journal_check.specs.Tables.{row_of}

@@ -1,7 +1,7 @@
 use Rattle.std.proofs.Common.{◌≡◌, ℕ, zero, suc, [], ◌∷◌, ◌+◌, ◌-◌, ◌<◌, inl, inr, List, length, ◌++◌, get_or, replicate, take, refl, sym, ap, ◌∙◌, arith}
 use Rattle.std.proofs.lemmas.Bool.{cases_lt}
 use Rattle.std.proofs.lemmas.List.{get_or-append_right, get_or-replicate, get_or_append_left, length-append, length-replicate, take_all}
-use Rattle.journal_check.proofs.PhaseThreads.{in_phase, no_phase}
+use Rattle.run_law.proofs.laws.PhaseThreads.{in_phase, no_phase}
 use Rattle.script_ops.specs.Values.{PhaseValue, phase_at, threads_in, threads_of}
 use Rattle.journal_check.proofs.phases.phases_of.Goals as goal
 
