@@ -1,7 +1,7 @@
 -- How many groups there are, and that one more has a place.
-use Rattle.std.proofs.Common.{◌≡◌, ◌≢◌, ℕ, zero, suc, ◌+◌, ◌<◌, ◌≤◌, Bool, true, false, cond, List, [], ◌∷◌, length, get_or, Option, None, Some, IsSome, IfSome, refl, sym, subst, ap, arith, length-append}
+use Rattle.std.proofs.Common.{◌≡◌, ℕ, suc, ◌+◌, ◌<◌, ◌≤◌, Bool, true, false, cond, List, [], ◌∷◌, length, get_or, Option, None, Some, IsSome, IfSome, refl, sym, subst, ap, arith, length-append}
 use Rattle.std.specs.Prelude.{IsSomeAnd}
-use Rattle.std.specs.List.{All, AllPairs, flat_map, slice_get}
+use Rattle.std.specs.List.{All, slice_get}
 use Rattle.std.specs.Option.{option_to_list}
 use Rattle.std.proofs.lemmas.Bool.{ne_eqb}
 use Rattle.std.proofs.lemmas.List.Folds.{list_any_none}
@@ -10,7 +10,7 @@ use Rattle.group_tree.specs.Records.{has_gid, has_mode}
 use Rattle.group_tree.specs.declared.group.Group.{Group}
 use Rattle.group_tree.specs.declared.group_kind.GroupKind.{GroupKind}
 use Rattle.group_tree.specs.declared.group_kind.GroupKind.TheVariants.{Control, Monitor}
-use Rattle.lists.proofs.Pairs.{All-flat_map, AllAcross, AllPairs-flat_map, AllPairs-one, length-distinct}
+use Rattle.lists.proofs.Pairs.{length-distinct}
 use Rattle.machine.specs.Ranges.{InRange}
 use Rattle.machine.specs.declared.parameters.Parameters.{Parameters}
 use Rattle.pseudo_lock.specs.declared.region.Region.{Region}
@@ -19,43 +19,10 @@ use Rattle.rc_base.specs.declared.names.Mode.TheVariants.{Shareable, Exclusive, 
 use Rattle.tree_core.specs.Kept.{Keeps}
 use Rattle.tree_core.specs.Tables.{Tables}
 use Rattle.tree_core.proofs.RegionPlaces.{place_of, place_of-some, region_place, IsPlaceOf, region_place-passes, region_place-differ}
+use Rattle.tree_law.proofs.laws.DistinctIds.{ids_of, length-ids_of}
 use Rattle.tree_law.specs.Regions.{HasOneRegion, has_region_of}
-use Rattle.tree_law.specs.Sound.{Differ, HasIds, HasIdsOf, IsDefault, IsUsed}
+use Rattle.tree_law.specs.Sound.{HasIds, HasIdsOf, IsDefault, IsUsed}
 use Rattle.tree_law.specs.State.{State}
-
--- the ids of these groups
-abbrev pub ids_of : (Group → Option ℕ) → List Group → List ℕ
-ids_of of groups = flat_map (λ (g : Group). option_to_list (of g)) groups
-
--- where they differ and are below one, they are no more than that
-pub length-ids_of : (of : Group → Option ℕ) (n : ℕ) (groups : List Group) → AllPairs (λ (a b : Group). Differ (of a) (of b)) groups → All (λ (g : Group). IfSome (of g) (λ id. id < n)) groups → length (ids_of of groups) ≤ n
-length-ids_of of n groups pairs below = length-distinct n (ids_of of groups)
-    (AllPairs-flat_map (λ (a b : ℕ). a ≢ b) (λ (g : Group). option_to_list (of g)) groups (λ k d within. one (of (get_or groups k d))) (λ i j d before within. two (of (get_or groups i d)) (of (get_or groups j d)) (pairs i j d before within)))
-    (All-flat_map (λ id. id < n) (λ (g : Group). option_to_list (of g)) groups (λ k d within. small (of (get_or groups k d)) (below k d within)))
-  where
-    one : (o : Option ℕ) → AllPairs (λ (a b : ℕ). a ≢ b) (option_to_list o)
-    one None = λ i j d before within. absurd (omega arith)
-    one (Some id) = AllPairs-one (λ (a b : ℕ). a ≢ b) id
-
-    two : (a b : Option ℕ) → Differ a b → AllAcross (λ (x y : ℕ). x ≢ y) (option_to_list a) (option_to_list b)
-    two None b differ = λ i j d less within. absurd (omega arith)
-    two (Some a) None differ = λ i j d less within. absurd (omega arith)
-    two (Some a) (Some b) differ = at
-      where
-        at : (i j d : ℕ) → i < 1 → j < 1 → get_or (a ∷ []) i d ≢ get_or (b ∷ []) j d
-        at zero zero d less within = differ
-        at zero (suc j) d less within = absurd (omega arith)
-        at (suc i) j d less within = absurd (omega arith)
-
-    small : (o : Option ℕ) → IfSome o (λ id. id < n) → All (λ id. id < n) (option_to_list o)
-    small None is = λ k d within. absurd (omega arith)
-    small (Some id) is = at
-      where
-        at : (k d : ℕ) → k < 1 → get_or (id ∷ []) k d < n
-        at zero d within = is
-        at (suc k) d within = absurd (omega arith)
-
--- ---- the groups
 
 -- how many ids of a kind a group has
 abbrev held : (Group → Option ℕ) → Group → ℕ

@@ -4,6 +4,7 @@ pub mod Changes
 pub mod Counts
 pub mod DeclaredTasks
 pub mod DistinctCounts
+pub mod DistinctIds
 pub mod DistinctRmids
 pub mod Follows
 pub mod FreeIds

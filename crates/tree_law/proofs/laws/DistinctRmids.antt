@@ -1,5 +1,5 @@
 -- The RMIDs of groups differ, and so do their counts.
-use Rattle.std.proofs.Common.{◌≡◌, ◌≢◌, ℕ, zero, suc, ◌<◌, List, [], ◌∷◌, map, get_or, Option, None, Some, refl, sym, ap, ◌∙◌, arith}
+use Rattle.std.proofs.Common.{◌≡◌, ◌≢◌, ℕ, ◌<◌, List, [], map, get_or, Option, None, Some, refl, sym, ap, ◌∙◌, arith}
 use Rattle.std.specs.List.{All, AllPairs, flat_map, range_with_len}
 use Rattle.std.specs.Option.{option_to_list}
 use Rattle.std.proofs.lemmas.List.Elements.{All-map}
@@ -8,7 +8,8 @@ use Rattle.group_tree.specs.declared.group.Group.{Group}
 use Rattle.lists.proofs.Pairs.{AllAcross, AllPairs-flat_map, AllPairs-map, AllPairs-one}
 use Rattle.machine.specs.declared.parameters.Parameters.{Parameters}
 use Rattle.tree_law.specs.Freeing.{counts_of, rmids_of}
-use Rattle.tree_law.specs.Sound.{Differ, IdsDiffer}
+use Rattle.tree_law.specs.Sound.{IdsDiffer}
+use Rattle.tree_law.proofs.laws.DistinctIds.{AllPairs-ids_of}
 
 -- each two of these RMIDs differ
 abbrev pub AreDistinct : List ℕ → Type 0
@@ -48,21 +49,7 @@ counts_of-distinct m rmids distinct = AllPairs-flat_map Apart each_domain rmids 
 
 -- of records whose ids differ
 pub flat_map-distinct : (groups : List Group) → AllPairs IdsDiffer groups → AreDistinct (flat_map rmids_of groups)
-flat_map-distinct groups pairs = AllPairs-flat_map (λ (a b : ℕ). a ≢ b) rmids_of groups (λ k d within. of_one (get_or groups k d).rmid) (λ i j d below within. of_two (get_or groups i d).rmid (get_or groups j d).rmid (pairs i j d below within).1)
-  where
-    of_one : (o : Option ℕ) → AreDistinct (option_to_list o)
-    of_one None = AllPairs-nil (λ (a b : ℕ). a ≢ b)
-    of_one (Some id) = AllPairs-one (λ (a b : ℕ). a ≢ b) id
-
-    of_two : (a b : Option ℕ) → Differ a b → AllAcross (λ (x y : ℕ). x ≢ y) (option_to_list a) (option_to_list b)
-    of_two None b differ = λ i j d less within. absurd (omega arith)
-    of_two (Some a) None differ = λ i j d less within. absurd (omega arith)
-    of_two (Some a) (Some b) differ = at
-      where
-        at : (i j d : ℕ) → i < 1 → j < 1 → get_or (a ∷ []) i d ≢ get_or (b ∷ []) j d
-        at zero zero d less within = differ
-        at zero (suc j) d less within = absurd (omega arith)
-        at (suc i) j d less within = absurd (omega arith)
+flat_map-distinct groups pairs = AllPairs-ids_of (λ (g : Group). g.rmid) groups (λ i j d below within. (pairs i j d below within).1)
 
 -- one record has no RMID twice
 pub rmids_of-distinct : (g : Group) → AreDistinct (rmids_of g)
