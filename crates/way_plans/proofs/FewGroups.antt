@@ -1,11 +1,10 @@
 -- No more groups get ways than there are classes.
-use Rattle.std.proofs.Common.{◌≡◌, ◌≢◌, ℕ, zero, suc, ◌<◌, ◌≤◌, true, false, List, [], ◌∷◌, length, get_or, Option, Some, None, cond, refl, sym, arith, true≢false, inl, inr}
+use Rattle.std.proofs.Common.{◌≡◌, ◌≢◌, ℕ, suc, ◌<◌, ◌≤◌, true, false, List, [], ◌∷◌, length, Option, Some, None, cond, refl, sym, arith, true≢false, inl, inr}
 use Rattle.std.specs.Prelude.{All, AllPairs, IfSome, IsSome, filter}
 use Rattle.std.specs.List.{flat_map}
 use Rattle.std.specs.Option.{option_to_list}
 use Rattle.std.proofs.lemmas.Bool.{cases_Bool}
 use Rattle.std.proofs.lemmas.List.{length-append}
-use Rattle.lists.proofs.Pairs.{All-flat_map, AllAcross, AllPairs-flat_map, AllPairs-one, length-distinct}
 use Rattle.group_tree.specs.Records.{is_control}
 use Rattle.group_tree.specs.declared.group.Group.{Group}
 use Rattle.group_tree.specs.declared.group_kind.GroupKind.{GroupKind}
@@ -13,6 +12,7 @@ use Rattle.group_tree.specs.declared.group_kind.GroupKind.TheVariants.{Control, 
 use Rattle.machine.specs.declared.parameters.Parameters.{Parameters}
 use Rattle.rc_base.specs.declared.names.Mode.{Mode}
 use Rattle.rc_base.specs.declared.names.Mode.TheVariants.{Shareable, Exclusive, LockSetup, Locked}
+use Rattle.tree_law.proofs.laws.DistinctIds.{length-ids_of}
 use Rattle.tree_law.specs.Counted.{is_counted, is_counted_mode}
 use Rattle.tree_law.specs.Sound.{Differ, HasIds, HasIdsOf, IsSound}
 use Rattle.tree_law.specs.State.{State}
@@ -26,32 +26,7 @@ classes_of groups = flat_map (λ (g : Group). option_to_list g.class) groups
 length-classes_of : (n : ℕ) (groups : List Group) → AllPairs (λ (a b : Group). Differ a.class b.class) groups → All (λ (g : Group). IfSome g.class (λ id. id < n)) groups
     → length (classes_of groups) ≤ n
 unfolding classes_of
-length-classes_of n groups pairs below = length-distinct n (classes_of groups)
-    (AllPairs-flat_map (λ (a b : ℕ). a ≢ b) (λ (g : Group). option_to_list g.class) groups (λ k d within. one (get_or groups k d).class)
-    (λ i j d before within. two (get_or groups i d).class (get_or groups j d).class (pairs i j d before within)))
-    (All-flat_map (λ id. id < n) (λ (g : Group). option_to_list g.class) groups (λ k d within. small (get_or groups k d).class (below k d within)))
-  where
-    one : (o : Option ℕ) → AllPairs (λ (a b : ℕ). a ≢ b) (option_to_list o)
-    one None = λ i j d before within. absurd (omega arith)
-    one (Some id) = AllPairs-one (λ (a b : ℕ). a ≢ b) id
-
-    two : (a b : Option ℕ) → Differ a b → AllAcross (λ (x y : ℕ). x ≢ y) (option_to_list a) (option_to_list b)
-    two None b differ = λ i j d less within. absurd (omega arith)
-    two (Some a) None differ = λ i j d less within. absurd (omega arith)
-    two (Some a) (Some b) differ = at
-      where
-        at : (i j d : ℕ) → i < 1 → j < 1 → get_or (a ∷ []) i d ≢ get_or (b ∷ []) j d
-        at zero zero d less within = differ
-        at zero (suc j) d less within = absurd (omega arith)
-        at (suc i) j d less within = absurd (omega arith)
-
-    small : (o : Option ℕ) → IfSome o (λ id. id < n) → All (λ id. id < n) (option_to_list o)
-    small None is = λ k d within. absurd (omega arith)
-    small (Some id) is = at
-      where
-        at : (k d : ℕ) → k < 1 → get_or (id ∷ []) k d < n
-        at zero d within = is
-        at (suc k) d within = absurd (omega arith)
+length-classes_of n groups pairs below = length-ids_of (λ (g : Group). g.class) n groups pairs below
 
 -- a counted group has a class
 class-counted : (groups : List Group) (g : Group) → HasIds groups g.kind g → is_counted g ≡ true → IsSome g.class
