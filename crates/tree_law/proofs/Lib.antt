@@ -10,6 +10,7 @@ pub mod Masks
 pub mod Mkdir
 pub mod Mode
 pub mod ModeTests
+pub mod ModeTurns
 pub mod NewGroup
 pub mod NewMasks
 pub mod NewRecords
@@ -20,6 +21,7 @@ pub mod Rmdir
 pub mod Rows
 pub mod Schemata
 pub mod ScriptRows
+pub mod StayingGroups
 pub mod TaskMoves
 pub mod Tasks
 pub mod Tick

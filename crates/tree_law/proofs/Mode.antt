@@ -1,127 +1,41 @@
 -- A write of `mode` keeps a sound tree.
-use Rattle.std.proofs.Common.{◌≡◌, ◌≢◌, ℕ, ◌<◌, Bool, true, false, ◌||◌, cond, List, [], ◌∷◌, length, find, get_or, Option, None, Some, IfSome, IsSome, is_none, Ok, inl, inr, refl, sym, subst, ap, ◌∙◌, arith}
+use Rattle.std.proofs.Common.{◌≡◌, ◌≢◌, ℕ, ◌<◌, Bool, true, false, cond, List, [], ◌∷◌, find, get_or, Option, None, Some, IfSome, IsSome, is_none, Ok, refl, sym, subst, ap, ◌∙◌, arith}
 use Rattle.std.specs.List.{All, list_any, range_with_len}
-use Rattle.std.specs.Option.{option_or, option_to_list}
-use Rattle.std.proofs.lemmas.Bool.{eqb-false, eq-eqb, ne_eqb, not-false}
+use Rattle.std.specs.Option.{option_or}
+use Rattle.std.proofs.lemmas.Bool.{not-false}
 use Rattle.std.proofs.lemmas.List.Elements.{All-cons}
-use Rattle.group_tree.specs.Records.{has_gid, is_control, is_monitor_of, mask_in}
+use Rattle.group_tree.specs.Records.{has_gid, is_control, mask_in}
 use Rattle.group_tree.specs.declared.group.Group.{Group}
 use Rattle.group_tree.specs.declared.group_kind.GroupKind.{GroupKind}
 use Rattle.group_tree.specs.declared.group_kind.GroupKind.TheVariants.{Control, Monitor}
-use Rattle.hw_ids.specs.Ids.{contains}
-use Rattle.lists.proofs.Keyed.{All-replaced, AllPairs-beside}
-use Rattle.lists.proofs.Tests.{IsFound, find-found, All-from_none, IsFound-all, All-from_empty}
+use Rattle.lists.proofs.Keyed.{AllPairs-beside}
+use Rattle.lists.proofs.Tests.{All-from_none, IsFound-all}
 use Rattle.lists.proofs.Options.{option_or-none}
 use Rattle.machine.specs.declared.parameters.Parameters.{Parameters}
 use Rattle.mode_rules.specs.Overlaps.{is_apart, leaving_overlap}
 use Rattle.num_text.specs.Blanks.{trim}
-use Rattle.rc_base.specs.declared.names.Gid.{Gid}
 use Rattle.rc_base.specs.declared.names.Mode.{Mode}
 use Rattle.rc_base.specs.declared.names.Mode.TheVariants.{Shareable, Exclusive, LockSetup, Locked}
 use Rattle.rc_base.specs.declared.replies.Why.TheVariants.{GroupLocked, OutOfRmids, RmidsBusy, SchemataOverlap, UnknownMode}
 use Rattle.tree_law.proofs.laws.FreeIds.{free_rmid-some, All-range}
 use Rattle.tree_law.proofs.Groups.{gid_number}
-use Rattle.tree_law.proofs.Limbo.{HasNone, AreNumbered-limbo_after}
-use Rattle.tree_law.proofs.Masks.{FitsBeside, FitsBeside-exclusive, FitsBeside-leaving, FitsBeside-old, FitsBeside-shared, HaveMasks-fitting, HaveRegions-fitting}
-use Rattle.tree_law.proofs.NewRecords.{after, AreBound-replaced, HaveMasks-replaced, AreNamed-replaced, new_record, AreNumbered-replaced, HaveRegions-replaced, AreServed-replaced}
+use Rattle.tree_law.proofs.Masks.{FitsBeside, FitsBeside-exclusive, FitsBeside-leaving, FitsBeside-old, FitsBeside-shared}
 use Rattle.tree_law.proofs.BothSides.{IdsDiffer-turned}
 use Rattle.tree_law.proofs.laws.Refusals.{against_overlap-none}
-use Rattle.tree_law.specs.Counted.{is_counted, is_counted_mode}
-use Rattle.tree_law.specs.Freeing.{limbo_after}
+use Rattle.tree_law.specs.Counted.{is_counted_mode}
 use Rattle.tree_law.specs.Masks.{HasValid}
 use Rattle.tree_law.specs.Places.{with_record}
 use Rattle.tree_law.specs.Refusals.{Refusal, plain}
-use Rattle.tree_law.specs.Sound.{Differ, HasIds, HasIdsOf, IdsDiffer, IsDefault, IsSound, IsUsed}
+use Rattle.tree_law.specs.Sound.{HasIds, HasIdsOf, IdsDiffer, IsSound, IsUsed}
 use Rattle.tree_law.specs.Space.{free_rmid, used_in}
 use Rattle.tree_law.specs.State.{State}
 use Rattle.tree_law.specs.commands.Mkdir.{none_in_limbo}
 use Rattle.tree_law.specs.commands.Mode.{accepted, against_change, against_entry, against_exclusive, against_leaving, against_masks, against_mode, against_rmid, freed, freed_by, holdings, is_named, is_present, is_setup, mode_in, overlaps_some, refusal, rmid_refusal, with_mode}
 use Rattle.tree_law.specs.commands.Schemata.{against_overlap, is_locked}
-use Rattle.cpu_binding.specs.Groups as cpu_groups
-use Rattle.task_binding.specs.Bindings as bindings
-use Rattle.tree_law.proofs.ModeTests.{MayEnter, MayEnter-none, IsSome-class, is_locked-false, has_mode-unlocked, HasIds-control, HasIdsOf-counted, cond-counted, is_locked-counted}
+use Rattle.tree_law.proofs.ModeTests.{MayEnter-none, is_locked-false, cond-counted}
+use Rattle.tree_law.proofs.ModeTurns.{IsFound-gid, IsSound-counted, IsSound-setup}
 
 module _ (m : Parameters) (s : State) (g : Group) (sound : IsSound m s) (found : find (has_gid g.gid) s.groups ≡ Some g) (control : is_control g.kind ≡ true) (unlocked : is_locked g.mode ≡ false) where
-  -- the group is found by its gid
-  IsFound-gid : IsFound (has_gid g.gid) s.groups g
-  IsFound-gid = find-found (has_gid g.gid) s.groups g found
-
-  -- the group has a class
-  IsSome-class_here : IsSome g.class
-  IsSome-class_here = IsSome-class s.groups g.kind g control unlocked (IsFound-all (λ (x : Group). HasIds s.groups x.kind x) (has_gid g.gid) s.groups g IsFound-gid sound.numbered.ids)
-
-  -- to a counted mode
-  IsSound-counted : (mode : Mode) (rmid : Option ℕ) → is_counted_mode mode ≡ true → (IsDefault g → rmid ≡ Some 0) → IsSome rmid → IfSome rmid (IsUsed m s.limbo)
-      → ((k : ℕ) (d : Group) → k < length s.groups → has_gid g.gid (get_or s.groups k d) ≡ false → Differ rmid (get_or s.groups k d).rmid)
-      → ((domain : ℕ) → domain < m.domains → FitsBeside m s g sound found mode domain (mask_in domain g)) → IsSound m (with_record s (record g { mode = mode; rmid = rmid }))
-  IsSound-counted mode rmid counted default some used differ fits =
-      let gids = sound.named.gids in
-      let stays : is_counted g ≡ true → cond (is_control g.kind) (is_counted_mode mode) false ≡ true = λ _. cond-counted g.kind mode control counted in
-      let p = IsFound-gid in record {
-        named = AreNamed-replaced s.groups g mode g.class rmid g.masks gids found s.next_gid sound.named (λ d. record { gid = d.gid; name = d.name; counted = cond-counted g.kind mode control counted; class = d.class; rmid = default d });
-        numbered = AreNumbered-replaced s.groups g mode g.class rmid g.masks gids found m s.limbo sound.numbered
-            (λ k d parent within is. inl stays)
-            (HasIds-control (after s.groups g mode g.class rmid g.masks gids found) g.kind (new_record s.groups g mode g.class rmid g.masks gids found) mode refl control (HasIdsOf-counted mode (new_record s.groups g mode g.class rmid g.masks gids found) counted IsSome-class_here some))
-            (IsFound-all (λ (x : Group). IfSome x.class (λ id. id < m.classes)) (has_gid g.gid) s.groups g p sound.numbered.classes)
-            used
-            (λ k d within other old. (old.0, differ k d within other));
-        masks = HaveMasks-fitting m s g sound found mode g.class rmid g.masks (IsFound-all (λ (x : Group). length x.masks ≡ 8) (has_gid g.gid) s.groups g p sound.masks.places) fits;
-        regions = HaveRegions-fitting m s g sound found mode g.class rmid g.masks (IsFound-all (λ (x : Group). length x.masks ≡ 8) (has_gid g.gid) s.groups g p sound.masks.places) fits
-            (has_mode-unlocked g.kind g.mode unlocked) (has_mode-unlocked g.kind mode (is_locked-counted mode counted));
-        lines = sound.lines;
-        threshold = sound.threshold;
-        tasks = AreBound-replaced s.groups g mode g.class rmid g.masks gids found s.tasks (λ k d within. inl stays) sound.tasks;
-        cpus = AreServed-replaced s.groups g mode g.class rmid g.masks gids found m s.cpus (λ k d within. inl stays) sound.cpus;
-      }
-
-  -- to pseudo-locksetup
-  IsSound-setup : (looks : List ℕ) → MayEnter (holdings s g) → IsSound m (record (with_record s (record g { mode = LockSetup; rmid = None })) { limbo = limbo_after m s.threshold s.limbo (option_to_list g.rmid) looks })
-  IsSound-setup looks enter =
-      let gids = sound.named.gids in
-      let uncounted = off g.kind in
-      let p = IsFound-gid in record {
-        named = AreNamed-replaced s.groups g LockSetup g.class None g.masks gids found s.next_gid sound.named (λ d. absurd (let f : true ≡ false = sym (eq-eqb g.gid.0 0 d.gid) ∙ enter.other in cc));
-        numbered = AreNumbered-limbo_after m (after s.groups g LockSetup g.class None g.masks gids found) s.threshold (option_to_list g.rmid) s.limbo looks
-            (AreNumbered-replaced s.groups g LockSetup g.class None g.masks gids found m s.limbo sound.numbered
-            (λ k d parent within is. inr (λ e. no_child k d parent within is e))
-            (HasIds-control (after s.groups g LockSetup g.class None g.masks gids found) g.kind (new_record s.groups g LockSetup g.class None g.masks gids found) LockSetup refl control (IsSome-class_here, refl))
-            (IsFound-all (λ (x : Group). IfSome x.class (λ id. id < m.classes)) (has_gid g.gid) s.groups g p sound.numbered.classes)
-            tt
-            (λ k d within other old. (old.0, tt)))
-            (listed g.rmid (IsFound-all (λ (x : Group). IfSome x.rmid (IsUsed m s.limbo)) (has_gid g.gid) s.groups g p sound.numbered.rmids))
-            (All-replaced gid_number s.groups (new_record s.groups g LockSetup g.class None g.masks gids found) g gids found (HasNone (option_to_list g.rmid)) tt
-            (λ k d within other. apart g.rmid (get_or s.groups k d).rmid (AllPairs-beside gid_number s.groups g g gids found IdsDiffer IdsDiffer-turned sound.numbered.apart k d within other).1));
-        masks = HaveMasks-replaced s.groups g LockSetup g.class None g.masks gids found m sound.masks
-            (IsFound-all (λ (x : Group). length x.masks ≡ 8) (has_gid g.gid) s.groups g p sound.masks.places)
-            (λ domain lt c u. IsFound-all (HasValid m domain) (has_gid g.gid) s.groups g p (sound.masks.valid domain lt) control (is_locked-false g.mode unlocked))
-            (λ domain lt k d within other keep cn cx either. absurd (uncounted cn))
-            (λ domain lt cn e. absurd (uncounted cn));
-        regions = HaveRegions-replaced s.groups g LockSetup g.class None g.masks gids found m s.regions sound.regions (has_mode-unlocked g.kind g.mode unlocked) (has_mode-unlocked g.kind LockSetup refl)
-            (λ domain r there cn. absurd (uncounted cn));
-        lines = sound.lines;
-        threshold = sound.threshold;
-        tasks = AreBound-replaced s.groups g LockSetup g.class None g.masks gids found s.tasks (λ k d within. inr (eqb-false (get_or s.tasks k d).control.0 g.gid.0 (All-from_empty (bindings.has_control g.gid) s.tasks enter.tasks k d within))) sound.tasks;
-        cpus = AreServed-replaced s.groups g LockSetup g.class None g.masks gids found m s.cpus (λ k d within. inr (eqb-false (get_or s.cpus k d).control.0 g.gid.0 (All-from_empty (cpu_groups.has_control g.gid) s.cpus enter.cpus k d within))) sound.cpus;
-      }
-    where
-      off : (kind : GroupKind) → cond (is_control kind) false false ≡ true → ⊥
-      off Control e = let f : false ≡ true = e in cc
-      off (Monitor q) e = let f : false ≡ true = e in cc
-
-      no_child : (k : ℕ) (d : Group) (parent : Gid) → k < length s.groups → (get_or s.groups k d).kind ≡ Monitor parent → parent.0 ≡ g.gid.0 → ⊥
-      no_child k d parent within is same = (let none = All-from_empty (λ (x : Group). is_monitor_of g.gid x.kind) s.groups enter.monitors k d within in
-          let one : is_monitor_of g.gid (get_or s.groups k d).kind ≡ true = ap (is_monitor_of g.gid) is ∙ eq-eqb g.gid.0 parent.0 (sym same) in
-          let f : true ≡ false = sym one ∙ none in cc)
-
-      listed : (o : Option ℕ) → IfSome o (IsUsed m s.limbo) → All (λ id. id < m.rmids) (option_to_list o)
-      listed None used = λ k d within. absurd (omega arith)
-      listed (Some id) used = All-cons (λ id. id < m.rmids) id [] used.0 (λ k d within. absurd (omega arith))
-
-      apart : (a b : Option ℕ) → Differ a b → IfSome b (λ id. contains id (option_to_list a) ≡ false)
-      apart a None differ = tt
-      apart None (Some b) differ = refl
-      apart (Some a) (Some b) differ = ap (λ (x : Bool). x || false) (ne_eqb a b differ)
-
   -- ---- the tests of a change
 
   -- where no domain is against leaving pseudo-locksetup, the mask of each may leave
@@ -144,7 +58,7 @@ module _ (m : Parameters) (s : State) (g : Group) (sound : IsSound m s) (found :
 
   -- each mask of the group is valid
   HasValid-own : (domain : ℕ) → domain < m.domains → HasValid m domain g
-  HasValid-own domain lt = IsFound-all (HasValid m domain) (has_gid g.gid) s.groups g IsFound-gid (sound.masks.valid domain lt)
+  HasValid-own domain lt = IsFound-all (HasValid m domain) (has_gid g.gid) s.groups g (IsFound-gid m s g sound found control unlocked) (sound.masks.valid domain lt)
 
   -- an RMID is free where nothing is against taking one
   free_rmid-unrefused : rmid_refusal m s ≡ None → (id : ℕ) × (free_rmid m s ≡ Some id)
@@ -156,8 +70,8 @@ module _ (m : Parameters) (s : State) (g : Group) (sound : IsSound m s) (found :
 
   -- from a counted mode its own RMID stays
   IsSound-own_rmid : is_counted_mode g.mode ≡ true → (mode : Mode) → is_counted_mode mode ≡ true → ((domain : ℕ) → domain < m.domains → FitsBeside m s g sound found mode domain (mask_in domain g)) → IsSound m (with_record s (record g { mode = mode; rmid = g.rmid }))
-  IsSound-own_rmid was mode counted fits = IsSound-counted mode g.rmid counted (λ d. d.rmid) (rmid_there g.kind control (IsFound-all (λ (x : Group). HasIds s.groups x.kind x) (has_gid g.gid) s.groups g IsFound-gid sound.numbered.ids))
-      (IsFound-all (λ (x : Group). IfSome x.rmid (IsUsed m s.limbo)) (has_gid g.gid) s.groups g IsFound-gid sound.numbered.rmids)
+  IsSound-own_rmid was mode counted fits = IsSound-counted m s g sound found control unlocked mode g.rmid counted (λ d. d.rmid) (rmid_there g.kind control (IsFound-all (λ (x : Group). HasIds s.groups x.kind x) (has_gid g.gid) s.groups g (IsFound-gid m s g sound found control unlocked) sound.numbered.ids))
+      (IsFound-all (λ (x : Group). IfSome x.rmid (IsUsed m s.limbo)) (has_gid g.gid) s.groups g (IsFound-gid m s g sound found control unlocked) sound.numbered.rmids)
       (λ k d within other. (AllPairs-beside gid_number s.groups g g sound.named.gids found IdsDiffer IdsDiffer-turned sound.numbered.apart k d within other).1) fits
     where
       by_mode : (mode : Mode) → is_counted_mode mode ≡ true → HasIdsOf mode g → IsSome g.rmid
@@ -176,7 +90,7 @@ module _ (m : Parameters) (s : State) (g : Group) (sound : IsSound m s) (found :
       let id = free_rmid-unrefused none in
       let is = free_rmid-some m s id.0 id.1 in
       subst (λ (o : Option ℕ). IsSound m (with_record s (record g { mode = mode; rmid = o }))) (sym id.1)
-      (IsSound-counted mode (Some id.0) counted (λ d. absurd (not_counted g.kind d.counted)) refl is.0 (λ k d within other. is.1 k d within) fits)
+      (IsSound-counted m s g sound found control unlocked mode (Some id.0) counted (λ d. absurd (not_counted g.kind d.counted)) refl is.0 (λ k d within other. is.1 k d within) fits)
     where
       not_counted : (kind : GroupKind) → cond (is_control kind) (is_counted_mode g.mode) false ≡ true → ⊥
       not_counted Control e = let f : false ≡ true = ap is_counted_mode (sym setup) ∙ e in cc
@@ -231,7 +145,7 @@ module _ (m : Parameters) (s : State) (g : Group) (sound : IsSound m s) (found :
   pub with_mode-sound : (mode : Mode) (looks : List ℕ) → mode ≢ Locked → against_change m s g mode ≡ None → IsSound m (with_mode m s g (freed_by g (Some mode)) looks (Some mode))
   with_mode-sound Shareable looks writable none = IsSound-to_counted Shareable refl none
   with_mode-sound Exclusive looks writable none = IsSound-to_counted Exclusive refl none
-  with_mode-sound LockSetup looks writable none = IsSound-setup looks (MayEnter-none (holdings s g) (against_change-none LockSetup none).0)
+  with_mode-sound LockSetup looks writable none = IsSound-setup m s g sound found control unlocked looks (MayEnter-none (holdings s g) (against_change-none LockSetup none).0)
   with_mode-sound Locked looks writable none = absurd (writable refl)
 
 -- no text asks for the mode of a pseudo-locked group
