@@ -1,4 +1,5 @@
 mod AppliedLines
+mod MadeByCommands
 mod MadeGroups
 mod PlanWrites
 mod PrintedMasks
