@@ -11,7 +11,8 @@ use Rattle.mode_rules.specs.StartingWays.{initial_ways, starting_ways}
 use Rattle.rc_base.specs.Texts.{is_text}
 use Rattle.schemata_text.specs.Reading.{entry_of, line_of, reading_from}
 use Rattle.tree_law.specs.Resolving.{resolve}
-use Rattle.tree_law.specs.ScriptRows.{FirstAnswers, FirstLeft, SecondAnswers, SecondLeft, ThirdAnswers, ThirdLeft}
+use Rattle.tree_law.specs.ScriptRows.{FirstAnswers, FirstLeft, ThirdAnswers, ThirdLeft}
+use Rattle.tree_law.specs.RegionScript.{SecondAnswers, SecondLeft}
 use Rattle.tree_law.specs.Steps as steps
 use Rattle.tree_law.specs.commands.Cpus as cpus
 use Rattle.tree_law.specs.commands.Flush as flush

@@ -9,6 +9,7 @@ pub mod LawsStates
 pub mod Masks
 pub mod Places
 pub mod Refusals
+pub mod RegionScript
 pub mod Regions
 pub mod Resolving
 pub mod Rows

@@ -4,7 +4,8 @@ ghost use Rattle.tree_law.specs.LawsCounts.{NeedsDiffer, NeedsExist};
 ghost use Rattle.tree_law.specs.LawsFollows.{FollowsAreLawful, FollowsExist};
 ghost use Rattle.tree_law.specs.LawsRegions.{FirstLinesAreWhole, FirstLinesDiffer, LinesAreBounded, RegionsAgree};
 ghost use Rattle.tree_law.specs.LawsStates.{LeftHasTasks, LeftIsSame, NextIsSound, OpeningIsSound, RefusedIsLeft, StatusIsAlone, StatusIsKept, TasksAreKept, ThresholdIsBounded};
-ghost use Rattle.tree_law.specs.ScriptRows.{FirstAnswers, FirstLeft, SecondAnswers, SecondLeft, ThirdAnswers, ThirdLeft};
+ghost use Rattle.tree_law.specs.ScriptRows.{FirstAnswers, FirstLeft, ThirdAnswers, ThirdLeft};
+ghost use Rattle.tree_law.specs.RegionScript.{SecondAnswers, SecondLeft};
 ghost use Rattle.tree_law.specs.Rows.{LimboRow, LockRow, LockState, RegionRow, SetupRow, SpaceRow, TasksRow};
 
 /// The tree at the start is sound.
