@@ -1,7 +1,8 @@
 -- Events that happen one after the other.
 use Rattle.std.proofs.Common.{List, [], ◌∷◌, ◌++◌, refl, subst}
 use Rattle.script_ops.specs.Values.{ScriptValue}
-use Rattle.step_world.specs.Machine.{Event, Happens, MachineValue, Plays}
+use Rattle.step_world.specs.Machine.{MachineValue}
+use Rattle.step_world.specs.Schedules.{Event, Happens, Plays}
 
 -- one event more
 pub Plays-push : (script : ScriptValue) (events : List Event) (e : Event) (a b c : MachineValue) → Plays script events a b → Happens script e b c → Plays script (events ++ e ∷ []) a c

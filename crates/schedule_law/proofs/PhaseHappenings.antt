@@ -5,7 +5,8 @@ use Rattle.std.proofs.lemmas.Bool.{cases_Bool, cases_lt, cond-true, cond-false, 
 use Rattle.run_law.specs.Journals.{slice_at}
 use Rattle.run_law.specs.Ops.{phase_in}
 use Rattle.script_ops.specs.Values.{ScriptValue}
-use Rattle.step_world.specs.Machine.{GoesOn, HasEnded, MachineValue, Next, thread_at}
+use Rattle.step_world.specs.Machine.{MachineValue, thread_at}
+use Rattle.step_world.specs.Schedules.{GoesOn, HasEnded, Next}
 use Rattle.step_world.specs.declared.thread_state.Thread.{Thread}
 use Rattle.schedule_law.specs.Law.{BeginMayHappen, EndMayHappen, PassMayHappen}
 use Rattle.schedule_law.specs.Parts.{Begin, End, HappeningValue, PartValue, Pass, Phase, Slice, Tree, Worker, number_of_slice, number_of_thread, part_after, phase_part, thread_part}

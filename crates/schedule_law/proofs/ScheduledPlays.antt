@@ -5,7 +5,8 @@ use Rattle.run_law.specs.Runs.{IsRun}
 use Rattle.script_ops.specs.Values.{ScriptValue}
 use Rattle.step_world.proofs.laws.Plays.{step_phase}
 use Rattle.step_world.proofs.laws.Schedules.{each_end}
-use Rattle.step_world.specs.Machine.{Event, MachineValue, Next, Plays, Step, Steps}
+use Rattle.step_world.specs.Machine.{MachineValue, Steps}
+use Rattle.step_world.specs.Schedules.{Event, Next, Plays, Step}
 use Rattle.step_world.specs.Play.{EndInTurn, LetsGo, PlaysPhaseBy, PlaysPhasesBy, StepsHolding, StepsOf}
 use Rattle.schedule_law.specs.Schedules.{EachPlayIsScheduled, EachScheduleIsARun}
 use Rattle.schedule_law.proofs.Events.{Plays-append}

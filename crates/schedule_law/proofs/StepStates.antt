@@ -19,7 +19,8 @@ use Rattle.step_world.proofs.laws.LookedCounts.{others_looked}
 use Rattle.step_world.proofs.laws.Schedules.{each_moment}
 use Rattle.step_world.specs.Looked.{HasLooked}
 use Rattle.step_world.proofs.laws.StepRows.{moves_set}
-use Rattle.step_world.specs.Machine.{HasEnded, MachineValue, Moves, Notes, Step, Steps, opening_thread, thread_at}
+use Rattle.step_world.specs.Machine.{MachineValue, Moves, Notes, Steps, opening_thread, thread_at}
+use Rattle.step_world.specs.Schedules.{HasEnded, Step}
 use Rattle.step_world.specs.Moments.{IsRunSoFar, progress_by}
 use Rattle.step_world.specs.declared.thread_state.ThreadState.{ThreadState}
 use Rattle.step_world.specs.declared.thread_state.ThreadState.TheVariants.{Ready, Looking, Following, Tagged}

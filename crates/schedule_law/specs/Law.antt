@@ -22,7 +22,7 @@ use Rattle.step_world.specs.declared.thread_state.ThreadState.TheVariants.{Ready
 use Rattle.tree_law.specs.Steps.{needs}
 use Rattle.schedule_law.specs.Parts.{Again, AreReached, Begin, Decide, End, Follow, Label, Look, PartValue, Pass, Take, Touch, opening_parts, part_after, phase_part, slice_part, thread_part, tree_part}
 use Rattle.schedule_law.specs.Schedules.{IsScheduled}
-use Rattle.step_world.specs.Machine.{HasEnded}
+use Rattle.step_world.specs.Schedules.{HasEnded}
 use Rattle.step_world.specs.declared.thread_state.Thread.{Thread}
 use Rattle.shared_parts.specs.Parts.{Fits, MayHappen}
 

@@ -11,7 +11,8 @@ use Rattle.run_law.specs.TreeHistory.{TreeEntryValue}
 use Rattle.script_ops.specs.Values.{ScriptValue, op_at, threads_of}
 use Rattle.script_ops.specs.declared.op.Op.{Op}
 use Rattle.step_world.specs.Looked.{HasLooked}
-use Rattle.step_world.specs.Machine.{Event, HasEnded, IsOpening, MachineValue, Plays, opening_thread, thread_at}
+use Rattle.step_world.specs.Machine.{MachineValue, opening_thread, thread_at}
+use Rattle.step_world.specs.Schedules.{Event, HasEnded, IsOpening, Plays}
 use Rattle.step_world.specs.declared.thread_state.ThreadState.{ThreadState}
 use Rattle.step_world.specs.declared.thread_state.ThreadState.TheVariants.{Ready, Looking, Following, Tagged}
 use Rattle.step_world.specs.declared.thread_state.Thread.{Thread}

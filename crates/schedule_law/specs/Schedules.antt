@@ -4,7 +4,8 @@ use Rattle.std.specs.Prelude.{◌≡◌, ℕ, ◌<◌, List}
 use Rattle.run_law.specs.Journals.{JournalsValue}
 use Rattle.run_law.specs.Runs.{IsRun}
 use Rattle.script_ops.specs.Values.{ScriptValue}
-use Rattle.step_world.specs.Machine.{Event, IsOpening, IsOver, MachineValue, Plays}
+use Rattle.step_world.specs.Machine.{MachineValue}
+use Rattle.step_world.specs.Schedules.{Event, IsOpening, IsOver, Plays}
 use Rattle.step_world.specs.Play.{IsPlayBy}
 
 -- (For proofs.) There is one order of all steps: these events happen, one after the other, until the last phase is over, and leave

@@ -9,7 +9,8 @@ use Rattle.script_ops.specs.Values.{ScriptValue, op_at, ops_of}
 use Rattle.script_ops.specs.declared.op.Op.{Op}
 use Rattle.script_ops.specs.declared.op.Op.TheVariants.{Access}
 use Rattle.run_law.specs.Jobs.{looks_of}
-use Rattle.step_world.specs.Machine.{Begins, Decides, HasEnded, Looks, MachineValue, Moves, Reaches, StepFrom, StepOf, Steps, TagsAgain, Touches, floor_for, thread_at}
+use Rattle.step_world.specs.Machine.{Begins, Decides, Looks, MachineValue, Moves, Reaches, StepFrom, StepOf, Steps, TagsAgain, Touches, floor_for, thread_at}
+use Rattle.step_world.specs.Schedules.{HasEnded}
 use Rattle.step_world.specs.declared.thread_state.ThreadState.{ThreadState}
 use Rattle.step_world.specs.declared.thread_state.ThreadState.TheVariants.{Following, Looking, Ready, Tagged}
 use Rattle.step_world.specs.declared.thread_state.Thread.{Thread}

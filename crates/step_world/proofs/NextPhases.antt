@@ -2,7 +2,7 @@
 use Rattle.std.proofs.Common.{◌≡◌, ◌+◌, ◌<◌, [], ◌∷◌, length, Some, None, refl, sym, ◌∙◌, arith}
 use Rattle.script_ops.specs.Values.{ScriptValue}
 use Rattle.step_world.proofs.laws.Schedules.{plays_keep}
-use Rattle.step_world.specs.Machine.{GoesOn, Next}
+use Rattle.step_world.specs.Schedules.{GoesOn, Next}
 use Rattle.step_world.specs.Worlds.{IsWorldOf, machine_of}
 use Rattle.step_world.specs.declared.world.World.{World}
 

@@ -11,7 +11,8 @@ use Rattle.run_law.specs.Quotas.{command_count}
 use Rattle.run_law.specs.TreeHistory.{TreeEntryValue, tree_after}
 use Rattle.script_ops.specs.Values.{IsLawful, ScriptValue, threads_of}
 use Rattle.step_world.proofs.laws.Schedules.{opening_so_far}
-use Rattle.step_world.specs.Machine.{IsOpening, opening_thread}
+use Rattle.step_world.specs.Machine.{opening_thread}
+use Rattle.step_world.specs.Schedules.{IsOpening}
 use Rattle.step_world.specs.Openings.{AreFirst, AreFresh, AreListed, HasRooms}
 use Rattle.step_world.specs.Slices.{SliceValue}
 use Rattle.step_world.specs.Worlds.{AreInPlay, HasLists, IsTreeOf, IsWithin, IsWorldOf, journals_of, machine_of}

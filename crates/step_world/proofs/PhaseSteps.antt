@@ -8,7 +8,8 @@ use Rattle.script_ops.specs.Values.{ScriptValue, first_thread, phase_at}
 use Rattle.step_world.proofs.EndedThreads.{ended_stays}
 use Rattle.step_world.proofs.HeldSteps.{held_step}
 use Rattle.run_law.proofs.laws.PhaseThreads.{of_phase}
-use Rattle.step_world.specs.Machine.{HasEnded, MachineValue, Steps, thread_at}
+use Rattle.step_world.specs.Machine.{MachineValue, Steps, thread_at}
+use Rattle.step_world.specs.Schedules.{HasEnded}
 use Rattle.step_world.specs.Moments.{IsRunSoFar}
 use Rattle.step_world.specs.Play.{EndInTurn, LetsGo, PlaysPhaseBy, PlaysPhasesBy, StepsHolding, StepsOf, threads_of_phase}
 use Rattle.step_world.specs.Turns.{EndsThread, HasLetGo, IsLettingGo}

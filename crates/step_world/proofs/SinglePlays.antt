@@ -9,7 +9,8 @@ use Rattle.step_world.proofs.KeptSteps.{step_keeps}
 use Rattle.step_world.proofs.laws.Schedules.{next_so_far, opening_so_far}
 use Rattle.step_world.proofs.SingleSteps.{step-agree}
 use Rattle.step_world.proofs.AgreeingStates.{Agree, same_journals}
-use Rattle.step_world.specs.Machine.{GoesOn, HasEnded, IsOpening, MachineValue, Steps, opening_thread, thread_at}
+use Rattle.step_world.specs.Machine.{MachineValue, Steps, opening_thread, thread_at}
+use Rattle.step_world.specs.Schedules.{GoesOn, HasEnded, IsOpening}
 use Rattle.step_world.specs.Moments.{IsRunSoFar}
 use Rattle.step_world.specs.Play.{EndInTurn, IsPlayBy, LetsGo, PlaysPhaseBy, PlaysPhasesBy, StepsHolding, StepsOf, threads_of_phase}
 

@@ -9,7 +9,8 @@ use Rattle.script_ops.specs.declared.op.Op.{Op}
 use Rattle.script_ops.specs.declared.op.Op.TheVariants as ops
 use Rattle.step_world.proofs.FreeSteps.{free_step, turns_left-after_command}
 use Rattle.step_world.proofs.PhaseSteps.{StepsOf-gone}
-use Rattle.step_world.specs.Machine.{HasEnded, MachineValue, Steps, thread_at}
+use Rattle.step_world.specs.Machine.{MachineValue, Steps, thread_at}
+use Rattle.step_world.specs.Schedules.{HasEnded}
 use Rattle.step_world.specs.Moments.{IsRunSoFar}
 use Rattle.step_world.specs.Play.{StepsOf}
 use Rattle.step_world.specs.Turns.{HasLetGo, turns_left}

@@ -6,7 +6,8 @@ use Rattle.run_law.specs.Journals.{JournalsValue, slice_at}
 use Rattle.run_law.specs.Quotas.{room_of}
 use Rattle.run_law.specs.Runs.{IsRun}
 use Rattle.script_ops.specs.Values.{IsLawful, ScriptValue}
-use Rattle.step_world.specs.Machine.{MachineValue, IsOpening, IsOver, Event, Plays}
+use Rattle.step_world.specs.Machine.{MachineValue}
+use Rattle.step_world.specs.Schedules.{IsOpening, IsOver, Event, Plays}
 use Rattle.step_world.specs.Moments.{IsRunSoFar}
 use Rattle.step_world.specs.Play.{IsPlay}
 

@@ -7,6 +7,7 @@ pub mod Moments
 pub mod Openings
 pub mod Passing
 pub mod Play
+pub mod Schedules
 pub mod Slices
 pub mod Turns
 pub mod Works

@@ -1,9 +1,9 @@
 -- The machine of atomic steps: the journals, the present phase, who holds the tree, and where each thread is.
-use Rattle.std.specs.Prelude.{List, MatchBool, None, Option, Some, [], if◌then◌else◌, length, map, nat_lt, slice_index_or, ℕ, ◌++◌, ◌+◌, ◌<◌, ◌==◌, ◌∷◌, ◌≡◌, ◌≢◌, ◌≤◌}
+use Rattle.std.specs.Prelude.{List, MatchBool, None, Option, Some, [], if◌then◌else◌, length, map, nat_lt, slice_index_or, ℕ, ◌++◌, ◌+◌, ◌<◌, ◌==◌, ◌∷◌, ◌≡◌, ◌≢◌}
 use Rattle.cache_core.specs.History.{EntryMayFollow, floor_of}
 use Rattle.cache_core.specs.declared.entry.SliceEntry.{SliceEntry}
 use Rattle.machine.specs.Maps.{line_of}
-use Rattle.machine.specs.Slices.{slice_count, slice_of_line}
+use Rattle.machine.specs.Slices.{slice_of_line}
 use Rattle.machine.specs.declared.parameters.Parameters.{Parameters}
 use Rattle.rc_base.specs.declared.names.Tag.{Tag}
 use Rattle.run_law.specs.Growth.{PaysJob, tag_of}
@@ -14,7 +14,7 @@ use Rattle.run_law.specs.Ops.{ByKind, phase_in}
 use Rattle.run_law.specs.Owed.{owed_by_access}
 use Rattle.run_law.specs.Slices.{shape_in}
 use Rattle.run_law.specs.TreeHistory.{CommandMayFollow, TreeEntryValue, tree_after}
-use Rattle.script_ops.specs.Values.{ScriptValue, op_at, ops_of}
+use Rattle.script_ops.specs.Values.{ScriptValue, op_at}
 use Rattle.script_ops.specs.declared.op.Op.{Op}
 use Rattle.step_world.specs.declared.thread_state.ThreadState.{ThreadState}
 use Rattle.step_world.specs.declared.thread_state.ThreadState.TheVariants.{Ready, Looking, Following, Tagged}
@@ -157,47 +157,3 @@ StepOf script t (Some op) old new = StepFrom script t op (thread_at old t).state
 abbrev pub Steps : ScriptValue → ℕ → MachineValue → MachineValue → Type 0
 Steps script t old new =
     MatchBool (phase_in script.phases t == old.phase) (StepOf script t (op_at script t (thread_at old t).next) old new) (new ≡ old)
-
--- ---- the opening state, the next phase, and the end
-
--- a thread is at its end
-abbrev pub HasEnded : ScriptValue → ℕ → Thread → Type 0
-HasEnded script t v = (v.next ≡ length (ops_of script t)) × (v.state ≡ Ready)
-
--- the state before the first step
-pub record IsOpening (script : ScriptValue) (s : MachineValue) : Type 0 where
-  pub tree : s.journals.tree ≡ []
-  pub count : length s.journals.slices ≡ slice_count script.machine
-  pub slices : (i : ℕ) → slice_at s.journals i ≡ []
-  pub phase : s.phase ≡ 0
-  pub holder : s.holder ≡ None
-  pub threads : (t : ℕ) → thread_at s t ≡ opening_thread
-
--- when all threads of a phase have ended, the next one begins
-pub record GoesOn (script : ScriptValue) (old new : MachineValue) : Type 0 where
-  pub ended : (t : ℕ) → phase_in script.phases t ≡ old.phase → HasEnded script t (thread_at old t)
-  pub journals : new.journals ≡ old.journals
-  pub holder : new.holder ≡ old.holder
-  pub threads : new.threads ≡ old.threads
-  pub phase : new.phase ≡ old.phase + 1
-
--- (For proofs.) the last phase is over
-abbrev pub IsOver : ScriptValue → MachineValue → Type 0
-IsOver script s = length script.phases ≤ s.phase
-
--- ---- schedules
-
--- (For proofs.) what may happen: a thread takes a step, or the next phase begins
-pub data Event : Type 0 where
-  Step : ℕ → Event
-  Next : Event
-
--- (For proofs.) what an event does
-abbrev pub Happens : ScriptValue → Event → MachineValue → MachineValue → Type 0
-Happens script (Step t) old new = Steps script t old new
-Happens script Next old new = GoesOn script old new
-
--- (For proofs.) these events happen, one after the other
-abbrev pub Plays : ScriptValue → List Event → MachineValue → MachineValue → Type 0
-Plays script [] old new = new ≡ old
-Plays script (e ∷ es) old new = (between : MachineValue) × Happens script e old between × Plays script es between new

@@ -4,7 +4,8 @@ use Rattle.std.specs.List.{range_with_len}
 use Rattle.std.specs.Prelude.{List, None, Option, Some, [], length, map, replicate, suc, zero, ℕ, ◌∷◌, ◌≡◌}
 use Rattle.run_law.specs.Journals.{JournalsValue}
 use Rattle.script_ops.specs.Values.{PhaseValue, ScriptValue, first_thread, phase_at}
-use Rattle.step_world.specs.Machine.{MachineValue, thread_at, Steps, HasEnded, IsOpening, GoesOn}
+use Rattle.step_world.specs.Machine.{MachineValue, thread_at, Steps}
+use Rattle.step_world.specs.Schedules.{HasEnded, IsOpening, GoesOn}
 
 -- these threads take a step each, one after the other
 abbrev pub StepsOf : ScriptValue → List ℕ → MachineValue → MachineValue → Type 0

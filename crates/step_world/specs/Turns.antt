@@ -6,7 +6,8 @@ use Rattle.run_law.specs.TreeHistory.{TreeEntryValue}
 use Rattle.script_ops.specs.Values.{ScriptValue, op_at, ops_of}
 use Rattle.script_ops.specs.declared.op.Op.{Op}
 use Rattle.script_ops.specs.declared.op.Op.TheVariants.{Access}
-use Rattle.step_world.specs.Machine.{HasEnded, MachineValue, floor_for, thread_at}
+use Rattle.step_world.specs.Machine.{MachineValue, floor_for, thread_at}
+use Rattle.step_world.specs.Schedules.{HasEnded}
 use Rattle.step_world.specs.Play.{LetsGo, StepsHolding, StepsOf}
 use Rattle.step_world.specs.declared.thread_state.ThreadState.{ThreadState}
 use Rattle.step_world.specs.declared.thread_state.ThreadState.TheVariants.{Ready, Looking, Following, Tagged}

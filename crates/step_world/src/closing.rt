@@ -3,7 +3,7 @@ ghost use Rattle.std.specs.Prelude.{◌≡◌, ◌≤◌, List, map, length, [],
 ghost use Rattle.run_law.specs.Entries.{entries_of};
 ghost use Rattle.run_law.specs.Runs.{IsRun};
 ghost use Rattle.script_ops.specs.Values.{ScriptValue};
-ghost use Rattle.step_world.specs.Machine.{IsOver};
+ghost use Rattle.step_world.specs.Schedules.{IsOver};
 ghost use Rattle.step_world.specs.Slices.{SliceValue};
 ghost use Rattle.step_world.specs.Worlds.{CanClose, IsWorldOf, machine_of};
 

@@ -1,6 +1,6 @@
 //! A world before its first step.
 ghost use Rattle.std.specs.Prelude.{IfOk};
-ghost use Rattle.step_world.specs.Machine.{IsOpening};
+ghost use Rattle.step_world.specs.Schedules.{IsOpening};
 ghost use Rattle.step_world.specs.Openings.{HasRooms};
 ghost use Rattle.step_world.specs.Worlds.{IsWorldOf, machine_of};
 

@@ -12,7 +12,8 @@ use Rattle.script_ops.specs.declared.op.Op.{Op}
 use Rattle.step_world.proofs.laws.AccessSteps.{some_can_be}
 use Rattle.run_law.proofs.laws.PhaseThreads.{in_phase}
 use Rattle.step_world.proofs.laws.Plays.{step_phase}
-use Rattle.step_world.specs.Machine.{Event, GoesOn, HasEnded, IsOver, MachineValue, Next, Plays, Step, StepOf, Steps, thread_at}
+use Rattle.step_world.specs.Machine.{MachineValue, StepOf, Steps, thread_at}
+use Rattle.step_world.specs.Schedules.{Event, GoesOn, HasEnded, IsOver, Next, Plays, Step}
 use Rattle.step_world.specs.Moments.{IsRunSoFar, progress_by, progress_in}
 use Rattle.step_world.specs.Play.{EndInTurn, LetsGo, PlaysPhaseBy, PlaysPhasesBy, StepsOf}
 use Rattle.schedule_law.specs.Parts.{IsReached}

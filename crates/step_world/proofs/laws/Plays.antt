@@ -5,7 +5,8 @@ use Rattle.run_law.specs.Runs.{IsRun}
 use Rattle.script_ops.specs.Values.{ScriptValue}
 use Rattle.step_world.proofs.EndedThreads.{step_moves}
 use Rattle.step_world.proofs.laws.Schedules.{each_end}
-use Rattle.step_world.specs.Machine.{Event, MachineValue, Next, Plays, Step, Steps}
+use Rattle.step_world.specs.Machine.{MachineValue, Steps}
+use Rattle.step_world.specs.Schedules.{Event, Next, Plays, Step}
 use Rattle.step_world.specs.Play.{EndInTurn, IsPlayBy, LetsGo, PlaysPhaseBy, PlaysPhasesBy, StepsHolding, StepsOf}
 
 -- a schedule

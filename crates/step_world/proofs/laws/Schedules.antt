@@ -18,7 +18,8 @@ use Rattle.run_law.proofs.laws.OpMarks.{not_some}
 use Rattle.step_world.proofs.laws.MachineStates.{can_be_same, can_be_tree, IsKept-same, tree_can_be}
 use Rattle.step_world.proofs.laws.AccessSteps.{some_can_be}
 use Rattle.step_world.proofs.KeptSteps.{step_keeps}
-use Rattle.step_world.specs.Machine.{Event, GoesOn, Happens, IsOpening, IsOver, MachineValue, Next, Plays, Step, opening_thread, thread_at}
+use Rattle.step_world.specs.Machine.{MachineValue, opening_thread, thread_at}
+use Rattle.step_world.specs.Schedules.{Event, GoesOn, Happens, IsOpening, IsOver, Next, Plays, Step}
 use Rattle.step_world.specs.declared.thread_state.ThreadState.{ThreadState}
 use Rattle.step_world.specs.declared.thread_state.ThreadState.TheVariants.{Ready, Looking, Following}
 use Rattle.step_world.specs.declared.thread_state.Thread.{Thread}

@@ -2,7 +2,7 @@ use Rattle.std.proofs.Common.{arith, refl, subst, ◌∙◌, ◌≡◌, ◌<◌,
 use Rattle.step_world.proofs.NextPhases.{IsWorldOf-next, next_of}
 use Rattle.step_world.proofs.PhaseSteps.{LetsGo-gone, phase_ended}
 use Rattle.step_world.proofs.world.World.run_phase.Goals as goal
-use Rattle.step_world.specs.Machine.{GoesOn}
+use Rattle.step_world.specs.Schedules.{GoesOn}
 use Rattle.step_world.specs.Play.{EndInTurn, threads_of_phase}
 use Rattle.step_world.specs.Worlds.{machine_of}
 
