@@ -31,6 +31,7 @@ pub mod SinglePlays
 pub mod SingleSteps
 pub mod SliceFloors
 pub mod SoundStates
+pub mod StepKinds
 pub mod StepParts
 pub mod TaggedWorlds
 pub mod TakenWorlds
