@@ -1,4 +1,4 @@
--- What a Named names, and what contracts see of a thread's passes.
+-- What a RunNames names, and what contracts see of a thread's passes.
 -- (For functions and proofs: no promise of the program stands on it.)
 use Rattle.std.specs.Prelude.{ℕ, Bool, false, List, [], map, slice_index_or}
 use Rattle.atomic_table.specs.Seated.{TableId}
@@ -12,7 +12,7 @@ use Rattle.seen_journal.specs.Entries.{list_of}
 use Rattle.seen_journal.specs.Journals.{JournalName}
 use Rattle.seen_journal.specs.Passes.{PassValue}
 
--- for a Named that names nothing
+-- for a RunNames that names nothing
 abbrev pub no_table : TableId
 no_table = record { words = 0; slots = 0; views_name = 0; atom = 0; block = 0; offset = 0; slot_names = [] }
 

@@ -10,7 +10,7 @@ ghost use Rattle.script_ops.specs.Values.{op_at};
 ghost use Rattle.script_ops.specs.declared.op.Op.TheVariants.{Access};
 
 use crate::live::Live;
-use crate::named::{Named, NamedTable, StepShare};
+use crate::run_names::{NamedTable, RunNames, StepShare};
 use crate::seen::Seen;
 use cache_steps::Reached;
 use rc_stream::{Gate, Point};
@@ -34,7 +34,7 @@ impl<G: Gate> Hold for SliceGate<'_, G> {
     }
 }
 
-impl<N: Named, T: NamedTable> Live<N, T> {
+impl<N: RunNames, T: NamedTable> Live<N, T> {
     // One turn: it tags and touches. The epoch of its tag, where that was stale.
     fn turn(
         &self,

@@ -19,9 +19,9 @@ ghost use Rattle.seen_journal.specs.Passes.{HasSeen, PassValue};
 
 use crate::closing_room::Closing;
 use crate::live::Live;
-use crate::named::{Named, NamedTable, ScriptOf, StepShare};
 use crate::parts::Part;
 use crate::passes::Passes;
+use crate::run_names::{NamedTable, RunNames, ScriptOf, StepShare};
 use crate::seen::Seen;
 use crate::slice::SliceCell;
 use crate::tree::TreeCell;
@@ -31,7 +31,7 @@ use schedule_law::sharing::close;
 use seen_journal::{Journal, Pass};
 
 /// The journal of slice I. The tree's cell has seen it whole, and it is kept by the whole history of the tree.
-pub fn settle<N: Named, T: NamedTable, const I: usize>(
+pub fn settle<N: RunNames, T: NamedTable, const I: usize>(
     history: &mut Journal<TreeEntry>,
     pass: &mut Pass<SliceEntry>,
     cell: SliceCell<N, T, I>,
@@ -70,7 +70,7 @@ fn give_each(passes: Vec<Pass<SliceEntry>>, lists: &mut Vec<Vec<Pass<SliceEntry>
 }
 
 // Adds the passes of all threads to the list of the tree's passes, and to those of the slices', which have the room.
-fn gather<N: Named, T: NamedTable>(
+fn gather<N: RunNames, T: NamedTable>(
     p: Vec<Passes<N, T>>,
     trees: &mut Vec<Pass<TreeEntry>>,
     lists: &mut Vec<Vec<Pass<SliceEntry>>>,
@@ -101,7 +101,7 @@ fn gather<N: Named, T: NamedTable>(
 }
 
 // Each pass has seen the whole list of its slice.
-fn show_each<N: Named>(parts: &mut Vec<Part<N>>, passes: &mut Vec<Pass<SliceEntry>>)
+fn show_each<N: RunNames>(parts: &mut Vec<Part<N>>, passes: &mut Vec<Pass<SliceEntry>>)
     requires count { length passes.old.items ≡ length parts.old.items }
     requires names { (i : ℕ) (d : SliceCellValue) → i < length parts.old.items → (pass_in passes.old.items i).name ≡ (part_at parts.old.items i d).journal.name }
     ensures same { parts.new.items ≡ parts.old.items }
@@ -113,7 +113,7 @@ fn show_each<N: Named>(parts: &mut Vec<Part<N>>, passes: &mut Vec<Pass<SliceEntr
 }
 
 // The lists of the slices, by the threads' passes of them, those of the last slice first.
-fn close_each<N: Named>(
+fn close_each<N: RunNames>(
     parts: Vec<Part<N>>,
     lists: Vec<Vec<Pass<SliceEntry>>>,
     into: Vec<Vec<SliceEntry>>,
@@ -139,7 +139,7 @@ fn close_each<N: Named>(
 }
 
 // The shares of all slices are taken in.
-fn absorb_each<N: Named>(all: &mut StepShare<N>, parts: &mut Vec<Part<N>>)
+fn absorb_each<N: RunNames>(all: &mut StepShare<N>, parts: &mut Vec<Part<N>>)
     requires tables { (i : ℕ) (d : SliceCellValue) → i < length parts.old.items → (part_at parts.old.items i d).share.table ≡ all.old.table }
     ensures taken { HaveTakenIn (length parts.old.items) all.old all.new parts.old.items parts.new.items }
 {
@@ -148,7 +148,7 @@ fn absorb_each<N: Named>(all: &mut StepShare<N>, parts: &mut Vec<Part<N>>)
     }
 }
 
-impl<N: Named, T: NamedTable> Live<N, T> {
+impl<N: RunNames, T: NamedTable> Live<N, T> {
     /// The journals of a run of which all phases were made. They are a run of the script, and each thread's entries in them are
     /// those that its passes had seen. It takes no memory.
     pub fn close(self, p: Vec<Passes<N, T>>, turn: StepShare<N>) -> Journals

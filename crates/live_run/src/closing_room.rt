@@ -2,8 +2,8 @@
 ghost use Rattle.std.specs.Prelude.{◌≡◌, IfOk};
 ghost use Rattle.live_run.specs.Closings.{AreRoomy};
 
-use crate::named::Named;
 use crate::parts::Part;
+use crate::run_names::RunNames;
 use cache_core::SliceEntry;
 use rc_base::NoMemory;
 use run_law::TreeEntry;
@@ -14,14 +14,14 @@ use std::marker::Model;
 
 /// The room for what goes out of the cells of the slices, for the threads' passes of each journal, and for the lists of the slices.
 #[derive(Drop)]
-pub(crate) struct Closing<N: Named> {
+pub(crate) struct Closing<N: RunNames> {
     pub(crate) parts: Vec<Part<N>>,
     pub(crate) tree: Vec<Pass<TreeEntry>>,
     pub(crate) slices: Vec<Vec<Pass<SliceEntry>>>,
     pub(crate) entries: Vec<Vec<SliceEntry>>,
 }
 
-impl<N: Named> Model for Closing<N> {
+impl<N: RunNames> Model for Closing<N> {
     ghost use Rattle.live_run.specs.Closings.{HaveClosingRoom};
 
     ghost Value = { Unit {0} };
@@ -42,7 +42,7 @@ fn lists<E: Drop>(alloc: Global, count: usize, room: usize) -> Result<Vec<Vec<E>
     Ok(lists)
 }
 
-impl<N: Named> Closing<N> {
+impl<N: RunNames> Closing<N> {
     /// The room. NoMemory where there is none.
     pub(crate) fn create(alloc: Global, script: &Script) -> Result<Closing<N>, NoMemory>
         requires { script.now ≡ N.script }

@@ -16,7 +16,7 @@ ghost use Rattle.tree_core.specs.Named.{AreNamed};
 ghost use Rattle.tree_law.specs.LawsCounts.{CanLook};
 ghost use Rattle.tree_law.specs.Steps.{needs, after, follow_domain, refusal};
 
-use crate::named::{Named, NamedTable, StepShare};
+use crate::run_names::{NamedTable, RunNames, StepShare};
 use crate::seen::Seen;
 use crate::slices::Slices;
 use file_view::{is_reading, text};
@@ -30,7 +30,7 @@ use tree_core::{Counts, Tree};
 use tree_law::Follow;
 
 /// All looks of a command that holds the tree, in order: for each count one in each slice of its domain.
-pub(crate) fn look_all<N: Named, T: NamedTable>(
+pub(crate) fn look_all<N: RunNames, T: NamedTable>(
     slices: &Slices<N, T>,
     rt: &impl Wait,
     m: &Machine,
@@ -71,7 +71,7 @@ pub(crate) fn look_all<N: Named, T: NamedTable>(
 }
 
 /// All follow-ups of the command that was decided last, in order.
-pub(crate) fn follow_all<N: Named, T: NamedTable>(
+pub(crate) fn follow_all<N: RunNames, T: NamedTable>(
     slices: &Slices<N, T>,
     rt: &impl Wait,
     m: &Machine,

@@ -9,9 +9,9 @@ use crate::closing_room::Closing;
 use crate::first_passes::{first_passes, split_each};
 use crate::live::Live;
 use crate::logs::Logs;
-use crate::named::{Named, NamedTable, StepShare};
 use crate::parts::fresh_parts;
 use crate::passes::Passes;
+use crate::run_names::{NamedTable, RunNames, StepShare};
 use crate::slices::Slices;
 use crate::tree::TreeCell;
 use rc_base::NoMemory;
@@ -19,7 +19,7 @@ use script_ops::Script;
 use std::alloc::Global;
 use std::sync::Mutex;
 
-impl<N: Named, T: NamedTable> Live<N, T> {
+impl<N: RunNames, T: NamedTable> Live<N, T> {
     /// The shared tree and slices before the first op of a script, and the passes of each thread. All that the run needs is taken
     /// here: nothing after this takes memory. NoMemory where there is no room for it.
     pub fn create(

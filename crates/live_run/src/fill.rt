@@ -4,13 +4,13 @@ ghost use Rattle.live_run.specs.Cells.{AreOfThreads, taken_from};
 ghost use Rattle.live_run.specs.Openings.{AreParts, AreSettled};
 ghost use Rattle.machine.specs.Slices.{slice_count};
 
-use crate::named::{Named, NamedTable, StepShare};
 use crate::parts::Part;
+use crate::run_names::{NamedTable, RunNames, StepShare};
 use run_law::TreeEntry;
 use seen_journal::Journal;
 
 /// Slots for slices, by their numbers over all domains, before and after a run.
-pub trait Fill<N: Named, T: NamedTable> {
+pub trait Fill<N: RunNames, T: NamedTable> {
     /// The number of the first.
     ghost first: { ℕ };
 

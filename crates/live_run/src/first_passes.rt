@@ -11,8 +11,8 @@ ghost use Rattle.script_ops.specs.Values.{IsLawful, ops_of, threads_of};
 ghost use Rattle.seen_journal.specs.Passes.{new_pass};
 
 use crate::log::Log;
-use crate::named::{Named, NamedTable, StepShare};
 use crate::passes::Passes;
+use crate::run_names::{NamedTable, RunNames, StepShare};
 use crate::seen::Seen;
 use cache_core::SliceEntry;
 use rc_base::{NoMemory, TEXT_MAX, TextBuf};
@@ -23,7 +23,7 @@ use std::alloc::Global;
 use std::marker::PhantomData;
 
 /// The first parts of a share, so many, each as a share of its own. NoMemory where there is no room for them.
-pub(crate) fn split_each<N: Named>(
+pub(crate) fn split_each<N: RunNames>(
     alloc: Global,
     share: &mut StepShare<N>,
     count: usize,
@@ -55,7 +55,7 @@ fn take_each(
 }
 
 // A thread before its first op, which has so many commands.
-fn first<N: Named, T: NamedTable>(
+fn first<N: RunNames, T: NamedTable>(
     alloc: Global,
     script: &Script,
     thread: u32,
@@ -93,7 +93,7 @@ fn first<N: Named, T: NamedTable>(
 
 // All threads before their first ops, each with its part of `workers`. `counts` says how many commands each has. NoMemory where there
 // is no room for their lists and texts.
-fn all_first<N: Named, T: NamedTable>(
+fn all_first<N: RunNames, T: NamedTable>(
     alloc: Global,
     script: &Script,
     counts: &[u64],
@@ -128,7 +128,7 @@ fn all_first<N: Named, T: NamedTable>(
 
 /// All threads before their first ops, each with its part of `workers`, and the passes of the tree's cell, which are the next of the
 /// slices' journals. NoMemory where there is no room for them.
-pub(crate) fn first_passes<N: Named, T: NamedTable>(
+pub(crate) fn first_passes<N: RunNames, T: NamedTable>(
     alloc: Global,
     script: &Script,
     tree: &mut Log<TreeEntry>,

@@ -3,8 +3,8 @@ ghost use Rattle.std.specs.Prelude.{◌≡◌, ◌+◌};
 
 use crate::access::Hold;
 use crate::fill::Fill;
-use crate::named::{Named, NamedTable, StepShare};
 use crate::parts::Part;
+use crate::run_names::{NamedTable, RunNames, StepShare};
 use crate::seen::Seen;
 use crate::slice_slot::SliceSlot;
 use crate::slice_slots::SliceSlots;
@@ -19,7 +19,7 @@ use tree_law::Follow;
 /// The slots of four slices. A type of its own, since what stands on a pair of pairs ties the impls of them all.
 #[derive(Drop)]
 pub struct FourSlots<
-    N: Named,
+    N: RunNames,
     T: NamedTable,
     const A: usize,
     const B: usize,
@@ -33,7 +33,7 @@ pub struct FourSlots<
 }
 
 impl<
-    N: Named,
+    N: RunNames,
     T: NamedTable,
     const A: usize,
     const B: usize,
@@ -95,10 +95,14 @@ impl<
     }
 }
 
-impl<N: Named, T: NamedTable, const A: usize, const B: usize, const C: usize, const D: usize> Fill<
-    N,
-    T,
-> for FourSlots<N, T, A, B, C, D> {
+impl<
+    N: RunNames,
+    T: NamedTable,
+    const A: usize,
+    const B: usize,
+    const C: usize,
+    const D: usize,
+> Fill<N, T> for FourSlots<N, T, A, B, C, D> {
     ghost first = { A };
 
     ghost last = { D };

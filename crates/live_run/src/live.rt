@@ -12,8 +12,8 @@ ghost use Rattle.script_ops.specs.Values.{op_at};
 
 use crate::access::SliceGate;
 use crate::closing_room::Closing;
-use crate::named::{Named, NamedTable, StepShare};
 use crate::passes::Passes;
+use crate::run_names::{NamedTable, RunNames, StepShare};
 use crate::seen::hand;
 use crate::slices::Slices;
 use crate::tree::TreeCell;
@@ -27,7 +27,7 @@ use std::sync::{Mutex, Wait};
 
 /// The tree and the slices, each under a lock of its own.
 #[derive(Drop)]
-pub struct Live<N: Named, T: NamedTable> {
+pub struct Live<N: RunNames, T: NamedTable> {
     pub(crate) machine: Machine,
     pub(crate) tree: Mutex<TreeCell<N, T>>,
     pub(crate) slices: Slices<N, T>,
@@ -35,7 +35,7 @@ pub struct Live<N: Named, T: NamedTable> {
     pub(crate) closing: Mutex<Closing<N>>,
 }
 
-impl<N: Named, T: NamedTable> Model for Live<N, T> {
+impl<N: RunNames, T: NamedTable> Model for Live<N, T> {
     ghost use Rattle.live_run.specs.Cells.{LiveIsKept};
     ghost use Rattle.machine.specs.Maps.{parameters_of};
     ghost use Rattle.machine.specs.declared.parameters.Parameters.{Parameters};
@@ -47,7 +47,7 @@ impl<N: Named, T: NamedTable> Model for Live<N, T> {
     ghost invariant = { λ l. LiveIsKept N.script N.tree N.slices (parameters_of l.machine) };
 }
 
-impl<N: Named, T: NamedTable> Live<N, T> {
+impl<N: RunNames, T: NamedTable> Live<N, T> {
     /// Takes a thread's next op, a command: its reply, at its place in the one history of the tree. The tree's lock is held until all
     /// that follows the command is entered. Its text is there after it, where it is an accepted read or list.
     pub fn command<R: Wait>(&self, rt: &R, script: &Script, p: &mut Passes<N, T>, op: &Op) -> Reply

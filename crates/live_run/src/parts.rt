@@ -9,7 +9,7 @@ ghost use Rattle.script_ops.specs.Values.{IsLawful};
 ghost use Rattle.seen_journal.specs.Passes.{HasSeen};
 
 use crate::log::Log;
-use crate::named::{Named, NamedTable, StepShare};
+use crate::run_names::{NamedTable, RunNames, StepShare};
 use cache_core::{Cache, SliceEntry};
 use machine::Machine;
 use rc_base::NoMemory;
@@ -20,14 +20,14 @@ use std::marker::Model;
 
 /// A cache, its journal, a pass of the tree's journal, and the share that has the journal as a part of the machine of steps.
 #[derive(Drop)]
-pub struct Part<N: Named> {
+pub struct Part<N: RunNames> {
     pub(crate) cache: Cache,
     pub(crate) journal: Journal<SliceEntry>,
     pub(crate) tree: Pass<TreeEntry>,
     pub(crate) share: StepShare<N>,
 }
 
-impl<N: Named> Model for Part<N> {
+impl<N: RunNames> Model for Part<N> {
     ghost use Rattle.live_run.specs.Cells.{SliceCellValue};
 
     ghost Value = { SliceCellValue };
@@ -35,7 +35,7 @@ impl<N: Named> Model for Part<N> {
     ghost view = { λ p. record { cache = p.cache; journal = p.journal; tree = p.tree; share = p.share } };
 }
 
-impl<N: Named> Part<N> {
+impl<N: RunNames> Part<N> {
     /// The pass has seen the journal's whole list.
     pub(crate) fn show(&mut self, pass: &mut Pass<SliceEntry>)
         requires { pass.old.name ≡ self.old.journal.name }
@@ -67,7 +67,7 @@ fn empty_cache(alloc: Global, m: &Machine, i: usize) -> Result<Cache, NoMemory>
 }
 
 /// What goes into the cells of all slices, the last slice first, by their journals. NoMemory where there is no room for it.
-pub(crate) fn fresh_parts<N: Named, T: NamedTable>(
+pub(crate) fn fresh_parts<N: RunNames, T: NamedTable>(
     alloc: Global,
     m: &Machine,
     tree: &mut Log<TreeEntry>,

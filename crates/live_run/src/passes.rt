@@ -1,7 +1,7 @@
 //! A thread's passes, between two of its ops.
 ghost use Rattle.std.specs.Prelude.{◌≡◌};
 
-use crate::named::{Named, NamedTable, StepShare};
+use crate::run_names::{NamedTable, RunNames, StepShare};
 use crate::seen::Seen;
 use rc_base::TextBuf;
 use run_law::LookLists;
@@ -10,7 +10,7 @@ use std::marker::{Model, PhantomData};
 /// A thread's passes: what it has seen of the journals and added to them, the share that has it as a part of the machine of steps, the
 /// number of its next op, and the text of its last accepted read or list. It has the room for the texts and the counts of all its commands.
 #[derive(Drop)]
-pub struct Passes<N: Named, T: NamedTable> {
+pub struct Passes<N: RunNames, T: NamedTable> {
     pub(crate) seen: Seen<N>,
     pub(crate) share: StepShare<N>,
     pub(crate) next: u32,
@@ -19,7 +19,7 @@ pub struct Passes<N: Named, T: NamedTable> {
     pub(crate) of: PhantomData<T>,
 }
 
-impl<N: Named, T: NamedTable> Model for Passes<N, T> {
+impl<N: RunNames, T: NamedTable> Model for Passes<N, T> {
     ghost use Rattle.live_run.specs.Names.{PassesValue};
     ghost use Rattle.live_run.specs.Passes.{PassesAreKept};
     ghost use Rattle.live_run.specs.Sharing.{begun_in};
@@ -31,7 +31,7 @@ impl<N: Named, T: NamedTable> Model for Passes<N, T> {
     ghost invariant = { λ p. PassesAreKept N.script T.table p.seen p.next p.looks p.shown p.share };
 }
 
-impl<N: Named, T: NamedTable> Passes<N, T> {
+impl<N: RunNames, T: NamedTable> Passes<N, T> {
     /// The text of the thread's last accepted read or list that `Live::command` made, and the empty text before the first.
     pub fn text(&self) -> &[u8]
         ensures { result.now ≡ self.now.shown }

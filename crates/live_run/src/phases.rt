@@ -6,8 +6,8 @@ ghost use Rattle.live_run.specs.Phases.{AreBefore, AreBegun, AreEndedIn, AreOfPh
 ghost use Rattle.live_run.specs.Sharing.{IsAtPhase};
 
 use crate::live::Live;
-use crate::named::{Named, NamedTable, StepShare, TREE_LOCK};
 use crate::passes::Passes;
+use crate::run_names::{NamedTable, RunNames, StepShare, TREE_LOCK};
 use rc_stream::Gate;
 use schedule_law::phases;
 use script_ops::Script;
@@ -15,7 +15,7 @@ use std::sync::Wait;
 use std::thread;
 use std::thread::Threads;
 
-impl<N: Named + Send + Sync, T: NamedTable + Send + Sync> Live<N, T> {
+impl<N: RunNames + Send + Sync, T: NamedTable + Send + Sync> Live<N, T> {
     /// Makes all ops of the threads of a phase, each by a worker of its own, and by the caller where a worker could not be started.
     /// Then the threads of later phases have seen that these have ended.
     pub fn phase<R: Threads + Wait + Sync, G: Gate>(
@@ -72,7 +72,7 @@ impl<N: Named + Send + Sync, T: NamedTable + Send + Sync> Live<N, T> {
 }
 
 /// The phase of a thread has begun, and the thread has seen that the threads of earlier phases have ended: it may make its ops.
-pub fn begin<N: Named, T: NamedTable>(turn: &mut StepShare<N>, p: &mut Passes<N, T>)
+pub fn begin<N: RunNames, T: NamedTable>(turn: &mut StepShare<N>, p: &mut Passes<N, T>)
     requires may { IsOfPhase N.script T.table p.old turn.old }
     ensures turn { turn.new ≡ turn.old }
     ensures begun { p.new ≡ (record p.old { begun = true }) }
@@ -81,7 +81,7 @@ pub fn begin<N: Named, T: NamedTable>(turn: &mut StepShare<N>, p: &mut Passes<N,
 }
 
 // That of each thread has.
-fn begin_all<N: Named, T: NamedTable>(turn: &mut StepShare<N>, own: &mut [Passes<N, T>])
+fn begin_all<N: RunNames, T: NamedTable>(turn: &mut StepShare<N>, own: &mut [Passes<N, T>])
     requires threads { AreOfPhase N.script T.table own.old turn.old }
     ensures turn { turn.new ≡ turn.old }
     ensures begun { AreBegun (length own.old) own.old own.new }
@@ -92,7 +92,7 @@ fn begin_all<N: Named, T: NamedTable>(turn: &mut StepShare<N>, own: &mut [Passes
 }
 
 /// A thread is at its end, and so are all before it.
-pub fn end<N: Named, T: NamedTable>(turn: &mut StepShare<N>, p: &mut Passes<N, T>)
+pub fn end<N: RunNames, T: NamedTable>(turn: &mut StepShare<N>, p: &mut Passes<N, T>)
     requires may { IsEndedIn N.script T.table p.old turn.old }
     ensures turn { HaveEnded 1 turn.old turn.new }
     ensures same { p.new ≡ p.old }
@@ -101,7 +101,7 @@ pub fn end<N: Named, T: NamedTable>(turn: &mut StepShare<N>, p: &mut Passes<N, T
 }
 
 // Each thread is at its end.
-fn end_all<N: Named, T: NamedTable>(turn: &mut StepShare<N>, own: &mut [Passes<N, T>])
+fn end_all<N: RunNames, T: NamedTable>(turn: &mut StepShare<N>, own: &mut [Passes<N, T>])
     requires threads { AreEndedIn N.script T.table own.old turn.old }
     ensures turn { HaveEnded (length own.old) turn.old turn.new }
     ensures same { own.new ≡ own.old }
@@ -111,7 +111,7 @@ fn end_all<N: Named, T: NamedTable>(turn: &mut StepShare<N>, own: &mut [Passes<N
     }
 }
 
-impl<N: Named, T: NamedTable> Live<N, T> {
+impl<N: RunNames, T: NamedTable> Live<N, T> {
     // Each of the later threads has seen what any of these has.
     fn hand_all(&self, own: &mut [Passes<N, T>], later: &mut [Passes<N, T>])
         requires some { 0 < length own.old }

@@ -10,8 +10,8 @@ ghost use Rattle.live_run.specs.Visits.{MayFollow, MayLook, MayTouch};
 ghost use Rattle.schedule_law.specs.declared.part.Happening.TheVariants as happenings;
 
 use crate::access::Hold;
-use crate::named::{Named, NamedTable, StepShare};
 use crate::parts::Part;
+use crate::run_names::{NamedTable, RunNames, StepShare};
 use crate::seen::{Seen, meet, note};
 use cache_core::{Cache, SliceEntry, What};
 use cache_steps::{Reached, access_of, enact, entry, reach};
@@ -25,7 +25,7 @@ use tree_law::Follow;
 /// What lies under the lock of slice I: its cache, its journal, a pass of the tree's journal, and the share that has the journal as a
 /// part of the machine of steps.
 #[derive(Drop)]
-pub struct SliceCell<N: Named, T: NamedTable, const I: usize> {
+pub struct SliceCell<N: RunNames, T: NamedTable, const I: usize> {
     pub(crate) cache: Cache,
     pub(crate) journal: Journal<SliceEntry>,
     pub(crate) tree: Pass<TreeEntry>,
@@ -33,7 +33,7 @@ pub struct SliceCell<N: Named, T: NamedTable, const I: usize> {
     pub(crate) of: PhantomData<T>,
 }
 
-impl<N: Named, T: NamedTable, const I: usize> Model for SliceCell<N, T, I> {
+impl<N: RunNames, T: NamedTable, const I: usize> Model for SliceCell<N, T, I> {
     ghost use Rattle.live_run.specs.Names.{name_at};
     ghost use Rattle.live_run.specs.Cells.{SliceCellValue, SliceIsKept};
 
@@ -44,7 +44,7 @@ impl<N: Named, T: NamedTable, const I: usize> Model for SliceCell<N, T, I> {
     ghost invariant = { λ c. SliceIsKept N.script T.table N.tree (name_at N.slices I) I (record { cache = c.cache; journal = c.journal; tree = c.tree; share = c.share }) };
 }
 
-impl<N: Named, T: NamedTable, const I: usize> SliceCell<N, T, I> {
+impl<N: RunNames, T: NamedTable, const I: usize> SliceCell<N, T, I> {
     /// The cell of what goes into it.
     pub(crate) fn open(part: Part<N>) -> SliceCell<N, T, I>
         requires { SliceIsKept N.script T.table N.tree (name_at N.slices I) I part }

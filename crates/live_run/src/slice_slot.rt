@@ -2,8 +2,8 @@
 
 use crate::access::Hold;
 use crate::fill::Fill;
-use crate::named::{Named, NamedTable, StepShare};
 use crate::parts::Part;
+use crate::run_names::{NamedTable, RunNames, StepShare};
 use crate::seen::Seen;
 use crate::slice::SliceCell;
 use crate::slice_slots::SliceSlots;
@@ -17,11 +17,11 @@ use tree_law::Follow;
 
 /// The slot of slice I, whose cell is there where the machine has the slice. Contracts see its number.
 #[derive(Drop)]
-pub struct SliceSlot<N: Named, T: NamedTable, const I: usize> {
+pub struct SliceSlot<N: RunNames, T: NamedTable, const I: usize> {
     cell: Option<Mutex<SliceCell<N, T, I>>>,
 }
 
-impl<N: Named, T: NamedTable, const I: usize> Model for SliceSlot<N, T, I> {
+impl<N: RunNames, T: NamedTable, const I: usize> Model for SliceSlot<N, T, I> {
     ghost use Rattle.std.specs.Prelude.{ℕ, ◌<◌, IsSome};
     ghost use Rattle.machine.specs.Slices.{slice_count};
 
@@ -32,7 +32,7 @@ impl<N: Named, T: NamedTable, const I: usize> Model for SliceSlot<N, T, I> {
     ghost invariant = { λ p. I < slice_count N.script.machine → IsSome p.cell };
 }
 
-impl<N: Named, T: NamedTable, const I: usize> SliceSlots<N, T> for SliceSlot<N, T, I> {
+impl<N: RunNames, T: NamedTable, const I: usize> SliceSlots<N, T> for SliceSlot<N, T, I> {
     ghost first = { I };
 
     ghost last = { I };
@@ -97,7 +97,7 @@ impl<N: Named, T: NamedTable, const I: usize> SliceSlots<N, T> for SliceSlot<N, 
     }
 }
 
-impl<N: Named, T: NamedTable, const I: usize> Fill<N, T> for SliceSlot<N, T, I> {
+impl<N: RunNames, T: NamedTable, const I: usize> Fill<N, T> for SliceSlot<N, T, I> {
     ghost first = { I };
 
     ghost last = { I };

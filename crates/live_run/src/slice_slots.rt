@@ -9,7 +9,7 @@ ghost use Rattle.machine.specs.Slices.{slice_count};
 ghost use Rattle.schedule_law.specs.declared.part.Happening.TheVariants as happenings;
 
 use crate::access::Hold;
-use crate::named::{Named, NamedTable, StepShare};
+use crate::run_names::{NamedTable, RunNames, StepShare};
 use crate::seen::Seen;
 use cache_steps::Reached;
 use rc_base::Tag;
@@ -19,7 +19,7 @@ use std::sync::Wait;
 use tree_law::Follow;
 
 /// Slots for slices, by their numbers over all domains, each under a lock of its own. Those past the machine's slices are empty.
-pub trait SliceSlots<N: Named, T: NamedTable> {
+pub trait SliceSlots<N: RunNames, T: NamedTable> {
     /// The number of the first.
     ghost first: { ℕ };
 

@@ -13,8 +13,8 @@ ghost use Rattle.schedule_law.specs.declared.part.Happening.TheVariants as happe
 use crate::access::Hold;
 use crate::fill::Fill;
 use crate::four_slots::FourSlots;
-use crate::named::{Named, NamedTable, StepShare};
 use crate::parts::Part;
+use crate::run_names::{NamedTable, RunNames, StepShare};
 use crate::seen::Seen;
 use crate::slice_slots::SliceSlots;
 use crate::slot_pair::SlotPair;
@@ -40,11 +40,11 @@ type UpperSlots<N, T> = SlotPair<
 /// The slices of all domains, each under a lock of its own. A machine has at most 32.
 /// Contracts see how many the machine has.
 #[derive(Drop)]
-pub struct Slices<N: Named, T: NamedTable> {
+pub struct Slices<N: RunNames, T: NamedTable> {
     slots: SlotPair<LowerSlots<N, T>, UpperSlots<N, T>>,
 }
 
-impl<N: Named, T: NamedTable> Model for Slices<N, T> {
+impl<N: RunNames, T: NamedTable> Model for Slices<N, T> {
     ghost use Rattle.std.specs.Prelude.{ℕ, ◌≤◌};
     ghost use Rattle.machine.specs.Slices.{slice_count};
 
@@ -55,7 +55,7 @@ impl<N: Named, T: NamedTable> Model for Slices<N, T> {
     ghost invariant = { λ s. slice_count N.script.machine ≤ 32 };
 }
 
-impl<N: Named, T: NamedTable> Slices<N, T> {
+impl<N: RunNames, T: NamedTable> Slices<N, T> {
     /// Filled with what goes into the cells of all slices, the last slice first.
     pub(crate) fn open(parts: &mut Vec<Part<N>>) -> Slices<N, T>
         requires few { slice_count N.script.machine ≤ 32 }

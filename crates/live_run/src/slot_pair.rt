@@ -3,8 +3,8 @@ ghost use Rattle.std.specs.Prelude.{◌≡◌, ◌+◌};
 
 use crate::access::Hold;
 use crate::fill::Fill;
-use crate::named::{Named, NamedTable, StepShare};
 use crate::parts::Part;
+use crate::run_names::{NamedTable, RunNames, StepShare};
 use crate::seen::Seen;
 use crate::slice_slots::SliceSlots;
 use cache_steps::Reached;
@@ -34,7 +34,7 @@ impl<A, B> SlotPair<A, B> {
     }
 }
 
-impl<N: Named, T: NamedTable, A: SliceSlots<N, T>, B: SliceSlots<N, T>> SliceSlots<N, T>
+impl<N: RunNames, T: NamedTable, A: SliceSlots<N, T>, B: SliceSlots<N, T>> SliceSlots<N, T>
     for SlotPair<A, B> {
     ghost first = { A.first };
 
@@ -104,7 +104,7 @@ impl<N: Named, T: NamedTable, A: SliceSlots<N, T>, B: SliceSlots<N, T>> SliceSlo
     }
 }
 
-impl<N: Named, T: NamedTable, A: Fill<N, T>, B: Fill<N, T>> Fill<N, T> for SlotPair<A, B> {
+impl<N: RunNames, T: NamedTable, A: Fill<N, T>, B: Fill<N, T>> Fill<N, T> for SlotPair<A, B> {
     ghost first = { A.first };
 
     ghost last = { B.last };

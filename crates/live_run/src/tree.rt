@@ -16,7 +16,7 @@ ghost use Rattle.schedule_law.specs.declared.part.Happening.TheVariants as happe
 ghost use Rattle.script_ops.specs.Values.{IsLawful, op_at, threads_of};
 
 use crate::command::{follow_all, look_all, show};
-use crate::named::{Named, NamedTable, StepShare, TREE_LOCK};
+use crate::run_names::{NamedTable, RunNames, StepShare, TREE_LOCK};
 use crate::seen::{Seen, decide, release, take};
 use crate::slices::Slices;
 use cache_core::SliceEntry;
@@ -33,7 +33,7 @@ use tree_core::Tree;
 /// What lies under the tree's lock: the tree, its journal, a pass of each slice's journal, and the share that has the journal as a
 /// part of the machine of steps.
 #[derive(Drop)]
-pub struct TreeCell<N: Named, T: NamedTable> {
+pub struct TreeCell<N: RunNames, T: NamedTable> {
     pub(crate) tree: Tree,
     pub(crate) journal: Journal<TreeEntry>,
     pub(crate) slices: Vec<Pass<SliceEntry>>,
@@ -41,7 +41,7 @@ pub struct TreeCell<N: Named, T: NamedTable> {
     pub(crate) of: PhantomData<T>,
 }
 
-impl<N: Named, T: NamedTable> Model for TreeCell<N, T> {
+impl<N: RunNames, T: NamedTable> Model for TreeCell<N, T> {
     ghost use Rattle.live_run.specs.Cells.{TreeCellValue, TreeIsKept};
 
     ghost Value = { TreeCellValue };
@@ -51,7 +51,7 @@ impl<N: Named, T: NamedTable> Model for TreeCell<N, T> {
     ghost invariant = { λ c. TreeIsKept N.script T.table N.tree N.slices (record { tree = c.tree; journal = c.journal; slices = c.slices.items; share = c.share }) };
 }
 
-impl<N: Named, T: NamedTable> TreeCell<N, T> {
+impl<N: RunNames, T: NamedTable> TreeCell<N, T> {
     /// The cell before the first op: the opening tree, its journal, and a pass of each slice's journal. NoMemory where there is no
     /// room for the tree.
     pub(crate) fn open(

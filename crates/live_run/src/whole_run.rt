@@ -9,7 +9,7 @@ ghost use Rattle.step_world.specs.Play.{IsPlayBy};
 
 use crate::live::Live;
 use crate::logs::Logs;
-use crate::named::{LOCKS, Named, NamedTable, ScriptOf, StepShare};
+use crate::run_names::{LOCKS, NamedTable, RunNames, ScriptOf, StepShare};
 use rc_base::NoMemory;
 use rc_stream::Gate;
 use run_law::Journals;
@@ -22,7 +22,7 @@ use std::thread::Threads;
 
 // Plays a script whose journals have these names.
 fn play_named<
-    N: Named + Send + Sync,
+    N: RunNames + Send + Sync,
     T: NamedTable + Send + Sync,
     R: Threads + Wait + Sync,
     G: Gate,
@@ -50,7 +50,7 @@ fn play_named<
 }
 
 // Opens the table of parts of a script whose journals have these names, and plays it.
-fn play_shared<N: Named + Send + Sync, R: Threads + Wait + Sync, G: Gate>(
+fn play_shared<N: RunNames + Send + Sync, R: Threads + Wait + Sync, G: Gate>(
     rt: &R,
     alloc: Global,
     script: &Script,

@@ -6,13 +6,13 @@ ghost use Rattle.live_run.specs.Phases.{HasWorked, MayWork};
 ghost use Rattle.script_ops.specs.Values.{op_at};
 
 use crate::live::Live;
-use crate::named::{Named, NamedTable, StepShare};
 use crate::passes::Passes;
+use crate::run_names::{NamedTable, RunNames, StepShare};
 use rc_stream::{Gate, Point};
 use script_ops::{Op, Script};
 use std::sync::Wait;
 
-impl<N: Named, T: NamedTable> Live<N, T> {
+impl<N: RunNames, T: NamedTable> Live<N, T> {
     /// Makes all ops of a thread that has made none. The gate is called before and after each.
     pub(crate) fn work<R: Wait, G: Gate>(
         &self,

@@ -6,14 +6,14 @@ ghost use Rattle.schedule_law.specs.declared.part.Happening.TheVariants.{Again, 
 ghost use Rattle.shared_parts.specs.Parts.{parts_after};
 ghost use Rattle.shared_parts.specs.Words.{word_of};
 
-use crate::machine_of::Named;
+use crate::machine_of::NamedScript;
 use crate::part::Happening;
 use crate::sharing::Parts;
 use cache_core::SliceEntry;
 use rc_base::Tag;
 
 /// The access of a thread learns its tag under the lock of the tree, which is free.
-pub fn tag<N: Named>(tree: &mut Parts<N>, worker: &mut Parts<N>, lock: usize, tag: &Tag)
+pub fn tag<N: NamedScript>(tree: &mut Parts<N>, worker: &mut Parts<N>, lock: usize, tag: &Tag)
     requires table { tree.old.table ≡ worker.old.table }
     requires lock { word_of lock < worker.old.table.words }
     requires may { MayTag N.script tree.old.parts worker.old.parts tag.now }
@@ -26,7 +26,12 @@ pub fn tag<N: Named>(tree: &mut Parts<N>, worker: &mut Parts<N>, lock: usize, ta
 
 /// It touches its line under the lock of a slice, which has the entry last, and the thread is before its next op. Neither share has a
 /// part of the tree.
-pub fn touch<N: Named>(slice: &mut Parts<N>, worker: &mut Parts<N>, lock: usize, entry: SliceEntry)
+pub fn touch<N: NamedScript>(
+    slice: &mut Parts<N>,
+    worker: &mut Parts<N>,
+    lock: usize,
+    entry: SliceEntry,
+)
     requires table { slice.old.table ≡ worker.old.table }
     requires lock { word_of lock < worker.old.table.words }
     requires may { MayTouch N.script slice.old.parts worker.old.parts entry }
@@ -38,7 +43,7 @@ pub fn touch<N: Named>(slice: &mut Parts<N>, worker: &mut Parts<N>, lock: usize,
 }
 
 /// It finds its tag stale under the lock of a slice, and is to learn another.
-pub fn tag_again<N: Named>(slice: &mut Parts<N>, worker: &mut Parts<N>, lock: usize)
+pub fn tag_again<N: NamedScript>(slice: &mut Parts<N>, worker: &mut Parts<N>, lock: usize)
     requires table { slice.old.table ≡ worker.old.table }
     requires lock { word_of lock < worker.old.table.words }
     requires may { MayTagAgain N.script slice.old.parts worker.old.parts }

@@ -6,14 +6,14 @@ ghost use Rattle.schedule_law.specs.declared.part.Happening.TheVariants.{Decide,
 ghost use Rattle.shared_parts.specs.Parts.{first_of, parts_after, rest_of};
 ghost use Rattle.shared_parts.specs.Words.{word_of};
 
-use crate::machine_of::Named;
+use crate::machine_of::NamedScript;
 use crate::part::Happening;
 use crate::sharing::Parts;
 use cache_core::SliceEntry;
 use run_law::TreeEntry;
 
 /// The command of a thread takes the tree, which is free, under its lock. The thread has the tree's part, before its own.
-pub fn take<N: Named>(tree: &mut Parts<N>, worker: &mut Parts<N>, lock: usize, thread: u64)
+pub fn take<N: NamedScript>(tree: &mut Parts<N>, worker: &mut Parts<N>, lock: usize, thread: u64)
     requires table { tree.old.table ≡ worker.old.table }
     requires lock { word_of lock < worker.old.table.words }
     requires may { MayTake N.script tree.old.parts worker.old.parts thread }
@@ -26,7 +26,12 @@ pub fn take<N: Named>(tree: &mut Parts<N>, worker: &mut Parts<N>, lock: usize, t
 }
 
 /// It looks in a slice, under its lock, and the slice has the entry last.
-pub fn look<N: Named>(slice: &mut Parts<N>, worker: &mut Parts<N>, lock: usize, entry: SliceEntry)
+pub fn look<N: NamedScript>(
+    slice: &mut Parts<N>,
+    worker: &mut Parts<N>,
+    lock: usize,
+    entry: SliceEntry,
+)
     requires table { slice.old.table ≡ worker.old.table }
     requires lock { word_of lock < worker.old.table.words }
     requires may { MayLook N.script slice.old.parts worker.old.parts entry }
@@ -39,7 +44,7 @@ pub fn look<N: Named>(slice: &mut Parts<N>, worker: &mut Parts<N>, lock: usize, 
 
 /// It is decided after so many looks, and the entry, which is given back, goes last in the tree's history. Where nothing follows it,
 /// the tree is let go.
-pub fn decide<N: Named>(
+pub fn decide<N: NamedScript>(
     worker: &mut Parts<N>,
     lock: usize,
     command: TreeEntry,
@@ -65,7 +70,7 @@ pub fn decide<N: Named>(
 }
 
 /// What follows it is done in a slice, under its lock, and the slice has the entry last. After the last one the tree is let go.
-pub fn follow<N: Named>(
+pub fn follow<N: NamedScript>(
     slice: &mut Parts<N>,
     worker: &mut Parts<N>,
     lock: usize,
@@ -83,7 +88,7 @@ pub fn follow<N: Named>(
 }
 
 /// The thread, whose command has let the tree go, gives its part back to the share under the tree's lock.
-pub fn release<N: Named>(tree: &mut Parts<N>, worker: &mut Parts<N>)
+pub fn release<N: NamedScript>(tree: &mut Parts<N>, worker: &mut Parts<N>)
     requires table { tree.old.table ≡ worker.old.table }
     requires may { MayLetGo tree.old.parts worker.old.parts }
     ensures table { (tree.new.table ≡ tree.old.table) × (worker.new.table ≡ worker.old.table) }

@@ -7,7 +7,7 @@ use shared_parts::Machine;
 use std::marker::PhantomData;
 
 /// Names the script of a run.
-pub trait Named {
+pub trait NamedScript {
     /// The script.
     ghost script: { ScriptValue };
 }
@@ -17,7 +17,7 @@ pub struct MachineOf<N> {
     of: PhantomData<N>,
 }
 
-impl<N: Named> Machine<Happening, Part> for MachineOf<N> {
+impl<N: NamedScript> Machine<Happening, Part> for MachineOf<N> {
     ghost use Rattle.schedule_law.specs.LiveParts.{after, first, reached};
 
     ghost reached = { reached N.script };

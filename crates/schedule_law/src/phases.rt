@@ -6,12 +6,12 @@ ghost use Rattle.schedule_law.specs.declared.part.Happening.TheVariants.{Begin, 
 ghost use Rattle.shared_parts.specs.Parts.{parts_after};
 ghost use Rattle.shared_parts.specs.Words.{word_of};
 
-use crate::machine_of::Named;
+use crate::machine_of::NamedScript;
 use crate::part::Happening;
 use crate::sharing::Parts;
 
 /// The phase of a thread has begun, so it may take steps without the phase's part.
-pub fn begin<N: Named>(phase: &mut Parts<N>, worker: &mut Parts<N>, lock: usize)
+pub fn begin<N: NamedScript>(phase: &mut Parts<N>, worker: &mut Parts<N>, lock: usize)
     requires table { phase.old.table ≡ worker.old.table }
     requires lock { word_of lock < worker.old.table.words }
     requires may { MayBegin N.script phase.old.parts worker.old.parts }
@@ -23,7 +23,7 @@ pub fn begin<N: Named>(phase: &mut Parts<N>, worker: &mut Parts<N>, lock: usize)
 }
 
 /// A thread is at its end, after all threads before it.
-pub fn end<N: Named>(phase: &mut Parts<N>, worker: &mut Parts<N>, lock: usize)
+pub fn end<N: NamedScript>(phase: &mut Parts<N>, worker: &mut Parts<N>, lock: usize)
     requires table { phase.old.table ≡ worker.old.table }
     requires lock { word_of lock < worker.old.table.words }
     requires may { MayEnd N.script phase.old.parts worker.old.parts }
@@ -35,7 +35,7 @@ pub fn end<N: Named>(phase: &mut Parts<N>, worker: &mut Parts<N>, lock: usize)
 }
 
 /// All threads of the present phase are at their ends, and the next phase begins.
-pub fn pass<N: Named>(phase: &mut Parts<N>, lock: usize)
+pub fn pass<N: NamedScript>(phase: &mut Parts<N>, lock: usize)
     requires lock { word_of lock < phase.old.table.words }
     requires may { MayPass N.script phase.old.parts }
     ensures table { phase.new.table ≡ phase.old.table }

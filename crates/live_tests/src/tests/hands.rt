@@ -10,8 +10,8 @@ ghost use Rattle.script_ops.specs.Values.{ops_of};
 use super::playing::Played;
 use super::scripts::{SWEEP, SWEEPS};
 use super::turns::Answer;
-use live_run::named::{NamedTable, StepShare};
-use live_run::{Live, Logs, Named, Passes};
+use live_run::run_names::{NamedTable, StepShare};
+use live_run::{Live, Logs, Passes, RunNames};
 use script_ops::Script;
 use std::alloc::Global;
 use std::mem::forget;
@@ -19,7 +19,7 @@ use std::test::Fail;
 
 /// The share of who starts the phases, the passes of the three threads, and what came of them so far.
 #[derive(Drop)]
-pub struct Hands<N: Named, T: NamedTable> {
+pub struct Hands<N: RunNames, T: NamedTable> {
     pub turn: StepShare<N>,
     pub first: Passes<N, T>,
     pub second: Passes<N, T>,
@@ -29,7 +29,7 @@ pub struct Hands<N: Named, T: NamedTable> {
 }
 
 // Adds what a thread is shown.
-fn note<N: Named, T: NamedTable>(
+fn note<N: RunNames, T: NamedTable>(
     alloc: Global,
     p: &Passes<N, T>,
     shown: &mut Vec<Vec<u8>>,
@@ -39,7 +39,7 @@ fn note<N: Named, T: NamedTable>(
     Ok(())
 }
 
-impl<N: Named, T: NamedTable> Hands<N, T> {
+impl<N: RunNames, T: NamedTable> Hands<N, T> {
     /// The shared tree and slices, and these before the first op.
     pub fn open(
         alloc: Global,

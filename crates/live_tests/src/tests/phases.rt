@@ -6,12 +6,12 @@ ghost use Rattle.script_ops.specs.Values.{ops_of};
 
 use super::hands::Hands;
 use super::scripts::{SWEEP, SWEEPS};
-use live_run::Named;
-use live_run::named::{NamedTable, TREE_LOCK};
+use live_run::RunNames;
 use live_run::phases::{begin, end};
+use live_run::run_names::{NamedTable, TREE_LOCK};
 use schedule_law::phases::pass;
 
-impl<N: Named, T: NamedTable> Hands<N, T> {
+impl<N: RunNames, T: NamedTable> Hands<N, T> {
     /// The first phase is over, and that of the others has begun.
     pub fn begin_others(&mut self)
         requires turns { IsInTurns N.script SWEEPS SWEEP }

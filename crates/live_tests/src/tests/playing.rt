@@ -8,8 +8,8 @@ ghost use Rattle.schedule_law.specs.LiveParts.{first as first_parts};
 use super::hands::Hands;
 use super::scripts::{SWEEP, SWEEPS};
 use super::turns::Answer;
-use live_run::named::{LOCKS, NamedTable, ScriptOf, StepShare};
-use live_run::{Live, Logs, Named};
+use live_run::run_names::{LOCKS, NamedTable, ScriptOf, StepShare};
+use live_run::{Live, Logs, RunNames};
 use run_law::Journals;
 use schedule_law::sharing::open;
 use script_ops::Script;
@@ -43,7 +43,7 @@ fn is_in_turns(script: &Script) -> bool
 }
 
 // All ops are made. What the threads are shown is noted before the first, when the first thread has handed on, and at the end.
-fn make_all<N: Named, T: NamedTable, R: Wait>(
+fn make_all<N: RunNames, T: NamedTable, R: Wait>(
     rt: &R,
     alloc: Global,
     live: &Live<N, T>,
@@ -64,7 +64,7 @@ fn make_all<N: Named, T: NamedTable, R: Wait>(
 }
 
 // The run of a script whose journals have these names.
-fn play_named<N: Named, T: NamedTable, R: Wait>(
+fn play_named<N: RunNames, T: NamedTable, R: Wait>(
     rt: &R,
     alloc: Global,
     script: &Script,
@@ -87,7 +87,7 @@ fn play_named<N: Named, T: NamedTable, R: Wait>(
 }
 
 // Opens the table of parts of a script whose journals have these names, and makes the run.
-fn play_shared<N: Named, R: Wait>(
+fn play_shared<N: RunNames, R: Wait>(
     rt: &R,
     alloc: Global,
     script: &Script,

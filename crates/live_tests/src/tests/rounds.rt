@@ -8,14 +8,14 @@ ghost use Rattle.script_ops.specs.Values.{ops_of};
 use super::hands::Hands;
 use super::scripts::{SWEEP, SWEEPS};
 use super::turns::{Turn, take_turn};
-use live_run::named::NamedTable;
 use live_run::phases::begin;
-use live_run::{Live, Named};
+use live_run::run_names::NamedTable;
+use live_run::{Live, RunNames};
 use script_ops::Script;
 use std::sync::Wait;
 use std::test::Fail;
 
-impl<N: Named, T: NamedTable> Hands<N, T> {
+impl<N: RunNames, T: NamedTable> Hands<N, T> {
     /// The first thread makes all its ops.
     pub fn make_first<R: Wait>(
         &mut self,

@@ -3,8 +3,8 @@ ghost use Rattle.std.specs.Prelude.{◌≡◌, ◌+◌, ◌≤◌, OnOk, Some, t
 ghost use Rattle.live_tests.specs.Turns.{HasMade};
 ghost use Rattle.script_ops.specs.Values.{op_at};
 
-use live_run::named::NamedTable;
-use live_run::{Live, Named, Passes, Reached};
+use live_run::run_names::NamedTable;
+use live_run::{Live, Passes, Reached, RunNames};
 use rc_base::Reply;
 use rc_stream::OpenGate;
 use script_ops::{Op, Script};
@@ -29,7 +29,7 @@ pub struct Turn {
 }
 
 // Makes the next op of a thread.
-fn make<N: Named, T: NamedTable, R: Wait>(
+fn make<N: RunNames, T: NamedTable, R: Wait>(
     rt: &R,
     live: &Live<N, T>,
     script: &Script,
@@ -51,7 +51,7 @@ fn make<N: Named, T: NamedTable, R: Wait>(
 }
 
 /// Makes the ops of a turn, and adds what the thread is answered.
-pub fn take_turn<N: Named, T: NamedTable, R: Wait>(
+pub fn take_turn<N: RunNames, T: NamedTable, R: Wait>(
     rt: &R,
     live: &Live<N, T>,
     script: &Script,

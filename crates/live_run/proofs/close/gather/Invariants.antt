@@ -8,7 +8,7 @@ use Rattle.seen_journal.specs.Passes.{PassValue}
 
 abbrev pub invariant-loop-passes : goal.invariant-loop-passes
 invariant-loop-passes g l = record {
-  gathered : AreGathered g.N.Named.script g.N.Named.tree g.N.Named.slices l.yielded l.trees.items l.lists.items;
+  gathered : AreGathered g.N.RunNames.script g.N.RunNames.tree g.N.RunNames.slices l.yielded l.trees.items l.lists.items;
   trees_room : length l.yielded + length (into_iter_items l.passes-iterator) ≤ vec_capacity l.trees;
   lists_room : (k : ℕ) (d : Vec (PassValue SliceEntry) Global) → k < length l.lists.items → length l.yielded + length (into_iter_items l.passes-iterator) ≤ vec_capacity (slice_index_or l.lists.items k d);
 }

@@ -14,7 +14,7 @@ use Rattle.seen_journal.specs.Passes.{HasSeen}
 pub returns : goal.returns
 returns g c =
     let i : ℕ = g.row.I in
-    let script = g.N.Named.script in
+    let script = g.N.RunNames.script in
     let had = c.cell.inside.tree.seen in
     let same : c.show-2.new.self ≡ c.cell.inside.journal = c.show-2.ensures.journal in
     let prefix : IsPrefix had c.args.history.now.entries = subst (λ xs. IsPrefix had xs) c.show.ensures.seen.seen_are c.show.ensures.seen.prefix in

@@ -40,19 +40,19 @@ last_else a b d last apart is = is ∙ (ne_eqb a b apart ∙ sym (and_left (a ==
 record AtFollow (g : Over) (c : After-slice_for-i g) : Type 0 where
   follow : Follow
   is : follow ≡ get_or c.args.all.now c.loop-q.q (Raise 0)
-  number : c.slice_for-i.result ≡ slice_for g.N.Named.script.machine follow c.loop-x.x
-  within : slice_for g.N.Named.script.machine follow c.loop-x.x < slice_count g.N.Named.script.machine
+  number : c.slice_for-i.result ≡ slice_for g.N.RunNames.script.machine follow c.loop-x.x
+  within : slice_for g.N.RunNames.script.machine follow c.loop-x.x < slice_count g.N.RunNames.script.machine
   epoch : c.args.epoch ≡ c.args.epoch - 1 + 1
-  job : At (jobs_of g.N.Named.script (history_of c.loop-x.s.tree.seen) (c.args.epoch - 1) c.args.op.now)
-      (length (looks_of g.N.Named.script (history_of c.args.s.now.tree.seen) (c.args.epoch - 1) c.args.op.now) + sum_by (slices_for g.N.Named.script.machine) (take c.loop-q.q c.args.all.now) + c.loop-x.x)
-      (record { slice = slice_for g.N.Named.script.machine follow c.loop-x.x; owed = record { epoch = c.args.epoch - 1 + 1; what = what_of follow } })
+  job : At (jobs_of g.N.RunNames.script (history_of c.loop-x.s.tree.seen) (c.args.epoch - 1) c.args.op.now)
+      (length (looks_of g.N.RunNames.script (history_of c.args.s.now.tree.seen) (c.args.epoch - 1) c.args.op.now) + sum_by (slices_for g.N.RunNames.script.machine) (take c.loop-q.q c.args.all.now) + c.loop-x.x)
+      (record { slice = slice_for g.N.RunNames.script.machine follow c.loop-x.x; owed = record { epoch = c.args.epoch - 1 + 1; what = what_of follow } })
   ends : ((c.loop-q.q + 1 == length c.args.all.now) && (c.loop-x.x + 1 == c.slices_for-count.result))
-      ≡ not (nat_lt (length (looks_of g.N.Named.script (history_of c.args.s.now.tree.seen) (c.args.epoch - 1) c.args.op.now) + sum_by (slices_for g.N.Named.script.machine) (take c.loop-q.q c.args.all.now) + c.loop-x.x + 1)
-      (length (jobs_of g.N.Named.script (history_of c.loop-x.s.tree.seen) (c.args.epoch - 1) c.args.op.now)))
+      ≡ not (nat_lt (length (looks_of g.N.RunNames.script (history_of c.args.s.now.tree.seen) (c.args.epoch - 1) c.args.op.now) + sum_by (slices_for g.N.RunNames.script.machine) (take c.loop-q.q c.args.all.now) + c.loop-x.x + 1)
+      (length (jobs_of g.N.RunNames.script (history_of c.loop-x.s.tree.seen) (c.args.epoch - 1) c.args.op.now)))
 
 at_follow : (g : Over) (c : After-slice_for-i g) → AtFollow g c
 at_follow g c =
-    let script = g.N.Named.script in
+    let script = g.N.RunNames.script in
     let q : ℕ = c.loop-q.q in
     let x : ℕ = c.loop-x.x in
     let fs : List Follow = c.args.all.now in
@@ -79,7 +79,7 @@ at_follow g c =
 pub follow-requires-clause-may : goal.follow-requires-clause-may
 follow-requires-clause-may g c =
     let it = at_follow g (goal.at.follow-requires-clause-may g c).After-slice_for-i in
-    let script = g.N.Named.script in
+    let script = g.N.RunNames.script in
     let k : ℕ = c.args.epoch - 1 in
     let f : Follow = get_or c.args.all.now c.loop-q.q (Raise 0) in
     let s : SeenValue = c.loop-x.s in
@@ -87,15 +87,15 @@ follow-requires-clause-may g c =
     let job : Job = record { slice = slice_for script.machine it.follow c.loop-x.x; owed = record { epoch = k + 1; what = what_of it.follow } } in
     let name = ap (λ (j : JournalValue TreeEntry). j.name) c.loop-x.invariant.history ∙ c.requires.name in
     let whole = ap (λ (p : PassValue TreeEntry). p.seen) c.loop-x.invariant.tree ∙ (c.requires.whole ∙ ap (λ (j : JournalValue TreeEntry). j.entries) (sym c.loop-x.invariant.history)) in
-    subst (λ y. MayFollow script g.N.Named.tree c.slice_for-i.result c.args.number c.args.epoch y c.loop-x.history s) it.is
-    (subst (λ i. MayFollow script g.N.Named.tree i c.args.number c.args.epoch it.follow c.loop-x.history s) (sym it.number)
-    (may_follow script g.T.NamedTable.table g.N.Named.tree c.args.number k made c.args.op.now s c.loop-x.worker c.loop-x.invariant.at job it.job it.within c.args.epoch it.follow c.loop-x.history name whole it.epoch
+    subst (λ y. MayFollow script g.N.RunNames.tree c.slice_for-i.result c.args.number c.args.epoch y c.loop-x.history s) it.is
+    (subst (λ i. MayFollow script g.N.RunNames.tree i c.args.number c.args.epoch it.follow c.loop-x.history s) (sym it.number)
+    (may_follow script g.T.NamedTable.table g.N.RunNames.tree c.args.number k made c.args.op.now s c.loop-x.worker c.loop-x.invariant.at job it.job it.within c.args.epoch it.follow c.loop-x.history name whole it.epoch
     (CanFollow-ready script.machine it.follow job.slice c.loop-x.x c.requires.range refl (subst (IsReady script.machine) (sym it.is) (c.requires.ready c.loop-q.q (Raise 0) c.loop-q-test.true)))))
 
 pub follow-requires-clause-next : goal.follow-requires-clause-next
 follow-requires-clause-next g c =
     let it = at_follow g (goal.at.follow-requires-clause-next g c).After-slice_for-i in
-    let script = g.N.Named.script in
+    let script = g.N.RunNames.script in
     let k : ℕ = c.args.epoch - 1 in
     let s : SeenValue = c.loop-x.s in
     let made : ℕ = length (looks_of script (history_of c.args.s.now.tree.seen) k c.args.op.now) + sum_by (slices_for script.machine) (take c.loop-q.q c.args.all.now) + c.loop-x.x in
@@ -108,11 +108,11 @@ follow-requires-clause-next g c =
     ] in
     subst (λ y. IsNextFollow script g.T.NamedTable.table c.slice_for-i.result c.args.number c.args.epoch y c.if-q-all.last c.loop-x.history s c.loop-x.worker) it.is
     (subst (λ i. IsNextFollow script g.T.NamedTable.table i c.args.number c.args.epoch it.follow c.if-q-all.last c.loop-x.history s c.loop-x.worker) (sym it.number)
-    (next_follow script g.T.NamedTable.table g.N.Named.tree c.args.number k made c.args.op.now s c.loop-x.worker c.loop-x.invariant.at job it.job it.within c.args.epoch it.follow c.if-q-all.last c.loop-x.history whole it.epoch refl (flag ∙ it.ends)))
+    (next_follow script g.T.NamedTable.table g.N.RunNames.tree c.args.number k made c.args.op.now s c.loop-x.worker c.loop-x.invariant.at job it.job it.within c.args.epoch it.follow c.if-q-all.last c.loop-x.history whole it.epoch refl (flag ∙ it.ends)))
 
 pub loop-q-init : goal.loop-q-init
 loop-q-init g c =
-    let script = g.N.Named.script in
+    let script = g.N.RunNames.script in
     let k : ℕ = c.args.epoch - 1 in
     let none : length (looks_of script (history_of c.args.s.now.tree.seen) k c.args.op.now) ≡ length (looks_of script (history_of c.args.s.now.tree.seen) k c.args.op.now) + sum_by (slices_for script.machine) (take 0 c.args.all.now) = omega arith in
     record {
@@ -125,7 +125,7 @@ loop-q-init g c =
 
 pub loop-q-preserved : goal.loop-q-preserved
 loop-q-preserved g c =
-    let script = g.N.Named.script in
+    let script = g.N.RunNames.script in
     let k : ℕ = c.args.epoch - 1 in
     let fs : List Follow = c.args.all.now in
     let q : ℕ = c.loop-q.q in
@@ -145,7 +145,7 @@ loop-q-preserved g c =
 pub loop-x-preserved : goal.loop-x-preserved
 loop-x-preserved g c =
     let it = at_follow g (goal.at.loop-x-preserved g c).After-slice_for-i in
-    let script = g.N.Named.script in
+    let script = g.N.RunNames.script in
     let k : ℕ = c.args.epoch - 1 in
     let s : SeenValue = c.loop-x.s in
     let base : ℕ = length (looks_of script (history_of c.args.s.now.tree.seen) k c.args.op.now) + sum_by (slices_for script.machine) (take c.loop-q.q c.args.all.now) in
@@ -165,12 +165,12 @@ loop-x-preserved g c =
       thread = followed.added.thread ∙ c.loop-x.invariant.thread;
       grown = HasGrown-through (seen_by c.args.s.now) (seen_by s) (seen_by c.follow.new.s) c.loop-x.invariant.grown (HasGrown-added _ _ s c.follow.new.s followed.added);
       at = subst (λ n. FollowsAt script g.T.NamedTable.table c.args.number k c.args.op.now n c.follow.new.s c.follow.new.worker) next
-          (has_followed script g.T.NamedTable.table g.N.Named.tree c.args.number k made c.args.op.now s c.loop-x.worker c.loop-x.invariant.at job it.job it.within c.args.epoch it.follow c.if-q-all.last c.follow.new.s c.follow.new.worker it.epoch refl followed c.follow.ensures.tree (flag ∙ it.ends) c.follow.ensures.worker);
+          (has_followed script g.T.NamedTable.table g.N.RunNames.tree c.args.number k made c.args.op.now s c.loop-x.worker c.loop-x.invariant.at job it.job it.within c.args.epoch it.follow c.if-q-all.last c.follow.new.s c.follow.new.worker it.epoch refl followed c.follow.ensures.tree (flag ∙ it.ends) c.follow.ensures.worker);
     }
 
 pub returns-clause-done : goal.returns-clause-done
 returns-clause-done g c =
-    let script = g.N.Named.script in
+    let script = g.N.RunNames.script in
     let k : ℕ = c.args.epoch - 1 in
     let history = history_of c.args.s.now.tree.seen in
     let fs : List Follow = c.args.all.now in

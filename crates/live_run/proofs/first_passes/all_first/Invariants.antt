@@ -7,7 +7,7 @@ use Rattle.script_ops.specs.Values.{threads_of}
 
 abbrev pub invariant-loop-t : goal.invariant-loop-t
 invariant-loop-t g l = record {
-  given : AreGivenTo g.N.Named.script g.N.Named.tree g.N.Named.slices (length (threads_of g.N.Named.script)) l.t l.tree l.slices.items;
+  given : AreGivenTo g.N.RunNames.script g.N.RunNames.tree g.N.RunNames.slices (length (threads_of g.N.RunNames.script)) l.t l.tree l.slices.items;
   first : AreFirst l.t l.all.items;
-  workers : IsShareOf g.T.NamedTable.table (first_threads l.t (length (threads_of g.N.Named.script) - l.t)) l.workers;
+  workers : IsShareOf g.T.NamedTable.table (first_threads l.t (length (threads_of g.N.RunNames.script) - l.t)) l.workers;
 }

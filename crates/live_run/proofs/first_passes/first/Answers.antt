@@ -12,12 +12,12 @@ use Rattle.seen_journal.specs.Passes.{PassValue}
 
 pub invariant_of-result : goal.invariant_of-result
 invariant_of-result g c =
-    let script = g.N.Named.script in
+    let script = g.N.RunNames.script in
     let s : SeenValue = record { thread = c.args.thread; tree = c.args.tree; slices = c.args.slices.items } in
     let lists = c.in_ok-looks.looks in
     let own : ScriptValue = c.args.script.now in
     let machine = c.machine.ensures ∙ ap (λ (x : ScriptValue). x.machine) c.requires.script in
     let ops = c.ops.ensures.ops ∙ ap (λ (x : ScriptValue). ops_of x c.args.thread) c.requires.script in
-    PassesAreKept-first script g.T.NamedTable.table g.N.Named.slices (slice_count script.machine) s lists c.in_ok-shown.shown c.args.share (ap (λ (p : PassValue TreeEntry). p.seen) c.requires.tree) c.requires.slices
+    PassesAreKept-first script g.T.NamedTable.table g.N.RunNames.slices (slice_count script.machine) s lists c.in_ok-shown.shown c.args.share (ap (λ (p : PassValue TreeEntry). p.seen) c.requires.tree) c.requires.slices
     (subst (λ (os : List Op). AreReady (rooms_of script.machine os) lists) ops (subst (λ (m : Parameters). AreReady (rooms_of m c.ops.result.now) lists) machine c.in_ok-looks.ensures))
     (omega (arith, c.in_ok-shown.ensures.room)) c.requires.share

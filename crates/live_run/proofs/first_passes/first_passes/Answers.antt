@@ -5,4 +5,4 @@ use Rattle.script_ops.specs.Values.{threads_of}
 
 pub returns-clause-own : goal.returns-clause-own
 returns-clause-own g c =
-    AreNew-given g.N.Named.script g.N.Named.tree g.N.Named.slices c.requires.quotas (length (threads_of g.N.Named.script)) c.all_first.new.tree c.all_first.new.slices.items c.take_each.new.logs.items c.in_ok-own.own.items c.in_ok-passes.ensures.given c.in_ok-own.ensures
+    AreNew-given g.N.RunNames.script g.N.RunNames.tree g.N.RunNames.slices c.requires.quotas (length (threads_of g.N.RunNames.script)) c.all_first.new.tree c.all_first.new.slices.items c.take_each.new.logs.items c.in_ok-own.own.items c.in_ok-passes.ensures.given c.in_ok-own.ensures

@@ -13,7 +13,7 @@ use Rattle.seen_journal.specs.Passes.{PassValue}
 
 pub loop-alloc-preserved : goal.loop-alloc-preserved
 loop-alloc-preserved g c =
-    let script = g.N.Named.script in
+    let script = g.N.RunNames.script in
     let had = c.loop-alloc.invariant in
     let logs : List LogValue = c.loop-alloc.logs.items in
     let rest : List LogValue = c.take_last.new.self.items in
@@ -26,10 +26,10 @@ loop-alloc-preserved g c =
       name = c.take-tree.ensures.name ∙ had.name;
       left = omega (arith, c.take-tree.ensures.left, had.left, shorter);
       few = omega (arith, had.few, shorter);
-      logs = AreOfSlices-rest g.N.Named.slices logs rest log c.take_last.ensures.items had.logs;
+      logs = AreOfSlices-rest g.N.RunNames.slices logs rest log c.take_last.ensures.items had.logs;
       shares = AreFirstShares-rest g.T.NamedTable.table (length logs) (length rest) c.loop-alloc.shares.items c.take_last-share.new.self.items c.take_last-share.result c.take_last-share.ensures.items shorter had.shares;
-      parts = subst (AreParts script g.T.NamedTable.table g.N.Named.tree g.N.Named.slices (length rest)) (sym c.in_ok-push.ensures.items)
-          (AreParts-push script g.T.NamedTable.table g.N.Named.tree g.N.Named.slices logs rest log c.loop-alloc.parts.items part c.requires.lawful had.few c.take_last.ensures.items had.logs (λ name. record {
+      parts = subst (AreParts script g.T.NamedTable.table g.N.RunNames.tree g.N.RunNames.slices (length rest)) (sym c.in_ok-push.ensures.items)
+          (AreParts-push script g.T.NamedTable.table g.N.RunNames.tree g.N.RunNames.slices logs rest log c.loop-alloc.parts.items part c.requires.lawful had.few c.take_last.ensures.items had.logs (λ name. record {
             journal_is = c.into_journal-journal.ensures.name ∙ name;
             no_entries = c.into_journal-journal.ensures.empty;
             pass_is = ap (λ (p : PassValue TreeEntry). p.name) c.take-tree.ensures.pass ∙ (had.name ∙ c.requires.name);

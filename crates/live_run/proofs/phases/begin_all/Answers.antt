@@ -10,7 +10,7 @@ use Rattle.shared_parts.specs.Shares.{ShareValue}
 
 pub begin-requires : goal.begin-requires
 begin-requires g c =
-    let script = g.N.Named.script in
+    let script = g.N.RunNames.script in
     let table = g.T.NamedTable.table in
     let k : ℕ = c.loop-k.k in
     let had = c.loop-k.invariant in
@@ -24,7 +24,7 @@ begin-requires g c =
 
 pub loop-k-preserved : goal.loop-k-preserved
 loop-k-preserved g c =
-    let script = g.N.Named.script in
+    let script = g.N.RunNames.script in
     let table = g.T.NamedTable.table in
     let k : ℕ = c.loop-k.k in
     let had = c.loop-k.invariant in

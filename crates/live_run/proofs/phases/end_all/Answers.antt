@@ -8,7 +8,7 @@ use Rattle.live_run.specs.Phases.{HaveEnded, IsEndedIn, no_passes, passes_at}
 
 pub end-requires : goal.end-requires
 end-requires g c =
-    let script = g.N.Named.script in
+    let script = g.N.RunNames.script in
     let table = g.T.NamedTable.table in
     let k : ℕ = c.loop-k.k in
     let had = c.loop-k.invariant in

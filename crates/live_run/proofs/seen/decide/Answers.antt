@@ -42,4 +42,4 @@ returns g c =
 pub append-requires-clause-quota : goal.append-requires-clause-quota
 append-requires-clause-quota g c =
     let s : SeenValue = record { thread = c.s.inside.thread; tree = c.s.inside.tree; slices = c.s.inside.slices.items } in
-    room-tree g.N.Named.script g.N.Named.tree g.N.Named.slices s c.s.invariant (subst (HasRoomInTree g.N.Named.script) (sym c.s.view_is) c.requires.room)
+    room-tree g.N.RunNames.script g.N.RunNames.tree g.N.RunNames.slices s c.s.invariant (subst (HasRoomInTree g.N.RunNames.script) (sym c.s.view_is) c.requires.room)

@@ -19,7 +19,7 @@ invariant_of-s g c =
     let appended : HasAppended (pass_at s i) c.append.new.pass c.args.journal.now.entries c.args.entry = subst (λ (p : PassValue SliceEntry). HasAppended p c.append.new.pass c.args.journal.now.entries c.args.entry) same
     (record { name = c.append.ensures.pass.0; number = c.append.ensures.pass.1; prefix = c.append.ensures.prefix; seen = c.append.ensures.seen ∙ c.append.ensures.list; own = c.append.ensures.own }) in
     let thread : c.args.entry.thread ≡ s.thread = c.requires.thread ∙ ap (λ (v : SeenValue). v.thread) (sym c.s.view_is) in
-    is_seen g.N.Named.script g.N.Named.tree g.N.Named.slices s i c.append.new.pass c.args.journal.now.entries c.args.entry c.s.invariant within appended thread c.requires.threads
+    is_seen g.N.RunNames.script g.N.RunNames.tree g.N.RunNames.slices s i c.append.new.pass c.args.journal.now.entries c.args.entry c.s.invariant within appended thread c.requires.threads
 
 pub returns-clause-added : goal.returns-clause-added
 returns-clause-added g c =
@@ -32,7 +32,7 @@ returns-clause-added g c =
     let thread : c.args.entry.thread ≡ s.thread = c.requires.thread ∙ ap (λ (v : SeenValue). v.thread) (sym c.s.view_is) in
     let new : SeenValue = record { thread = s.thread; tree = s.tree; slices = slice_set s.slices i c.append.new.pass } in
     subst (λ (v : SeenValue). HasAdded i c.args.entry v new) c.s.view_is
-    (has_added g.N.Named.script g.N.Named.tree g.N.Named.slices s i c.append.new.pass c.args.journal.now.entries c.args.entry c.s.invariant within appended thread c.requires.threads)
+    (has_added g.N.RunNames.script g.N.RunNames.tree g.N.RunNames.slices s i c.append.new.pass c.args.journal.now.entries c.args.entry c.s.invariant within appended thread c.requires.threads)
 
 pub returns-clause-list : goal.returns-clause-list
 returns-clause-list g c =
@@ -58,4 +58,4 @@ append-requires-clause-quota g c =
     let within : i < length s.slices = omega (arith, c.requires.within, c.s.invariant.count) in
     let same : c.index_mut.result.now ≡ pass_at s i = c.index_mut.ensures.value ∙ get_or_default s.slices i c.index_mut.result.now no_pass within in
     subst (λ (p : PassValue SliceEntry). length (own_entries p) < quota_of p) (sym same)
-    (room-slice g.N.Named.script g.N.Named.tree g.N.Named.slices s c.s.invariant i c.requires.within (subst (HasRoomIn g.N.Named.script i) (sym c.s.view_is) c.requires.room))
+    (room-slice g.N.RunNames.script g.N.RunNames.tree g.N.RunNames.slices s c.s.invariant i c.requires.within (subst (HasRoomIn g.N.RunNames.script i) (sym c.s.view_is) c.requires.room))

@@ -11,24 +11,24 @@ use Rattle.seen_journal.specs.Journals.{JournalName}
 pub invariant_of-s : goal.invariant_of-s
 invariant_of-s g c =
     let s : SeenValue = record { thread = c.s.inside.thread; tree = c.s.inside.tree; slices = c.s.inside.slices.items } in
-    take_seen g.N.Named.script g.N.Named.tree g.N.Named.slices s c.show.new.pass c.args.journal.now.entries c.args.slices.now.items c.meet_all.new.cell.items c.meet_all.new.mine.items c.s.invariant c.show.ensures.seen c.requires.threads c.requires.passes c.meet_all.ensures
+    take_seen g.N.RunNames.script g.N.RunNames.tree g.N.RunNames.slices s c.show.new.pass c.args.journal.now.entries c.args.slices.now.items c.meet_all.new.cell.items c.meet_all.new.mine.items c.s.invariant c.show.ensures.seen c.requires.threads c.requires.passes c.meet_all.ensures
 
 pub returns : goal.returns
 returns g c =
     let s : SeenValue = record { thread = c.s.inside.thread; tree = c.s.inside.tree; slices = c.s.inside.slices.items } in
     let now : SeenValue = record { thread = s.thread; tree = c.show.new.pass; slices = c.meet_all.new.mine.items } in
     let counts : length c.args.slices.now.items ≡ length s.slices = c.requires.passes.count ∙ sym c.s.invariant.count in
-    let taken : HasTaken s now = has_taken g.N.Named.script g.N.Named.tree g.N.Named.slices s c.show.new.pass c.args.journal.now.entries c.args.slices.now.items c.meet_all.new.cell.items c.meet_all.new.mine.items c.s.invariant c.show.ensures.seen c.requires.threads c.requires.passes c.meet_all.ensures in
-    let all : sum c.args.journal.now.name.quotas ≡ command_count g.N.Named.script = ap (λ (n : JournalName). sum n.quotas) c.requires.name ∙ sum-tree_quotas g.N.Named.script g.N.Named.tree g.N.Named.slices c.s.invariant.quotas in
+    let taken : HasTaken s now = has_taken g.N.RunNames.script g.N.RunNames.tree g.N.RunNames.slices s c.show.new.pass c.args.journal.now.entries c.args.slices.now.items c.meet_all.new.cell.items c.meet_all.new.mine.items c.s.invariant c.show.ensures.seen c.requires.threads c.requires.passes c.meet_all.ensures in
+    let all : sum c.args.journal.now.name.quotas ≡ command_count g.N.RunNames.script = ap (λ (n : JournalName). sum n.quotas) c.requires.name ∙ sum-tree_quotas g.N.RunNames.script g.N.RunNames.tree g.N.RunNames.slices c.s.invariant.quotas in
     record {
       journal = c.show.ensures.journal;
       most = omega (arith, c.show.ensures.most, all);
       room = λ room.
-          let had = room-tree g.N.Named.script g.N.Named.tree g.N.Named.slices s c.s.invariant (subst (HasRoomInTree g.N.Named.script) (sym c.s.view_is) room) in
+          let had = room-tree g.N.RunNames.script g.N.RunNames.tree g.N.RunNames.slices s c.s.invariant (subst (HasRoomInTree g.N.RunNames.script) (sym c.s.view_is) room) in
           omega (arith, c.show.ensures.room had, all);
       tree = c.show.ensures.seen.seen_are;
       taken = subst (λ (v : SeenValue). HasTaken v now) c.s.view_is taken;
-      passes = met_passes c.args.slices.now.items s.slices c.meet_all.new.cell.items c.meet_all.new.mine.items c.meet_all.ensures counts g.N.Named.script g.N.Named.slices c.requires.passes c.s.invariant.threads;
+      passes = met_passes c.args.slices.now.items s.slices c.meet_all.new.cell.items c.meet_all.new.mine.items c.meet_all.ensures counts g.N.RunNames.script g.N.RunNames.slices c.requires.passes c.s.invariant.threads;
       same = met_same c.args.slices.now.items s.slices c.meet_all.new.cell.items c.meet_all.new.mine.items c.meet_all.ensures counts;
       grown = met_grown c.args.slices.now.items s.slices c.meet_all.new.cell.items c.meet_all.new.mine.items c.meet_all.ensures counts;
     }

@@ -4,6 +4,6 @@ use Rattle.live_run.proofs.whole_run.play_named.Given as goal
 
 abbrev pub invariant-loop-phase : goal.invariant-loop-phase
 invariant-loop-phase g l = record {
-  before : AreBefore g.N.Named.script l.phase l.passes.items;
-  turn : IsAtPhase g.N.Named.script g.T.NamedTable.table l.phase l.turn;
+  before : AreBefore g.N.RunNames.script l.phase l.passes.items;
+  turn : IsAtPhase g.N.RunNames.script g.T.NamedTable.table l.phase l.turn;
 }

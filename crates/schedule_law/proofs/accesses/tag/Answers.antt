@@ -9,10 +9,10 @@ pub step_with-requires-clause-one : goal.step_with-requires-clause-one
 step_with-requires-clause-one g c = ap length c.requires.may.tree_is
 
 pub step_with-requires-clause-apart : goal.step_with-requires-clause-apart
-step_with-requires-clause-apart g c = tag_apart g.N.Named.script c.args.tree.now.parts c.args.worker.now.parts c.args.tag.now c.requires.may
+step_with-requires-clause-apart g c = tag_apart g.N.NamedScript.script c.args.tree.now.parts c.args.worker.now.parts c.args.tag.now c.requires.may
 
 pub step_with-requires-clause-may : goal.step_with-requires-clause-may
-step_with-requires-clause-may g c = tag_happens g.N.Named.script c.args.tree.now.parts c.args.worker.now.parts c.args.tag.now c.requires.may
+step_with-requires-clause-may g c = tag_happens g.N.NamedScript.script c.args.tree.now.parts c.args.worker.now.parts c.args.tag.now c.requires.may
 
 pub returns-clause-tree : goal.returns-clause-tree
 returns-clause-tree g c = c.step_with.ensures.other_parts ∙ (ap (parts_after after (Label c.args.tag.now)) c.requires.may.tree_is ∙ sym c.requires.may.tree_is)

@@ -6,7 +6,7 @@ pub step_with-requires-clause-one : goal.step_with-requires-clause-one
 step_with-requires-clause-one g c = ap length c.requires.may.place.slice_is
 
 pub step_with-requires-clause-apart : goal.step_with-requires-clause-apart
-step_with-requires-clause-apart g c = follow_apart g.N.Named.script c.args.slice.now.parts c.args.worker.now.parts c.args.entry c.args.last c.requires.may
+step_with-requires-clause-apart g c = follow_apart g.N.NamedScript.script c.args.slice.now.parts c.args.worker.now.parts c.args.entry c.args.last c.requires.may
 
 pub step_with-requires-clause-may : goal.step_with-requires-clause-may
-step_with-requires-clause-may g c = follow_happens g.N.Named.script c.args.slice.now.parts c.args.worker.now.parts c.args.entry c.args.last c.requires.may
+step_with-requires-clause-may g c = follow_happens g.N.NamedScript.script c.args.slice.now.parts c.args.worker.now.parts c.args.entry c.args.last c.requires.may

@@ -9,10 +9,10 @@ pub step_with-requires-clause-one : goal.step_with-requires-clause-one
 step_with-requires-clause-one g c = ap length c.requires.may.phase_is
 
 pub step_with-requires-clause-apart : goal.step_with-requires-clause-apart
-step_with-requires-clause-apart g c = end_apart g.N.Named.script c.args.phase.now.parts c.args.worker.now.parts c.requires.may
+step_with-requires-clause-apart g c = end_apart g.N.NamedScript.script c.args.phase.now.parts c.args.worker.now.parts c.requires.may
 
 pub step_with-requires-clause-may : goal.step_with-requires-clause-may
-step_with-requires-clause-may g c = end_happens g.N.Named.script c.args.phase.now.parts c.args.worker.now.parts c.requires.may
+step_with-requires-clause-may g c = end_happens g.N.NamedScript.script c.args.phase.now.parts c.args.worker.now.parts c.requires.may
 
 pub returns-clause-worker : goal.returns-clause-worker
 returns-clause-worker g c = c.step_with.ensures.parts ∙ (ap (parts_after after End) c.requires.may.worker_is ∙ sym c.requires.may.worker_is)

@@ -13,23 +13,23 @@ use Rattle.script_ops.specs.declared.op.Op.TheVariants.{Access}
 
 pub reach-reached-requires-clause-room : goal.reach-reached-requires-clause-room
 reach-reached-requires-clause-room g c =
-    let script = g.N.Named.script in
+    let script = g.N.RunNames.script in
     let is : op_at script c.p.inside.seen.thread c.p.inside.next ≡ Some (Access c.in-Access.task c.in-Access.cpu c.in-Access.addr) =
     subst (λ (p : PassesValue). op_at script p.seen.thread p.next ≡ Some c.args.op.now) (sym c.p.view_is) c.requires.op ∙ ap (λ o. Some o) c.in-Access.is in
     access-room script c.p.inside.seen.thread c.p.inside.next c.in-Access.task c.in-Access.cpu c.in-Access.addr (seen_by c.p.inside.seen) c.self.invariant.lawful is c.p.invariant.keep
 
 pub reach-reached-requires-clause-worker : goal.reach-reached-requires-clause-worker
 reach-reached-requires-clause-worker g c =
-    resting_before g.N.Named.script g.T.NamedTable.table c.p.inside.seen c.p.inside.next c.p.inside.looks c.p.inside.shown c.p.inside.share c.p.invariant (ap (λ (p : PassesValue). p.begun) c.p.view_is ∙ c.requires.begun)
+    resting_before g.N.RunNames.script g.T.NamedTable.table c.p.inside.seen c.p.inside.next c.p.inside.looks c.p.inside.shown c.p.inside.share c.p.invariant (ap (λ (p : PassesValue). p.begun) c.p.view_is ∙ c.requires.begun)
 
 pub overflow_add-p : goal.overflow_add-p
 overflow_add-p g c =
-    let is : op_at g.N.Named.script c.p.inside.seen.thread c.p.inside.next ≡ Some c.args.op.now = subst (λ (p : PassesValue). op_at g.N.Named.script p.seen.thread p.next ≡ Some c.args.op.now) (sym c.p.view_is) c.requires.op in
-    omega (arith, next_few g.N.Named.script c.p.inside.seen.thread c.p.inside.next c.args.op.now c.self.invariant.lawful is)
+    let is : op_at g.N.RunNames.script c.p.inside.seen.thread c.p.inside.next ≡ Some c.args.op.now = subst (λ (p : PassesValue). op_at g.N.RunNames.script p.seen.thread p.next ≡ Some c.args.op.now) (sym c.p.view_is) c.requires.op in
+    omega (arith, next_few g.N.RunNames.script c.p.inside.seen.thread c.p.inside.next c.args.op.now c.self.invariant.lawful is)
 
 pub invariant_of-p : goal.invariant_of-p
 invariant_of-p g c =
-    let script = g.N.Named.script in
+    let script = g.N.RunNames.script in
     let t : ℕ = c.p.inside.seen.thread in
     let n : ℕ = c.p.inside.next in
     let ended : AreEnded script (seen_by c.p.inside.seen) t = c.p.invariant.ended (ap (λ (p : PassesValue). p.begun) c.p.view_is ∙ c.requires.begun) in
@@ -49,7 +49,7 @@ invariant_of-p g c =
 pub returns-clause-seen : goal.returns-clause-seen
 returns-clause-seen g c =
     subst (λ (p : PassesValue). HasGrown (seen_by p.seen) (seen_by c.reach-reached.new.s)) c.p.view_is
-    (HasGrown-accessed g.N.Named.script c.p.inside.next c.in-Access.task c.in-Access.cpu c.in-Access.addr c.reach-reached.result c.p.inside.seen c.reach-reached.new.s c.reach-reached.ensures.accessed)
+    (HasGrown-accessed g.N.RunNames.script c.p.inside.next c.in-Access.task c.in-Access.cpu c.in-Access.addr c.reach-reached.result c.p.inside.seen c.reach-reached.new.s c.reach-reached.ensures.accessed)
 
 pub returns-clause-begun : goal.returns-clause-begun
 returns-clause-begun g c = resting_begun g.T.NamedTable.table c.p.inside.seen.thread (c.p.inside.next + 1) true c.reach-reached.new.worker c.reach-reached.ensures.worker

@@ -15,17 +15,17 @@ use Rattle.run_law.specs.LookLists.{AreReady, rooms_of}
 use Rattle.script_ops.specs.Values.{op_at, ops_of}
 
 -- the next op of what lies inside
-op_is : (g : Over) (c : After-take-looks g) → op_at g.N.Named.script c.p.inside.seen.thread c.p.inside.next ≡ Some c.args.op.now
-op_is g c = subst (λ (p : PassesValue). op_at g.N.Named.script p.seen.thread p.next ≡ Some c.args.op.now) (sym c.p.view_is) c.requires.op
+op_is : (g : Over) (c : After-take-looks g) → op_at g.N.RunNames.script c.p.inside.seen.thread c.p.inside.next ≡ Some c.args.op.now
+op_is g c = subst (λ (p : PassesValue). op_at g.N.RunNames.script p.seen.thread p.next ≡ Some c.args.op.now) (sym c.p.view_is) c.requires.op
 
 pub take-looks-requires : goal.take-looks-requires
 take-looks-requires g c =
-    let is : op_at g.N.Named.script c.p.inside.seen.thread c.p.inside.next ≡ Some c.args.op.now = subst (λ (p : PassesValue). op_at g.N.Named.script p.seen.thread p.next ≡ Some c.args.op.now) (sym c.p.view_is) c.requires.op in
-    some_list g.N.Named.script c.p.inside.seen.thread c.p.inside.next c.args.op.now c.p.inside.looks is c.requires.command c.p.invariant.lists_are
+    let is : op_at g.N.RunNames.script c.p.inside.seen.thread c.p.inside.next ≡ Some c.args.op.now = subst (λ (p : PassesValue). op_at g.N.RunNames.script p.seen.thread p.next ≡ Some c.args.op.now) (sym c.p.view_is) c.requires.op in
+    some_list g.N.RunNames.script c.p.inside.seen.thread c.p.inside.next c.args.op.now c.p.inside.looks is c.requires.command c.p.invariant.lists_are
 
 -- the list that was taken
-list_is : (g : Over) (c : After-take-looks g) → IsListFor g.N.Named.script c.p.inside.seen.thread c.p.inside.next c.args.op.now c.take-looks.new.self c.take-looks.result
-list_is g c = list_for g.N.Named.script c.p.inside.seen.thread c.p.inside.next c.args.op.now c.p.inside.looks (op_is g c) c.requires.command c.p.invariant.lists_are c.take-looks.new.self c.take-looks.result c.take-looks.ensures
+list_is : (g : Over) (c : After-take-looks g) → IsListFor g.N.RunNames.script c.p.inside.seen.thread c.p.inside.next c.args.op.now c.take-looks.new.self c.take-looks.result
+list_is g c = list_for g.N.RunNames.script c.p.inside.seen.thread c.p.inside.next c.args.op.now c.p.inside.looks (op_is g c) c.requires.command c.p.invariant.lists_are c.take-looks.new.self c.take-looks.result c.take-looks.ensures
 
 pub command-reply-requires-clause-looks : goal.command-reply-requires-clause-looks
 command-reply-requires-clause-looks g c = (list_is g (goal.at.command-reply-requires-clause-looks g c).After-take-looks).empty
@@ -35,20 +35,20 @@ command-reply-requires-clause-list g c = (list_is g (goal.at.command-reply-requi
 
 pub command-reply-requires-clause-ready : goal.command-reply-requires-clause-ready
 command-reply-requires-clause-ready g c =
-    let script = g.N.Named.script in
+    let script = g.N.RunNames.script in
     let ended : AreEnded script (seen_by c.p.inside.seen) c.p.inside.seen.thread = c.p.invariant.ended (ap (λ (p : PassesValue). p.begun) c.p.view_is ∙ c.requires.begun) in
     IsReady-begin script c.p.inside.seen.thread c.p.inside.next (seen_by c.p.inside.seen) ended c.p.invariant.keep
 
 pub command-reply-requires-clause-worker : goal.command-reply-requires-clause-worker
 command-reply-requires-clause-worker g c =
-    resting_before g.N.Named.script g.T.NamedTable.table c.p.inside.seen c.p.inside.next c.p.inside.looks c.p.inside.shown c.p.inside.share c.p.invariant (ap (λ (p : PassesValue). p.begun) c.p.view_is ∙ c.requires.begun)
+    resting_before g.N.RunNames.script g.T.NamedTable.table c.p.inside.seen c.p.inside.next c.p.inside.looks c.p.inside.shown c.p.inside.share c.p.invariant (ap (λ (p : PassesValue). p.begun) c.p.view_is ∙ c.requires.begun)
 
 pub overflow_add-p : goal.overflow_add-p
-overflow_add-p g c = omega (arith, next_few g.N.Named.script c.p.inside.seen.thread c.p.inside.next c.args.op.now c.self.invariant.lawful (op_is g (goal.at.overflow_add-p g c).After-take-looks))
+overflow_add-p g c = omega (arith, next_few g.N.RunNames.script c.p.inside.seen.thread c.p.inside.next c.args.op.now c.self.invariant.lawful (op_is g (goal.at.overflow_add-p g c).After-take-looks))
 
 pub invariant_of-p : goal.invariant_of-p
 invariant_of-p g c =
-    let script = g.N.Named.script in
+    let script = g.N.RunNames.script in
     let t : ℕ = c.p.inside.seen.thread in
     let n : ℕ = c.p.inside.next in
     let ready : IsReady script t (n + 1) (seen_by c.command-reply.new.s) = c.command-reply.ensures.ready in
@@ -71,5 +71,5 @@ returns-clause-reply g c =
     let old : PassesValue = record { seen = c.p.inside.seen; next = c.p.inside.next; shown = c.p.inside.shown.bytes; begun = true } in
     let new : PassesValue = record { seen = c.command-reply.new.s; next = c.p.inside.next + 1; shown = c.command-reply.new.shown.bytes; begun = true } in
     let now : PassesValue = record { seen = c.command-reply.new.s; next = c.p.inside.next + 1; shown = c.command-reply.new.shown.bytes; begun = begun_in c.command-reply.new.worker.parts } in
-    subst (λ (p : PassesValue). HasReplied g.N.Named.script c.args.asked c.args.op.now c.command-reply.result p now) c.p.view_is
-    (replied_in_phase g.N.Named.script c.args.asked c.args.op.now c.command-reply.result old new (begun_in c.p.inside.share.parts) (begun_in c.command-reply.new.worker.parts) c.command-reply.ensures.reply)
+    subst (λ (p : PassesValue). HasReplied g.N.RunNames.script c.args.asked c.args.op.now c.command-reply.result p now) c.p.view_is
+    (replied_in_phase g.N.RunNames.script c.args.asked c.args.op.now c.command-reply.result old new (begun_in c.p.inside.share.parts) (begun_in c.command-reply.new.worker.parts) c.command-reply.ensures.reply)

@@ -7,7 +7,7 @@ use Rattle.live_run.specs.Phases.{HasMetEach, no_passes, passes_at}
 
 pub loop-k-preserved : goal.loop-k-preserved
 loop-k-preserved g c =
-    let script = g.N.Named.script in
+    let script = g.N.RunNames.script in
     let k : ℕ = c.loop-k.k in
     let within : k < length c.loop-k.others = omega (arith, c.loop-k-test.true, c.loop-k.auto.others) in
     let met : HasMet script c.loop-k.one c.hand_on.new.earlier (passes_at c.loop-k.others k) c.hand_on.new.later = subst (λ (p : PassesValue). HasMet script c.loop-k.one c.hand_on.new.earlier p c.hand_on.new.later) (get_or_default c.loop-k.others k c.index-others-k.result no_passes within) (record {
@@ -22,4 +22,4 @@ loop-k-preserved g c =
 pub returns : goal.returns
 returns g c =
     let all : c.loop-k.k ≡ length c.args.others.now = omega (arith, c.loop-k-test.false, c.loop-k.auto.k-end) in
-    subst (λ k. HasMetEach g.N.Named.script k c.args.one.now c.loop-k.one c.args.others.now c.loop-k.others) all c.loop-k.invariant
+    subst (λ k. HasMetEach g.N.RunNames.script k c.args.one.now c.loop-k.one c.args.others.now c.loop-k.others) all c.loop-k.invariant

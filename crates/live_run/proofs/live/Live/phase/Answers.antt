@@ -13,14 +13,14 @@ use Rattle.script_ops.specs.Values.{ScriptValue, first_thread, phase_at}
 -- of a phase without threads
 pub pass-requires-clause-may : goal.pass-requires-clause-may
 pass-requires-clause-may g c =
-    let script = g.N.Named.script in
+    let script = g.N.RunNames.script in
     let none : length (phase_at script c.args.phase).threads ≡ 0 = omega (arith, c.thread_count-count.ensures.count, c.if-count-eq0.true, ap (λ (s : ScriptValue). length (phase_at s c.args.phase).threads) c.requires.script) in
     let all : first_thread script c.args.phase ≡ first_thread script (c.args.phase + 1) = omega (arith, first_thread-next script c.args.phase c.requires.phase, none) in
     may_pass script g.T.NamedTable.table c.args.phase (first_thread script c.args.phase) c.args.turn.now c.requires.phase c.requires.turn all
 
 pub begin_all-requires : goal.begin_all-requires
 begin_all-requires g c =
-    let script = g.N.Named.script in
+    let script = g.N.RunNames.script in
     let (front, rest) = c.split_at_mut-from.result in
     let (own, later) = c.split_at_mut-own.result in
     let parts : AreParts script c.args.phase c.args.p.now front.now own.now later.now =
@@ -30,7 +30,7 @@ begin_all-requires g c =
 
 pub work_all-requires-clause-may : goal.work_all-requires-clause-may
 work_all-requires-clause-may g c κs within =
-    let script = g.N.Named.script in
+    let script = g.N.RunNames.script in
     let (front, rest) = c.split_at_mut-from.result in
     let (own, later) = c.split_at_mut-own.result in
     let parts : AreParts script c.args.phase c.args.p.now front.now own.now later.now =
@@ -40,7 +40,7 @@ work_all-requires-clause-may g c κs within =
 
 pub end_all-requires : goal.end_all-requires
 end_all-requires g c =
-    let script = g.N.Named.script in
+    let script = g.N.RunNames.script in
     let (front, rest) = c.split_at_mut-from.result in
     let (own, later) = c.split_at_mut-own.result in
     let parts : AreParts script c.args.phase c.args.p.now front.now own.now later.now =
@@ -51,7 +51,7 @@ end_all-requires g c =
 
 pub pass-requires-2-clause-may : goal.pass-requires-2-clause-may
 pass-requires-2-clause-may g c =
-    let script = g.N.Named.script in
+    let script = g.N.RunNames.script in
     let (front, rest) = c.split_at_mut-from.result in
     let (own, later) = c.split_at_mut-own.result in
     let parts : AreParts script c.args.phase c.args.p.now front.now own.now later.now =
@@ -64,7 +64,7 @@ pass-requires-2-clause-may g c =
 
 pub returns-clause-before : goal.returns-clause-before
 returns-clause-before g c =
-    let script = g.N.Named.script in
+    let script = g.N.RunNames.script in
     let (front, rest) = c.split_at_mut-from.result in
     let (own, later) = c.split_at_mut-own.result in
     let parts : AreParts script c.args.phase c.args.p.now front.now own.now later.now =
@@ -75,7 +75,7 @@ returns-clause-before g c =
 
 pub returns-clause-turn : goal.returns-clause-turn
 returns-clause-turn g c =
-    let script = g.N.Named.script in
+    let script = g.N.RunNames.script in
     let (front, rest) = c.split_at_mut-from.result in
     let (own, later) = c.split_at_mut-own.result in
     let parts : AreParts script c.args.phase c.args.p.now front.now own.now later.now =
@@ -88,7 +88,7 @@ returns-clause-turn g c =
 
 pub returns-clause-seen : goal.returns-clause-seen
 returns-clause-seen g c =
-    let script = g.N.Named.script in
+    let script = g.N.RunNames.script in
     let (front, rest) = c.split_at_mut-from.result in
     let (own, later) = c.split_at_mut-own.result in
     let parts : AreParts script c.args.phase c.args.p.now front.now own.now later.now =

@@ -5,9 +5,9 @@ use Rattle.live_run.specs.Sharing.{IsResting, op_after}
 
 abbrev pub invariant-loop-turn : goal.invariant-loop-turn
 invariant-loop-turn g l = record {
-  turning : IsTurning g.N.Named.script l.op l.task l.cpu l.addr l.fn.s l.s l.turn;
+  turning : IsTurning g.N.RunNames.script l.op l.task l.cpu l.addr l.fn.s l.s l.turn;
   worker : IsResting g.T.NamedTable.table l.fn.s.thread (op_after l.op l.turn) true l.worker;
 }
 
 abbrev pub decreases-loop-turn : goal.decreases-loop-turn
-decreases-loop-turn g l = turns_left g.N.Named.script l.turn
+decreases-loop-turn g l = turns_left g.N.RunNames.script l.turn

@@ -14,8 +14,8 @@ op_at-next script thread next i ops op are is within at =
 
 pub make-requires-clause-op : goal.make-requires-clause-op
 make-requires-clause-op g c κs within =
-    op_at-next g.N.Named.script c.loop-i.p.seen.thread c.loop-i.p.next c.loop-i.i c.ops-ops.result.now c.get-op.result.now
-    (c.ops-ops.ensures.ops ∙ ap (λ (s : ScriptValue). ops_of s c.thread-thread.result) c.requires.script ∙ ap (λ (t : ℕ). ops_of g.N.Named.script t) (c.thread-thread.ensures.thread ∙ ap (λ p. p.seen.thread) c.p.view_is ∙ sym c.loop-i.invariant.thread))
+    op_at-next g.N.RunNames.script c.loop-i.p.seen.thread c.loop-i.p.next c.loop-i.i c.ops-ops.result.now c.get-op.result.now
+    (c.ops-ops.ensures.ops ∙ ap (λ (s : ScriptValue). ops_of s c.thread-thread.result) c.requires.script ∙ ap (λ (t : ℕ). ops_of g.N.RunNames.script t) (c.thread-thread.ensures.thread ∙ ap (λ p. p.seen.thread) c.p.view_is ∙ sym c.loop-i.invariant.thread))
     c.loop-i.invariant.next (omega (arith, c.loop-i-test.true, c.len-i-end.ensures)) (λ d. c.get-op.ensures ∙ c.at-op.ensures d)
 
 pub loop-i-preserved : goal.loop-i-preserved

@@ -16,21 +16,21 @@ use Rattle.seen_journal.specs.Prefixes.{longer_of}
 pub invariant_of-self : goal.invariant_of-self
 invariant_of-self g c =
     let old : SliceCellValue = record { cache = c.self.inside.cache; journal = c.self.inside.journal; tree = c.self.inside.tree; share = c.self.inside.share } in
-    share_same g.N.Named.script g.T.NamedTable.table g.N.Named.tree (name_at g.N.Named.slices g.row.I) g.row.I (record { cache = c.self.inside.cache; journal = c.self.inside.journal; tree = c.meet.new.tree; share = c.self.inside.share })
-    (cell_sees g.N.Named.script g.T.NamedTable.table g.N.Named.tree (name_at g.N.Named.slices g.row.I) g.row.I old c.meet.new.tree (longer_of c.self.inside.tree.seen c.args.s.now.tree.seen) c.meet.ensures.cell c.meet.ensures.threads c.self.invariant)
+    share_same g.N.RunNames.script g.T.NamedTable.table g.N.RunNames.tree (name_at g.N.RunNames.slices g.row.I) g.row.I (record { cache = c.self.inside.cache; journal = c.self.inside.journal; tree = c.meet.new.tree; share = c.self.inside.share })
+    (cell_sees g.N.RunNames.script g.T.NamedTable.table g.N.RunNames.tree (name_at g.N.RunNames.slices g.row.I) g.row.I old c.meet.new.tree (longer_of c.self.inside.tree.seen c.args.s.now.tree.seen) c.meet.ensures.cell c.meet.ensures.threads c.self.invariant)
     c.tag_again.new.slice c.tag_again.ensures.table.0 c.tag_again.ensures.slice
 
 pub returns-then-tag-floor-clause-touched : goal.returns-then-tag-floor-clause-touched
 returns-then-tag-floor-clause-touched g c =
     let old : SliceCellValue = record { cache = c.self.inside.cache; journal = c.self.inside.journal; tree = c.self.inside.tree; share = c.self.inside.share } in
-    let floor = cell_floor g.N.Named.script g.T.NamedTable.table g.N.Named.tree (name_at g.N.Named.slices g.row.I) g.row.I old c.self.invariant in
+    let floor = cell_floor g.N.RunNames.script g.T.NamedTable.table g.N.RunNames.tree (name_at g.N.RunNames.slices g.row.I) g.row.I old c.self.invariant in
     let longer = length-prefix c.self.inside.tree.seen c.meet.new.tree.seen c.meet.ensures.cell.prefix in
     (c.meet.ensures.thread, omega (arith, floor, longer, ap length c.meet.ensures.same, c.floor.ensures, c.if-tag-floor.true))
 
 pub reach-reached-requires-clause-clock : goal.reach-reached-requires-clause-clock
 reach-reached-requires-clause-clock g c =
     let old : SliceCellValue = record { cache = c.self.inside.cache; journal = c.self.inside.journal; tree = c.self.inside.tree; share = c.self.inside.share } in
-    cell_clock g.N.Named.script g.T.NamedTable.table g.N.Named.tree (name_at g.N.Named.slices g.row.I) g.row.I old c.self.invariant
+    cell_clock g.N.RunNames.script g.T.NamedTable.table g.N.RunNames.tree (name_at g.N.RunNames.slices g.row.I) g.row.I old c.self.invariant
 
 pub invariant_of-self-2 : goal.invariant_of-self-2
 invariant_of-self-2 g c =
@@ -40,11 +40,11 @@ invariant_of-self-2 g c =
     let met = c.meet.new.s in
     let what = whats.Access c.reach-reached.result.hit c.reach-reached.result.way tag.owner tag.rmid tag.mask c.args.line in
     let old : SliceCellValue = record { cache = c.self.inside.cache; journal = c.self.inside.journal; tree = c.self.inside.tree; share = c.self.inside.share } in
-    cell_touches g.N.Named.script g.T.NamedTable.table g.N.Named.tree (name_at g.N.Named.slices i) i old c.meet.new.tree (longer_of c.self.inside.tree.seen s.tree.seen) s met c.reach-reached.new.cache c.note.new.journal c.touch.new.slice c.args.op tag.epoch what c.entry-entry.result c.self.invariant
+    cell_touches g.N.RunNames.script g.T.NamedTable.table g.N.RunNames.tree (name_at g.N.RunNames.slices i) i old c.meet.new.tree (longer_of c.self.inside.tree.seen s.tree.seen) s met c.reach-reached.new.cache c.note.new.journal c.touch.new.slice c.args.op tag.epoch what c.entry-entry.result c.self.invariant
     c.meet.ensures.cell c.meet.ensures.threads c.meet.ensures.thread c.meet.ensures.same c.requires.may.within c.requires.may.known c.requires.may.made c.reach-reached.ensures.shape c.reach-reached.ensures.rmids c.reach-reached.ensures.adds
     (c.entry-entry.ensures ∙ (ap (λ t. entry t c.args.op tag.epoch c.access_of.result) c.thread-2.ensures.thread ∙ ap (λ w. entry met.thread c.args.op tag.epoch w) c.access_of.ensures))
     c.note.ensures.name c.note.ensures.list c.note.ensures.few c.note.ensures.prefix
-    (share_after g.N.Named.script g.T.NamedTable.table g.N.Named.tree (name_at g.N.Named.slices g.row.I) g.row.I old c.self.invariant c.entry-entry.result (happenings.Touch c.entry-entry.result) c.touch.new.slice refl c.touch.ensures.table.0 c.touch.ensures.slice)
+    (share_after g.N.RunNames.script g.T.NamedTable.table g.N.RunNames.tree (name_at g.N.RunNames.slices g.row.I) g.row.I old c.self.invariant c.entry-entry.result (happenings.Touch c.entry-entry.result) c.touch.new.slice refl c.touch.ensures.table.0 c.touch.ensures.slice)
 
 -- ---- by the parts at hand
 
@@ -54,12 +54,12 @@ tag_again-requires-clause-table g c = c.self.invariant.share_is.table_is ∙ sym
 pub tag_again-requires-clause-lock : goal.tag_again-requires-clause-lock
 tag_again-requires-clause-lock g c =
     let old : SliceCellValue = record { cache = c.self.inside.cache; journal = c.self.inside.journal; tree = c.self.inside.tree; share = c.self.inside.share } in
-    lock_there g.N.Named.script g.T.NamedTable.table g.N.Named.tree (name_at g.N.Named.slices g.row.I) g.row.I old c.self.invariant c.args.worker.now c.requires.tagged.share.table_is
+    lock_there g.N.RunNames.script g.T.NamedTable.table g.N.RunNames.tree (name_at g.N.RunNames.slices g.row.I) g.row.I old c.self.invariant c.args.worker.now c.requires.tagged.share.table_is
 
 pub tag_again-requires-clause-may : goal.tag_again-requires-clause-may
 tag_again-requires-clause-may g c =
     let old : SliceCellValue = record { cache = c.self.inside.cache; journal = c.self.inside.journal; tree = c.self.inside.tree; share = c.self.inside.share } in
-    may_tag_again g.N.Named.script g.T.NamedTable.table g.N.Named.tree (name_at g.N.Named.slices g.row.I) g.row.I old c.self.invariant c.args.op c.args.line c.args.tag.now c.args.s.now c.args.worker.now c.requires.tagged (omega (arith, c.floor.ensures, c.if-tag-floor.true))
+    may_tag_again g.N.RunNames.script g.T.NamedTable.table g.N.RunNames.tree (name_at g.N.RunNames.slices g.row.I) g.row.I old c.self.invariant c.args.op c.args.line c.args.tag.now c.args.s.now c.args.worker.now c.requires.tagged (omega (arith, c.floor.ensures, c.if-tag-floor.true))
 
 pub touch-requires-clause-table : goal.touch-requires-clause-table
 touch-requires-clause-table g c = c.self.invariant.share_is.table_is ∙ sym c.requires.tagged.share.table_is
@@ -67,13 +67,13 @@ touch-requires-clause-table g c = c.self.invariant.share_is.table_is ∙ sym c.r
 pub touch-requires-clause-lock : goal.touch-requires-clause-lock
 touch-requires-clause-lock g c =
     let old : SliceCellValue = record { cache = c.self.inside.cache; journal = c.self.inside.journal; tree = c.self.inside.tree; share = c.self.inside.share } in
-    lock_there g.N.Named.script g.T.NamedTable.table g.N.Named.tree (name_at g.N.Named.slices g.row.I) g.row.I old c.self.invariant c.args.worker.now c.requires.tagged.share.table_is
+    lock_there g.N.RunNames.script g.T.NamedTable.table g.N.RunNames.tree (name_at g.N.RunNames.slices g.row.I) g.row.I old c.self.invariant c.args.worker.now c.requires.tagged.share.table_is
 
 pub touch-requires-clause-may : goal.touch-requires-clause-may
 touch-requires-clause-may g c =
     let old : SliceCellValue = record { cache = c.self.inside.cache; journal = c.self.inside.journal; tree = c.self.inside.tree; share = c.self.inside.share } in
     let tag = c.args.tag.now in
-    may_touch g.N.Named.script g.T.NamedTable.table g.N.Named.tree (name_at g.N.Named.slices g.row.I) g.row.I old c.self.invariant c.reach-reached.new.cache c.args.op c.args.line tag c.reach-reached.result.hit c.reach-reached.result.way c.args.s.now c.args.worker.now c.entry-entry.result c.requires.tagged
+    may_touch g.N.RunNames.script g.T.NamedTable.table g.N.RunNames.tree (name_at g.N.RunNames.slices g.row.I) g.row.I old c.self.invariant c.reach-reached.new.cache c.args.op c.args.line tag c.reach-reached.result.hit c.reach-reached.result.way c.args.s.now c.args.worker.now c.entry-entry.result c.requires.tagged
     (omega (arith, c.floor.ensures, c.if-tag-floor.false))
     (c.entry-entry.ensures ∙ (ap (λ t. entry t c.args.op tag.epoch c.access_of.result) (c.thread-2.ensures.thread ∙ c.meet.ensures.thread.thread) ∙ ap (λ w. entry c.args.s.now.thread c.args.op tag.epoch w) c.access_of.ensures))
     c.reach-reached.ensures.shape c.reach-reached.ensures.adds

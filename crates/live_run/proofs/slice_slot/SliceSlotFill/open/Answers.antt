@@ -4,13 +4,13 @@ use Rattle.live_run.proofs.slice_slot.SliceSlotFill.open.Goals as goal
 use Rattle.live_run.proofs.slice_slot.SliceSlotFill.open.Goals.{in-None, in-Some}
 
 pub open-requires : goal.open-requires
-open-requires g c = (omega arith, AreParts-last g.N.Named.script g.T.NamedTable.table g.N.Named.tree g.N.Named.slices g.row.I c.args.parts.now.items c.pop.new.self.items c.in-Some.part c.in-Some.ensures.items c.requires.parts)
+open-requires g c = (omega arith, AreParts-last g.N.RunNames.script g.T.NamedTable.table g.N.RunNames.tree g.N.RunNames.slices g.row.I c.args.parts.now.items c.pop.new.self.items c.in-Some.part c.in-Some.ensures.items c.requires.parts)
 
 pub returns : goal.returns
 returns g c =
-    let script = g.N.Named.script in
-    let tree = g.N.Named.tree in
-    let slices = g.N.Named.slices in
+    let script = g.N.RunNames.script in
+    let tree = g.N.RunNames.tree in
+    let slices = g.N.RunNames.slices in
     let i = g.row.I in
     let parts = c.args.parts.now.items in
     let rest = c.pop.new.self.items in

@@ -5,27 +5,27 @@ use Rattle.live_run.proofs.slices.Slices.settle.Goals as goal
 use Rattle.live_run.proofs.slices.Slices.settle.Goals.{After-settle, After-settle-2, After-settle-3, After-settle-4, After-settle-5, After-settle-6, After-settle-7}
 
 -- the first four are settled
-may-1 : (g : Over) (c : After-settle g) → MaySettle g.N.Named.script g.T.NamedTable.table g.N.Named.tree g.N.Named.slices 4 c.settle.new.history c.settle.new.into
-may-1 g c = MaySettle-next g.N.Named.script g.T.NamedTable.table g.N.Named.tree g.N.Named.slices c.args.history.now c.settle.new.history c.args.into.now c.settle.new.into 4 c.requires.name c.requires.threads c.requires.room c.settle.ensures.history c.settle.ensures.room c.settle.ensures.after
+may-1 : (g : Over) (c : After-settle g) → MaySettle g.N.RunNames.script g.T.NamedTable.table g.N.RunNames.tree g.N.RunNames.slices 4 c.settle.new.history c.settle.new.into
+may-1 g c = MaySettle-next g.N.RunNames.script g.T.NamedTable.table g.N.RunNames.tree g.N.RunNames.slices c.args.history.now c.settle.new.history c.args.into.now c.settle.new.into 4 c.requires.name c.requires.threads c.requires.room c.settle.ensures.history c.settle.ensures.room c.settle.ensures.after
 
 -- and then four more, each time
-may-2 : (g : Over) (c : After-settle-2 g) → MaySettle g.N.Named.script g.T.NamedTable.table g.N.Named.tree g.N.Named.slices 4 c.settle.new.history c.settle.new.into → MaySettle g.N.Named.script g.T.NamedTable.table g.N.Named.tree g.N.Named.slices 8 c.settle-2.new.history c.settle-2.new.into
-may-2 g c may = MaySettle-next g.N.Named.script g.T.NamedTable.table g.N.Named.tree g.N.Named.slices c.settle.new.history c.settle-2.new.history c.settle.new.into c.settle-2.new.into 8 may.name may.threads may.room c.settle-2.ensures.history c.settle-2.ensures.room c.settle-2.ensures.after
+may-2 : (g : Over) (c : After-settle-2 g) → MaySettle g.N.RunNames.script g.T.NamedTable.table g.N.RunNames.tree g.N.RunNames.slices 4 c.settle.new.history c.settle.new.into → MaySettle g.N.RunNames.script g.T.NamedTable.table g.N.RunNames.tree g.N.RunNames.slices 8 c.settle-2.new.history c.settle-2.new.into
+may-2 g c may = MaySettle-next g.N.RunNames.script g.T.NamedTable.table g.N.RunNames.tree g.N.RunNames.slices c.settle.new.history c.settle-2.new.history c.settle.new.into c.settle-2.new.into 8 may.name may.threads may.room c.settle-2.ensures.history c.settle-2.ensures.room c.settle-2.ensures.after
 
-may-3 : (g : Over) (c : After-settle-3 g) → MaySettle g.N.Named.script g.T.NamedTable.table g.N.Named.tree g.N.Named.slices 8 c.settle-2.new.history c.settle-2.new.into → MaySettle g.N.Named.script g.T.NamedTable.table g.N.Named.tree g.N.Named.slices 12 c.settle-3.new.history c.settle-3.new.into
-may-3 g c may = MaySettle-next g.N.Named.script g.T.NamedTable.table g.N.Named.tree g.N.Named.slices c.settle-2.new.history c.settle-3.new.history c.settle-2.new.into c.settle-3.new.into 12 may.name may.threads may.room c.settle-3.ensures.history c.settle-3.ensures.room c.settle-3.ensures.after
+may-3 : (g : Over) (c : After-settle-3 g) → MaySettle g.N.RunNames.script g.T.NamedTable.table g.N.RunNames.tree g.N.RunNames.slices 8 c.settle-2.new.history c.settle-2.new.into → MaySettle g.N.RunNames.script g.T.NamedTable.table g.N.RunNames.tree g.N.RunNames.slices 12 c.settle-3.new.history c.settle-3.new.into
+may-3 g c may = MaySettle-next g.N.RunNames.script g.T.NamedTable.table g.N.RunNames.tree g.N.RunNames.slices c.settle-2.new.history c.settle-3.new.history c.settle-2.new.into c.settle-3.new.into 12 may.name may.threads may.room c.settle-3.ensures.history c.settle-3.ensures.room c.settle-3.ensures.after
 
-may-4 : (g : Over) (c : After-settle-4 g) → MaySettle g.N.Named.script g.T.NamedTable.table g.N.Named.tree g.N.Named.slices 12 c.settle-3.new.history c.settle-3.new.into → MaySettle g.N.Named.script g.T.NamedTable.table g.N.Named.tree g.N.Named.slices 16 c.settle-4.new.history c.settle-4.new.into
-may-4 g c may = MaySettle-next g.N.Named.script g.T.NamedTable.table g.N.Named.tree g.N.Named.slices c.settle-3.new.history c.settle-4.new.history c.settle-3.new.into c.settle-4.new.into 16 may.name may.threads may.room c.settle-4.ensures.history c.settle-4.ensures.room c.settle-4.ensures.after
+may-4 : (g : Over) (c : After-settle-4 g) → MaySettle g.N.RunNames.script g.T.NamedTable.table g.N.RunNames.tree g.N.RunNames.slices 12 c.settle-3.new.history c.settle-3.new.into → MaySettle g.N.RunNames.script g.T.NamedTable.table g.N.RunNames.tree g.N.RunNames.slices 16 c.settle-4.new.history c.settle-4.new.into
+may-4 g c may = MaySettle-next g.N.RunNames.script g.T.NamedTable.table g.N.RunNames.tree g.N.RunNames.slices c.settle-3.new.history c.settle-4.new.history c.settle-3.new.into c.settle-4.new.into 16 may.name may.threads may.room c.settle-4.ensures.history c.settle-4.ensures.room c.settle-4.ensures.after
 
-may-5 : (g : Over) (c : After-settle-5 g) → MaySettle g.N.Named.script g.T.NamedTable.table g.N.Named.tree g.N.Named.slices 16 c.settle-4.new.history c.settle-4.new.into → MaySettle g.N.Named.script g.T.NamedTable.table g.N.Named.tree g.N.Named.slices 20 c.settle-5.new.history c.settle-5.new.into
-may-5 g c may = MaySettle-next g.N.Named.script g.T.NamedTable.table g.N.Named.tree g.N.Named.slices c.settle-4.new.history c.settle-5.new.history c.settle-4.new.into c.settle-5.new.into 20 may.name may.threads may.room c.settle-5.ensures.history c.settle-5.ensures.room c.settle-5.ensures.after
+may-5 : (g : Over) (c : After-settle-5 g) → MaySettle g.N.RunNames.script g.T.NamedTable.table g.N.RunNames.tree g.N.RunNames.slices 16 c.settle-4.new.history c.settle-4.new.into → MaySettle g.N.RunNames.script g.T.NamedTable.table g.N.RunNames.tree g.N.RunNames.slices 20 c.settle-5.new.history c.settle-5.new.into
+may-5 g c may = MaySettle-next g.N.RunNames.script g.T.NamedTable.table g.N.RunNames.tree g.N.RunNames.slices c.settle-4.new.history c.settle-5.new.history c.settle-4.new.into c.settle-5.new.into 20 may.name may.threads may.room c.settle-5.ensures.history c.settle-5.ensures.room c.settle-5.ensures.after
 
-may-6 : (g : Over) (c : After-settle-6 g) → MaySettle g.N.Named.script g.T.NamedTable.table g.N.Named.tree g.N.Named.slices 20 c.settle-5.new.history c.settle-5.new.into → MaySettle g.N.Named.script g.T.NamedTable.table g.N.Named.tree g.N.Named.slices 24 c.settle-6.new.history c.settle-6.new.into
-may-6 g c may = MaySettle-next g.N.Named.script g.T.NamedTable.table g.N.Named.tree g.N.Named.slices c.settle-5.new.history c.settle-6.new.history c.settle-5.new.into c.settle-6.new.into 24 may.name may.threads may.room c.settle-6.ensures.history c.settle-6.ensures.room c.settle-6.ensures.after
+may-6 : (g : Over) (c : After-settle-6 g) → MaySettle g.N.RunNames.script g.T.NamedTable.table g.N.RunNames.tree g.N.RunNames.slices 20 c.settle-5.new.history c.settle-5.new.into → MaySettle g.N.RunNames.script g.T.NamedTable.table g.N.RunNames.tree g.N.RunNames.slices 24 c.settle-6.new.history c.settle-6.new.into
+may-6 g c may = MaySettle-next g.N.RunNames.script g.T.NamedTable.table g.N.RunNames.tree g.N.RunNames.slices c.settle-5.new.history c.settle-6.new.history c.settle-5.new.into c.settle-6.new.into 24 may.name may.threads may.room c.settle-6.ensures.history c.settle-6.ensures.room c.settle-6.ensures.after
 
-may-7 : (g : Over) (c : After-settle-7 g) → MaySettle g.N.Named.script g.T.NamedTable.table g.N.Named.tree g.N.Named.slices 24 c.settle-6.new.history c.settle-6.new.into → MaySettle g.N.Named.script g.T.NamedTable.table g.N.Named.tree g.N.Named.slices 28 c.settle-7.new.history c.settle-7.new.into
-may-7 g c may = MaySettle-next g.N.Named.script g.T.NamedTable.table g.N.Named.tree g.N.Named.slices c.settle-6.new.history c.settle-7.new.history c.settle-6.new.into c.settle-7.new.into 28 may.name may.threads may.room c.settle-7.ensures.history c.settle-7.ensures.room c.settle-7.ensures.after
+may-7 : (g : Over) (c : After-settle-7 g) → MaySettle g.N.RunNames.script g.T.NamedTable.table g.N.RunNames.tree g.N.RunNames.slices 24 c.settle-6.new.history c.settle-6.new.into → MaySettle g.N.RunNames.script g.T.NamedTable.table g.N.RunNames.tree g.N.RunNames.slices 28 c.settle-7.new.history c.settle-7.new.into
+may-7 g c may = MaySettle-next g.N.RunNames.script g.T.NamedTable.table g.N.RunNames.tree g.N.RunNames.slices c.settle-6.new.history c.settle-7.new.history c.settle-6.new.into c.settle-7.new.into 28 may.name may.threads may.room c.settle-7.ensures.history c.settle-7.ensures.room c.settle-7.ensures.after
 
 pub settle-requires-2 : goal.settle-requires-2
 settle-requires-2 g c =

@@ -53,29 +53,29 @@ use Rattle.tree_law.specs.declared.follow.Follow.{Follow}
 op_fits_now : (g : Over) (c : After-take g) → Fits c.self.inside.tree.machine (tasks_of c.self.inside.tree.state) c.args.op.now
 op_fits_now g c =
     let old : TreeCellValue = record { tree = c.self.inside.tree; journal = c.self.inside.journal; slices = c.self.inside.slices.items; share = c.self.inside.share } in
-    let fits : Fits g.N.Named.script.machine g.N.Named.script.tasks c.args.op.now = Fits-op_at g.N.Named.script c.args.s.now.thread c.args.number c.args.op.now c.self.invariant.lawful c.requires.op in
+    let fits : Fits g.N.RunNames.script.machine g.N.RunNames.script.tasks c.args.op.now = Fits-op_at g.N.RunNames.script c.args.s.now.thread c.args.number c.args.op.now c.self.invariant.lawful c.requires.op in
     subst (λ (m : Parameters). Fits m (tasks_of c.self.inside.tree.state) c.args.op.now) (sym c.self.invariant.machine)
-    (subst (λ (ts : List ℕ). Fits g.N.Named.script.machine ts c.args.op.now) (sym (tree_tasks g.N.Named.script g.T.NamedTable.table g.N.Named.tree g.N.Named.slices old c.self.invariant)) fits)
+    (subst (λ (ts : List ℕ). Fits g.N.RunNames.script.machine ts c.args.op.now) (sym (tree_tasks g.N.RunNames.script g.T.NamedTable.table g.N.RunNames.tree g.N.RunNames.slices old c.self.invariant)) fits)
 
 pub counts-counts-requires : goal.counts-counts-requires
 counts-counts-requires g c = record { fits = op_fits_now g (goal.at.counts-counts-requires g c).After-take }
 
 -- the counts that the command needs
-counts_are : (g : Over) (c : After-counts-counts g) → c.counts-counts.result ≡ needs g.N.Named.script.machine (tree_after g.N.Named.script (history_of c.self.inside.journal.entries)) c.args.op.now
+counts_are : (g : Over) (c : After-counts-counts g) → c.counts-counts.result ≡ needs g.N.RunNames.script.machine (tree_after g.N.RunNames.script (history_of c.self.inside.journal.entries)) c.args.op.now
 counts_are g c =
     c.counts-counts.ensures.needs
     ∙ (ap (λ (m : Parameters). needs m c.self.inside.tree.state c.args.op.now) c.self.invariant.machine
-    ∙ ap (λ (x : State). needs g.N.Named.script.machine x c.args.op.now) c.self.invariant.keeps.state_is)
+    ∙ ap (λ (x : State). needs g.N.RunNames.script.machine x c.args.op.now) c.self.invariant.keeps.state_is)
 
 pub look_all-requires : goal.look_all-requires
 look_all-requires g c =
-    let script = g.N.Named.script in
+    let script = g.N.RunNames.script in
     let old : TreeCellValue = record { tree = c.self.inside.tree; journal = c.self.inside.journal; slices = c.self.inside.slices.items; share = c.self.inside.share } in
     let counts = counts_are g (goal.at.look_all-requires g c).After-counts-counts in
     let entries : c.take.new.journal.entries ≡ old.journal.entries = ap (λ (j : JournalValue TreeEntry). j.entries) c.take.ensures.journal in
-    let sound = state_sound script g.T.NamedTable.table g.N.Named.tree g.N.Named.slices old c.self.invariant in
+    let sound = state_sound script g.T.NamedTable.table g.N.RunNames.tree g.N.RunNames.slices old c.self.invariant in
     let taker : c.from.result ≡ c.args.s.now.thread = c.from.ensures ∙ (c.thread.ensures.thread ∙ c.take.ensures.taken.thread) in
-    let few = counts_few script g.T.NamedTable.table g.N.Named.tree g.N.Named.slices old c.self.invariant c.take.new.slices.items c.take.ensures.passes c.take.ensures.grown c.args.s.now c.take.new.s c.args.number c.args.op.now
+    let few = counts_few script g.T.NamedTable.table g.N.RunNames.tree g.N.RunNames.slices old c.self.invariant c.take.new.slices.items c.take.ensures.passes c.take.ensures.grown c.args.s.now c.take.new.s c.args.number c.args.op.now
     c.requires.op c.requires.command c.take.ensures.taken c.take.ensures.tree c.take.ensures.same c.requires.ready in
     record {
       machine = c.machine-m.ensures ∙ ap (λ (x : ScriptValue). x.machine) c.requires.script;
@@ -89,7 +89,7 @@ look_all-requires g c =
       exist = subst (λ (m : Parameters). All (CanLook m) c.counts-counts.result) c.self.invariant.machine c.counts-counts.ensures.exist;
       room = omega (arith, few, ap length counts, c.requires.list);
       at = subst (λ (ns : List ℕ). LooksAt script g.T.NamedTable.table c.args.number c.args.op.now 0 0 0 ns c.take.new.s c.take-2.new.worker) (sym c.requires.looks)
-          (command_looks script g.T.NamedTable.table g.N.Named.tree g.N.Named.slices old c.self.invariant c.take.new.slices.items c.take.ensures.passes c.take.ensures.grown c.args.s.now c.take.new.s c.args.number c.args.op.now
+          (command_looks script g.T.NamedTable.table g.N.RunNames.tree g.N.RunNames.slices old c.self.invariant c.take.new.slices.items c.take.ensures.passes c.take.ensures.grown c.args.s.now c.take.new.s c.args.number c.args.op.now
           c.requires.op c.requires.command c.take.ensures.taken c.take.ensures.tree c.take.ensures.same c.requires.ready c.args.worker.now c.take-2.new.worker c.requires.worker c.take-2.ensures.table.1
           (subst (λ t. c.take-2.new.worker.parts ≡ parts_after after_event (happenings.Take t) (c.self.inside.share.parts ++ c.args.worker.now.parts)) taker c.take-2.ensures.worker));
     }
@@ -104,7 +104,7 @@ take-requires-2-clause-lock g c = tree_lock_there g.T.NamedTable.table c.args.wo
 pub take-requires-2-clause-may : goal.take-requires-2-clause-may
 take-requires-2-clause-may g c =
     let taker : c.from.result ≡ c.args.s.now.thread = c.from.ensures ∙ (c.thread.ensures.thread ∙ c.take.ensures.taken.thread) in
-    subst (λ t. MayTake g.N.Named.script c.self.inside.share.parts c.args.worker.now.parts t) (sym taker)
+    subst (λ t. MayTake g.N.RunNames.script c.self.inside.share.parts c.args.worker.now.parts t) (sym taker)
     (record {
       some = c.self.invariant.lawful.in_range.some_slice;
       n = c.args.number;
@@ -118,31 +118,31 @@ take-requires-2-clause-may g c =
     })
 
 -- what is known when the command is to be decided
-to_decide : (g : Over) (c : After-thread-2 g) → c.counts-counts.result ≡ needs g.N.Named.script.machine (tree_after g.N.Named.script (history_of c.self.inside.journal.entries)) c.args.op.now
-    → IsToDecide g.N.Named.script g.T.NamedTable.table (record { tree = c.self.inside.tree; journal = c.self.inside.journal; slices = c.self.inside.slices.items; share = c.self.inside.share }) c.args.s.now c.look_all.new.s c.args.number c.args.op.now
+to_decide : (g : Over) (c : After-thread-2 g) → c.counts-counts.result ≡ needs g.N.RunNames.script.machine (tree_after g.N.RunNames.script (history_of c.self.inside.journal.entries)) c.args.op.now
+    → IsToDecide g.N.RunNames.script g.T.NamedTable.table (record { tree = c.self.inside.tree; journal = c.self.inside.journal; slices = c.self.inside.slices.items; share = c.self.inside.share }) c.args.s.now c.look_all.new.s c.args.number c.args.op.now
     (record { thread = c.thread-2.result; op = c.args.number; reply = c.apply-reply.result.0; looks = c.look_all.new.looks }) c.look_all.new.worker
 to_decide g c counts =
     let thread : c.look_all.new.s.thread ≡ c.args.s.now.thread = c.look_all.ensures.thread ∙ c.take.ensures.taken.thread in
     record {
       same_thread = thread;
       whole = ap (λ (p : PassValue TreeEntry). p.seen) c.look_all.ensures.tree ∙ c.take.ensures.tree;
-      at = subst (λ (xs : List (ℕ × ℕ)). LooksAt g.N.Named.script g.T.NamedTable.table c.args.number c.args.op.now (length xs) 0 0 c.look_all.new.looks.numbers c.look_all.new.s c.look_all.new.worker) counts c.look_all.ensures.done;
+      at = subst (λ (xs : List (ℕ × ℕ)). LooksAt g.N.RunNames.script g.T.NamedTable.table c.args.number c.args.op.now (length xs) 0 0 c.look_all.new.looks.numbers c.look_all.new.s c.look_all.new.worker) counts c.look_all.ensures.done;
       thread = c.thread-2.ensures.thread ∙ thread;
       number = refl;
       reply = c.apply-reply.ensures.reply ∙ ap (λ (ns : List ℕ). (next c.self.inside.tree.machine c.self.inside.tree.state c.args.op.now ns).reply) c.items.ensures;
     }
 
 -- how many looks it has made
-all_made : (g : Over) (c : After-is_empty g) → c.counts-counts.result ≡ needs g.N.Named.script.machine (tree_after g.N.Named.script (history_of c.self.inside.journal.entries)) c.args.op.now
-    → c.len.result * c.from-2.result ≡ length (needs g.N.Named.script.machine (tree_after g.N.Named.script (history_of c.self.inside.journal.entries)) c.args.op.now) * g.N.Named.script.machine.slices
+all_made : (g : Over) (c : After-is_empty g) → c.counts-counts.result ≡ needs g.N.RunNames.script.machine (tree_after g.N.RunNames.script (history_of c.self.inside.journal.entries)) c.args.op.now
+    → c.len.result * c.from-2.result ≡ length (needs g.N.RunNames.script.machine (tree_after g.N.RunNames.script (history_of c.self.inside.journal.entries)) c.args.op.now) * g.N.RunNames.script.machine.slices
 all_made g c counts =
     ap₂ (λ x y. x * y) (c.len.ensures ∙ ap length counts) (c.from-2.ensures ∙ ap (λ (m : Parameters). m.slices) (c.machine-m.ensures ∙ ap (λ (x : ScriptValue). x.machine) c.requires.script))
 
 -- whether nothing follows it
-is_last : (g : Over) (c : After-is_empty g) → c.counts-counts.result ≡ needs g.N.Named.script.machine (tree_after g.N.Named.script (history_of c.self.inside.journal.entries)) c.args.op.now
-    → c.is_empty.result ≡ not (nat_lt (c.len.result * c.from-2.result) (length (jobs_of g.N.Named.script (history_of c.self.inside.journal.entries) (length (history_of c.self.inside.journal.entries)) c.args.op.now)))
+is_last : (g : Over) (c : After-is_empty g) → c.counts-counts.result ≡ needs g.N.RunNames.script.machine (tree_after g.N.RunNames.script (history_of c.self.inside.journal.entries)) c.args.op.now
+    → c.is_empty.result ≡ not (nat_lt (c.len.result * c.from-2.result) (length (jobs_of g.N.RunNames.script (history_of c.self.inside.journal.entries) (length (history_of c.self.inside.journal.entries)) c.args.op.now)))
 is_last g c counts =
-    let script = g.N.Named.script in
+    let script = g.N.RunNames.script in
     let history = history_of c.self.inside.journal.entries in
     let place : c.self.inside.tree.epoch ≡ length history = c.self.invariant.epoch ∙ sym (history_length c.self.inside.journal.entries) in
     let follows : c.apply-reply.result.1.items ≡ after script.machine (tree_after script history) (length history) c.args.op.now =
@@ -162,15 +162,15 @@ decide-entry-requires-clause-may g c =
     let old : TreeCellValue = record { tree = c.self.inside.tree; journal = c.self.inside.journal; slices = c.self.inside.slices.items; share = c.self.inside.share } in
     let counts = counts_are g (goal.at.decide-entry-requires-clause-may g c).After-counts-counts in
     let entry : TreeEntry = record { thread = c.thread-2.result; op = c.args.number; reply = c.apply-reply.result.0; looks = c.look_all.new.looks } in
-    may_decide g.N.Named.script g.T.NamedTable.table g.N.Named.tree g.N.Named.slices old c.self.invariant c.args.s.now c.look_all.new.s c.args.number c.args.op.now entry c.look_all.new.worker c.requires.op c.requires.command
+    may_decide g.N.RunNames.script g.T.NamedTable.table g.N.RunNames.tree g.N.RunNames.slices old c.self.invariant c.args.s.now c.look_all.new.s c.args.number c.args.op.now entry c.look_all.new.worker c.requires.op c.requires.command
     (to_decide g (goal.at.decide-entry-requires-clause-may g c).After-thread-2 counts) c.is_empty.result (c.len.result * c.from-2.result) (all_made g (goal.at.decide-entry-requires-clause-may g c).After-is_empty counts) (is_last g (goal.at.decide-entry-requires-clause-may g c).After-is_empty counts)
 
 -- what is known when it is decided
-is_decided : (g : Over) (c : After-decide g) → IsToDecide g.N.Named.script g.T.NamedTable.table (record { tree = c.self.inside.tree; journal = c.self.inside.journal; slices = c.self.inside.slices.items; share = c.self.inside.share }) c.args.s.now c.look_all.new.s c.args.number c.args.op.now
+is_decided : (g : Over) (c : After-decide g) → IsToDecide g.N.RunNames.script g.T.NamedTable.table (record { tree = c.self.inside.tree; journal = c.self.inside.journal; slices = c.self.inside.slices.items; share = c.self.inside.share }) c.args.s.now c.look_all.new.s c.args.number c.args.op.now
     (record { thread = c.thread-2.result; op = c.args.number; reply = c.apply-reply.result.0; looks = c.look_all.new.looks }) c.look_all.new.worker
-    → c.len.result * c.from-2.result ≡ length (needs g.N.Named.script.machine (tree_after g.N.Named.script (history_of c.self.inside.journal.entries)) c.args.op.now) * g.N.Named.script.machine.slices
-    → c.is_empty.result ≡ not (nat_lt (c.len.result * c.from-2.result) (length (jobs_of g.N.Named.script (history_of c.self.inside.journal.entries) (length (history_of c.self.inside.journal.entries)) c.args.op.now)))
-    → IsDecided g.N.Named.script g.T.NamedTable.table (record { tree = c.self.inside.tree; journal = c.self.inside.journal; slices = c.self.inside.slices.items; share = c.self.inside.share }) c.args.s.now c.look_all.new.s c.decide.new.s c.args.number c.args.op.now c.apply-reply.new.self c.decide.new.journal
+    → c.len.result * c.from-2.result ≡ length (needs g.N.RunNames.script.machine (tree_after g.N.RunNames.script (history_of c.self.inside.journal.entries)) c.args.op.now) * g.N.RunNames.script.machine.slices
+    → c.is_empty.result ≡ not (nat_lt (c.len.result * c.from-2.result) (length (jobs_of g.N.RunNames.script (history_of c.self.inside.journal.entries) (length (history_of c.self.inside.journal.entries)) c.args.op.now)))
+    → IsDecided g.N.RunNames.script g.T.NamedTable.table (record { tree = c.self.inside.tree; journal = c.self.inside.journal; slices = c.self.inside.slices.items; share = c.self.inside.share }) c.args.s.now c.look_all.new.s c.decide.new.s c.args.number c.args.op.now c.apply-reply.new.self c.decide.new.journal
     (record { thread = c.thread-2.result; op = c.args.number; reply = c.apply-reply.result.0; looks = c.look_all.new.looks }) c.look_all.new.worker c.decide-entry.new.worker
 is_decided g c looks made_is ends =
     let entry : TreeEntry = record { thread = c.thread-2.result; op = c.args.number; reply = c.apply-reply.result.0; looks = c.look_all.new.looks } in
@@ -208,7 +208,7 @@ decide-requires g c =
       name = ap (λ (j : JournalValue TreeEntry). j.name) journal ∙ c.self.invariant.journal_is;
       threads = subst (λ (j : JournalValue TreeEntry). AreOfThreads taken_from j.entries) (sym journal) c.self.invariant.threads;
       thread = ap (λ (e : TreeEntry). e.thread) c.decide-entry.ensures.command ∙ c.thread-2.ensures.thread;
-      room = command-room g.N.Named.script at.start c.look_all.new.s.thread c.args.number c.args.op.now at.found (seen_by c.look_all.new.s) at.is;
+      room = command-room g.N.RunNames.script at.start c.look_all.new.s.thread c.args.number c.args.op.now at.found (seen_by c.look_all.new.s) at.is;
     }
 
 pub apply-reply-requires-clause-fits : goal.apply-reply-requires-clause-fits
@@ -216,7 +216,7 @@ apply-reply-requires-clause-fits g c = op_fits_now g (goal.at.apply-reply-requir
 
 pub follow_all-requires : goal.follow_all-requires
 follow_all-requires g c =
-    let script = g.N.Named.script in
+    let script = g.N.RunNames.script in
     let old : TreeCellValue = record { tree = c.self.inside.tree; journal = c.self.inside.journal; slices = c.self.inside.slices.items; share = c.self.inside.share } in
     let entry : TreeEntry = record { thread = c.thread-2.result; op = c.args.number; reply = c.apply-reply.result.0; looks = c.look_all.new.looks } in
     let counts = counts_are g (goal.at.follow_all-requires g c).After-counts-counts in
@@ -245,7 +245,7 @@ follow_all-requires g c =
       domains = subst (λ (fs : List Follow). All (λ f. follow_domain f < script.machine.domains) fs) (sym all) (subst (λ (m : Parameters). All (λ f. follow_domain f < m.domains) c.apply-reply.result.1.items) c.self.invariant.machine c.apply-reply.ensures.domains);
       ready = subst (λ (fs : List Follow). All (IsReady script.machine) fs) (sym all) (subst (λ (m : Parameters). All (IsReady m) c.apply-reply.result.1.items) c.self.invariant.machine c.apply-reply.ensures.ready);
       at = subst (λ q. FollowsAt script g.T.NamedTable.table c.args.number q c.args.op.now (length (looks_of script (history_of c.decide.new.s.tree.seen) q c.args.op.now)) c.decide.new.s c.decide-entry.new.worker) position
-          (command_follows script g.T.NamedTable.table g.N.Named.tree g.N.Named.slices old c.self.invariant c.take.new.slices.items c.take.ensures.passes c.take.ensures.grown c.args.s.now c.look_all.new.s c.decide.new.s c.args.number c.args.op.now c.apply-reply.new.self c.decide.new.journal entry c.look_all.new.worker c.decide-entry.new.worker
+          (command_follows script g.T.NamedTable.table g.N.RunNames.tree g.N.RunNames.slices old c.self.invariant c.take.new.slices.items c.take.ensures.passes c.take.ensures.grown c.args.s.now c.look_all.new.s c.decide.new.s c.args.number c.args.op.now c.apply-reply.new.self c.decide.new.journal entry c.look_all.new.worker c.decide-entry.new.worker
           c.requires.op c.requires.command its);
     }
 
@@ -256,7 +256,7 @@ record HasLetGo (g : Over) (c : After-follow_all g) : Type 0 where
 
 has_let_go : (g : Over) (c : After-follow_all g) → HasLetGo g c
 has_let_go g c =
-    let script = g.N.Named.script in
+    let script = g.N.RunNames.script in
     let k : ℕ = c.epoch-epoch.result - 1 in
     let done : FollowsAt script g.T.NamedTable.table c.args.number k c.args.op.now (length (jobs_of script (history_of c.follow_all.new.s.tree.seen) k c.args.op.now)) c.follow_all.new.s c.follow_all.new.worker =
     subst (λ (p : PassValue TreeEntry). FollowsAt script g.T.NamedTable.table c.args.number k c.args.op.now (length (jobs_of script (history_of p.seen) k c.args.op.now)) c.follow_all.new.s c.follow_all.new.worker) (sym c.follow_all.ensures.tree) c.follow_all.ensures.done in
@@ -295,7 +295,7 @@ returns-clause-worker g c =
 
 pub invariant_of-self : goal.invariant_of-self
 invariant_of-self g c =
-    let script = g.N.Named.script in
+    let script = g.N.RunNames.script in
     let old : TreeCellValue = record { tree = c.self.inside.tree; journal = c.self.inside.journal; slices = c.self.inside.slices.items; share = c.self.inside.share } in
     let entry : TreeEntry = record { thread = c.thread-2.result; op = c.args.number; reply = c.apply-reply.result.0; looks = c.look_all.new.looks } in
     let counts = counts_are g (goal.at.invariant_of-self g c).After-counts-counts in
@@ -313,8 +313,8 @@ invariant_of-self g c =
       words = c.self.invariant.share_is.words;
       parts_are = c.release-2.ensures.tree ∙ (ap first_of gone.is.parts_are ∙ ap (λ (es : List (ℕ × TreeEntry)). live_tree (list_of es) None ∷ []) last);
     } in
-    subst (λ (j : JournalValue TreeEntry). TreeIsKept script g.T.NamedTable.table g.N.Named.tree g.N.Named.slices (record { tree = c.apply-reply.new.self; journal = j; slices = c.release.new.slices.items; share = c.release-2.new.tree })) (sym c.follow_all.ensures.history)
-    (command_kept script g.T.NamedTable.table g.N.Named.tree g.N.Named.slices old c.self.invariant c.take.new.slices.items c.take.ensures.passes c.take.ensures.grown c.args.s.now c.look_all.new.s c.decide.new.s c.args.number c.args.op.now c.apply-reply.new.self c.decide.new.journal entry c.look_all.new.worker c.decide-entry.new.worker
+    subst (λ (j : JournalValue TreeEntry). TreeIsKept script g.T.NamedTable.table g.N.RunNames.tree g.N.RunNames.slices (record { tree = c.apply-reply.new.self; journal = j; slices = c.release.new.slices.items; share = c.release-2.new.tree })) (sym c.follow_all.ensures.history)
+    (command_kept script g.T.NamedTable.table g.N.RunNames.tree g.N.RunNames.slices old c.self.invariant c.take.new.slices.items c.take.ensures.passes c.take.ensures.grown c.args.s.now c.look_all.new.s c.decide.new.s c.args.number c.args.op.now c.apply-reply.new.self c.decide.new.journal entry c.look_all.new.worker c.decide-entry.new.worker
     c.requires.op c.requires.command its c.release.new.slices.items c.release.ensures.passes c.release.ensures.grown c.follow_all.new.s c.release.new.s c.follow_all.new.worker done c.follow_all.ensures.tree c.follow_all.ensures.thread c.release.ensures.taken c.release.ensures.tree c.release.ensures.same
     c.release-2.new.tree share)
 
@@ -335,7 +335,7 @@ returns-clause-seen g c =
 
 pub returns-clause-ready : goal.returns-clause-ready
 returns-clause-ready g c =
-    let script = g.N.Named.script in
+    let script = g.N.RunNames.script in
     let old : TreeCellValue = record { tree = c.self.inside.tree; journal = c.self.inside.journal; slices = c.self.inside.slices.items; share = c.self.inside.share } in
     let entry : TreeEntry = record { thread = c.thread-2.result; op = c.args.number; reply = c.apply-reply.result.0; looks = c.look_all.new.looks } in
     let counts = counts_are g (goal.at.returns-clause-ready g c).After-counts-counts in
@@ -346,12 +346,12 @@ returns-clause-ready g c =
     let position : c.epoch-epoch.result - 1 ≡ k = omega (arith, epoch, history_length old.journal.entries) in
     let done : FollowsAt script g.T.NamedTable.table c.args.number k c.args.op.now (length (jobs_of script (history_of c.decide.new.s.tree.seen) k c.args.op.now)) c.follow_all.new.s c.follow_all.new.worker =
     subst (λ q. FollowsAt script g.T.NamedTable.table c.args.number q c.args.op.now (length (jobs_of script (history_of c.decide.new.s.tree.seen) q c.args.op.now)) c.follow_all.new.s c.follow_all.new.worker) position c.follow_all.ensures.done in
-    command_ready script g.T.NamedTable.table g.N.Named.tree g.N.Named.slices old c.self.invariant c.take.new.slices.items c.take.ensures.passes c.take.ensures.grown c.args.s.now c.look_all.new.s c.decide.new.s c.args.number c.args.op.now c.apply-reply.new.self c.decide.new.journal entry c.look_all.new.worker c.decide-entry.new.worker
+    command_ready script g.T.NamedTable.table g.N.RunNames.tree g.N.RunNames.slices old c.self.invariant c.take.new.slices.items c.take.ensures.passes c.take.ensures.grown c.args.s.now c.look_all.new.s c.decide.new.s c.args.number c.args.op.now c.apply-reply.new.self c.decide.new.journal entry c.look_all.new.worker c.decide-entry.new.worker
     c.requires.op c.requires.command its c.release.new.slices.items c.release.ensures.passes c.release.ensures.grown c.follow_all.new.s c.release.new.s c.follow_all.new.worker done c.follow_all.ensures.tree c.follow_all.ensures.thread c.release.ensures.taken c.release.ensures.tree c.release.ensures.same
 
 pub returns-clause-reply : goal.returns-clause-reply
 returns-clause-reply g c =
-    let script = g.N.Named.script in
+    let script = g.N.RunNames.script in
     let old : TreeCellValue = record { tree = c.self.inside.tree; journal = c.self.inside.journal; slices = c.self.inside.slices.items; share = c.self.inside.share } in
     let entry : TreeEntry = record { thread = c.thread-2.result; op = c.args.number; reply = c.apply-reply.result.0; looks = c.look_all.new.looks } in
     let counts = counts_are g (goal.at.returns-clause-reply g c).After-counts-counts in
@@ -364,12 +364,12 @@ returns-clause-reply g c =
     c.show.ensures.bytes
     ∙ (ap (λ (x : ScriptValue). shown_where c.args.asked x c.apply-reply.new.self.state c.args.op.now c.items-2.result.now entry.reply c.args.shown.now.bytes) c.requires.script
     ∙ ap (λ ns. shown_where c.args.asked script c.apply-reply.new.self.state c.args.op.now ns entry.reply c.args.shown.now.bytes) c.items-2.ensures) in
-    command_replied script g.T.NamedTable.table g.N.Named.tree g.N.Named.slices old c.self.invariant c.take.new.slices.items c.take.ensures.passes c.take.ensures.grown c.args.s.now c.look_all.new.s c.decide.new.s c.args.number c.args.op.now c.apply-reply.new.self c.decide.new.journal entry c.look_all.new.worker c.decide-entry.new.worker
+    command_replied script g.T.NamedTable.table g.N.RunNames.tree g.N.RunNames.slices old c.self.invariant c.take.new.slices.items c.take.ensures.passes c.take.ensures.grown c.args.s.now c.look_all.new.s c.decide.new.s c.args.number c.args.op.now c.apply-reply.new.self c.decide.new.journal entry c.look_all.new.worker c.decide-entry.new.worker
     c.requires.op c.requires.command its c.args.asked c.args.s.now c.release.new.s c.args.shown.now.bytes c.show.new.shown.bytes refl late (c.release.ensures.tree ∙ c.follow_all.ensures.tree) text
 
 pub apply-reply-requires-clause-epoch : goal.apply-reply-requires-clause-epoch
 apply-reply-requires-clause-epoch g c =
-    let script = g.N.Named.script in
+    let script = g.N.RunNames.script in
     let room = c.take.ensures.room (ready-room script c.args.s.now.thread c.args.number c.args.op.now (seen_by c.args.s.now) c.requires.op c.requires.command c.requires.ready) in
     omega (arith, room, c.self.invariant.epoch, commands-light script c.self.invariant.lawful)
 
@@ -396,6 +396,6 @@ show-requires-clause-looks g c reads =
 
 pub show-requires-clause-named : goal.show-requires-clause-named
 show-requires-clause-named g c =
-    let script = g.N.Named.script in
+    let script = g.N.RunNames.script in
     subst (λ (x : ScriptValue). AreNamed x.names c.apply-reply.new.self.state.groups) (sym c.requires.script)
     (named-next script c.self.inside.tree.machine c.self.inside.tree.state c.apply-reply.new.self.state c.args.s.now.thread c.args.number c.args.op.now c.items.result.now c.self.invariant.lawful c.requires.op c.apply-reply.ensures.state c.self.invariant.named)

@@ -16,7 +16,7 @@ use Rattle.machine.specs.declared.parameters.Parameters.{Parameters}
 pub resolve-tag-requires-clause-task : goal.resolve-tag-requires-clause-task
 resolve-tag-requires-clause-task g c =
     let old : TreeCellValue = record { tree = c.self.inside.tree; journal = c.self.inside.journal; slices = c.self.inside.slices.items; share = c.self.inside.share } in
-    subst (λ (ts : List ℕ). Contains ts c.args.task) (sym (tree_tasks g.N.Named.script g.T.NamedTable.table g.N.Named.tree g.N.Named.slices old c.self.invariant)) c.requires.task
+    subst (λ (ts : List ℕ). Contains ts c.args.task) (sym (tree_tasks g.N.RunNames.script g.T.NamedTable.table g.N.RunNames.tree g.N.RunNames.slices old c.self.invariant)) c.requires.task
 
 pub resolve-tag-requires-clause-cpu : goal.resolve-tag-requires-clause-cpu
 resolve-tag-requires-clause-cpu g c = omega (arith, c.requires.cpu, ap (λ (m : Parameters). m.cpus) c.self.invariant.machine)
@@ -26,9 +26,9 @@ invariant_of-self g c =
     let old : TreeCellValue = record { tree = c.self.inside.tree; journal = c.self.inside.journal; slices = c.self.inside.slices.items; share = c.self.inside.share } in
     let now = c.take.new.slices.items in
     let mid : TreeCellValue = record { tree = c.self.inside.tree; journal = c.self.inside.journal; slices = now; share = c.self.inside.share } in
-    subst (λ (j : JournalValue TreeEntry). TreeIsKept g.N.Named.script g.T.NamedTable.table g.N.Named.tree g.N.Named.slices (record { tree = c.self.inside.tree; journal = j; slices = now; share = c.tag.new.tree })) (sym c.take.ensures.journal)
-    (tree_shares g.N.Named.script g.T.NamedTable.table g.N.Named.tree g.N.Named.slices mid
-    (tree_meets g.N.Named.script g.T.NamedTable.table g.N.Named.tree g.N.Named.slices old c.self.invariant now c.take.ensures.passes c.take.ensures.grown) c.tag.new.tree c.tag.ensures.table.0 c.tag.ensures.tree)
+    subst (λ (j : JournalValue TreeEntry). TreeIsKept g.N.RunNames.script g.T.NamedTable.table g.N.RunNames.tree g.N.RunNames.slices (record { tree = c.self.inside.tree; journal = j; slices = now; share = c.tag.new.tree })) (sym c.take.ensures.journal)
+    (tree_shares g.N.RunNames.script g.T.NamedTable.table g.N.RunNames.tree g.N.RunNames.slices mid
+    (tree_meets g.N.RunNames.script g.T.NamedTable.table g.N.RunNames.tree g.N.RunNames.slices old c.self.invariant now c.take.ensures.passes c.take.ensures.grown) c.tag.new.tree c.tag.ensures.table.0 c.tag.ensures.tree)
 
 pub tag-requires-clause-table : goal.tag-requires-clause-table
 tag-requires-clause-table g c = c.self.invariant.share_is.table_is ∙ sym c.requires.worker.resting.is.table_is
@@ -53,7 +53,7 @@ tag-requires-clause-may g c =
       tree_is = c.self.invariant.share_is.parts_are;
       worker_is = its.resting.is.parts_are;
       is = its.is;
-      tag_is = tree_gives g.N.Named.script g.T.NamedTable.table g.N.Named.tree g.N.Named.slices old c.self.invariant c.args.task c.args.cpu c.resolve-tag.result told.epoch told.owner told.class told.rmid told.mask told.domain;
+      tag_is = tree_gives g.N.RunNames.script g.T.NamedTable.table g.N.RunNames.tree g.N.RunNames.slices old c.self.invariant c.args.task c.args.cpu c.resolve-tag.result told.epoch told.owner told.class told.rmid told.mask told.domain;
     }
 
 pub returns : goal.returns
@@ -66,7 +66,7 @@ returns g c =
     let longer = length-prefix (history_of before) (history_of after) (IsPrefix-no_more (is_from c.args.s.now.thread) (history_of before) (history_of after) c.take.ensures.taken.sees.tree) in
     record {
       taken = c.take.ensures.taken;
-      tag = tree_tags g.N.Named.script g.T.NamedTable.table g.N.Named.tree g.N.Named.slices old c.self.invariant now c.take.ensures.passes c.take.ensures.grown c.take.new.s c.args.task c.args.cpu c.resolve-tag.result
+      tag = tree_tags g.N.RunNames.script g.T.NamedTable.table g.N.RunNames.tree g.N.RunNames.slices old c.self.invariant now c.take.ensures.passes c.take.ensures.grown c.take.new.s c.args.task c.args.cpu c.resolve-tag.result
           c.take.ensures.tree c.take.ensures.same told.epoch told.owner told.class told.rmid told.mask told.domain;
       fresh = omega (arith, longer, history_length before, history_length after, ap length c.take.ensures.tree, told.epoch, c.self.invariant.epoch);
       most = omega (arith, c.take.ensures.most, told.epoch, c.self.invariant.epoch);

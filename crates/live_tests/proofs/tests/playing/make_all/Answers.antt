@@ -6,13 +6,13 @@ use Rattle.live_tests.proofs.Threads.{HaveMade-same}
 use Rattle.live_tests.proofs.tests.playing.make_all.Goals as goal
 
 pub make_first-requires-clause-turn : goal.make_first-requires-clause-turn
-make_first-requires-clause-turn g c = subst (IsAtPhase g.N.Named.script g.T.NamedTable.table 0) (sym c.look.ensures.turn) c.requires.at_first.turn_is
+make_first-requires-clause-turn g c = subst (IsAtPhase g.N.RunNames.script g.T.NamedTable.table 0) (sym c.look.ensures.turn) c.requires.at_first.turn_is
 
 pub make_first-requires-clause-first : goal.make_first-requires-clause-first
 make_first-requires-clause-first g c = subst (IsFirst 0) (sym c.look.ensures.first) c.requires.at_first.first_is
 
 pub hand_on-requires-clause-turn : goal.hand_on-requires-clause-turn
-hand_on-requires-clause-turn g c = subst (IsAtPhase g.N.Named.script g.T.NamedTable.table 0) (sym (c.make_first.ensures.turn ∙ c.look.ensures.turn)) c.requires.at_first.turn_is
+hand_on-requires-clause-turn g c = subst (IsAtPhase g.N.RunNames.script g.T.NamedTable.table 0) (sym (c.make_first.ensures.turn ∙ c.look.ensures.turn)) c.requires.at_first.turn_is
 
 pub hand_on-requires-clause-second : goal.hand_on-requires-clause-second
 hand_on-requires-clause-second g c = subst (IsFirst 1) (sym (c.make_first.ensures.second ∙ c.look.ensures.second)) c.requires.at_first.second_is

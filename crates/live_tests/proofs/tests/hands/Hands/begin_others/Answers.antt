@@ -7,7 +7,7 @@ use Rattle.live_tests.specs.Turns.{HasMade}
 
 pub end-requires : goal.end-requires
 end-requires g c =
-    let script = g.N.Named.script in
+    let script = g.N.RunNames.script in
     let table = g.T.NamedTable.table in
     let self = c.args.self.now in
     record {
@@ -16,19 +16,19 @@ end-requires g c =
 
 pub pass-requires-clause-lock : goal.pass-requires-clause-lock
 pass-requires-clause-lock g c =
-    let script = g.N.Named.script in
+    let script = g.N.RunNames.script in
     let table = g.T.NamedTable.table in
     lock_there script table 0 c.end.new.turn (omega (arith, c.requires.turns.phases)) (first_over script _ _ c.requires.turns table c.args.self.now.turn c.end.new.turn c.requires.turn c.end.ensures.turn)
 
 pub pass-requires-clause-may : goal.pass-requires-clause-may
 pass-requires-clause-may g c =
-    let script = g.N.Named.script in
+    let script = g.N.RunNames.script in
     let table = g.T.NamedTable.table in
     may_pass script table 0 c.end.new.turn (omega (arith, c.requires.turns.phases)) (first_over script _ _ c.requires.turns table c.args.self.now.turn c.end.new.turn c.requires.turn c.end.ensures.turn)
 
 pub begin-requires : goal.begin-requires
 begin-requires g c =
-    let script = g.N.Named.script in
+    let script = g.N.RunNames.script in
     let table = g.T.NamedTable.table in
     let over = first_over script _ _ c.requires.turns table c.args.self.now.turn c.end.new.turn c.requires.turn c.end.ensures.turn in
     let at : IsAtPhase script table 1 c.pass.new.phase = has_passed script table 0 c.end.new.turn (omega (arith, c.requires.turns.phases)) over c.pass.new.phase c.pass.ensures.table c.pass.ensures.phase in
@@ -36,7 +36,7 @@ begin-requires g c =
 
 pub begin-requires-2 : goal.begin-requires-2
 begin-requires-2 g c =
-    let script = g.N.Named.script in
+    let script = g.N.RunNames.script in
     let table = g.T.NamedTable.table in
     let over = first_over script _ _ c.requires.turns table c.args.self.now.turn c.end.new.turn c.requires.turn c.end.ensures.turn in
     let at : IsAtPhase script table 1 c.pass.new.phase = has_passed script table 0 c.end.new.turn (omega (arith, c.requires.turns.phases)) over c.pass.new.phase c.pass.ensures.table c.pass.ensures.phase in
@@ -44,7 +44,7 @@ begin-requires-2 g c =
 
 pub returns-clause-turn : goal.returns-clause-turn
 returns-clause-turn g c =
-    let script = g.N.Named.script in
+    let script = g.N.RunNames.script in
     let table = g.T.NamedTable.table in
     let over = first_over script _ _ c.requires.turns table c.args.self.now.turn c.end.new.turn c.requires.turn c.end.ensures.turn in
     let at : IsAtPhase script table 1 c.pass.new.phase = has_passed script table 0 c.end.new.turn (omega (arith, c.requires.turns.phases)) over c.pass.new.phase c.pass.ensures.table c.pass.ensures.phase in

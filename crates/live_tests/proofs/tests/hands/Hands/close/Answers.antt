@@ -12,7 +12,7 @@ close-journals-requires-clause-before g c =
     let one : c.push_reserved.new.self.items ≡ self.first ∷ [] = c.push_reserved.ensures.items ∙ ap (add self.first) c.requires.empty in
     let two : c.push_reserved-2.new.self.items ≡ self.first ∷ self.second ∷ [] = c.push_reserved-2.ensures.items ∙ ap (add self.second) one in
     let three : c.push_reserved-3.new.self.items ≡ self.first ∷ self.second ∷ self.third ∷ [] = c.push_reserved-3.ensures.items ∙ ap (add self.third) two in
-    AreBefore-made g.N.Named.script _ _ c.requires.turns g.T.NamedTable.table c.args.self.turn c.push_reserved-3.new.self.items c.args.self.first c.args.self.second c.args.self.third self.first self.second self.third same.first same.second same.third three c.requires.made
+    AreBefore-made g.N.RunNames.script _ _ c.requires.turns g.T.NamedTable.table c.args.self.turn c.push_reserved-3.new.self.items c.args.self.first c.args.self.second c.args.self.third self.first self.second self.third same.first same.second same.third three c.requires.made
 
 pub close-journals-requires-clause-turn : goal.close-journals-requires-clause-turn
-close-journals-requires-clause-turn g c = subst (λ n. IsAtPhase g.N.Named.script g.T.NamedTable.table n c.end_others.new.self.turn) (sym c.requires.turns.phases) c.end_others.ensures.turn
+close-journals-requires-clause-turn g c = subst (λ n. IsAtPhase g.N.RunNames.script g.T.NamedTable.table n c.end_others.new.self.turn) (sym c.requires.turns.phases) c.end_others.ensures.turn

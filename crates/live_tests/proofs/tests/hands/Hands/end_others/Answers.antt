@@ -7,7 +7,7 @@ use Rattle.schedule_law.specs.LiveParts.{live_phase}
 
 pub end-requires : goal.end-requires
 end-requires g c =
-    let script = g.N.Named.script in
+    let script = g.N.RunNames.script in
     let table = g.T.NamedTable.table in
     let self = c.args.self.now in
     let made = c.requires.made.second_made in
@@ -17,7 +17,7 @@ end-requires g c =
 
 pub end-requires-2 : goal.end-requires-2
 end-requires-2 g c =
-    let script = g.N.Named.script in
+    let script = g.N.RunNames.script in
     let table = g.T.NamedTable.table in
     let self = c.args.self.now in
     let made = c.requires.made.third_made in
@@ -28,19 +28,19 @@ end-requires-2 g c =
 
 pub pass-requires-clause-lock : goal.pass-requires-clause-lock
 pass-requires-clause-lock g c =
-    let script = g.N.Named.script in
+    let script = g.N.RunNames.script in
     let table = g.T.NamedTable.table in
     lock_there script table 1 c.end-2.new.turn (omega (arith, c.requires.turns.phases)) (second_over script _ _ c.requires.turns table c.args.self.now.turn c.end.new.turn c.end-2.new.turn c.requires.made.turn_is c.end.ensures.turn c.end-2.ensures.turn)
 
 pub pass-requires-clause-may : goal.pass-requires-clause-may
 pass-requires-clause-may g c =
-    let script = g.N.Named.script in
+    let script = g.N.RunNames.script in
     let table = g.T.NamedTable.table in
     may_pass script table 1 c.end-2.new.turn (omega (arith, c.requires.turns.phases)) (second_over script _ _ c.requires.turns table c.args.self.now.turn c.end.new.turn c.end-2.new.turn c.requires.made.turn_is c.end.ensures.turn c.end-2.ensures.turn)
 
 pub returns-clause-turn : goal.returns-clause-turn
 returns-clause-turn g c =
-    let script = g.N.Named.script in
+    let script = g.N.RunNames.script in
     let table = g.T.NamedTable.table in
     let over = second_over script _ _ c.requires.turns table c.args.self.now.turn c.end.new.turn c.end-2.new.turn c.requires.made.turn_is c.end.ensures.turn c.end-2.ensures.turn in
     has_passed script table 1 c.end-2.new.turn (omega (arith, c.requires.turns.phases)) over c.pass.new.phase c.pass.ensures.table c.pass.ensures.phase

@@ -11,12 +11,12 @@ begin_others-requires-clause-first g c =
 
 pub begin_others-requires-clause-second : goal.begin_others-requires-clause-second
 begin_others-requires-clause-second g c =
-    other_ready g.N.Named.script _ _ c.requires.turns 1 (length (ops_of g.N.Named.script 0)) c.args.self.now.first c.args.self.now.second c.hand_on.new.later (omega arith) c.requires.first refl c.requires.second
+    other_ready g.N.RunNames.script _ _ c.requires.turns 1 (length (ops_of g.N.RunNames.script 0)) c.args.self.now.first c.args.self.now.second c.hand_on.new.later (omega arith) c.requires.first refl c.requires.second
     c.hand_on.ensures.later (c.hand_on.ensures.next).1 (c.hand_on.ensures.shown).1 c.hand_on.ensures.ended
 
 pub begin_others-requires-clause-third : goal.begin_others-requires-clause-third
 begin_others-requires-clause-third g c =
-    other_ready g.N.Named.script _ _ c.requires.turns 2 (length (ops_of g.N.Named.script 0)) c.hand_on.new.earlier c.args.self.now.third c.hand_on-2.new.later (omega arith)
+    other_ready g.N.RunNames.script _ _ c.requires.turns 2 (length (ops_of g.N.RunNames.script 0)) c.hand_on.new.earlier c.args.self.now.third c.hand_on-2.new.later (omega arith)
     (HasMade-handed 0 _ c.args.self.now.first c.hand_on.new.earlier c.requires.first c.hand_on.ensures.earlier (c.hand_on.ensures.next).0 (c.hand_on.ensures.begun).0) refl c.requires.third
     c.hand_on-2.ensures.later (c.hand_on-2.ensures.next).1 (c.hand_on-2.ensures.shown).1 c.hand_on-2.ensures.ended
 

@@ -15,4 +15,4 @@ pub returns : goal.returns
 returns g c =
     let before = c.in_ok-live.ensures.before in
     let three = taken_three _ _ _ _ _ _ _ c.take_last-third.ensures.items c.take_last-second.ensures.items c.take_last-first.ensures.items (before.count ∙ c.requires.turns.threads) in
-    AreAtFirst-three g.N.Named.script g.T.NamedTable.table _ _ _ _ _ three before c.in_ok-live.ensures.shown c.in_ok-live.ensures.turn
+    AreAtFirst-three g.N.RunNames.script g.T.NamedTable.table _ _ _ _ _ three before c.in_ok-live.ensures.shown c.in_ok-live.ensures.turn
