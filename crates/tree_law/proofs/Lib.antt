@@ -5,6 +5,7 @@ pub mod GroupKinds
 pub mod Groups
 pub mod KeptGroups
 pub mod Limbo
+pub mod LockedRecords
 pub mod Locks
 pub mod Masks
 pub mod Mkdir

@@ -1,23 +1,21 @@
 -- A write of `schemata` that locks a region keeps a sound tree.
-use Rattle.std.proofs.Common.{◌≡◌, ◌≢◌, ℕ, ◌+◌, ◌<◌, ◌≤◌, Bool, true, false, not, ◌&&◌, cond, eqb, List, length, find, get_or, replicate, set, Option, None, Some, IfSome, IsNone, Result, Ok, Err, ◌⊎◌, inl, inr, refl, sym, subst, ap, ◌∙◌, arith, length-set}
-use Rattle.std.specs.List.{All, slice_get}
+use Rattle.std.proofs.Common.{◌≡◌, ℕ, ◌<◌, Bool, true, false, not, cond, eqb, List, length, find, get_or, replicate, set, Option, None, Some, IfSome, IsNone, Result, Ok, Err, ◌⊎◌, inl, inr, refl, sym, subst, ap, ◌∙◌, arith, length-set}
+use Rattle.std.specs.List.{slice_get}
 use Rattle.std.specs.Option.{option_map_or}
-use Rattle.std.proofs.lemmas.Bool.{cases_lt, eqb-true, eqb-false, eq-eqb, ne_eqb, or_parts, not-false}
-use Rattle.std.proofs.lemmas.List.{get_or-map, get_or-set_same, get_or-set_other, get_or-replicate, get_or_past, length-map, length-replicate}
-use Rattle.std.proofs.lemmas.List.Elements.{All-set}
-use Rattle.std.proofs.lemmas.List.Folds.{Any-from_list_any, list_any_at}
+use Rattle.std.proofs.lemmas.Bool.{eqb-true, eqb-false, eq-eqb, or_parts, not-false}
+use Rattle.std.proofs.lemmas.List.{get_or-map, length-map, length-replicate}
+use Rattle.std.proofs.lemmas.List.Folds.{list_any_at}
 use Rattle.std.proofs.lemmas.Option.{slice_get-get_or, same_Some}
 use Rattle.cbm.proofs.laws.Validity.{checked-zero}
 use Rattle.cbm.specs.Masks.{overlaps}
 use Rattle.cbm.specs.declared.fault.CbmFault.{CbmFault}
 use Rattle.cbm.specs.declared.fault.CbmFault.TheVariants.{Range}
 use Rattle.group_tree.specs.Lists.{exchanged, replaced}
-use Rattle.group_tree.specs.Records.{has_gid, has_mode, is_control, is_mode, mask_in}
+use Rattle.group_tree.specs.Records.{has_gid, has_mode, is_control, mask_in}
 use Rattle.group_tree.specs.declared.group.Group.{Group}
 use Rattle.group_tree.specs.declared.group_kind.GroupKind.{GroupKind}
 use Rattle.group_tree.specs.declared.group_kind.GroupKind.TheVariants.{Control, Monitor}
-use Rattle.lists.proofs.Keyed.{All-replaced_kept, All-replaced, list_any-replaced, get_or-key}
-use Rattle.lists.proofs.Pairs.{AllPairs-set}
+use Rattle.lists.proofs.Keyed.{All-replaced_kept, All-replaced, list_any-replaced}
 use Rattle.lists.proofs.Updates.{filter-set, length-filter_set, slice_get-set_other, slice_get-set_same}
 use Rattle.lists.proofs.Tests.{IsFound, find-found, IsFound-all}
 use Rattle.machine.specs.Ranges.{InRange}
@@ -31,14 +29,14 @@ use Rattle.tree_law.proofs.laws.Refusals.{cond-Ok}
 use Rattle.tree_law.proofs.ModeTests.{HasIds-control}
 use Rattle.tree_law.proofs.NewRecords.{AreBound-replaced, HaveMasks-replaced, AreNamed-replaced, AreNumbered-replaced, AreServed-replaced}
 use Rattle.tree_law.proofs.laws.Unions.{AreApart-each, has_mode-counted, is_other_in-mode}
-use Rattle.tree_law.specs.Counted.{is_counted, is_counted_mode}
 use Rattle.tree_law.specs.Masks.{AreApart, IsValid}
-use Rattle.tree_law.specs.Regions.{HasNoOther, HasOneRegion, HaveLines, HaveRegions, IsPlaced, IsRegion, LinesDiffer, OffCounted, has_region_of, holds_region}
+use Rattle.tree_law.specs.Regions.{HasNoOther, HasOneRegion, HaveRegions, IsRegion, OffCounted, has_region_of, holds_region}
 use Rattle.tree_law.specs.Sound.{HasIds, HasIdsOf, IsSound, IsUsed}
 use Rattle.tree_law.specs.Space.{geometry_of, region_mask, used_in}
 use Rattle.tree_law.specs.State.{State}
 use Rattle.pseudo_lock.specs.declared.region.Region.{Region}
 use Rattle.tree_law.specs.commands.Schemata.{locked, region_for, with_region}
+use Rattle.tree_law.proofs.LockedRecords.{is_counted-setup, is_counted-locked, has_mode-setup, has_mode-locked, has_region_of-none, mask_in-locked, mask_in-locked_other, HaveLines-locked}
 use Rattle.mode_rules.specs.declared.overlap.Overlap.TheVariants as overlap
 
 module _ (m : Parameters) (s : State) (g : Group) (a : Assignment) (sound : IsSound m s) (found : find (has_gid g.gid) s.groups ≡ Some g) (control : is_control g.kind ≡ true) (setup : g.mode ≡ LockSetup)
@@ -92,72 +90,6 @@ module _ (m : Parameters) (s : State) (g : Group) (a : Assignment) (sound : IsSo
           let bad : ◌≡◌ {A = Result ℕ CbmFault} (Err Range) (Ok r.mask) = checked-zero (geometry_of m) r.mask empty ∙ old in
           absurd (let f = bad in cc))
 
-  -- the group was neither counted nor pseudo-locked
-  is_counted-setup : is_counted g ≡ true → ⊥
-  is_counted-setup e = at g.kind e
-    where
-      at : (kind : GroupKind) → cond (is_control kind) (is_counted_mode g.mode) false ≡ true → ⊥
-      at Control e = let f : false ≡ true = ap is_counted_mode (sym setup) ∙ e in cc
-      at (Monitor p) e = let f : false ≡ true = e in cc
-
-  -- the locked record is not counted
-  is_counted-locked : is_counted new ≡ true → ⊥
-  is_counted-locked e = at g.kind e
-    where
-      at : (kind : GroupKind) → cond (is_control kind) false false ≡ true → ⊥
-      at Control e = let f : false ≡ true = e in cc
-      at (Monitor p) e = let f : false ≡ true = e in cc
-
-  -- the record before is not pseudo-locked
-  has_mode-setup : has_mode Locked g ≡ false
-  has_mode-setup = at g.kind
-    where
-      at : (kind : GroupKind) → (is_control kind && is_mode Locked g.mode) ≡ false
-      at Control = ap (is_mode Locked) setup
-      at (Monitor p) = refl
-
-  -- the new record is pseudo-locked
-  has_mode-locked : has_mode Locked new ≡ true
-  has_mode-locked = at g.kind control
-    where
-      at : (kind : GroupKind) → is_control kind ≡ true → (is_control kind && true) ≡ true
-      at Control e = refl
-      at (Monitor p) e = absurd (let f : false ≡ true = e in cc)
-
-  -- no region was the group's
-  has_region_of-none : All (λ (o : Option Region). has_region_of g.gid o ≡ false) s.regions
-  has_region_of-none k d lt = at (get_or s.regions k d) refl
-    where
-      held : (r : Region) (x : Group) → r.gid.0 ≡ g.gid.0 → holds_region k r x ≡ true → (has_gid g.gid x ≡ true) × (has_mode Locked x ≡ true)
-      held r x same e = both (has_gid r.gid x) (has_mode Locked x) (eqb (mask_in k x) r.mask) refl e
-        where
-          both : (p q t : Bool) → has_gid r.gid x ≡ p → cond p (cond q t false) false ≡ true → (has_gid g.gid x ≡ true) × (q ≡ true)
-          both true true t is e = (subst (λ (n : ℕ). eqb n x.gid.0 ≡ true) same is, refl)
-          both true false t is e = absurd (let f : false ≡ true = e in cc)
-          both false q t is e = absurd (let f : false ≡ true = e in cc)
-
-      at : (o : Option Region) → get_or s.regions k d ≡ o → has_region_of g.gid o ≡ false
-      at None is = refl
-      at (Some r) is = ne_eqb r.gid.0 g.gid.0 (λ same.
-          let old = sound.regions.lawful k r (slice_get-get_or s.regions k d lt ∙ ap Some is) in
-          let some = Any-from_list_any (holds_region k r) s.groups old.held in
-          let x = some.1 in
-          let two = held r x same some.4 in
-          let there : get_or s.groups some.0 x ≡ g = get_or-key gid_number s.groups g g sound.named.gids found some.0 x some.2 (ap (has_gid g.gid) some.3 ∙ two.0) in
-          let f : true ≡ false = sym two.1 ∙ ap (has_mode Locked) (sym some.3 ∙ there) ∙ has_mode-setup in cc)
-
-  -- the new mask in the region's domain, and in another
-  mask_in-locked : mask_in a.domain new ≡ a.mask
-  mask_in-locked = get_or-set_same (replicate {A = ℕ} 8 0) a.domain a.mask 0 (let most = range.domain_limit in omega (arith, exists, length-replicate {A = ℕ} 8 0))
-
-  -- in another domain the new mask is empty
-  mask_in-locked_other : (domain : ℕ) → domain ≢ a.domain → mask_in domain new ≡ 0
-  mask_in-locked_other domain other = get_or-set_other (replicate {A = ℕ} 8 0) a.domain domain a.mask 0 other ∙ at (cases_lt domain 8)
-    where
-      at : (domain < 8) ⊎ (8 ≤ domain) → ◌≡◌ {A = ℕ} (get_or (replicate {A = ℕ} 8 0) domain 0) 0
-      at (inl lt) = get_or-replicate 8 domain 0 0 lt
-      at (inr le) = get_or_past (replicate {A = ℕ} 8 0) domain 0 (omega (arith, length-replicate {A = ℕ} 8 0))
-
   -- the groups with the locked record
   abbrev groups' : List Group
   groups' = replaced (locked g a) s.groups
@@ -172,7 +104,7 @@ module _ (m : Parameters) (s : State) (g : Group) (a : Assignment) (sound : IsSo
     own = refl;
     valid = valid;
     off_shareable = Tests-write_overlap.shareable;
-    off_counted = All-replaced gid_number s.groups new g sound.named.gids found (OffCounted a.domain a.mask) (λ c. absurd (is_counted-locked c)) (λ k d lt other c. at k d lt other (has_mode-counted (get_or s.groups k d) c));
+    off_counted = All-replaced gid_number s.groups new g sound.named.gids found (OffCounted a.domain a.mask) (λ c. absurd (is_counted-locked g a c)) (λ k d lt other c. at k d lt other (has_mode-counted (get_or s.groups k d) c));
     held = list_any_at (holds_region a.domain (region_for s g a)) groups' IsFound-gid.place g (omega (arith, IsFound-gid.within, length-map s.groups (exchanged new)))
         (ap (holds_region a.domain (region_for s g a)) (get_or-map (exchanged new) s.groups IsFound-gid.place g g IsFound-gid.within ∙ ap (exchanged new) (IsFound-gid.at g) ∙ mine (has_gid g.gid g) (has_gid-own g)) ∙ passes);
   }
@@ -186,7 +118,7 @@ module _ (m : Parameters) (s : State) (g : Group) (a : Assignment) (sound : IsSo
       mine false e = absurd (let f : false ≡ true = e in cc)
 
       passes : holds_region a.domain (region_for s g a) new ≡ true
-      passes = rw (has_gid-own g, has_mode-locked, mask_in-locked, eq-eqb a.mask a.mask refl) refl
+      passes = rw (has_gid-own g, has_mode-locked g a control, mask_in-locked m g a range exists, eq-eqb a.mask a.mask refl) refl
 
   -- an old one
   IsRegion-old : (domain : ℕ) (r : Region) → slice_get s.regions domain ≡ Some (Some r) → IsRegion m groups' domain r
@@ -194,8 +126,8 @@ module _ (m : Parameters) (s : State) (g : Group) (a : Assignment) (sound : IsSo
     own = old.own;
     valid = old.valid;
     off_shareable = old.off_shareable;
-    off_counted = All-replaced_kept gid_number s.groups new g sound.named.gids found (OffCounted domain r.mask) (λ c. absurd (is_counted-locked c)) old.off_counted;
-    held = list_any-replaced gid_number s.groups new g sound.named.gids found (holds_region domain r) (λ passes. absurd (held (has_gid r.gid g) (has_mode Locked g) has_mode-setup passes)) old.held;
+    off_counted = All-replaced_kept gid_number s.groups new g sound.named.gids found (OffCounted domain r.mask) (λ c. absurd (is_counted-locked g a c)) old.off_counted;
+    held = list_any-replaced gid_number s.groups new g sound.named.gids found (holds_region domain r) (λ passes. absurd (held (has_gid r.gid g) (has_mode Locked g) (has_mode-setup g setup) passes)) old.held;
   })
     where
       held : (p q : Bool) → q ≡ false → cond p (cond q (eqb (mask_in domain g) r.mask) false) false ≡ true → ⊥
@@ -209,10 +141,10 @@ module _ (m : Parameters) (s : State) (g : Group) (a : Assignment) (sound : IsSo
     each = length-set s.regions a.domain (Some (region_for s g a)) ∙ sound.regions.each;
     lawful = λ domain r there. lawful domain r (eqb domain a.domain) refl there;
     once = All-replaced gid_number s.groups new g sound.named.gids found (HasOneRegion regions')
-        (λ is. length-filter_set (has_region_of g.gid) s.regions a.domain (Some (region_for s g a)) has_region_of-none domain-below (eq-eqb g.gid.0 g.gid.0 refl))
+        (λ is. length-filter_set (has_region_of g.gid) s.regions a.domain (Some (region_for s g a)) (has_region_of-none m s g sound found setup) domain-below (eq-eqb g.gid.0 g.gid.0 refl))
         (λ k d lt other is. ap length (filter-set (has_region_of (get_or s.groups k d).gid) s.regions a.domain (Some (region_for s g a)) None domain-below (ap (has_region_of (get_or s.groups k d).gid) get_or-no_region) other) ∙ sound.regions.once k d lt is);
     no_other = All-replaced gid_number s.groups new g sound.named.gids found (HasNoOther regions')
-        (λ is domain lt r there none. mask_in-locked_other domain (λ e. elsewhere r (sym (ap (slice_get regions') e ∙ slice_get-set_same s.regions a.domain (Some (region_for s g a)) domain-below) ∙ there) none))
+        (λ is domain lt r there none. mask_in-locked_other g a domain (λ e. elsewhere r (sym (ap (slice_get regions') e ∙ slice_get-set_same s.regions a.domain (Some (region_for s g a)) domain-below) ∙ there) none))
         (λ k d lt other is domain lt' r there none. others k d lt is domain (omega (arith, lt', length-set s.regions a.domain (Some (region_for s g a)))) r (eqb domain a.domain) refl there none);
   }
     where
@@ -235,33 +167,12 @@ module _ (m : Parameters) (s : State) (g : Group) (a : Assignment) (sound : IsSo
       others k d lt lock domain lt' r false is there none =
           sound.regions.no_other k d lt lock domain lt' r (sym (slice_get-set_other s.regions a.domain domain (Some (region_for s g a)) (eqb-false domain a.domain is)) ∙ there) none
 
-  -- the new region has the next first line, which none has yet
-  HaveLines-locked : HaveLines regions' (s.locks + 1)
-  HaveLines-locked = record {
-    placed = All-set (λ (o : Option Region). IfSome o (IsPlaced (s.locks + 1))) s.regions a.domain (Some (region_for s g a)) (s.locks, omega arith, refl) (λ k d lt. more (get_or s.regions k d) (sound.lines.placed k d lt));
-    differ = AllPairs-set LinesDiffer turned s.regions a.domain (Some (region_for s g a)) sound.lines.differ (λ k d lt other. apart (get_or s.regions k d) (sound.lines.placed k d lt));
-  }
-    where
-      more : (o : Option Region) → IfSome o (IsPlaced s.locks) → IfSome o (IsPlaced (s.locks + 1))
-      more None placed = tt
-      more (Some r) placed = (placed.0, omega arith, placed.2)
-
-      turned : (x y : Option Region) → LinesDiffer x y → LinesDiffer y x
-      turned None None differ = tt
-      turned None (Some y) differ = tt
-      turned (Some x) None differ = tt
-      turned (Some x) (Some y) differ = λ e. differ (sym e)
-
-      apart : (o : Option Region) → IfSome o (IsPlaced s.locks) → LinesDiffer (Some (region_for s g a)) o
-      apart None placed = tt
-      apart (Some r) placed = λ e. (let k = placed.0 in let less = placed.1 in let is = placed.2 in omega arith)
-
   -- a locked group with its region keeps a sound tree
   pub with_region-sound : IsSound m (with_region s g a)
   with_region-sound = (let gids = sound.named.gids in let masks = set (replicate 8 0) a.domain a.mask in record {
-    named = AreNamed-replaced s.groups g Locked None g.rmid masks gids found s.next_gid sound.named (λ d. absurd (is_counted-setup d.counted));
+    named = AreNamed-replaced s.groups g Locked None g.rmid masks gids found s.next_gid sound.named (λ d. absurd (is_counted-setup g setup d.counted));
     numbered = AreNumbered-replaced s.groups g Locked None g.rmid masks gids found m s.limbo sound.numbered
-        (λ k d parent lt is. inl (λ c. absurd (is_counted-setup c)))
+        (λ k d parent lt is. inl (λ c. absurd (is_counted-setup g setup c)))
         (HasIds-control groups' g.kind new Locked refl control (refl, no_rmid g.kind control (IsFound-all (λ (x : Group). HasIds s.groups x.kind x) (has_gid g.gid) s.groups g IsFound-gid sound.numbered.ids)))
         tt
         (IsFound-all (λ (x : Group). IfSome x.rmid (IsUsed m s.limbo)) (has_gid g.gid) s.groups g IsFound-gid sound.numbered.rmids)
@@ -269,13 +180,13 @@ module _ (m : Parameters) (s : State) (g : Group) (a : Assignment) (sound : IsSo
     masks = HaveMasks-replaced s.groups g Locked None g.rmid masks gids found m sound.masks
         (length-set (replicate 8 0) a.domain a.mask ∙ length-replicate {A = ℕ} 8 0)
         (λ domain lt c u. absurd (u refl))
-        (λ domain lt k d lt' other keep cn cx either. absurd (is_counted-locked cn))
-        (λ domain lt cn e. absurd (is_counted-locked cn));
+        (λ domain lt k d lt' other keep cn cx either. absurd (is_counted-locked g a cn))
+        (λ domain lt cn e. absurd (is_counted-locked g a cn));
     regions = HaveRegions-locked;
-    lines = HaveLines-locked;
+    lines = HaveLines-locked m s g a sound;
     threshold = sound.threshold;
-    tasks = AreBound-replaced s.groups g Locked None g.rmid masks gids found s.tasks (λ k d lt. inl (λ c. absurd (is_counted-setup c))) sound.tasks;
-    cpus = AreServed-replaced s.groups g Locked None g.rmid masks gids found m s.cpus (λ k d lt. inl (λ c. absurd (is_counted-setup c))) sound.cpus;
+    tasks = AreBound-replaced s.groups g Locked None g.rmid masks gids found s.tasks (λ k d lt. inl (λ c. absurd (is_counted-setup g setup c))) sound.tasks;
+    cpus = AreServed-replaced s.groups g Locked None g.rmid masks gids found m s.cpus (λ k d lt. inl (λ c. absurd (is_counted-setup g setup c))) sound.cpus;
   })
     where
       no_rmid : (kind : GroupKind) → is_control kind ≡ true → HasIds s.groups kind g → IsNone g.rmid
