@@ -40,7 +40,7 @@ use Rattle.run_law.specs.Journals.{At}
 use Rattle.private_lru.proofs.laws.FirstPlaces.{position_or_len-before, position_or_len-le, slice_get-drop}
 use Rattle.private_lru.specs.Ends.{held_len}
 use Rattle.private_lru.specs.Tallies.{AreCounted, IsCounted}
-use Rattle.private_lru.specs.declared.stay.Stay.{Stay}
+use Rattle.private_lru.specs.declared.exclusive_span.ExclusiveSpan.{ExclusiveSpan}
 
 module _ (script : PairScriptValue) (j : CdpJournalsValue) (domain from : ℕ) (opening : SliceEntry) (played : IsPlayed script j) (exists : domain < script.machines.machine.domains)
     (opens : At (slice_in j.slices domain) from opening) (flush : opening.what ≡ Flush) where
@@ -160,7 +160,7 @@ module _ (script : PairScriptValue) (j : CdpJournalsValue) (domain from : ℕ) (
       let counted = are.each i (stay_of k) c (subst (λ n. i < n) (sym (length-map kept_parts stay_of)) lt) in
       let stay : get_or (map stay_of kept_parts) i (stay_of k) ≡ stay_of (kept_of script domain opening.epoch (bound - opening.epoch) p) = get_or-map stay_of kept_parts i k (stay_of k) lt ∙ ap stay_of is in
       let kept = is_kept-partitions domain (state_at script opening.epoch) (RiseByGid-state_at script opening.epoch).rising i k.held few in
-      ap f is ∙ (window_from-counted p kept (get_or counts i c) (subst (λ (s : Stay). IsCounted script.machines.machine.sets Flush front s (get_or counts i c)) stay counted)
+      ap f is ∙ (window_from-counted p kept (get_or counts i c) (subst (λ (s : ExclusiveSpan). IsCounted script.machines.machine.sets Flush front s (get_or counts i c)) stay counted)
       ∙ ap (λ (x : Span Partition). counted_window domain from x.held (get_or counts i c)) (sym is))) in
       ap (filter is_used) (sym (map-after f (kept_of script domain opening.epoch (bound - opening.epoch)) parts) ∙ counted_windows-map domain from f kept_parts counts same each)
 

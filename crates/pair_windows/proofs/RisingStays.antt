@@ -16,7 +16,7 @@ use Rattle.pair_windows.specs.Partitions.{has_partition, partition_of, partition
 use Rattle.spans.specs.declared.span.Span.{Span}
 use Rattle.pair_windows.specs.declared.partition.Partition.{Partition}
 use Rattle.private_lru.specs.Ends.{RiseByGroup}
-use Rattle.private_lru.specs.declared.stay.Stay.{Stay}
+use Rattle.private_lru.specs.declared.exclusive_span.ExclusiveSpan.{ExclusiveSpan}
 
 -- one owner before another
 abbrev pub Before : Partition → Partition → Type 0
@@ -60,8 +60,8 @@ Before-partitions domain groups rise = AllPairs-flat_map Before (partitions_of d
 -- as the counts of windows want them
 pub RiseByGroup-kept : (script : PairScriptValue) (domain first more : ℕ) → RiseByGroup (map stay_of (kept_from script domain first more))
 RiseByGroup-kept script domain first more =
-    AllPairs-map (λ (a b : ℕ). a < b) (λ (s : Stay). s.gid.0) (map stay_of (kept_from script domain first more))
-    (AllPairs-map (λ (a b : Stay). a.gid.0 < b.gid.0) stay_of (kept_from script domain first more)
+    AllPairs-map (λ (a b : ℕ). a < b) (λ (s : ExclusiveSpan). s.gid.0) (map stay_of (kept_from script domain first more))
+    (AllPairs-map (λ (a b : ExclusiveSpan). a.gid.0 < b.gid.0) stay_of (kept_from script domain first more)
     (AllPairs-map (λ (a b : Span Partition). owner_of_partition a.held < owner_of_partition b.held) (kept_of script domain first more) (partitions_in domain (state_at script first))
     (Before-partitions domain (state_at script first).groups (RiseByGid-state_at script first).rising)))
 

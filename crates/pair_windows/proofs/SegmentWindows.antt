@@ -35,7 +35,7 @@ use Rattle.private_lru.specs.declared.counts.WindowCounts.{WindowCounts}
 use Rattle.rc_base.specs.declared.names.Gid.{Gid}
 use Rattle.private_lru.specs.Ends.{held_len}
 use Rattle.private_lru.specs.Tallies.{AreCounted, IsCounted}
-use Rattle.private_lru.specs.declared.stay.Stay.{Stay}
+use Rattle.private_lru.specs.declared.exclusive_span.ExclusiveSpan.{ExclusiveSpan}
 
 -- ---- windows of groups, each with its counts
 
@@ -69,7 +69,7 @@ record CountsUses (script : PairScriptValue) (domain group from to : ℕ) (hits 
   covers : count_uses script domain group from to (λ i cpu line. true) ≡ c.covered
   covers_hits : count_uses script domain group from to hits ≡ c.covered_hits
 
-CountsUses-joined : (script : PairScriptValue) (domain from to sets : ℕ) (hits : ℕ → ℕ → ℕ → Bool) (entries : List SliceEntry) (s : Stay) (c : WindowCounts)
+CountsUses-joined : (script : PairScriptValue) (domain from to sets : ℕ) (hits : ℕ → ℕ → ℕ → Bool) (entries : List SliceEntry) (s : ExclusiveSpan) (c : WindowCounts)
     → take (held_len s.last entries) entries ≡ joined script domain hits (from + 1) (to - (from + 1)) → IsCounted sets Flush entries s c → CountsUses script domain s.gid.0 from to hits c
 CountsUses-joined script domain from to sets hits entries s c held counted =
     let group : ℕ = s.gid.0 in
@@ -151,8 +151,8 @@ module _ (script : PairScriptValue) (j : LevelJournalsValue) (domain from last :
       let stay : get_or (map stay_of (map f groups)) i (stay_of (f g)) ≡ stay_of (f x) = get_or-map stay_of (map f groups) i (f g) (stay_of (f g)) (subst (λ n. i < n) (sym (length-map groups f)) lt) ∙ ap stay_of span in
       let few : i < length (map stay_of (map f groups)) = subst (λ n. i < n) (sym stays) lt in
       window_from-counted x (HasLevels-exclusive script.machines domain script opened i g lt) sets (get_or l2 i c) (get_or l3 i d)
-      (subst (λ (s : Stay). IsCounted sets Flush entries_l2 s (get_or l2 i c)) stay (in_l2.each i (stay_of (f g)) c few))
-      (subst (λ (s : Stay). IsCounted sets Flush entries_l3 s (get_or l3 i d)) stay (in_l3.each i (stay_of (f g)) d few)))
+      (subst (λ (s : ExclusiveSpan). IsCounted sets Flush entries_l2 s (get_or l2 i c)) stay (in_l2.each i (stay_of (f g)) c few))
+      (subst (λ (s : ExclusiveSpan). IsCounted sets Flush entries_l3 s (get_or l3 i d)) stay (in_l3.each i (stay_of (f g)) d few)))
 
   -- from the epoch at the place after the flush
   abbrev spans : List (Span LevelMasks)

@@ -11,7 +11,7 @@ use Rattle.pair_ops.specs.declared.group.PairGroup.{PairGroup}
 use Rattle.pair_ops.specs.declared.side.Side.TheVariants.{First, Second}
 use Rattle.pair_runs.specs.JointWindows.{domain_above}
 use Rattle.pair_windows.specs.declared.level_masks.LevelMasks.{LevelMasks}
-use Rattle.private_lru.specs.declared.stay.Stay.{Stay}
+use Rattle.private_lru.specs.declared.exclusive_span.ExclusiveSpan.{ExclusiveSpan}
 use Rattle.rc_base.specs.declared.names.Mode.TheVariants.{Exclusive}
 use Rattle.spans.specs.Keeping.{span_of}
 use Rattle.spans.specs.declared.span.Span.{Span}
@@ -51,5 +51,5 @@ abbrev pub held_from : PairScriptValue → ℕ → ℕ → ℕ → List (Span Le
 held_from script domain epoch more = map (held_of script domain epoch more) (exclusive_in (state_at script epoch))
 
 -- the same, as the counts of windows know it
-abbrev pub stay_of : Span LevelMasks → Stay
+abbrev pub stay_of : Span LevelMasks → ExclusiveSpan
 stay_of s = record { last = s.last; gid = s.held.gid; mask = s.held.second }

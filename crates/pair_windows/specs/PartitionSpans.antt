@@ -8,7 +8,7 @@ use Rattle.pair_ops.specs.declared.group.PairGroup.{PairGroup}
 use Rattle.pair_runs.specs.CdpRuns.{owner_on}
 use Rattle.pair_windows.specs.Partitions.{is_kept_at, partitions_in}
 use Rattle.pair_windows.specs.declared.partition.Partition.{Partition}
-use Rattle.private_lru.specs.declared.stay.Stay.{Stay}
+use Rattle.private_lru.specs.declared.exclusive_span.ExclusiveSpan.{ExclusiveSpan}
 use Rattle.spans.specs.Keeping.{span_of}
 use Rattle.spans.specs.declared.span.Span.{Span}
 
@@ -21,7 +21,7 @@ abbrev pub kept_from : PairScriptValue → ℕ → ℕ → ℕ → List (Span Pa
 kept_from script domain epoch more = map (kept_of script domain epoch more) (partitions_in domain (state_at script epoch))
 
 -- the same, as the counts of windows know it
-abbrev pub stay_of : Span Partition → Stay
+abbrev pub stay_of : Span Partition → ExclusiveSpan
 stay_of s = record { last = s.last; gid = owner_on s.held.gid s.held.side; mask = s.held.mask }
 
 -- The groups stand in order of their serial numbers, which are below the next one.

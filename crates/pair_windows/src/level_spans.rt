@@ -14,7 +14,7 @@ use crate::level_masks::LevelMasks;
 use pair_ops::PairGroup;
 use pair_text::PairScript;
 use pair_tree::PairTree;
-use private_lru::Stay;
+use private_lru::ExclusiveSpan;
 use rc_base::{Gid, Mode, NoMemory};
 use spans::{HoldsAt, Span};
 use std::alloc::Global;
@@ -149,12 +149,15 @@ impl<'a> HoldsAt<LevelMasks> for LevelState<'a> {
 }
 
 /// Masks of groups, as the counts of windows know them.
-pub(crate) fn stays_of(alloc: Global, held: &[Span<LevelMasks>]) -> Result<Vec<Stay>, NoMemory>
+pub(crate) fn stays_of(
+    alloc: Global,
+    held: &[Span<LevelMasks>],
+) -> Result<Vec<ExclusiveSpan>, NoMemory>
     ensures { IfOk result (λ stays. stays.items ≡ map stay_of held.now) }
 {
-    let mut stays: Vec<Stay> = Vec::new(alloc);
+    let mut stays: Vec<ExclusiveSpan> = Vec::new(alloc);
     for span in held {
-        stays.push(Stay {
+        stays.push(ExclusiveSpan {
             last: span.last,
             gid: span.held.gid,
             mask: span.held.second,

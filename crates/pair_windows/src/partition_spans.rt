@@ -13,7 +13,7 @@ ghost use Rattle.spans.specs.declared.span.Span.{Span as SpanValue};
 use crate::partition::Partition;
 use pair_ops::{PairGroup, Side};
 use pair_tree::PairTree;
-use private_lru::Stay;
+use private_lru::ExclusiveSpan;
 use rc_base::{Gid, Mode, NoMemory};
 use spans::{HoldsAt, Span};
 use std::alloc::Global;
@@ -147,12 +147,12 @@ fn owner_on(gid: Gid, side: Side) -> Gid
 }
 
 // A partition, as the counts of windows know it.
-fn stay_of(span: Span<Partition>) -> Stay
+fn stay_of(span: Span<Partition>) -> ExclusiveSpan
     requires { span.held.gid.0 < 2 ^ 31 }
     ensures { result ≡ stay_of span }
 {
     let Partition { gid, side, mask } = span.held;
-    Stay {
+    ExclusiveSpan {
         last: span.last,
         gid: owner_on(gid, side),
         mask,
@@ -160,11 +160,14 @@ fn stay_of(span: Span<Partition>) -> Stay
 }
 
 /// Partitions, as the counts of windows know them.
-pub(crate) fn stays_of(alloc: Global, kept: &[Span<Partition>]) -> Result<Vec<Stay>, NoMemory>
+pub(crate) fn stays_of(
+    alloc: Global,
+    kept: &[Span<Partition>],
+) -> Result<Vec<ExclusiveSpan>, NoMemory>
     requires { All (λ (s : SpanValue PartitionValue). s.held.gid.0 < 2 ^ 31) kept.now }
     ensures { IfOk result (λ stays. stays.items ≡ map stay_of kept.now) }
 {
-    let mut stays: Vec<Stay> = Vec::new(alloc);
+    let mut stays: Vec<ExclusiveSpan> = Vec::new(alloc);
     for span in kept {
         stays.push(stay_of(*span))?;
     }

@@ -19,7 +19,7 @@ use Rattle.private_lru.proofs.laws.FirstPlaces.{unwrap_or-position}
 use Rattle.private_lru.specs.Ends.{AreEnds, IsEnd, IsHeld, held_len}
 use Rattle.private_lru.specs.Tallies.{AreCounted, AreTallies, IsCounted, IsTally}
 use Rattle.private_lru.specs.Uses.{is_foreign}
-use Rattle.private_lru.specs.declared.stay.Stay.{Stay}
+use Rattle.private_lru.specs.declared.exclusive_span.ExclusiveSpan.{ExclusiveSpan}
 
 -- ---- lists
 
@@ -42,7 +42,7 @@ position_or_len-is p (x ∷ xs) (suc r) le before there =
 
 -- ---- one group
 
-module _ (sets : ℕ) (opening : What) (entries : List SliceEntry) (s : Stay) (end : ℕ) (is : IsEnd sets opening entries s end) where
+module _ (sets : ℕ) (opening : What) (entries : List SliceEntry) (s : ExclusiveSpan) (end : ℕ) (is : IsEnd sets opening entries s end) where
   abbrev group : ℕ
   group = s.gid.0
 
@@ -160,7 +160,7 @@ module _ (sets : ℕ) (opening : What) (entries : List SliceEntry) (s : Stay) (e
 
 -- ---- all groups
 
-pub AreCounted-tallies : (sets : ℕ) (opening : What) (entries : List SliceEntry) (stays : List Stay) (ends : List ℕ) (tallies : List WindowCounts) → AreEnds sets opening entries stays ends
+pub AreCounted-tallies : (sets : ℕ) (opening : What) (entries : List SliceEntry) (stays : List ExclusiveSpan) (ends : List ℕ) (tallies : List WindowCounts) → AreEnds sets opening entries stays ends
     → AreTallies entries (length entries) stays ends tallies → AreCounted sets opening entries stays tallies
 AreCounted-tallies sets opening entries stays ends tallies are counted = record {
   same = counted.same;

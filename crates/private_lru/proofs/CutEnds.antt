@@ -10,7 +10,7 @@ use Rattle.private_lru.specs.Covered.{is_loaded_use, is_own, is_use, loads}
 use Rattle.private_lru.specs.Cuts.{AreCuts, AreReaches, IsCut, IsOwnUse, IsReach}
 use Rattle.private_lru.specs.Ends.{AreEnds, IsEnd, IsHeld, held_len}
 use Rattle.private_lru.specs.Uses.{AreUses, IsUseIn, StandsAt, access_of, is_foreign, use_at}
-use Rattle.private_lru.specs.declared.stay.Stay.{Stay}
+use Rattle.private_lru.specs.declared.exclusive_span.ExclusiveSpan.{ExclusiveSpan}
 use Rattle.private_lru.specs.declared.uses.Access.{Access}
 use Rattle.private_lru.specs.declared.uses.LineUse.{LineUse}
 
@@ -25,7 +25,7 @@ module _ (sets : ℕ) (opening : What) (entries : List SliceEntry) (uses : List 
   access-of : (i : ℕ) (u : LineUse) → slice_get uses i ≡ Some u → IsUseIn entries u
   access-of i u at = subst (IsUseIn entries) (get_or_from_slice_get uses i u u at) (are.each i u (slice_get_within uses i u at))
 
-  module _ (s : Stay) (reach end : ℕ) (reaches : IsReach entries (length entries) s reach) (cut : IsCut sets opening uses (length uses) (length entries) s reach end) where
+  module _ (s : ExclusiveSpan) (reach end : ℕ) (reaches : IsReach entries (length entries) s reach) (cut : IsCut sets opening uses (length uses) (length entries) s reach end) where
     abbrev group : ℕ
     group = s.gid.0
 
@@ -91,7 +91,7 @@ module _ (sets : ℕ) (opening : What) (entries : List SliceEntry) (uses : List 
     pub IsEnd-cut : IsEnd sets opening entries s end
     IsEnd-cut = record { loaded = end-loaded; before = end-before; reached = end-reached }
 
-  pub AreEnds-cuts : (stays : List Stay) (reaches ends : List ℕ) → AreReaches entries (length entries) stays reaches → AreCuts sets opening uses (length uses) (length entries) stays reaches ends → AreEnds sets opening entries stays ends
+  pub AreEnds-cuts : (stays : List ExclusiveSpan) (reaches ends : List ℕ) → AreReaches entries (length entries) stays reaches → AreCuts sets opening uses (length uses) (length entries) stays reaches ends → AreEnds sets opening entries stays ends
   AreEnds-cuts stays reaches ends reach cuts = record {
     same = cuts.same;
     each = λ j d within. IsEnd-cut (get_or stays j d) (get_or reaches j 0) (get_or ends j 0) (reach.each j d within) (cuts.each j d within);

@@ -5,13 +5,13 @@ use Rattle.std.proofs.lemmas.Bool.{cases_Bool, eqb-false, eqb-true, false≢true
 use Rattle.std.proofs.lemmas.List.{get_or-set_other, get_or-set_same, length-set}
 use Rattle.cache_core.specs.declared.entry.What.{What}
 use Rattle.private_lru.specs.Cuts.{AreCuts, AreEach, IsCut, IsStart, cut_by, loaded_by, shared_by}
-use Rattle.private_lru.specs.declared.stay.Stay.{Stay}
+use Rattle.private_lru.specs.declared.exclusive_span.ExclusiveSpan.{ExclusiveSpan}
 use Rattle.private_lru.specs.declared.uses.LineUse.{LineUse}
 use Rattle.private_lru.proofs.UseCuts.{IsCut-none, IsCut-next}
 
 -- the ends after a change of one of them
-pub AreEach-at : (u : LineUse) (at place : ℕ) (stays : List Stay) (reaches old : List ℕ) → place < length stays → length old ≡ length stays
-    → ((j : ℕ) (d : Stay) → j < length stays → eqb place j ≡ (eqb u.owner.0 (get_or stays j d).gid.0 && nat_le 0 (get_or stays j d).last))
+pub AreEach-at : (u : LineUse) (at place : ℕ) (stays : List ExclusiveSpan) (reaches old : List ℕ) → place < length stays → length old ≡ length stays
+    → ((j : ℕ) (d : ExclusiveSpan) → j < length stays → eqb place j ≡ (eqb u.owner.0 (get_or stays j d).gid.0 && nat_le 0 (get_or stays j d).last))
     → AreEach (cut_by u at) stays reaches old (set old place (cond (nat_lt u.at (get_or reaches place 0)) (min (get_or old place 0) at) (get_or old place 0)))
 AreEach-at u at place stays reaches old within len only = record {
   same = length-set old place new;
@@ -21,7 +21,7 @@ AreEach-at u at place stays reaches old within len only = record {
     new : ℕ
     new = cond (nat_lt u.at (get_or reaches place 0)) (min (get_or old place 0) at) (get_or old place 0)
 
-    own : (j : ℕ) (d : Stay) → j < length stays → eqb u.owner.0 (get_or stays j d).gid.0 ≡ eqb place j
+    own : (j : ℕ) (d : ExclusiveSpan) → j < length stays → eqb u.owner.0 (get_or stays j d).gid.0 ≡ eqb place j
     own j d inside =
         let low : nat_le 0 (get_or stays j d).last ≡ true = le-leb 0 (get_or stays j d).last (omega arith) in
         sym (only j d inside ∙ (ap (λ b. eqb u.owner.0 (get_or stays j d).gid.0 && b) low ∙ and_true (eqb u.owner.0 (get_or stays j d).gid.0)))
@@ -30,7 +30,7 @@ AreEach-at u at place stays reaches old within len only = record {
         and_true true = refl
         and_true false = refl
 
-    here : (j : ℕ) (d : Stay) → j < length stays → (b : Bool) → eqb place j ≡ b → get_or (set old place new) j 0 ≡ cut_by u at (get_or stays j d) (get_or reaches j 0) (get_or old j 0)
+    here : (j : ℕ) (d : ExclusiveSpan) → j < length stays → (b : Bool) → eqb place j ≡ b → get_or (set old place new) j 0 ≡ cut_by u at (get_or stays j d) (get_or reaches j 0) (get_or old j 0)
     here j d inside true same =
         let is : place ≡ j = eqb-true place j same in
         let is_own = own j d inside ∙ same in
@@ -43,11 +43,11 @@ AreEach-at u at place stays reaches old within len only = record {
         get_or-set_other old place j new 0 apart ∙ sym (ap (λ b. cond (b && nat_lt u.at (get_or reaches j 0)) (min (get_or old j 0) at) (get_or old j 0)) isnt_own)
 
 -- where it is none of these groups
-pub AreEach-none : (u : LineUse) (at : ℕ) (stays : List Stay) (reaches old : List ℕ)
-    → ((j : ℕ) (d : Stay) → j < length stays → false ≡ (eqb u.owner.0 (get_or stays j d).gid.0 && nat_le 0 (get_or stays j d).last)) → AreEach (cut_by u at) stays reaches old old
+pub AreEach-none : (u : LineUse) (at : ℕ) (stays : List ExclusiveSpan) (reaches old : List ℕ)
+    → ((j : ℕ) (d : ExclusiveSpan) → j < length stays → false ≡ (eqb u.owner.0 (get_or stays j d).gid.0 && nat_le 0 (get_or stays j d).last)) → AreEach (cut_by u at) stays reaches old old
 AreEach-none u at stays reaches old none = record { same = refl; each = each }
   where
-    each : (j : ℕ) (d : Stay) → j < length stays → get_or old j 0 ≡ cut_by u at (get_or stays j d) (get_or reaches j 0) (get_or old j 0)
+    each : (j : ℕ) (d : ExclusiveSpan) → j < length stays → get_or old j 0 ≡ cut_by u at (get_or stays j d) (get_or reaches j 0) (get_or old j 0)
     each j d inside = elim (cases_Bool (eqb u.owner.0 (get_or stays j d).gid.0)) [
       | inr isnt ↦ sym (ap (λ b. cond (b && nat_lt u.at (get_or reaches j 0)) (min (get_or old j 0) at) (get_or old j 0)) isnt)
       | inl is ↦
@@ -56,7 +56,7 @@ AreEach-none u at stays reaches old none = record { same = refl; each = each }
     ]
 
 -- one change after another
-pub AreEach-then : (f g : Stay → ℕ → ℕ → ℕ) (stays : List Stay) (reaches old mid new : List ℕ) → AreEach f stays reaches old mid → AreEach g stays reaches mid new
+pub AreEach-then : (f g : ExclusiveSpan → ℕ → ℕ → ℕ) (stays : List ExclusiveSpan) (reaches old mid new : List ℕ) → AreEach f stays reaches old mid → AreEach g stays reaches mid new
     → AreEach (λ s reach end. g s reach (f s reach end)) stays reaches old new
 AreEach-then f g stays reaches old mid new a b = record {
   same = b.same ∙ a.same;
@@ -64,14 +64,14 @@ AreEach-then f g stays reaches old mid new a b = record {
 }
 
 -- the same change by another name
-pub AreEach-as : (f g : Stay → ℕ → ℕ → ℕ) (stays : List Stay) (reaches old new : List ℕ) → ((s : Stay) (reach end : ℕ) → f s reach end ≡ g s reach end) → AreEach f stays reaches old new → AreEach g stays reaches old new
+pub AreEach-as : (f g : ExclusiveSpan → ℕ → ℕ → ℕ) (stays : List ExclusiveSpan) (reaches old new : List ℕ) → ((s : ExclusiveSpan) (reach end : ℕ) → f s reach end ≡ g s reach end) → AreEach f stays reaches old new → AreEach g stays reaches old new
 AreEach-as f g stays reaches old new same a = record { same = a.same; each = λ j d inside. a.each j d inside ∙ same (get_or stays j d) (get_or reaches j 0) (get_or old j 0) }
 
 -- no change
-pub AreEach-kept : (f : Stay → ℕ → ℕ → ℕ) (stays : List Stay) (reaches old : List ℕ) → ((s : Stay) (reach end : ℕ) → f s reach end ≡ end) → AreEach f stays reaches old old
+pub AreEach-kept : (f : ExclusiveSpan → ℕ → ℕ → ℕ) (stays : List ExclusiveSpan) (reaches old : List ℕ) → ((s : ExclusiveSpan) (reach end : ℕ) → f s reach end ≡ end) → AreEach f stays reaches old old
 AreEach-kept f stays reaches old same = record { same = refl; each = λ j d inside. sym (same (get_or stays j d) (get_or reaches j 0) (get_or old j 0)) }
 
-module _ (sets : ℕ) (opening : What) (uses : List LineUse) (none : ℕ) (stays : List Stay) (reaches : List ℕ) where
+module _ (sets : ℕ) (opening : What) (uses : List LineUse) (none : ℕ) (stays : List ExclusiveSpan) (reaches : List ℕ) where
   -- no use so far
   pub AreCuts-none : (ends : List ℕ) → length ends ≡ length stays → ((j : ℕ) → j < length stays → get_or ends j 0 ≡ none) → AreCuts sets opening uses 0 none stays reaches ends
   AreCuts-none ends same each = record {
@@ -86,7 +86,7 @@ module _ (sets : ℕ) (opening : What) (uses : List LineUse) (none : ℕ) (stays
   AreCuts-next n start first next ends mid new at_first at_next early begins were a b = record {
     same = b.same ∙ (a.same ∙ were.same);
     each = λ j d within.
-        let s : Stay = get_or stays j d in
+        let s : ExclusiveSpan = get_or stays j d in
         let reach : ℕ = get_or reaches j 0 in
         let is : get_or new j 0 ≡ shared_by first next s reach (loaded_by sets opening next s reach (get_or ends j 0)) = b.each j d within ∙ ap (shared_by first next s reach) (a.each j d within) in
         subst (IsCut sets opening uses (n + 1) none s reach) (sym is) (IsCut-next sets opening uses none s reach n start (get_or ends j 0) first next at_first at_next early begins (were.each j d within));

@@ -10,20 +10,20 @@ use Rattle.private_lru.specs.Covered.{is_own}
 use Rattle.private_lru.specs.Cuts.{AreReaches, IsReach}
 use Rattle.private_lru.specs.Ends.{IsHigh, held_len}
 use Rattle.private_lru.specs.Uses.{StandsAt}
-use Rattle.private_lru.specs.declared.stay.Stay.{Stay}
+use Rattle.private_lru.specs.declared.exclusive_span.ExclusiveSpan.{ExclusiveSpan}
 
 module _ (entries : List SliceEntry) where
   -- before the first entry
-  pub IsReach-none : (s : Stay) → IsReach entries 0 s 0
+  pub IsReach-none : (s : ExclusiveSpan) → IsReach entries 0 s 0
   IsReach-none s = record { most = omega arith; each = λ q e at own lt. absurd (omega (arith, lt)) }
 
-  pub AreReaches-none : (stays : List Stay) (reaches : List ℕ) → length reaches ≡ length stays → ((j : ℕ) → j < length stays → get_or reaches j 0 ≡ 0) → AreReaches entries 0 stays reaches
+  pub AreReaches-none : (stays : List ExclusiveSpan) (reaches : List ℕ) → length reaches ≡ length stays → ((j : ℕ) → j < length stays → get_or reaches j 0 ≡ 0) → AreReaches entries 0 stays reaches
   AreReaches-none stays reaches same each = record {
     same = same;
     each = λ j d within. subst (IsReach entries 0 (get_or stays j d)) (sym (each j within)) (IsReach-none (get_or stays j d));
   }
 
-  module _ (n : ℕ) (e : SliceEntry) (there : StandsAt entries n e) (s : Stay) (reach : ℕ) (was : IsReach entries n s reach) where
+  module _ (n : ℕ) (e : SliceEntry) (there : StandsAt entries n e) (s : ExclusiveSpan) (reach : ℕ) (was : IsReach entries n s reach) where
     is_here : (q : ℕ) (x : SliceEntry) → StandsAt entries q x → q ≡ n → e ≡ x
     is_here q x at same = same_Some e x (sym there ∙ (ap (slice_get entries) (sym same) ∙ at))
 
@@ -49,26 +49,26 @@ module _ (entries : List SliceEntry) where
       each = λ q x at own lt. lt-ltb q (n + 1) lt ∙ sym (lt-ltb q (held_len s.last entries) (omega (arith, lt, on)));
     }
 
-  module _ (stays : List Stay) (n high : ℕ) (e : SliceEntry) (reaches : List ℕ) (there : StandsAt entries n e) (is_high : IsHigh entries (n + 1) high) (were : AreReaches entries n stays reaches) where
+  module _ (stays : List ExclusiveSpan) (n high : ℕ) (e : SliceEntry) (reaches : List ℕ) (there : StandsAt entries n e) (is_high : IsHigh entries (n + 1) high) (were : AreReaches entries n stays reaches) where
     -- an entry that is no access of a group in its window is told by the highest epoch
-    past : (j : ℕ) (d : Stay) → j < length stays → (is_own (get_or stays j d).gid.0 e.what && nat_le high (get_or stays j d).last) ≡ false → IsReach entries (n + 1) (get_or stays j d) (get_or reaches j 0)
+    past : (j : ℕ) (d : ExclusiveSpan) → j < length stays → (is_own (get_or stays j d).gid.0 e.what && nat_le high (get_or stays j d).last) ≡ false → IsReach entries (n + 1) (get_or stays j d) (get_or reaches j 0)
     past j d within isnt = IsReach-past n e there (get_or stays j d) (get_or reaches j 0) (were.each j d within)
         (ap (λ b. is_own (get_or stays j d).gid.0 e.what && b) (sym (held_len-high entries n high (get_or stays j d).last e there is_high)) ∙ isnt)
 
     -- past an entry that is no access of any of them in its window
-    pub AreReaches-past : ((j : ℕ) (d : Stay) → j < length stays → (is_own (get_or stays j d).gid.0 e.what && nat_le high (get_or stays j d).last) ≡ false) → AreReaches entries (n + 1) stays reaches
+    pub AreReaches-past : ((j : ℕ) (d : ExclusiveSpan) → j < length stays → (is_own (get_or stays j d).gid.0 e.what && nat_le high (get_or stays j d).last) ≡ false) → AreReaches entries (n + 1) stays reaches
     AreReaches-past none = record { same = were.same; each = λ j d within. past j d within (none j d within) }
 
     -- past an access of one of them in its window
     pub AreReaches-own : (place : ℕ) → place < length stays
-        → ((j : ℕ) (d : Stay) → j < length stays → eqb place j ≡ (is_own (get_or stays j d).gid.0 e.what && nat_le high (get_or stays j d).last))
+        → ((j : ℕ) (d : ExclusiveSpan) → j < length stays → eqb place j ≡ (is_own (get_or stays j d).gid.0 e.what && nat_le high (get_or stays j d).last))
         → AreReaches entries (n + 1) stays (set reaches place (n + 1))
     AreReaches-own place within only = record {
       same = length-set reaches place (n + 1) ∙ were.same;
       each = λ j d inside. at j d inside (eqb place j) refl;
     }
       where
-        at : (j : ℕ) (d : Stay) → j < length stays → (b : Bool) → eqb place j ≡ b → IsReach entries (n + 1) (get_or stays j d) (get_or (set reaches place (n + 1)) j 0)
+        at : (j : ℕ) (d : ExclusiveSpan) → j < length stays → (b : Bool) → eqb place j ≡ b → IsReach entries (n + 1) (get_or stays j d) (get_or (set reaches place (n + 1)) j 0)
         at j d inside true same =
             let here : place ≡ j = eqb-true place j same in
             let both = and_parts (is_own (get_or stays j d).gid.0 e.what) (nat_le high (get_or stays j d).last) (sym (only j d inside) ∙ same) in

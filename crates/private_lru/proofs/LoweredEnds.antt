@@ -5,10 +5,10 @@ use Rattle.std.proofs.lemmas.Bool.{and_parts, cases_Bool, cases_lt, eq-eqb, eqb-
 use Rattle.cache_core.specs.declared.entry.What.{What}
 use Rattle.private_lru.specs.Covered.{loads}
 use Rattle.private_lru.specs.Cuts.{IsOwnUse, cut_by, loaded_by, shared_by}
-use Rattle.private_lru.specs.declared.stay.Stay.{Stay}
+use Rattle.private_lru.specs.declared.exclusive_span.ExclusiveSpan.{ExclusiveSpan}
 use Rattle.private_lru.specs.declared.uses.LineUse.{LineUse}
 
-module _ (u : LineUse) (at : ℕ) (s : Stay) (reach end : ℕ) where
+module _ (u : LineUse) (at : ℕ) (s : ExclusiveSpan) (reach end : ℕ) where
   -- a use of the group in its window
   pub cut_by-own : IsOwnUse s reach u → cut_by u at s reach end ≡ min end at
   cut_by-own own = rw (eq-eqb u.owner.0 s.gid.0 own.0, lt-ltb u.at reach own.1) refl
@@ -29,7 +29,7 @@ module _ (u : LineUse) (at : ℕ) (s : Stay) (reach end : ℕ) where
     | inr cut ↦ let same = cut.1 in omega (arith, same)
   ]
 
-module _ (sets : ℕ) (opening : What) (u : LineUse) (s : Stay) (reach end : ℕ) where
+module _ (sets : ℕ) (opening : What) (u : LineUse) (s : ExclusiveSpan) (reach end : ℕ) where
   -- a use of a line that was loaded
   pub loaded_by-own : loads sets opening u.line ≡ true → IsOwnUse s reach u → loaded_by sets opening u s reach end ≡ 0
   loaded_by-own is own =
@@ -46,7 +46,7 @@ module _ (sets : ℕ) (opening : What) (u : LineUse) (s : Stay) (reach end : ℕ
     ]
   ]
 
-module _ (a b : LineUse) (s : Stay) (reach end : ℕ) where
+module _ (a b : LineUse) (s : ExclusiveSpan) (reach end : ℕ) where
   -- where they are of one group
   shared_by-same : eqb a.owner.0 b.owner.0 ≡ true → shared_by a b s reach end ≡ end
   shared_by-same is = ap (λ c. cond c end (cut_by b a.at s reach (cut_by a b.at s reach end))) is

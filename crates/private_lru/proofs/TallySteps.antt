@@ -14,7 +14,7 @@ use Rattle.private_lru.proofs.HighEpochs.{held_len-high}
 use Rattle.private_lru.specs.Uses.{StandsAt}
 use Rattle.private_lru.specs.Ends.{IsHigh, held_len}
 use Rattle.private_lru.specs.Tallies.{AreTallies, IsTally}
-use Rattle.private_lru.specs.declared.stay.Stay.{Stay}
+use Rattle.private_lru.specs.declared.exclusive_span.ExclusiveSpan.{ExclusiveSpan}
 
 -- what stands past the end of a list of counts
 abbrev pub no_counts : WindowCounts
@@ -57,7 +57,7 @@ count_by-min_zero p xs bound = let none : min 0 bound ≡ 0 = omega arith in ap 
 
 -- ---- one group
 
-module _ (entries : List SliceEntry) (s : Stay) (end : ℕ) where
+module _ (entries : List SliceEntry) (s : ExclusiveSpan) (end : ℕ) where
   -- its accesses
   abbrev own : SliceEntry → Bool
   own e = is_own s.gid.0 e.what
@@ -120,7 +120,7 @@ module _ (entries : List SliceEntry) (s : Stay) (end : ℕ) where
 
 -- ---- all groups
 
-module _ (entries : List SliceEntry) (stays : List Stay) (ends : List ℕ) where
+module _ (entries : List SliceEntry) (stays : List ExclusiveSpan) (ends : List ℕ) where
   -- before the first entry
   pub AreTallies-none : (tallies : List WindowCounts) → length tallies ≡ length stays → ((j : ℕ) (c : WindowCounts) → j < length stays → get_or tallies j c ≡ no_counts) → AreTallies entries 0 stays ends tallies
   AreTallies-none tallies same each = record {
@@ -133,19 +133,19 @@ module _ (entries : List SliceEntry) (stays : List Stay) (ends : List ℕ) where
     here = get_or entries n e
 
     -- an entry that is counted in no window stays so by its place
-    not_held : (s : Stay) → (is_own s.gid.0 here.what && nat_le high s.last) ≡ false → (is_own s.gid.0 here.what && nat_lt n (held_len s.last entries)) ≡ false
+    not_held : (s : ExclusiveSpan) → (is_own s.gid.0 here.what && nat_le high s.last) ≡ false → (is_own s.gid.0 here.what && nat_lt n (held_len s.last entries)) ≡ false
     not_held s isnt = ap (λ b. is_own s.gid.0 here.what && b) (sym (held_len-high entries n high s.last here there is_high)) ∙ isnt
 
     -- past an entry that is no access of any of them in its window
-    pub AreTallies-past : ((j : ℕ) (d : Stay) → j < length stays → (is_own (get_or stays j d).gid.0 here.what && nat_le high (get_or stays j d).last) ≡ false) → AreTallies entries (n + 1) stays ends tallies
+    pub AreTallies-past : ((j : ℕ) (d : ExclusiveSpan) → j < length stays → (is_own (get_or stays j d).gid.0 here.what && nat_le high (get_or stays j d).last) ≡ false) → AreTallies entries (n + 1) stays ends tallies
     AreTallies-past none = record {
       same = were.same;
       each = λ j d c inside. IsTally-past entries (get_or stays j d) (get_or ends j 0) n e within (get_or tallies j c) (were.each j d c inside) (not_held (get_or stays j d) (none j d inside));
     }
 
     -- past an access of one of them in its window
-    pub AreTallies-own : (place : ℕ) (next : WindowCounts) (s : Stay) (hit : Bool) → place < length stays
-        → ((j : ℕ) (d : Stay) → j < length stays → eqb place j ≡ (is_own (get_or stays j d).gid.0 here.what && nat_le high (get_or stays j d).last))
+    pub AreTallies-own : (place : ℕ) (next : WindowCounts) (s : ExclusiveSpan) (hit : Bool) → place < length stays
+        → ((j : ℕ) (d : ExclusiveSpan) → j < length stays → eqb place j ≡ (is_own (get_or stays j d).gid.0 here.what && nat_le high (get_or stays j d).last))
         → hit ≡ is_own_hit (get_or stays place s).gid.0 here.what
         → next.accesses ≡ 1 + (get_or tallies place no_counts).accesses → next.hits ≡ one_if hit + (get_or tallies place no_counts).hits
         → next.covered ≡ one_if (nat_lt n (get_or ends place 0)) + (get_or tallies place no_counts).covered
@@ -156,14 +156,14 @@ module _ (entries : List SliceEntry) (stays : List Stay) (ends : List ℕ) where
       each = λ j d c inside. at j d c inside (eqb place j) refl;
     }
       where
-        at : (j : ℕ) (d : Stay) (c : WindowCounts) → j < length stays → (b : Bool) → eqb place j ≡ b → IsTally entries (n + 1) (get_or stays j d) (get_or ends j 0) (get_or (set tallies place next) j c)
+        at : (j : ℕ) (d : ExclusiveSpan) (c : WindowCounts) → j < length stays → (b : Bool) → eqb place j ≡ b → IsTally entries (n + 1) (get_or stays j d) (get_or ends j 0) (get_or (set tallies place next) j c)
         at j d c inside true same =
             let is_j : place ≡ j = eqb-true place j same in
             let len = were.same in
             let new : get_or (set tallies place next) place c ≡ next = get_or-set_same tallies place next c (omega (arith, placed, len)) in
             let both = and_parts (is_own (get_or stays place d).gid.0 here.what) (nat_le high (get_or stays place d).last) (sym (only place d placed) ∙ (ap (eqb place) is_j ∙ same)) in
             let on = sym (held_len-high entries n high (get_or stays place d).last here there is_high) ∙ both.1 in
-            let group : is_own_hit (get_or stays place d).gid.0 here.what ≡ hit = ap (λ (y : Stay). is_own_hit y.gid.0 here.what) (get_or_default stays place d s placed) ∙ sym is_hit in
+            let group : is_own_hit (get_or stays place d).gid.0 here.what ≡ hit = ap (λ (y : ExclusiveSpan). is_own_hit y.gid.0 here.what) (get_or_default stays place d s placed) ∙ sym is_hit in
             subst (λ k. IsTally entries (n + 1) (get_or stays k d) (get_or ends k 0) (get_or (set tallies place next) k c)) is_j
             (subst (IsTally entries (n + 1) (get_or stays place d) (get_or ends place 0)) (sym new)
             (IsTally-own entries (get_or stays place d) (get_or ends place 0) n e within (get_or tallies place no_counts) (were.each place d no_counts placed) next hit both.0 group

@@ -6,11 +6,11 @@ use Rattle.std.proofs.lemmas.Option.{same_Some}
 use Rattle.cache_core.specs.declared.entry.What.{What}
 use Rattle.private_lru.specs.Covered.{loads}
 use Rattle.private_lru.specs.Cuts.{IsCut, IsOtherUse, IsOwnUse, IsStart, loaded_by, shared_by}
-use Rattle.private_lru.specs.declared.stay.Stay.{Stay}
+use Rattle.private_lru.specs.declared.exclusive_span.ExclusiveSpan.{ExclusiveSpan}
 use Rattle.private_lru.specs.declared.uses.LineUse.{LineUse}
 use Rattle.private_lru.proofs.LoweredEnds.{loaded_by-own, loaded_by-or, shared_by-le, shared_by-second, shared_by-first, shared_by-or}
 
-module _ (sets : ℕ) (opening : What) (uses : List LineUse) (none : ℕ) (s : Stay) (reach : ℕ) where
+module _ (sets : ℕ) (opening : What) (uses : List LineUse) (none : ℕ) (s : ExclusiveSpan) (reach : ℕ) where
   -- no use so far
   pub IsCut-none : IsCut sets opening uses 0 none s reach none
   IsCut-none = record {

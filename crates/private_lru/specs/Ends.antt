@@ -6,11 +6,11 @@ use Rattle.cache_core.specs.declared.entry.SliceEntry.{SliceEntry}
 use Rattle.cache_core.specs.declared.entry.What.{What}
 use Rattle.private_lru.specs.Covered.{is_loaded_use, is_use}
 use Rattle.private_lru.specs.Uses.{StandsAt, is_foreign}
-use Rattle.private_lru.specs.declared.stay.Stay.{Stay}
+use Rattle.private_lru.specs.declared.exclusive_span.ExclusiveSpan.{ExclusiveSpan}
 
 -- the groups rise
-abbrev pub RiseByGroup : List Stay → Type 0
-RiseByGroup stays = AllPairs (λ (a b : ℕ). a < b) (map (λ (s : Stay). s.gid.0) stays)
+abbrev pub RiseByGroup : List ExclusiveSpan → Type 0
+RiseByGroup stays = AllPairs (λ (a b : ℕ). a < b) (map (λ (s : ExclusiveSpan). s.gid.0) stays)
 
 -- how many of these entries a window holds that ends past this epoch; none of them empties the slice
 abbrev pub held_len : ℕ → List SliceEntry → ℕ
@@ -33,7 +33,7 @@ pub record IsHeld (entries : List SliceEntry) (last q : ℕ) (e : SliceEntry) : 
 
 -- No access of a group's window after the end of its covered ones is covered: the opening loaded the line of one, or another's
 -- access to such a line stands there. All before it are.
-pub record IsEnd (sets : ℕ) (opening : What) (entries : List SliceEntry) (s : Stay) (end : ℕ) : Type 0 where
+pub record IsEnd (sets : ℕ) (opening : What) (entries : List SliceEntry) (s : ExclusiveSpan) (end : ℕ) : Type 0 where
   pub loaded : (q : ℕ) (e : SliceEntry) → IsHeld entries s.last q e → is_loaded_use sets s.gid.0 opening e.what ≡ true → end ≡ 0
   pub before : (q p x : ℕ) (e other : SliceEntry) → IsHeld entries s.last q e → is_use s.gid.0 x e.what ≡ true → StandsAt entries p other → p < end → is_foreign s.gid.0 x other.what ≡ false
   pub reached :
@@ -42,6 +42,6 @@ pub record IsEnd (sets : ℕ) (opening : What) (entries : List SliceEntry) (s : 
       × ((is_loaded_use sets s.gid.0 opening e.what ≡ true) ⊎ ((x : ℕ) × (is_use s.gid.0 x e.what ≡ true) × (is_foreign s.gid.0 x other.what ≡ true)))
 
 -- The ends of the covered accesses of these groups.
-pub record AreEnds (sets : ℕ) (opening : What) (entries : List SliceEntry) (stays : List Stay) (ends : List ℕ) : Type 0 where
+pub record AreEnds (sets : ℕ) (opening : What) (entries : List SliceEntry) (stays : List ExclusiveSpan) (ends : List ℕ) : Type 0 where
   pub same : length ends ≡ length stays
-  pub each : (j : ℕ) (d : Stay) → j < length stays → IsEnd sets opening entries (slice_index_or stays j d) (slice_index_or ends j 0)
+  pub each : (j : ℕ) (d : ExclusiveSpan) → j < length stays → IsEnd sets opening entries (slice_index_or stays j d) (slice_index_or ends j 0)

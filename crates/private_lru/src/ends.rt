@@ -5,9 +5,9 @@ ghost use Rattle.cache_core.specs.declared.entry.SliceEntry.{SliceEntry};
 ghost use Rattle.private_lru.specs.Cuts.{AreCuts, AreEach, IsStart, cut_by, loaded_by, shared_by};
 ghost use Rattle.private_lru.specs.Ends.{IsHigh, RiseByGroup, is_at};
 ghost use Rattle.private_lru.specs.Uses.{AreByLine};
-ghost use Rattle.private_lru.specs.declared.stay.Stay.{Stay};
+ghost use Rattle.private_lru.specs.declared.exclusive_span.ExclusiveSpan.{ExclusiveSpan};
 
-use crate::stay::Stay;
+use crate::exclusive_span::ExclusiveSpan;
 use crate::users::loads;
 use crate::uses::LineUse;
 use cache_core::{SliceEntry, What};
@@ -32,17 +32,17 @@ pub(crate) fn high_after(entries: &[SliceEntry], at: usize, high: u64) -> u64
 }
 
 // How many of these groups were made before one.
-fn count_before(stays: &[Stay], gid: Gid) -> usize
+fn count_before(stays: &[ExclusiveSpan], gid: Gid) -> usize
     requires rising { RiseByGroup stays.now }
-    ensures before { AllWithin (λ (s : Stay). s.gid.0 < gid.0) stays.now 0 result }
-    ensures rest { AllWithin (λ (s : Stay). gid.0 ≤ s.gid.0) stays.now result (length stays.now) }
+    ensures before { AllWithin (λ (s : ExclusiveSpan). s.gid.0 < gid.0) stays.now 0 result }
+    ensures rest { AllWithin (λ (s : ExclusiveSpan). gid.0 ≤ s.gid.0) stays.now result (length stays.now) }
     ensures within { result ≤ length stays.now }
 {
     stays.partition_point(|stay| stay.gid.0 < gid.0)
 }
 
 // Whether it is this group, and its window goes on up to this epoch.
-fn is_open(stay: Stay, gid: Gid, high: u64) -> bool
+fn is_open(stay: ExclusiveSpan, gid: Gid, high: u64) -> bool
     ensures { result ≡ ((gid.0 == stay.gid.0) && nat_le high stay.last) }
 {
     gid.0 == stay.gid.0 && high <= stay.last
@@ -57,9 +57,9 @@ fn place_if(place: usize, holds: bool) -> Option<usize>
 }
 
 /// The place of a group among these, where its window goes on up to this epoch.
-pub(crate) fn place_of(stays: &[Stay], gid: Gid, high: u64) -> Option<usize>
+pub(crate) fn place_of(stays: &[ExclusiveSpan], gid: Gid, high: u64) -> Option<usize>
     requires rising { RiseByGroup stays.now }
-    ensures at { (j : ℕ) (d : Stay) → j < length stays.now → is_at result j ≡ ((gid.0 == (slice_index_or stays.now j d).gid.0) && nat_le high (slice_index_or stays.now j d).last) }
+    ensures at { (j : ℕ) (d : ExclusiveSpan) → j < length stays.now → is_at result j ≡ ((gid.0 == (slice_index_or stays.now j d).gid.0) && nat_le high (slice_index_or stays.now j d).last) }
     ensures within { IfSome result (λ i. i < length stays.now) }
 {
     let place = count_before(stays, gid);
@@ -81,7 +81,7 @@ fn end_by(end: usize, reach: usize, user: LineUse, at: usize) -> usize
 }
 
 // The covered accesses of the group of a use in its window end there at the latest.
-fn cut(ends: &mut [usize], stays: &[Stay], reaches: &[usize], user: LineUse, at: usize)
+fn cut(ends: &mut [usize], stays: &[ExclusiveSpan], reaches: &[usize], user: LineUse, at: usize)
     requires rising { RiseByGroup stays.now }
     requires reaches { length reaches.now ≡ length stays.now }
     requires ends { length ends.old ≡ length stays.now }
@@ -96,7 +96,7 @@ fn cut(ends: &mut [usize], stays: &[Stay], reaches: &[usize], user: LineUse, at:
 // No access of a group is covered, where the opening loaded the line of one.
 fn cut_loaded(
     ends: &mut [usize],
-    stays: &[Stay],
+    stays: &[ExclusiveSpan],
     reaches: &[usize],
     sets: u32,
     opening: What,
@@ -113,7 +113,13 @@ fn cut_loaded(
 }
 
 // Of two uses of a line by two groups, each ends what is covered of the other.
-fn cut_shared(ends: &mut [usize], stays: &[Stay], reaches: &[usize], first: LineUse, next: LineUse)
+fn cut_shared(
+    ends: &mut [usize],
+    stays: &[ExclusiveSpan],
+    reaches: &[usize],
+    first: LineUse,
+    next: LineUse,
+)
     requires rising { RiseByGroup stays.now }
     requires reaches { length reaches.now ≡ length stays.now }
     requires ends { length ends.old ≡ length stays.now }
@@ -143,7 +149,7 @@ fn start_of(uses: &[LineUse], start: usize, next: usize) -> usize
 // The ends with a use more.
 fn cut_use(
     ends: &mut [usize],
-    stays: &[Stay],
+    stays: &[ExclusiveSpan],
     reaches: &[usize],
     sets: u32,
     opening: What,
@@ -168,7 +174,7 @@ fn cut_use(
 /// are.
 pub(crate) fn ends_of(
     alloc: Global,
-    stays: &[Stay],
+    stays: &[ExclusiveSpan],
     reaches: &[usize],
     sets: u32,
     opening: What,

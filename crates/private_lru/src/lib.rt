@@ -4,17 +4,17 @@
 
 pub mod counts;
 mod ends;
+pub mod exclusive_span;
 pub mod item;
 pub mod private;
 mod reaches;
-pub mod stay;
 pub mod tallies;
 pub mod theorems;
 pub mod users;
 mod uses;
 
 pub use counts::WindowCounts;
+pub use exclusive_span::ExclusiveSpan;
 pub use item::Item;
 pub use private::private_hits;
-pub use stay::Stay;
 pub use tallies::counts_of;

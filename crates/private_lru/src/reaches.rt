@@ -4,14 +4,20 @@ ghost use Rattle.private_lru.specs.Cuts.{AreReaches};
 ghost use Rattle.private_lru.specs.Ends.{IsHigh, RiseByGroup};
 
 use crate::ends::high_after;
-use crate::stay::Stay;
+use crate::exclusive_span::ExclusiveSpan;
 use crate::tallies::place_at;
 use cache_core::SliceEntry;
 use rc_base::NoMemory;
 use std::alloc::Global;
 
 // The positions with an entry more.
-fn reach_entry(reaches: &mut [usize], stays: &[Stay], entries: &[SliceEntry], at: usize, high: u64)
+fn reach_entry(
+    reaches: &mut [usize],
+    stays: &[ExclusiveSpan],
+    entries: &[SliceEntry],
+    at: usize,
+    high: u64,
+)
     requires rising { RiseByGroup stays.now }
     requires high { IsHigh entries.now (at + 1) high }
     requires within { at < length entries.now }
@@ -27,7 +33,7 @@ fn reach_entry(reaches: &mut [usize], stays: &[Stay], entries: &[SliceEntry], at
 /// For each of these groups, a position after all its accesses in its window, and before its other ones.
 pub(crate) fn reaches_of(
     alloc: Global,
-    stays: &[Stay],
+    stays: &[ExclusiveSpan],
     entries: &[SliceEntry],
 ) -> Result<Vec<usize>, NoMemory>
     requires rising { RiseByGroup stays.now }

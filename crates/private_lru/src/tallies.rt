@@ -4,12 +4,12 @@ ghost use Rattle.lists.specs.Sums.{one_if};
 ghost use Rattle.private_lru.specs.Covered.{is_own};
 ghost use Rattle.private_lru.specs.Ends.{AreEnds, IsHigh, RiseByGroup, is_at};
 ghost use Rattle.private_lru.specs.Tallies.{AreCounted, AreTallies};
-ghost use Rattle.private_lru.specs.declared.stay.Stay.{Stay};
+ghost use Rattle.private_lru.specs.declared.exclusive_span.ExclusiveSpan.{ExclusiveSpan};
 
 use crate::WindowCounts;
 use crate::ends::{ends_of, high_after, place_of};
+use crate::exclusive_span::ExclusiveSpan;
 use crate::reaches::reaches_of;
-use crate::stay::Stay;
 use crate::users::is_own_hit;
 use crate::uses::{access_of, uses_of};
 use cache_core::{SliceEntry, What};
@@ -17,9 +17,9 @@ use rc_base::NoMemory;
 use std::alloc::Global;
 
 /// The place of the group whose access it is in its window.
-pub(crate) fn place_at(stays: &[Stay], what: What, high: u64) -> Option<usize>
+pub(crate) fn place_at(stays: &[ExclusiveSpan], what: What, high: u64) -> Option<usize>
     requires rising { RiseByGroup stays.now }
-    ensures at { (j : ℕ) (d : Stay) → j < length stays.now → is_at result j ≡ (is_own (slice_index_or stays.now j d).gid.0 what && nat_le high (slice_index_or stays.now j d).last) }
+    ensures at { (j : ℕ) (d : ExclusiveSpan) → j < length stays.now → is_at result j ≡ (is_own (slice_index_or stays.now j d).gid.0 what && nat_le high (slice_index_or stays.now j d).last) }
     ensures within { IfSome result (λ i. i < length stays.now) }
 {
     match access_of(what) {
@@ -59,7 +59,7 @@ fn with_access(counts: WindowCounts, hit: bool, covered: bool) -> WindowCounts
 fn tally_entry(
     tallies: &mut [WindowCounts],
     ends: &[usize],
-    stays: &[Stay],
+    stays: &[ExclusiveSpan],
     entries: &[SliceEntry],
     at: usize,
     high: u64,
@@ -86,7 +86,7 @@ fn tally_entry(
 fn tallies_of(
     alloc: Global,
     ends: &[usize],
-    stays: &[Stay],
+    stays: &[ExclusiveSpan],
     entries: &[SliceEntry],
 ) -> Result<Vec<WindowCounts>, NoMemory>
     requires rising { RiseByGroup stays.now }
@@ -111,7 +111,7 @@ fn tallies_of(
 /// What is counted of the windows of these groups after an opening, from the entries up to the next one and their uses line by line.
 pub fn counts_of(
     alloc: Global,
-    stays: &[Stay],
+    stays: &[ExclusiveSpan],
     sets: u32,
     opening: What,
     entries: &[SliceEntry],

@@ -18,7 +18,7 @@ use Rattle.run_windows.specs.Fronts.{front_of}
 use Rattle.private_lru.specs.Tallies.{IsCounted}
 use Rattle.run_windows.specs.WindowCounts.{IsCountedWindow}
 use Rattle.run_windows.specs.Windows.{StaysExclusive, ends_window}
-use Rattle.private_lru.specs.declared.stay.Stay.{Stay}
+use Rattle.private_lru.specs.declared.exclusive_span.ExclusiveSpan.{ExclusiveSpan}
 use Rattle.script_ops.specs.Values.{IsLawful, ScriptValue}
 
 -- an entry that empties the slice
@@ -49,7 +49,7 @@ ends_window-le last (e ∷ rest) = elim (cases_Bool (empties e.what)) [
   ])
 ]
 
-module _ (script : ScriptValue) (j : JournalsValue) (domain slice from : ℕ) (opening : SliceEntry) (s : Stay) where
+module _ (script : ScriptValue) (j : JournalsValue) (domain slice from : ℕ) (opening : SliceEntry) (s : ExclusiveSpan) where
   abbrev entries : List SliceEntry
   entries = slice_at j (slice_number script.machine domain slice)
 

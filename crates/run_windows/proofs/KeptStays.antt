@@ -27,7 +27,7 @@ use Rattle.tree_law.proofs.laws.RisingGroups.{AreRisen, AreRisen-next, AreRisen-
 use Rattle.run_windows.specs.Epochs.{state_at}
 use Rattle.run_windows.specs.Stays.{AreStays, is_same, mask_of, stay_of, exclusive_of, exclusive_in}
 use Rattle.run_windows.specs.Windows.{IsExclusive, StaysExclusive}
-use Rattle.private_lru.specs.declared.stay.Stay.{Stay}
+use Rattle.private_lru.specs.declared.exclusive_span.ExclusiveSpan.{ExclusiveSpan}
 use Rattle.run_windows.specs.declared.exclusive_group.ExclusiveGroup.{ExclusiveGroup}
 use Rattle.script_ops.specs.Values.{IsLawful, ScriptValue}
 use Rattle.tree_law.specs.Existing.{group_of}
@@ -35,15 +35,15 @@ use Rattle.tree_law.specs.State.{State}
 use Rattle.run_law.proofs.laws.SoundHistories.{IsTaken-at}
 
 -- the gids of these
-abbrev pub gids : List Stay → List ℕ
-gids stays = map (λ (s : Stay). s.gid.0) stays
+abbrev pub gids : List ExclusiveSpan → List ℕ
+gids stays = map (λ (s : ExclusiveSpan). s.gid.0) stays
 
 -- and of these
 abbrev exclusive_gids : List ExclusiveGroup → List ℕ
 exclusive_gids exclusive = map (λ (t : ExclusiveGroup). t.gid.0) exclusive
 
 -- they are the same with their last epochs
-gids-stay_of : (domain last : ℕ) (next : List Stay) (exclusive : List ExclusiveGroup) → gids (map (stay_of domain last next) exclusive) ≡ exclusive_gids exclusive
+gids-stay_of : (domain last : ℕ) (next : List ExclusiveSpan) (exclusive : List ExclusiveGroup) → gids (map (stay_of domain last next) exclusive) ≡ exclusive_gids exclusive
 gids-stay_of domain last next [] = refl
 gids-stay_of domain last next (t ∷ ts) = ap (λ (xs : List ℕ). t.gid.0 ∷ xs) (gids-stay_of domain last next ts)
 
@@ -128,21 +128,21 @@ module _ (script : ScriptValue) (j : JournalsValue) (lawful : IsLawful script) (
       exclusive_in-all (state_at script j k).groups group x.0 x.1 x.2.0
 
   -- the group of a stay of the next change, where it has the same mask
-  StaysExclusive-same : (end : ℕ) (next : List Stay) (t : ExclusiveGroup) (later : Stay) → AreStays script j domain end next → find (is_same domain t) next ≡ Some later → StaysExclusive script j domain t.gid (mask_of domain t) end later.last
+  StaysExclusive-same : (end : ℕ) (next : List ExclusiveSpan) (t : ExclusiveGroup) (later : ExclusiveSpan) → AreStays script j domain end next → find (is_same domain t) next ≡ Some later → StaysExclusive script j domain t.gid (mask_of domain t) end later.last
   StaysExclusive-same end next t later after found =
       let f = find-found (is_same domain t) next later found in
       let same = both_eqb-true later.gid.0 t.gid.0 later.mask (mask_of domain t) f.passes in
-      let its : StaysExclusive script j domain later.gid later.mask end later.last = subst (λ (x : Stay). StaysExclusive script j domain x.gid x.mask end x.last) (f.at later) (after.each f.place later f.within) in
+      let its : StaysExclusive script j domain later.gid later.mask end later.last = subst (λ (x : ExclusiveSpan). StaysExclusive script j domain x.gid x.mask end x.last) (f.at later) (after.each f.place later f.within) in
       subst (λ n. StaysExclusive script j domain (record { 0 = n }) (mask_of domain t) end later.last) same.0 (subst (λ n. StaysExclusive script j domain later.gid n end later.last) same.1 its)
 
   -- a group that none of the next change's stays has with the same mask is not exclusive on it then
-  IsExclusive-other : (end : ℕ) (next : List Stay) (t : ExclusiveGroup) → AreStays script j domain end next → find (is_same domain t) next ≡ None → IsAt end t → ⊥
+  IsExclusive-other : (end : ℕ) (next : List ExclusiveSpan) (t : ExclusiveGroup) → AreStays script j domain end next → find (is_same domain t) next ≡ None → IsAt end t → ⊥
   IsExclusive-other end next t after none here =
       let there = after.all t.gid (mask_of domain t) here in
-      let d : Stay = record { last = 0; gid = t.gid; mask = mask_of domain t } in
-      let within : there.0 < length next = omega (arith, there.1, length-map next (λ (x : Stay). x.gid.0)) in
-      let x : Stay = get_or next there.0 d in
-      let gid : x.gid.0 ≡ t.gid.0 = sym (get_or-map (λ (y : Stay). y.gid.0) next there.0 d) ∙ there.2 in
+      let d : ExclusiveSpan = record { last = 0; gid = t.gid; mask = mask_of domain t } in
+      let within : there.0 < length next = omega (arith, there.1, length-map next (λ (x : ExclusiveSpan). x.gid.0)) in
+      let x : ExclusiveSpan = get_or next there.0 d in
+      let gid : x.gid.0 ≡ t.gid.0 = sym (get_or-map (λ (y : ExclusiveSpan). y.gid.0) next there.0 d) ∙ there.2 in
       let its_own = after.each there.0 d within in
       let begins = its_own.from_first in
       let exclusive : IsExclusive domain x.gid x.mask (state_at script j end) = its_own.always end (omega arith) begins in
@@ -152,11 +152,11 @@ module _ (script : ScriptValue) (j : JournalsValue) (lawful : IsLawful script) (
 
   -- The exclusive groups from a change up to the next one, or to the end of the run: each with the last epoch that those of the
   -- next one tell, or else with the last epoch before it.
-  module _ (from end last : ℕ) (exclusive : List ExclusiveGroup) (next : List Stay) (ends : last + 1 ≡ end) (known : end ≤ length j.tree + 1)
+  module _ (from end last : ℕ) (exclusive : List ExclusiveGroup) (next : List ExclusiveSpan) (ends : last + 1 ≡ end) (known : end ≤ length j.tree + 1)
       (same : (k : ℕ) → from ≤ k → k < end → exclusive ≡ exclusive_at k) (after : end ≤ length j.tree → AreStays script j domain end next) (past : end ≡ length j.tree + 1 → next ≡ []) where
     -- one of them
-    StaysExclusive-last : (t : ExclusiveGroup) → ((k : ℕ) → from ≤ k → k < end → IsAt k t) → (k : ℕ) → from ≤ k → k < end → (o : Option Stay) → find (is_same domain t) next ≡ o
-        → StaysExclusive script j domain t.gid (mask_of domain t) k (option_map_or (λ (later : Stay). later.last) o last)
+    StaysExclusive-last : (t : ExclusiveGroup) → ((k : ℕ) → from ≤ k → k < end → IsAt k t) → (k : ℕ) → from ≤ k → k < end → (o : Option ExclusiveSpan) → find (is_same domain t) next ≡ o
+        → StaysExclusive script j domain t.gid (mask_of domain t) k (option_map_or (λ (later : ExclusiveSpan). later.last) o last)
     StaysExclusive-last t always k low high (Some later) found =
         let more : end ≤ length j.tree = elim (cases_eq (length j.tree + 1) end) [
           | inl all ↦ absurd (let none : None ≡ Some later = sym (ap (find (is_same domain t)) (past (sym all))) ∙ found in cc)
@@ -183,7 +183,7 @@ module _ (script : ScriptValue) (j : JournalsValue) (lawful : IsLawful script) (
     -- all of them
     pub AreStays-span : (k : ℕ) → from ≤ k → k < end → AreStays script j domain k (map (stay_of domain last next) exclusive)
     AreStays-span k low high = record {
-      each = All-map (λ (s : Stay). StaysExclusive script j domain s.gid s.mask k s.last) (stay_of domain last next) exclusive (λ i d within.
+      each = All-map (λ (s : ExclusiveSpan). StaysExclusive script j domain s.gid s.mask k s.last) (stay_of domain last next) exclusive (λ i d within.
           let t : ExclusiveGroup = get_or exclusive i d in
           StaysExclusive-last t (λ e first lt. subst (λ (l : List ExclusiveGroup). All (IsAt e) l) (sym (same e first lt)) (exclusive_at-each e (omega (arith, lt, known))) i d within) k low high (find (is_same domain t) next) refl);
       all = λ group mask is. subst (λ (l : List ℕ). Contains l group.0) (sym (gids-stay_of domain last next exclusive ∙ ap exclusive_gids (same k low high))) (exclusive_at-all k group mask is);

@@ -7,7 +7,7 @@ use Rattle.std.proofs.Math.Seq.{drop-cons}
 use Rattle.std.proofs.lemmas.Bool.{cases_lt}
 use Rattle.std.proofs.lemmas.List.{drop_all}
 use Rattle.std.proofs.lemmas.Option.{get_or_from_slice_get, same_Some, slice_get-get_or, slice_get_past, slice_get_within}
-use Rattle.private_lru.specs.declared.stay.Stay.{Stay}
+use Rattle.private_lru.specs.declared.exclusive_span.ExclusiveSpan.{ExclusiveSpan}
 use Rattle.run_law.specs.Journals.{At, JournalsValue}
 use Rattle.run_law.specs.Runs.{IsRun}
 use Rattle.run_windows.proofs.KeptStays.{AreStays-span, gids, exclusive_at}
@@ -47,7 +47,7 @@ module _ (script : ScriptValue) (j : JournalsValue) (ps : List Past) (are : AreC
   record Has (k i : ℕ) : Type 0 where
     last_is : (swept domain (length j.tree) ps k).last ≡ end_at (length j.tree) ps i - 1
     l : ℕ
-    next : List Stay
+    next : List ExclusiveSpan
     made : (swept domain (length j.tree) ps k).stays ≡ map (stay_of domain l next) (groups_at script j ps are i)
     rising : AreRising (gids (swept domain (length j.tree) ps k).stays)
     none : k ≡ 0 → (swept domain (length j.tree) ps k).stays ≡ []
@@ -84,15 +84,15 @@ module _ (script : ScriptValue) (j : JournalsValue) (ps : List Past) (are : AreC
       s : Swept
       s = swept domain end ps k
 
-      f : ExclusiveGroup → Stay
+      f : ExclusiveGroup → ExclusiveSpan
       f = stay_of domain s.last s.stays
 
       is : swept domain end ps (suc k) ≡ swept_over domain s p
       is = let at : i ≡ length ps - suc k = omega (arith, place) in swept-suc domain end ps k p (subst (λ n. slice_get ps n ≡ Some p) at there)
 
       own : map f (groups_at script j ps are (suc i)) ≡ s.stays
-      own = subst (λ (l : List Stay). map (stay_of domain s.last l) (groups_at script j ps are (suc i)) ≡ l) (sym h.made)
-          (map-stay_of domain h.l s.last h.next (groups_at script j ps are (suc i)) (subst (λ (l : List Stay). AreRising (gids l)) h.made h.rising))
+      own = subst (λ (l : List ExclusiveSpan). map (stay_of domain s.last l) (groups_at script j ps are (suc i)) ≡ l) (sym h.made)
+          (map-stay_of domain h.l s.last h.next (groups_at script j ps are (suc i)) (subst (λ (l : List ExclusiveSpan). AreRising (gids l)) h.made h.rising))
 
       stays_is : (swept domain end ps (suc k)).stays ≡ map f (edited p.edit (groups_at script j ps are (suc i)))
       stays_is = ap (λ (x : Swept). x.stays) is ∙ sym (map-edited domain s.last s.stays p.edit (groups_at script j ps are (suc i)) own)
@@ -129,7 +129,7 @@ module _ (script : ScriptValue) (j : JournalsValue) (ps : List Past) (are : AreC
               omega (arith, begins, lt, all))
 
       here : (e : ℕ) → p.from ≤ e → e < end_at end ps (suc i) → AreStays script j domain e (swept domain end ps (suc k)).stays
-      here e low high = subst (λ (l : List Stay). AreStays script j domain e l) (sym stays_is)
+      here e low high = subst (λ (l : List ExclusiveSpan). AreStays script j domain e l) (sym stays_is)
           (AreStays-span script j lawful run domain p.from (end_at end ps (suc i)) s.last (edited p.edit (groups_at script j ps are (suc i))) s.stays ends (end-within script j ps are (suc i)) (groups_at-epoch i p there) after past e low high)
 
   Has-all : (k i : ℕ) → k + i ≡ length ps → Has k i

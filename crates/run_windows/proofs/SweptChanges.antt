@@ -5,7 +5,7 @@ use Rattle.std.specs.Prelude.{slice_get}
 use Rattle.std.proofs.Math.Nat.{mul-div-le, mul-div_cancel_left}
 use Rattle.std.proofs.lemmas.Bool.{cases_lt}
 use Rattle.std.proofs.lemmas.Option.{slice_get-get_or}
-use Rattle.private_lru.specs.declared.stay.Stay.{Stay}
+use Rattle.private_lru.specs.declared.exclusive_span.ExclusiveSpan.{ExclusiveSpan}
 use Rattle.run_law.specs.Journals.{At}
 use Rattle.run_windows.proofs.LongerLists.{At-push}
 use Rattle.run_windows.specs.Sweeps.{IsSwept, Swept, swept, swept_over}
@@ -14,7 +14,7 @@ use Rattle.run_windows.specs.declared.sweep.Sweep.{Sweep}
 
 -- where a sweep stands
 pub swept-is : (s : Swept) (sweep : Sweep) → IsSwept s sweep → record { stays = sweep.stays.items; last = sweep.last } ≡ s
-swept-is s sweep is = ap₂ {C = Swept} (λ (l : List Stay) (n : ℕ). record { stays = l; last = n }) is.0 is.1
+swept-is s sweep is = ap₂ {C = Swept} (λ (l : List ExclusiveSpan) (n : ℕ). record { stays = l; last = n }) is.0 is.1
 
 -- one change further back
 pub swept-suc : (domain end : ℕ) (ps : List Past) (k : ℕ) (p : Past) → slice_get ps (length ps - suc k) ≡ Some p → swept domain end ps (suc k) ≡ swept_over domain (swept domain end ps k) p

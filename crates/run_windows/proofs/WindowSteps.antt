@@ -21,11 +21,11 @@ use Rattle.run_windows.specs.Epochs.{state_at}
 use Rattle.run_windows.specs.Sites.{Site}
 use Rattle.run_windows.specs.Stays.{AreStays}
 use Rattle.run_windows.specs.Windows.{IsExclusive}
-use Rattle.private_lru.specs.declared.stay.Stay.{Stay}
+use Rattle.private_lru.specs.declared.exclusive_span.ExclusiveSpan.{ExclusiveSpan}
 use Rattle.script_ops.specs.Values.{ScriptValue}
 
 -- what stands past the end of a list of these
-abbrev pub no_stay : Stay
+abbrev pub no_stay : ExclusiveSpan
 no_stay = record { gid = record { 0 = 0 }; mask = 0; last = 0 }
 
 -- and past the end of a list of entries
@@ -42,7 +42,7 @@ module _ (script : ScriptValue) (j : JournalsValue) where
   IsUsed-site s d x f g a b c e used = subst (IsUsed script j) (site-same s d x f g a b c e) used
 
   -- the group of a window is listed at the epoch of its opening
-  IsUsed-listed : (d x f g : ℕ) (e : SliceEntry) (stays : List Stay) → At (entries_of d x) f e → AreStays script j d e.epoch stays → IsUsed script j (site d x f g) → Contains (gids stays) g
+  IsUsed-listed : (d x f g : ℕ) (e : SliceEntry) (stays : List ExclusiveSpan) → At (entries_of d x) f e → AreStays script j d e.epoch stays → IsUsed script j (site d x f g) → Contains (gids stays) g
   IsUsed-listed d x f g e stays there listed used =
       let same : used.opening ≡ e = same_Some used.opening e (sym used.is.opens ∙ there) in
       let first = used.is.exclusive.from_first in
@@ -52,7 +52,7 @@ module _ (script : ScriptValue) (j : JournalsValue) where
       listed.all (gid_of g) used.mask (subst (λ (o : SliceEntry). IsExclusive d (gid_of g) used.mask (state_at script j o.epoch)) same own)
 
   -- up to the next group that is listed
-  pub AreWindowsBefore-stay : (d x f i : ℕ) (e : SliceEntry) (stays : List Stay) (ws : List Window) → At (entries_of d x) f e → AreStays script j d e.epoch stays → i < length (gids stays)
+  pub AreWindowsBefore-stay : (d x f i : ℕ) (e : SliceEntry) (stays : List ExclusiveSpan) (ws : List Window) → At (entries_of d x) f e → AreStays script j d e.epoch stays → i < length (gids stays)
       → AreWindowsBefore script j (site d x f (first_past (gids stays) i)) ws → AreWindowsBefore script j (site d x f (get_or (gids stays) i 0)) ws
   AreWindowsBefore-stay d x f i e stays ws there listed within old =
       let g : ℕ = first_past (gids stays) i in
@@ -66,7 +66,7 @@ module _ (script : ScriptValue) (j : JournalsValue) where
       old
 
   -- past the last group that is listed
-  pub AreWindowsBefore-opened : (d x f : ℕ) (e : SliceEntry) (stays : List Stay) (ws : List Window) → At (entries_of d x) f e → AreStays script j d e.epoch stays
+  pub AreWindowsBefore-opened : (d x f : ℕ) (e : SliceEntry) (stays : List ExclusiveSpan) (ws : List Window) → At (entries_of d x) f e → AreStays script j d e.epoch stays
       → AreWindowsBefore script j (site d x f (first_past (gids stays) (length (gids stays)))) ws → AreWindowsBefore script j (site d x (f + 1) 0) ws
   AreWindowsBefore-opened d x f e stays ws there listed old =
       let g : ℕ = first_past (gids stays) (length (gids stays)) in
@@ -79,36 +79,36 @@ module _ (script : ScriptValue) (j : JournalsValue) where
       old
 
   -- the groups that are listed at the opening of a place
-  AreStays-opening : (d x f : ℕ) (stays : List Stay) → (opens : IsOpening script j d x f) → ((e : SliceEntry) → AreStays script j d (get_or (entries_of d x) f e).epoch stays) → AreStays script j d (IsOpening-entry script j d x f opens).0.epoch stays
+  AreStays-opening : (d x f : ℕ) (stays : List ExclusiveSpan) → (opens : IsOpening script j d x f) → ((e : SliceEntry) → AreStays script j d (get_or (entries_of d x) f e).epoch stays) → AreStays script j d (IsOpening-entry script j d x f opens).0.epoch stays
   AreStays-opening d x f stays opens listed =
       let e = IsOpening-entry script j d x f opens in
       subst (λ (o : SliceEntry). AreStays script j d o.epoch stays) (get_or_from_slice_get (entries_of d x) f e.0 e.0 e.1) (listed e.0)
 
   -- the number of a group that is listed
-  get_or-gids : (stays : List Stay) (i : ℕ) (s : Stay) → i < length stays → s ≡ get_or stays i s → get_or (gids stays) i 0 ≡ s.gid.0
-  get_or-gids stays i s within is = get_or-map (λ (y : Stay). y.gid.0) stays i s 0 within ∙ ap (λ (y : Stay). y.gid.0) (sym is)
+  get_or-gids : (stays : List ExclusiveSpan) (i : ℕ) (s : ExclusiveSpan) → i < length stays → s ≡ get_or stays i s → get_or (gids stays) i 0 ≡ s.gid.0
+  get_or-gids stays i s within is = get_or-map (λ (y : ExclusiveSpan). y.gid.0) stays i s 0 within ∙ ap (λ (y : ExclusiveSpan). y.gid.0) (sym is)
 
   -- past a group that is listed
-  pub first_past-next : (stays : List Stay) (i : ℕ) (s : Stay) → i < length stays → s ≡ get_or stays i s → first_past (gids stays) (i + 1) ≡ s.gid.0 + 1
+  pub first_past-next : (stays : List ExclusiveSpan) (i : ℕ) (s : ExclusiveSpan) → i < length stays → s ≡ get_or stays i s → first_past (gids stays) (i + 1) ≡ s.gid.0 + 1
   first_past-next stays i s within is =
       let one : i + 1 ≡ suc i = omega arith in
       ap (first_past (gids stays)) one ∙ ap (λ n. n + 1) (get_or-gids stays i s within is)
 
   -- up to the next group that is listed, by its place
-  pub AreWindowsBefore-next : (d x f i : ℕ) (stays : List Stay) (s : Stay) (ws : List Window) → IsOpening script j d x f → ((e : SliceEntry) → AreStays script j d (get_or (entries_of d x) f e).epoch stays) → i < length stays → s ≡ get_or stays i s
+  pub AreWindowsBefore-next : (d x f i : ℕ) (stays : List ExclusiveSpan) (s : ExclusiveSpan) (ws : List Window) → IsOpening script j d x f → ((e : SliceEntry) → AreStays script j d (get_or (entries_of d x) f e).epoch stays) → i < length stays → s ≡ get_or stays i s
       → AreWindowsBefore script j (site d x f (first_past (gids stays) i)) ws → AreWindowsBefore script j (site d x f s.gid.0) ws
   AreWindowsBefore-next d x f i stays s ws opens listed within is old =
       let e = IsOpening-entry script j d x f opens in
-      let len = length-map stays (λ (y : Stay). y.gid.0) in
+      let len = length-map stays (λ (y : ExclusiveSpan). y.gid.0) in
       subst (λ g. AreWindowsBefore script j (site d x f g) ws) (get_or-gids stays i s within is)
       (AreWindowsBefore-stay d x f i e.0 stays ws e.1 (AreStays-opening d x f stays opens listed) (omega (arith, within, len)) old)
 
   -- past the last one, by the place
-  pub AreWindowsBefore-end : (d x f n : ℕ) (stays : List Stay) (ws : List Window) → IsOpening script j d x f → ((e : SliceEntry) → AreStays script j d (get_or (entries_of d x) f e).epoch stays) → n ≡ length stays
+  pub AreWindowsBefore-end : (d x f n : ℕ) (stays : List ExclusiveSpan) (ws : List Window) → IsOpening script j d x f → ((e : SliceEntry) → AreStays script j d (get_or (entries_of d x) f e).epoch stays) → n ≡ length stays
       → AreWindowsBefore script j (site d x f (first_past (gids stays) n)) ws → AreWindowsBefore script j (site d x (f + 1) 0) ws
   AreWindowsBefore-end d x f n stays ws opens listed is old =
       let e = IsOpening-entry script j d x f opens in
-      let len : n ≡ length (gids stays) = is ∙ sym (length-map stays (λ (y : Stay). y.gid.0)) in
+      let len : n ≡ length (gids stays) = is ∙ sym (length-map stays (λ (y : ExclusiveSpan). y.gid.0)) in
       AreWindowsBefore-opened d x f e.0 stays ws e.1 (AreStays-opening d x f stays opens listed) (subst (λ k. AreWindowsBefore script j (site d x f (first_past (gids stays) k)) ws) len old)
 
   -- past an entry that empties nothing

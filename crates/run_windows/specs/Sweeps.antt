@@ -3,7 +3,7 @@
 use Rattle.std.specs.Prelude.{◌≡◌, ℕ, zero, suc, ◌+◌, ◌-◌, ◌*◌, ◌≤◌, List, [], length, map, slice_get}
 use Rattle.std.specs.List.{insert, remove, slice_set}
 use Rattle.std.specs.Option.{option_map_or}
-use Rattle.private_lru.specs.declared.stay.Stay.{Stay}
+use Rattle.private_lru.specs.declared.exclusive_span.ExclusiveSpan.{ExclusiveSpan}
 use Rattle.run_law.specs.Journals.{At}
 use Rattle.run_windows.specs.Stays.{stay_of}
 use Rattle.run_windows.specs.declared.changes.Past.{Past}
@@ -12,7 +12,7 @@ use Rattle.run_windows.specs.declared.edit.Edit.TheVariants.{Whole, Put, Insert,
 use Rattle.run_windows.specs.declared.sweep.Sweep.{Sweep}
 
 -- the stays before a change whose last epoch is this one, made of those after it
-abbrev pub restored : ℕ → ℕ → Edit → List Stay → List Stay
+abbrev pub restored : ℕ → ℕ → Edit → List ExclusiveSpan → List ExclusiveSpan
 restored domain last (Whole all) after = map (stay_of domain last after) all.items
 restored domain last (Put at group) after = slice_set after at (stay_of domain last after group)
 restored domain last (Insert at group) after = insert after at (stay_of domain last after group)
@@ -20,7 +20,7 @@ restored domain last (Remove at) after = remove after at
 
 -- the stays from a change on, and the last epoch before it
 pub record Swept : Type 0 where
-  pub stays : List Stay
+  pub stays : List ExclusiveSpan
   pub last : ℕ
 
 -- one change further back

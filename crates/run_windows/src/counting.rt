@@ -6,7 +6,7 @@ ghost use Rattle.cbm.specs.Masks.{ways_of};
 
 use crate::opening::Opening;
 use cache_core::What;
-use private_lru::{Stay, WindowCounts};
+use private_lru::{ExclusiveSpan, WindowCounts};
 use run_law::Window;
 
 /// Whether this empties the slice.
@@ -17,7 +17,7 @@ pub(crate) fn empties(what: What) -> bool
 }
 
 /// The window of an exclusive group after a flush or a lock, with these counts.
-pub(crate) fn window_of(opening: Opening, stay: Stay, counts: WindowCounts) -> Window
+pub(crate) fn window_of(opening: Opening, stay: ExclusiveSpan, counts: WindowCounts) -> Window
     ensures place { (result.domain ≡ opening.domain) × (result.slice ≡ opening.slice) × (result.from ≡ opening.from) × (result.gid ≡ stay.gid) }
     ensures ways { result.ways ≡ length (ways_of stay.mask) }
     ensures counts { (result.accesses ≡ counts.accesses) × (result.hits ≡ counts.hits) × (result.covered ≡ counts.covered) × (result.covered_hits ≡ counts.covered_hits) × (result.private ≡ counts.covered_hits) }

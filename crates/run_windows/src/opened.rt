@@ -17,7 +17,7 @@ ghost use Rattle.script_ops.specs.Values.{IsLawful};
 use crate::counting::{empties, window_of};
 use crate::opening::Opening;
 use cache_core::SliceEntry;
-use private_lru::{Stay, WindowCounts, counts_of};
+use private_lru::{ExclusiveSpan, WindowCounts, counts_of};
 use rc_base::NoMemory;
 use run_law::{Journals, Window};
 use script_ops::Script;
@@ -63,7 +63,7 @@ fn counts_at(
     script: &Script,
     journals: &Journals,
     opening: Opening,
-    stays: &[Stay],
+    stays: &[ExclusiveSpan],
 ) -> Result<Vec<WindowCounts>, NoMemory>
     requires within { opening.from < length (slice_at journals.now (slice_number script.now.machine opening.domain opening.slice)) }
     requires few { length (slice_at journals.now (slice_number script.now.machine opening.domain opening.slice)) < 2 ^ 32 }
@@ -88,7 +88,7 @@ fn push_window(
     script: &Script,
     journals: &Journals,
     opening: Opening,
-    stay: Stay,
+    stay: ExclusiveSpan,
     counts: WindowCounts,
     windows: &mut Vec<Window>,
 ) -> Result<(), NoMemory>
@@ -111,7 +111,7 @@ pub(crate) fn push_opened(
     script: &Script,
     journals: &Journals,
     opening: Opening,
-    stays: &[Stay],
+    stays: &[ExclusiveSpan],
     windows: &mut Vec<Window>,
 ) -> Result<(), NoMemory>
     requires lawful { IsLawful script.now }

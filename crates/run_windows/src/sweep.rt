@@ -8,7 +8,7 @@ use crate::changes::Past;
 use crate::edit::Edit;
 use crate::exclusive_group::ExclusiveGroup;
 use crate::places::{copied, insert, put, remove};
-use private_lru::Stay;
+use private_lru::ExclusiveSpan;
 use rc_base::NoMemory;
 use std::alloc::Global;
 
@@ -16,7 +16,7 @@ use std::alloc::Global;
 #[derive(Drop)]
 pub(crate) struct Sweep {
     /// The groups, each with the last epoch at which it is still exclusive on its mask.
-    pub stays: Vec<Stay>,
+    pub stays: Vec<ExclusiveSpan>,
     /// The last epoch before the change.
     pub last: u64,
 }
@@ -30,7 +30,7 @@ fn mask_of(group: &ExclusiveGroup, domain: u8) -> u32
 }
 
 // Whether it is the same group with the same mask.
-fn is_same(group: &ExclusiveGroup, domain: u8, later: &Stay) -> bool
+fn is_same(group: &ExclusiveGroup, domain: u8, later: &ExclusiveSpan) -> bool
     requires { domain < 8 }
     ensures { result ≡ is_same domain group.now later.now }
 {
@@ -38,7 +38,11 @@ fn is_same(group: &ExclusiveGroup, domain: u8, later: &Stay) -> bool
 }
 
 // The same group with the same mask from a later epoch on.
-fn find_same<'a>(next: &'a [Stay], group: &ExclusiveGroup, domain: u8) -> Option<&'a Stay>
+fn find_same<'a>(
+    next: &'a [ExclusiveSpan],
+    group: &ExclusiveGroup,
+    domain: u8,
+) -> Option<&'a ExclusiveSpan>
     requires { domain < 8 }
     ensures { option_copied result ≡ find (is_same domain group.now) next.now }
 {
@@ -46,7 +50,7 @@ fn find_same<'a>(next: &'a [Stay], group: &ExclusiveGroup, domain: u8) -> Option
 }
 
 // A group that is exclusive on the same mask from the next change on stays so as long as it does from there.
-fn last_of(group: &ExclusiveGroup, domain: u8, next: &[Stay], last: u64) -> u64
+fn last_of(group: &ExclusiveGroup, domain: u8, next: &[ExclusiveSpan], last: u64) -> u64
     requires { domain < 8 }
     ensures { result ≡ last_of domain last next.now group.now }
 {
@@ -57,11 +61,11 @@ fn last_of(group: &ExclusiveGroup, domain: u8, next: &[Stay], last: u64) -> u64
 }
 
 // How long this group stays exclusive.
-fn stay_of(group: &ExclusiveGroup, domain: u8, next: &[Stay], last: u64) -> Stay
+fn stay_of(group: &ExclusiveGroup, domain: u8, next: &[ExclusiveSpan], last: u64) -> ExclusiveSpan
     requires { domain < 8 }
     ensures { result ≡ stay_of domain last next.now group.now }
 {
-    Stay {
+    ExclusiveSpan {
         last: last_of(group, domain, next, last),
         gid: group.gid,
         mask: mask_of(group, domain),
@@ -73,13 +77,13 @@ fn stays_of(
     alloc: Global,
     groups: &[ExclusiveGroup],
     domain: u8,
-    next: &[Stay],
+    next: &[ExclusiveSpan],
     last: u64,
-) -> Result<Vec<Stay>, NoMemory>
+) -> Result<Vec<ExclusiveSpan>, NoMemory>
     requires { domain < 8 }
     ensures { IfOk result (λ stays. stays.items ≡ map (stay_of domain last next.now) groups.now) }
 {
-    let mut stays: Vec<Stay> = Vec::new(alloc);
+    let mut stays: Vec<ExclusiveSpan> = Vec::new(alloc);
     for group in groups {
         stays.push(stay_of(group, domain, next, last))?;
     }
@@ -89,7 +93,7 @@ fn stays_of(
 // Makes the stays before a change of those after it.
 fn restore(
     alloc: Global,
-    stays: &mut Vec<Stay>,
+    stays: &mut Vec<ExclusiveSpan>,
     edit: &Edit,
     domain: u8,
     last: u64,

@@ -12,7 +12,7 @@ ghost use Rattle.script_ops.specs.Values.{IsLawful};
 
 use crate::changes::Past;
 use crate::sweep::{Sweep, same_sweep, sweep_over};
-use private_lru::Stay;
+use private_lru::ExclusiveSpan;
 use rc_base::NoMemory;
 use run_law::Journals;
 use script_ops::Script;
@@ -87,7 +87,7 @@ pub(crate) fn stays_at(
     pasts: &[Past],
     marks: &[Sweep],
     epoch: u64,
-) -> Result<Vec<Stay>, NoMemory>
+) -> Result<Vec<ExclusiveSpan>, NoMemory>
     requires lawful { IsLawful script.now }
     requires run { IsRun script.now journals.now }
     requires domain { domain < script.now.machine.domains }

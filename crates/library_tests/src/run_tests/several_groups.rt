@@ -3,16 +3,16 @@ ghost use Rattle.std.specs.Prelude.{◌≡◌, ◌^◌, ◌<◌, length};
 
 use super::{LOCK, access, counts};
 use cache_core::{SliceEntry, What};
-use private_lru::{Stay, WindowCounts, counts_of};
+use private_lru::{ExclusiveSpan, WindowCounts, counts_of};
 use rc_base::{Gid, NoMemory};
 use std::alloc::Global;
 use std::test::Fail;
 
 // A group that is exclusive up to an epoch.
-fn stay(group: u32, last: u64) -> Stay
+fn stay(group: u32, last: u64) -> ExclusiveSpan
     ensures { result.gid.0 ≡ group }
 {
-    Stay {
+    ExclusiveSpan {
         last,
         gid: Gid(group),
         mask: 3,

@@ -8,13 +8,13 @@ use Rattle.private_lru.proofs.LineUses.{no_entry}
 use Rattle.private_lru.proofs.RisingStays.{no_stay}
 use Rattle.private_lru.proofs.TallySteps.{AreTallies-own, AreTallies-past, count_by-min_le, no_counts}
 use Rattle.private_lru.specs.Ends.{held_len}
-use Rattle.private_lru.specs.declared.stay.Stay.{Stay}
+use Rattle.private_lru.specs.declared.exclusive_span.ExclusiveSpan.{ExclusiveSpan}
 use Rattle.private_lru.proofs.tallies.tally_entry.Goals as goal
 
 pub with_access-requires-clause-accesses : goal.with_access-requires-clause-accesses
 with_access-requires-clause-accesses c =
     let place = c.in-Some.place in
-    let s : Stay = get_or c.args.stays.now place no_stay in
+    let s : ExclusiveSpan = get_or c.args.stays.now place no_stay in
     let were = (c.requires.tallies.each place no_stay no_counts c.in-Some.ensures.within).accesses in
     let few = count_by-min_le (λ (e : SliceEntry). is_own s.gid.0 e.what) c.args.entries.now c.args.at (held_len s.last c.args.entries.now) in
     omega (arith, few, were, c.requires.room)
@@ -22,7 +22,7 @@ with_access-requires-clause-accesses c =
 pub with_access-requires-clause-hits : goal.with_access-requires-clause-hits
 with_access-requires-clause-hits c =
     let place = c.in-Some.place in
-    let s : Stay = get_or c.args.stays.now place no_stay in
+    let s : ExclusiveSpan = get_or c.args.stays.now place no_stay in
     let were = (c.requires.tallies.each place no_stay no_counts c.in-Some.ensures.within).hits in
     let few = count_by-min_le (λ (e : SliceEntry). is_own_hit s.gid.0 e.what) c.args.entries.now c.args.at (held_len s.last c.args.entries.now) in
     omega (arith, few, were, c.requires.room)
@@ -30,7 +30,7 @@ with_access-requires-clause-hits c =
 pub with_access-requires-clause-covered : goal.with_access-requires-clause-covered
 with_access-requires-clause-covered c =
     let place = c.in-Some.place in
-    let s : Stay = get_or c.args.stays.now place no_stay in
+    let s : ExclusiveSpan = get_or c.args.stays.now place no_stay in
     let were = (c.requires.tallies.each place no_stay no_counts c.in-Some.ensures.within).covers in
     let few = count_by-min_le (λ (e : SliceEntry). is_own s.gid.0 e.what) c.args.entries.now c.args.at (min (get_or c.args.ends.now place 0) (held_len s.last c.args.entries.now)) in
     omega (arith, few, were, c.requires.room)
@@ -38,7 +38,7 @@ with_access-requires-clause-covered c =
 pub with_access-requires-clause-covered_hits : goal.with_access-requires-clause-covered_hits
 with_access-requires-clause-covered_hits c =
     let place = c.in-Some.place in
-    let s : Stay = get_or c.args.stays.now place no_stay in
+    let s : ExclusiveSpan = get_or c.args.stays.now place no_stay in
     let were = (c.requires.tallies.each place no_stay no_counts c.in-Some.ensures.within).covers_hits in
     let few = count_by-min_le (λ (e : SliceEntry). is_own_hit s.gid.0 e.what) c.args.entries.now c.args.at (min (get_or c.args.ends.now place 0) (held_len s.last c.args.entries.now)) in
     omega (arith, few, were, c.requires.room)

@@ -3,7 +3,7 @@ use Rattle.std.proofs.lemmas.Option.{get_or_from_slice_get}
 use Rattle.cache_core.specs.declared.entry.SliceEntry.{SliceEntry}
 use Rattle.machine.proofs.laws.Slices.{slice_number-lt}
 use Rattle.machine.specs.Slices.{slice_number}
-use Rattle.private_lru.specs.declared.stay.Stay.{Stay}
+use Rattle.private_lru.specs.declared.exclusive_span.ExclusiveSpan.{ExclusiveSpan}
 use Rattle.run_law.specs.Journals.{slice_at}
 use Rattle.run_windows.proofs.Entries.{IsRun-given}
 use Rattle.run_windows.specs.Stays.{AreStays}
@@ -22,4 +22,4 @@ push_opened-requires-clause-stays c = λ d.
     let o = c.args.opening in
     let entries = slice_at j (slice_number script.machine o.domain o.slice) in
     subst (λ (x : SliceEntry). AreStays script j o.domain x.epoch c.deref.result.now) (sym (get_or_from_slice_get entries o.from c.args.entry.now d c.requires.entry))
-    (subst (λ (l : List Stay). AreStays script j o.domain c.args.entry.now.epoch l) (sym c.deref.ensures.value) c.in_ok-stays.ensures)
+    (subst (λ (l : List ExclusiveSpan). AreStays script j o.domain c.args.entry.now.epoch l) (sym c.deref.ensures.value) c.in_ok-stays.ensures)

@@ -1,5 +1,5 @@
 use Rattle.std.proofs.Common.{◌+◌, ◌-◌, List, length, refl, sym, subst, arith}
-use Rattle.private_lru.specs.declared.stay.Stay.{Stay}
+use Rattle.private_lru.specs.declared.exclusive_span.ExclusiveSpan.{ExclusiveSpan}
 use Rattle.run_windows.proofs.Pasts.{begun-some}
 use Rattle.run_windows.proofs.Sweeps.{AreStays-begun}
 use Rattle.run_windows.specs.Stays.{AreStays}
@@ -16,6 +16,6 @@ pub returns : goal.returns
 returns c =
     let found = c.count_begun-begun.ensures in
     let pasts = c.args.pasts.now in
-    subst (λ (l : List Stay). AreStays c.args.script.now c.args.journals.now c.args.domain c.args.epoch l) (sym c.in_ok-sweep.ensures.0)
+    subst (λ (l : List ExclusiveSpan). AreStays c.args.script.now c.args.journals.now c.args.domain c.args.epoch l) (sym c.in_ok-sweep.ensures.0)
     (AreStays-begun c.args.script.now c.args.journals.now pasts c.requires.changes c.requires.lawful c.requires.run c.args.domain c.args.epoch c.count_begun-begun.result (length pasts + 1 - c.count_begun-begun.result)
     c.requires.known found.within refl found.begun found.rest)

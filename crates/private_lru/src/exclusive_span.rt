@@ -4,7 +4,7 @@ use rc_base::Gid;
 
 /// A group that is exclusive on one mask, and the last epoch up to which it stays so.
 #[derive(Clone, Copy, Debug, PartialEq, Eq, Drop)]
-pub struct Stay {
+pub struct ExclusiveSpan {
     /// The last epoch.
     pub last: u64,
     /// The group.
