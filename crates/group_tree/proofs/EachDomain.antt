@@ -10,10 +10,6 @@ pub record AreChangedBelow (change : ℕ → ModeCounts → ModeCounts) (old now
   pub below : (i : ℕ) (d : ModeCounts) → i < domain → get_or now i d ≡ change i (get_or old i d)
   pub above : (i : ℕ) (d : ModeCounts) → domain ≤ i → get_or now i d ≡ get_or old i d
 
--- at the start none is
-pub AreChangedBelow-zero : (change : ℕ → ModeCounts → ModeCounts) (old : List ModeCounts) → length old ≡ 8 → AreChangedBelow change old old 0
-AreChangedBelow-zero change old size = record { size = size; below = λ i d lt. absurd (omega arith); above = λ i d le. refl }
-
 -- an element that is there is the same beside any default
 get_or-default : (xs : List ModeCounts) (i : ℕ) (d e : ModeCounts) → i < length xs → get_or xs i d ≡ get_or xs i e
 get_or-default [] i d e within = absurd (omega arith)

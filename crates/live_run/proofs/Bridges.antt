@@ -4,7 +4,7 @@ use Rattle.std.specs.Prelude.{nat_lt}
 use Rattle.std.proofs.lemmas.Bool.{cases_Bool, eq-eqb, eqb-false, eqb-true, ne_eqb}
 use Rattle.std.proofs.lemmas.List.{get_or-set_other, get_or-set_same, length-map, length-set, map-append, same_from_push}
 use Rattle.cache_core.specs.declared.entry.SliceEntry.{SliceEntry}
-use Rattle.live_law.proofs.laws.Prefixes.{At-prefix, NoMore-self}
+use Rattle.live_law.proofs.laws.Prefixes.{NoMore-self}
 use Rattle.live_law.specs.SeenJournals.{NoMore, is_by, is_from}
 use Rattle.live_run.specs.Cells.{AreOfThreads, IsSeen, made_by, taken_from}
 use Rattle.live_run.specs.Names.{SeenValue, history_of, name_at, no_pass, pass_at, seen_by}
@@ -70,9 +70,6 @@ module _ {E : Type 0} where
     | inl less ↦ rw less second
     | inr more ↦ rw more first
   ]
-
-  pub threads_prefix : (thread : E → ℕ) (xs ys : List (ℕ × E)) → IsPrefix xs ys → AreOfThreads thread ys → AreOfThreads thread xs
-  threads_prefix thread xs ys prefix threads k x at = threads k x (At-prefix xs ys k x prefix at)
 
 -- of a mapped list
 nomore-map : {A B : Type 0} (f : A → B) (own : B → Bool) (xs ys : List A) → NoMore (λ x. own (f x)) xs ys → NoMore own (map f xs) (map f ys)

@@ -35,15 +35,6 @@ module _ (table : TableId) (x : ℕ × Part) (xs : List (ℕ × Part)) (share : 
 
 -- ---- shares split off, one after the other
 
-pub AreSplit-none : (share : ShareValue Part) → AreSplit 0 share share []
-AreSplit-none share = record {
-  count = refl;
-  table = refl;
-  tables = λ k d low. absurd (omega (arith, low));
-  each = λ k d low. absurd (omega (arith, low));
-  rest = refl;
-}
-
 -- one more
 pub AreSplit-next : (n : ℕ) (old mid new one : ShareValue Part) (shares : List (ShareValue Part)) → AreSplit n old mid shares → new.table ≡ mid.table → one.table ≡ mid.table → one.parts ≡ first_of mid.parts → new.parts ≡ rest_of mid.parts
     → AreSplit (n + 1) old new (shares ++ one ∷ [])

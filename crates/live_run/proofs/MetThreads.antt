@@ -1,17 +1,13 @@
 -- One thread meets others, one after the other.
-use Rattle.std.proofs.Common.{◌≡◌, ℕ, zero, suc, ◌+◌, ◌<◌, inl, inr, List, [], ◌∷◌, ◌++◌, length, get_or, set, refl, sym, ◌∙◌, subst, arith}
+use Rattle.std.proofs.Common.{◌≡◌, ℕ, zero, suc, ◌+◌, ◌<◌, inl, inr, List, [], ◌∷◌, ◌++◌, length, get_or, set, sym, ◌∙◌, subst, arith}
 use Rattle.std.proofs.lemmas.Bool.{cases_lt}
 use Rattle.std.proofs.lemmas.List.{get_or-set_other, get_or-set_same, length-set}
-use Rattle.live_law.proofs.laws.SeenJournals.{SeesMore-self}
 use Rattle.live_law.specs.DoneOps.{HasEnded}
 use Rattle.live_run.proofs.Endings.{HasEnded-taken, IsAtEnd-handed, IsHanded-through}
 use Rattle.live_run.specs.Names.{PassesValue, seen_by}
 use Rattle.live_run.specs.Phases.{HasMetEach, HaveHandedOn, IsAtEnd, IsHanded, no_passes, passes_at}
 use Rattle.run_law.specs.Journals.{JournalsValue}
 use Rattle.script_ops.specs.Values.{ScriptValue}
-
-pub IsHanded-self : (p : PassesValue) → IsHanded p p
-IsHanded-self p = record { taken = record { thread = refl; sees = SeesMore-self p.seen.thread (seen_by p.seen) }; next = refl }
 
 -- One has met another.
 pub record HasMet (script : ScriptValue) (one one_now other other_now : PassesValue) : Type 0 where

@@ -19,10 +19,6 @@ AreApart-numbered (x ∷ xs) numbered k h = elim (has-cases k x [] h) [
   | inr more ↦ absurd (true≢false (sym more))
 ]
 
-AreNumbered-rest : (xs : List (ℕ × Part)) → AreNumbered xs → AreNumbered (rest_of xs)
-AreNumbered-rest [] numbered = tt
-AreNumbered-rest (x ∷ xs) numbered = numbered.1
-
 pub AreNumbered-drop : (n : ℕ) (xs : List (ℕ × Part)) → AreNumbered xs → AreNumbered (drop n xs)
 AreNumbered-drop zero xs numbered = numbered
 AreNumbered-drop (suc n) [] numbered = tt

@@ -1,5 +1,5 @@
 -- The threads of a phase, and who starts it, on the parts that they have.
-use Rattle.std.proofs.Common.{◌≡◌, ℕ, ◌+◌, ◌<◌, ◌≤◌, inl, inr, true, List, [], ◌∷◌, length, set, refl, sym, ap, ◌∙◌, subst, arith}
+use Rattle.std.proofs.Common.{◌≡◌, ℕ, ◌+◌, ◌<◌, ◌≤◌, inl, inr, true, List, [], ◌∷◌, length, set, sym, ap, ◌∙◌, subst, arith}
 use Rattle.std.proofs.lemmas.Bool.{cases_lt}
 use Rattle.std.proofs.lemmas.List.{get_or-set_other, get_or-set_same, length-set}
 use Rattle.atomic_table.specs.Seated.{TableId}
@@ -113,18 +113,6 @@ module _ (script : ScriptValue) (table : TableId) (ps mid : List PassesValue) (t
     rest = λ n from. get_or-set_other mid k n x no_passes (λ same. absurd (omega (arith, from, same))) ∙ begun.rest n (omega (arith, from));
   }
 
-pub AreBegun-none : (ps : List PassesValue) → AreBegun 0 ps ps
-AreBegun-none ps = record {
-  count = refl;
-  each = λ k before within. absurd (omega (arith, before));
-  rest = λ k from. refl;
-}
-
-pub HaveEnded-none : (share : ShareValue Part) → HaveEnded 0 share share
-HaveEnded-none share phase first is =
-    let same : first ≡ first + 0 = omega arith in
-    (refl, is ∙ ap (λ n. live_phase phase n ∷ []) same)
-
 -- one more is known to be at its end
 pub HaveEnded-next : (k : ℕ) (old mid new : ShareValue Part) → HaveEnded k old mid → HaveEnded 1 mid new → HaveEnded (k + 1) old new
 HaveEnded-next k old mid new before last phase first is =
@@ -151,9 +139,6 @@ IsEndedIn-next script table ps turn mid k there all had =
 
 -- all threads of a phase are at their ends
 module _ (script : ScriptValue) (table : TableId) (phase ended : ℕ) (turn : ShareValue Part) (there : phase < length script.phases) (is : IsShareOf table (live_phase phase ended ∷ []) turn) (all : ended ≡ first_thread script (phase + 1)) where
-  pub turn_lock_there : word_of 32 < turn.table.words
-  turn_lock_there = omega (arith, is.words, ap (λ (t : TableId). t.words) is.table_is)
-
   pub may_pass : MayPass script turn.parts
   may_pass = record {
     p = phase;

@@ -27,18 +27,6 @@ use Rattle.shared_parts.specs.Shares.{ShareValue}
 
 -- ---- one share more
 
-pub HaveTakenIn-none : (all : ShareValue Part) (parts : List SliceCellValue) → HaveTakenIn 0 all all parts parts
-HaveTakenIn-none all parts = record {
-  table = refl;
-  had = λ x there. there;
-  taken = λ i d x low within there. absurd (omega (arith, low));
-  count = refl;
-  caches = λ i d within. refl;
-  journals = λ i d within. refl;
-  passes = λ i d within. refl;
-  tables = λ i d within. refl;
-}
-
 -- What is left of a part that has given its share.
 pub record HasGiven (old new : SliceCellValue) : Type 0 where
   pub cache : new.cache ≡ old.cache

@@ -97,9 +97,6 @@ module _ (script : ScriptValue) (table : TableId) (tree : JournalName) (slices :
   abbrev at_first : JournalsValue
   at_first = record { tree = history_of c.journal.entries; slices = lists_of now }
 
-  abbrev pub at_last : ℕ
-  at_last = length (history_of c.journal.entries)
-
   -- what the thread has seen when it took the tree
   first_was : seen_by met ≡ at_first
   first_was = ap₂ (λ (hs : List TreeEntryValue) (ls : List (List SliceEntry)). record { tree = hs; slices = ls }) (ap history_of whole) (sym (lists_same now met.slices same))

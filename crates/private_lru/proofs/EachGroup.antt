@@ -55,22 +55,6 @@ AreEach-none u at stays reaches old none = record { same = refl; each = each }
           absurd (false≢true (none j d inside ∙ rw (is, low) refl))
     ]
 
--- one change after another
-pub AreEach-then : (f g : ExclusiveSpan → ℕ → ℕ → ℕ) (stays : List ExclusiveSpan) (reaches old mid new : List ℕ) → AreEach f stays reaches old mid → AreEach g stays reaches mid new
-    → AreEach (λ s reach end. g s reach (f s reach end)) stays reaches old new
-AreEach-then f g stays reaches old mid new a b = record {
-  same = b.same ∙ a.same;
-  each = λ j d inside. b.each j d inside ∙ ap (g (get_or stays j d) (get_or reaches j 0)) (a.each j d inside);
-}
-
--- the same change by another name
-pub AreEach-as : (f g : ExclusiveSpan → ℕ → ℕ → ℕ) (stays : List ExclusiveSpan) (reaches old new : List ℕ) → ((s : ExclusiveSpan) (reach end : ℕ) → f s reach end ≡ g s reach end) → AreEach f stays reaches old new → AreEach g stays reaches old new
-AreEach-as f g stays reaches old new same a = record { same = a.same; each = λ j d inside. a.each j d inside ∙ same (get_or stays j d) (get_or reaches j 0) (get_or old j 0) }
-
--- no change
-pub AreEach-kept : (f : ExclusiveSpan → ℕ → ℕ → ℕ) (stays : List ExclusiveSpan) (reaches old : List ℕ) → ((s : ExclusiveSpan) (reach end : ℕ) → f s reach end ≡ end) → AreEach f stays reaches old old
-AreEach-kept f stays reaches old same = record { same = refl; each = λ j d inside. sym (same (get_or stays j d) (get_or reaches j 0) (get_or old j 0)) }
-
 module _ (sets : ℕ) (opening : What) (uses : List LineUse) (none : ℕ) (stays : List ExclusiveSpan) (reaches : List ℕ) where
   -- no use so far
   pub AreCuts-none : (ends : List ℕ) → length ends ≡ length stays → ((j : ℕ) → j < length stays → get_or ends j 0 ≡ none) → AreCuts sets opening uses 0 none stays reaches ends

@@ -1,8 +1,8 @@
 -- The highest epoch so far, and how far windows reach.
-use Rattle.std.proofs.Common.{◌≡◌, ℕ, ◌+◌, ◌≤◌, List, length, get_or, ◌⊎◌, inl, inr, refl, sym, ap, ◌∙◌, arith}
-use Rattle.std.specs.Prelude.{nat_le, nat_lt, slice_get}
+use Rattle.std.proofs.Common.{◌≡◌, ℕ, ◌+◌, ◌≤◌, List, length, get_or, inl, inr, refl, sym, ◌∙◌, arith}
+use Rattle.std.specs.Prelude.{nat_le, nat_lt}
 use Rattle.std.proofs.lemmas.Bool.{cases_lt, le-leb, le-ltb, lt-leb, lt-ltb, ltb-false, ltb-true}
-use Rattle.std.proofs.lemmas.Option.{same_Some, slice_get-get_or, slice_get_within}
+use Rattle.std.proofs.lemmas.Option.{slice_get-get_or, slice_get_within}
 use Rattle.cache_core.specs.declared.entry.SliceEntry.{SliceEntry}
 use Rattle.private_lru.proofs.laws.FirstPlaces.{position_or_len-at, position_or_len-before, position_or_len-le}
 use Rattle.private_lru.specs.Uses.{StandsAt}
@@ -12,26 +12,6 @@ module _ (entries : List SliceEntry) where
   -- none at first
   pub IsHigh-none : IsHigh entries 0 0
   IsHigh-none = record { most = λ q e at lt. absurd (omega (arith, lt)); reached = inl refl }
-
-  -- with one entry more
-  pub IsHigh-next : (n high next : ℕ) (e : SliceEntry) → StandsAt entries n e → high ≤ next → e.epoch ≤ next → (next ≡ high) ⊎ (next ≡ e.epoch) → IsHigh entries n high → IsHigh entries (n + 1) next
-  IsHigh-next n high next e there up own either was = record {
-    most = λ q x at lt. elim (cases_lt q n) [
-      | inl early ↦ let le = was.most q x at early in omega (arith, le, up)
-      | inr late ↦
-          let same : q ≡ n = omega (arith, lt, late) in
-          let is : e ≡ x = same_Some e x (sym there ∙ (ap (slice_get entries) (sym same) ∙ at)) in
-          let epochs = ap (λ (y : SliceEntry). y.epoch) is in
-          omega (arith, own, epochs)
-    ];
-    reached = elim either [
-      | inr is ↦ inr (n, e, there, omega arith, sym is)
-      | inl is ↦ elim was.reached [
-        | inl none ↦ inl (is ∙ none)
-        | inr r ↦ inr (r.0, r.1, r.2, let lt = r.3 in omega (arith, lt), r.4 ∙ sym is)
-      ]
-    ];
-  }
 
   -- a window goes on over an entry where no epoch up to it is past its last
   pub held_len-high : (n high last : ℕ) (e : SliceEntry) → StandsAt entries n e → IsHigh entries (n + 1) high → nat_le high last ≡ nat_lt n (held_len last entries)

@@ -26,15 +26,6 @@ is_foreign-access (whats.Lock mask first) a group x is = let none : None ≡ Som
 is_foreign-access (whats.Look rmid lines) a group x is = let none : None ≡ Some a = is in absurd cc
 is_foreign-access (whats.Drop line at) a group x is = let none : None ≡ Some a = is in absurd cc
 
--- no other entry is one
-pub is_foreign-none : (what : What) (group x : ℕ) → access_of what ≡ None → is_foreign group x what ≡ false
-is_foreign-none (whats.Access hit way owner rmid mask line) group x is = let none : Some (record { line = line; owner = owner }) ≡ None = is in absurd cc
-is_foreign-none whats.Raise group x is = refl
-is_foreign-none whats.Flush group x is = refl
-is_foreign-none (whats.Lock mask first) group x is = refl
-is_foreign-none (whats.Look rmid lines) group x is = refl
-is_foreign-none (whats.Drop line at) group x is = refl
-
 -- a group's own access
 pub is_own-access : (what : What) (a : Access) (group : ℕ) → access_of what ≡ Some a → is_own group what ≡ eqb a.owner.0 group
 is_own-access (whats.Access hit way owner rmid mask line) a group is = ap (λ (b : Access). eqb b.owner.0 group) (same_Some (record { line = line; owner = owner }) a is)
@@ -43,14 +34,6 @@ is_own-access whats.Flush a group is = let none : None ≡ Some a = is in absurd
 is_own-access (whats.Lock mask first) a group is = let none : None ≡ Some a = is in absurd cc
 is_own-access (whats.Look rmid lines) a group is = let none : None ≡ Some a = is in absurd cc
 is_own-access (whats.Drop line at) a group is = let none : None ≡ Some a = is in absurd cc
-
-pub is_own-none : (what : What) (group : ℕ) → access_of what ≡ None → is_own group what ≡ false
-is_own-none (whats.Access hit way owner rmid mask line) group is = let none : Some (record { line = line; owner = owner }) ≡ None = is in absurd cc
-is_own-none whats.Raise group is = refl
-is_own-none whats.Flush group is = refl
-is_own-none (whats.Lock mask first) group is = refl
-is_own-none (whats.Look rmid lines) group is = refl
-is_own-none (whats.Drop line at) group is = refl
 
 -- its access to a line
 pub is_use-access : (what : What) (a : Access) (group x : ℕ) → access_of what ≡ Some a → is_use group x what ≡ (eqb a.owner.0 group && eqb a.line x)

@@ -1,16 +1,15 @@
 -- The accesses among entries, one after the other, and line by line.
-use Rattle.std.proofs.Common.{◌≡◌, ℕ, ◌+◌, ◌-◌, ◌<◌, ◌≤◌, false, List, [], ◌∷◌, ◌++◌, length, get_or, None, Some, inl, inr, sym, subst, ap, ◌∙◌, arith}
-use Rattle.std.specs.Prelude.{All, Contains, slice_get}
+use Rattle.std.proofs.Common.{◌≡◌, ℕ, ◌+◌, ◌-◌, ◌<◌, ◌≤◌, false, List, [], length, get_or, None, Some, inl, inr, sym, ap, ◌∙◌, arith}
+use Rattle.std.specs.Prelude.{All, slice_get}
 use Rattle.std.specs.List.Sorted.{IsNonDecreasingBy, IsPermutation, IsSortedByKey, IsStableByKey}
 use Rattle.std.specs.Ordering.{is_lt, nat_cmp}
 use Rattle.std.proofs.lemmas.Bool.{cases_lt}
 use Rattle.std.proofs.lemmas.Bool.Decides.{nat_tests}
-use Rattle.std.proofs.lemmas.List.Elements.{All-push, All-weaker, Contains-append_left, Contains-push}
-use Rattle.std.proofs.lemmas.List.Sorted.{All-permutation, Contains-permutation, IsNonDecreasingBy-push, ties_still_rise}
+use Rattle.std.proofs.lemmas.List.Elements.{All-weaker}
+use Rattle.std.proofs.lemmas.List.Sorted.{All-permutation, Contains-permutation, ties_still_rise}
 use Rattle.std.proofs.lemmas.Option.{same_Some}
 use Rattle.cache_core.specs.declared.entry.SliceEntry.{SliceEntry}
 use Rattle.private_lru.specs.Uses.{AreAccesses, AreUses, IsUseIn, StandsAt, access_of, line_of, place_of, use_at}
-use Rattle.private_lru.specs.declared.uses.Access.{Access}
 use Rattle.private_lru.specs.declared.uses.LineUse.{LineUse}
 
 -- what stands past the end of a list of uses
@@ -46,20 +45,6 @@ module _ (entries : List SliceEntry) where
             absurd cc
       ];
       rising = were.rising;
-    }
-
-    -- past an access
-    pub AreAccesses-more : (a : Access) → access_of e.what ≡ Some a → AreAccesses entries (n + 1) (old ++ use_at n a ∷ [])
-    AreAccesses-more a is = record {
-      each = All-push (λ (u : LineUse). IsUseIn entries u × (u.at < n + 1)) old (use_at n a) early_ones (record { entry = e; at = there; access = is }, omega arith);
-      all = λ q x b at its lt. elim (cases_lt q n) [
-        | inl early ↦ Contains-append_left old (use_at n a ∷ []) (use_at q b) (were.all q x b at its early)
-        | inr late ↦
-            let same : q ≡ n = omega (arith, lt, late) in
-            let here : a ≡ b = same_Some a b (sym is ∙ (ap (λ (y : SliceEntry). access_of y.what) (is_same q x at same) ∙ its)) in
-            subst (λ (u : LineUse). Contains (old ++ use_at n a ∷ []) u) (ap (use_at n) here ∙ ap (λ k. use_at k b) (sym same)) (Contains-push old (use_at n a))
-      ];
-      rising = IsNonDecreasingBy-push place_of old (use_at n a) were.rising (λ d some. let w = (were.each (length old - 1) d (omega (arith, some))).1 in omega (arith, w));
     }
 
 -- ---- after the sort

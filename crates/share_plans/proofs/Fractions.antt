@@ -1,7 +1,7 @@
 -- Fractions compared by cross products.
-use Rattle.std.proofs.Common.{◌≡◌, ℕ, ◌+◌, ◌*◌, ◌<◌, ◌≤◌, ◌==◌, Bool, true, false, cond, ltb, List, [], ◌∷◌, get_or, refl, arith}
+use Rattle.std.proofs.Common.{◌≡◌, ℕ, ◌*◌, ◌<◌, ◌≤◌, ◌==◌, Bool, true, false, cond, ltb, List, [], ◌∷◌, get_or, refl, arith}
 use Rattle.std.proofs.Math.Nat.{le_of_mul-le-mul_left, mul-le-mul_right}
-use Rattle.share_plans.specs.Rows.{IsFit, IsWhole}
+use Rattle.share_plans.specs.Rows.{IsWhole}
 use Rattle.share_plans.specs.Scores.{IsNoWorse, joined, no_score, score_of, score_one, whole_of, worse}
 use Rattle.share_plans.specs.declared.demand.Demand.{Demand}
 use Rattle.share_plans.specs.declared.goal.Goal.{Goal}
@@ -83,12 +83,3 @@ IsNoWorse-joined Ratio own a b a_is b_is h = at (ltb (own.part * a.whole) (a.par
     at : (less : Bool) → IsNoWorse (cond less a own) (worse own b)
     at true = IsNoWorse-trans a b (worse own b) b_is h (IsNoWorse-worse_second own b)
     at false = IsNoWorse-worse_first own b
-
--- what one program and so many others count
-pub IsFit-joined : (goal : Goal) (programs : ℕ) (own rest : Score) → IsFit goal 1 own → IsFit goal programs rest → IsFit goal (programs + 1) (joined goal own rest)
-IsFit-joined Misses programs own rest is of_rest = record { whole = refl; part = omega (arith, is.part, of_rest.part) }
-IsFit-joined Ratio programs own rest is of_rest = at (ltb (own.part * rest.whole) (rest.part * own.whole))
-  where
-    at : (less : Bool) → IsFit Ratio (programs + 1) (cond less rest own)
-    at true = record { whole = of_rest.whole; part = omega (arith, of_rest.part) }
-    at false = record { whole = is.whole; part = omega (arith, is.part) }

@@ -30,11 +30,6 @@ set_hits_after-push sets ways earlier (y ∷ lines) x =
     add-front (one_if (is_set_hit sets ways earlier y)) _ _ _ _ (set_hits_after-push sets ways (earlier ++ y ∷ []) lines x)
     (ap (λ (l : List ℕ). one_if (is_set_hit sets ways l x)) (append_assoc earlier (y ∷ []) lines))
 
--- a test whether one more counts
-pub counts-more : (before after : ℕ) (hit : Bool) → after ≡ before + one_if hit → cond hit (before < after) (after ≡ before)
-counts-more before after true is = omega (arith, is)
-counts-more before after false is = omega (arith, is)
-
 -- whether it hits, if it is of a program
 abbrev is_hit_of : ℕ → ℕ → ℕ → List ProgramUse → ProgramUse → Bool
 is_hit_of sets ways program earlier u = (u.program == program) && is_set_hit sets ways (shared_lines sets earlier) (shared_line sets u)

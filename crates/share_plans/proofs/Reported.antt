@@ -31,17 +31,6 @@ ArePlayed-all asked programs played uses count have =
     let place : j ≡ 0 + j = omega arith in
     subst (λ (n : ℕ). HasPlayed asked n (get_or played.programs j d) uses) place (have.own j d (omega (arith, below, have.count))))
 
--- with no uses left no programs are left
-pub demands_of-none : (asked : Asked) (k : ℕ) (programs : List Program) (own : List OwnValue) (uses : List ProgramUse) → length own < 1 → ArePlayed asked k programs own uses → demands_of asked.sets k programs uses ≡ []
-demands_of-none asked k [] own uses none are = refl
-demands_of-none asked k (p ∷ programs) [] uses none are = absurd are
-demands_of-none asked k (p ∷ programs) (o ∷ own) uses none are = absurd (omega (arith, none))
-
-pub shared_of-none : (asked : Asked) (k : ℕ) (programs : List Program) (own : List OwnValue) (uses : List ProgramUse) → length own < 1 → ArePlayed asked k programs own uses → shared_of asked.sets asked.ways k programs uses ≡ []
-shared_of-none asked k [] own uses none are = refl
-shared_of-none asked k (p ∷ programs) [] uses none are = absurd are
-shared_of-none asked k (p ∷ programs) (o ∷ own) uses none are = absurd (omega (arith, none))
-
 -- a report with the best division
 pub IsShareReport-best : (goal : Goal) (sets ways : ℕ) (programs : List Program) (uses : List ProgramUse) (demands : List Demand) (shared : List ℕ) (counts : Option (Vec ℕ Global)) (text : List ℕ)
     → demands ≡ demands_of sets 0 programs uses → shared ≡ shared_of sets ways 0 programs uses

@@ -39,29 +39,10 @@ module _ (filtering : Filtering) (s : StreamValue) (text : List ℕ) (is_good : 
   good : IsGood filtering s text
   good = HasRead-good filtering s text is_good read
 
-  -- how many programs there are
-  pub programs-good : length s.played.played.programs ≡ filtering.asked.programs
-  programs-good = good.programs
-
   -- what a line says in the turn that the stream is in
   step-turn : (line : List ℕ) (step : Option Step) (programs : ℕ) → programs ≡ length s.played.played.programs → step_of programs s.turn line ≡ step → step_of filtering.asked.programs (turn_behind filtering.asked.programs None good.whole) line ≡ step
   step-turn line step programs count is =
       ap (λ (t : Option ℕ). step_of filtering.asked.programs t line) (sym good.turn) ∙ (ap (λ (n : ℕ). step_of n s.turn line) (sym (count ∙ good.programs)) ∙ is)
-
-  -- a byte more that ends no line
-  pub HasRead-byte : (new : StreamValue) (b : ℕ) → (b == 10) ≡ false → new.is_bad ≡ false → new.ended ≡ s.ended → new.rest ≡ s.rest ++ b ∷ [] → new.turn ≡ s.turn → new.played ≡ s.played → HasRead filtering new (text ++ b ∷ [])
-  HasRead-byte new b other still_good same rest turn played =
-      subst (λ (bad : Bool). ReadsAs bad filtering new (text ++ b ∷ [])) (sym still_good) (record {
-        whole = good.whole;
-        uses = good.uses;
-        begins = subst (λ (l : List ℕ). BeginsWith (text ++ b ∷ []) good.whole l) (sym rest) (BeginsWith-byte text good.whole s.rest good.begins b);
-        is_open = subst IsOpen (sym rest) (IsOpen-more s.rest b other good.is_open);
-        said = good.said;
-        turn = turn ∙ good.turn;
-        count = same ∙ good.count;
-        programs = ap (λ (p : FilteredValue). length p.played.programs) played ∙ good.programs;
-        played = subst (λ (p : FilteredValue). HaveFiltered filtering p good.uses) (sym played) good.played;
-      })
 
   -- a byte that makes a line too long
   pub bad-long : (n b : ℕ) → (b == 10) ≡ false → 65536 < length s.rest → n ≡ s.ended → (more : List ℕ) → stream_of filtering.asked.programs ((text ++ b ∷ []) ++ more) ≡ Err (n + 1)

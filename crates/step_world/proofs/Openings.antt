@@ -5,7 +5,6 @@ use Rattle.std.proofs.Math.Seq.{get_or-append_seam}
 use Rattle.std.proofs.lemmas.List.{get_or_append_left, length-append}
 use Rattle.run_law.specs.Quotas.{room_of}
 use Rattle.script_ops.specs.Values.{ScriptValue}
-use Rattle.script_ops.specs.declared.op.Op.{Op}
 use Rattle.step_world.specs.Openings.{AreFresh}
 use Rattle.step_world.specs.Slices.{IsFresh, SliceValue}
 

@@ -48,11 +48,6 @@ module _ (script : ScriptValue) where
 
   -- ---- the thread that holds the tree
 
-  -- at first
-  pub IsLettingGo-first : (holder : Option ℕ) (s : MachineValue) → s.holder ≡ holder → IsLettingGo script holder s s
-  IsLettingGo-first None s is = refl
-  IsLettingGo-first (Some t) s is = inl (record { count = 0; steps = refl; holder = is; next = refl })
-
   -- after a step
   pub IsLettingGo-step : (holder : Option ℕ) (t : ℕ) (first old new : MachineValue) → first.holder ≡ holder → IsRunSoFar script old → old.holder ≡ Some t → Steps script t old new → IsLettingGo script holder first old → IsLettingGo script holder first new
   IsLettingGo-step None t first old new is so_far held step same = absurd (let wrong : None ≡ Some t = sym is ∙ (ap (λ (s : MachineValue). s.holder) (sym same) ∙ held) in cc)
@@ -68,12 +63,6 @@ module _ (script : ScriptValue) where
     where
       place_after : ℕ → Thread
       place_after n = record { next = n + 1; state = Ready }
-
-  -- at the end
-  pub HasLetGo-end : (holder : Option ℕ) (first last : MachineValue) → last.holder ≡ None → IsLettingGo script holder first last → HasLetGo script holder first last
-  HasLetGo-end None first last free same = same
-  HasLetGo-end (Some t) first last free (inl holds) = absurd (let wrong : None ≡ Some t = sym free ∙ holds.holder in cc)
-  HasLetGo-end (Some t) first last free (inr gone) = gone
 
   -- it lets go
   pub LetsGo-gone : (holder : Option ℕ) (first last : MachineValue) → HasLetGo script holder first last → LetsGo script holder first last

@@ -1,8 +1,7 @@
 -- A change of the bindings that pass a test.
-use Rattle.std.proofs.Common.{◌≡◌, ℕ, suc, ◌+◌, ◌<◌, ◌≤◌, Bool, true, false, if◌then◌else◌, List, [], ◌∷◌, ◌++◌, length, map, filter, take, drop, set, get_or, slice_get, is_some, refl, sym, ap, ◌∙◌, subst, arith, drop-cons, length-set, inl, inr}
+use Rattle.std.proofs.Common.{◌≡◌, ℕ, suc, ◌+◌, ◌<◌, Bool, true, false, if◌then◌else◌, List, [], ◌∷◌, ◌++◌, length, map, filter, take, drop, set, get_or, slice_get, is_some, refl, sym, ap, ◌∙◌, subst, arith, drop-cons, length-set, inl, inr}
 use Rattle.std.specs.List.{HoldsAt}
 use Rattle.std.proofs.lemmas.Bool.{cases_Bool}
-use Rattle.std.proofs.lemmas.Grind.{common_steps}
 use Rattle.std.proofs.lemmas.List.{take_more, take_more_set, drop-set-lt}
 use Rattle.task_binding.specs.declared.binding.Binding.{Binding}
 use Rattle.task_binding.specs.Bindings.{changed}
@@ -56,13 +55,6 @@ ChangedTo-skip which how before after n d h is c =
       back = drop-suc_same before after n d h i c.back;
       long = c.long;
     }
-
--- at the end all are changed
-pub ChangedTo-end : (which : Binding → Bool) (how : Binding → Binding) (before after : List Binding) (n : ℕ) → length after ≤ n → ChangedTo which how before after n → after ≡ changed which how before
-ChangedTo-end which how before after n past c =
-    let all : take n after ≡ after = grind (arith, common_steps) in
-    let every : take n before ≡ before = let e = c.long in grind (arith, common_steps) in
-    sym all ∙ c.front ∙ ap (changed which how) every
 
 -- the binding at the next place is changed where it passes the test
 pub ChangedTo-step : (which : Binding → Bool) (how : Binding → Binding) (before after now : List Binding) (n : ℕ) (d : Binding) → n < length after

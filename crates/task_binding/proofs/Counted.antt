@@ -1,47 +1,20 @@
 -- The counts of the bindings: at the start, after a change of one binding, and what they tell of a group's members.
-use Rattle.std.proofs.Common.{◌≡◌, ℕ, zero, suc, ◌+◌, ◌<◌, Bool, true, false, cond, List, [], ◌∷◌, length, map, filter, set, get_or, slice_get, is_some, nat_lt, All, if◌then◌else◌, ◌==◌, eqb, refl, sym, ap, ◌∙◌, subst, arith, length-set}
+use Rattle.std.proofs.Common.{◌≡◌, ℕ, zero, suc, ◌+◌, ◌<◌, Bool, true, false, cond, List, [], ◌∷◌, length, map, filter, slice_get, is_some, nat_lt, All, if◌then◌else◌, ◌==◌, eqb, refl, sym, ap, ◌∙◌, subst, arith}
 use Rattle.std.specs.List.{count_by}
 use Rattle.std.proofs.lemmas.Bool.Decides.{nat_tests}
-use Rattle.std.proofs.lemmas.List.Sums.{sum_by-cons, sum_by-set, get_or-le-sum_by, length-filter}
+use Rattle.std.proofs.lemmas.List.Sums.{sum_by-cons, length-filter}
 use Rattle.rc_base.specs.Gids.{default_gid}
 use Rattle.rc_base.specs.declared.names.Gid.{Gid}
 use Rattle.task_binding.specs.declared.binding.Binding.{Binding}
 use Rattle.task_binding.specs.declared.counts.GroupCount.{GroupCount}
 use Rattle.task_binding.specs.Bindings.{opening_binding}
-use Rattle.task_binding.specs.GroupCounts.{AreCounts, IsTable, count_in, count_in_all, one_for, opening_counts}
+use Rattle.task_binding.specs.GroupCounts.{AreCounts, IsTable, count_in, count_in_all, opening_counts}
 
 -- 1 where a binding is of the group
 abbrev one_if : Bool → ℕ
 one_if b = cond b 1 0
 
 module _ (is_of : Gid → Binding → Bool) (bindings : List Binding) (counts : List GroupCount) (capacity : ℕ) (are : AreCounts is_of bindings counts capacity) where
-  -- the group of a binding has tasks
-  pub count_in-there : (place : ℕ) (d : Binding) (from : Gid) → place < length bindings → is_of from (get_or bindings place d) ≡ true → 0 < count_in from counts
-  count_in-there place d from within there =
-      let one = get_or-le-sum_by (λ (b : Binding). one_if (is_of from b)) bindings place d within in
-      let is : one_if (is_of from (get_or bindings place d)) ≡ 1 = rw there refl in
-      omega (arith, one, is, are.each from)
-
-  -- there is room to count a task in another group
-  pub count_in_all-room : count_in_all counts < capacity
-  count_in_all-room = omega (arith, are.all, are.room)
-
-  -- a binding is of another group now, and so it is counted
-  pub AreCounts-rebound : (after : List GroupCount) (capacity' place : ℕ) (d to : Binding) (old new : Gid) → place < length bindings
-      → ((group : Gid) → one_if (is_of group (get_or bindings place d)) ≡ one_for old group) → ((group : Gid) → one_if (is_of group to) ≡ one_for new group)
-      → IsTable after → ((group : Gid) → count_in group after + one_for old group ≡ count_in group counts + one_for new group) → count_in_all after ≡ count_in_all counts → capacity' ≡ capacity
-      → AreCounts is_of (set bindings place to) after capacity'
-  AreCounts-rebound after capacity' place d to old new within was becomes table each all same =
-      let long = length-set bindings place to in
-      record {
-        table = table;
-        each = λ group.
-            let moved = sum_by-set (λ (b : Binding). one_if (is_of group b)) bindings place to d within in
-            omega (arith, moved, was group, becomes group, each group, are.each group);
-        all = omega (arith, all, are.all, long);
-        room = omega (arith, are.room, long, same);
-      }
-
   -- a group has a member where it has a count
   pub is_some-member : (group : Gid) → nat_lt 0 (count_in group counts) ≡ is_some (slice_get (map (λ b. b.task) (filter (is_of group) bindings)) 0)
   is_some-member group = rw (are.each group, ← length-filter (is_of group) bindings) (first (filter (is_of group) bindings))

@@ -1,16 +1,14 @@
 -- The table of counts: what a search finds in it, and what an edit does to it.
-use Rattle.std.proofs.Common.{◌≡◌, ◌≢◌, ℕ, zero, suc, ◌+◌, ◌-◌, ◌<◌, ◌≤◌, List, [], ◌∷◌, length, set, get_or, All, AllPairs, Result, Ok, Err, IfOk, IfErr, if◌then◌else◌, ◌==◌, refl, sym, ap, ◌∙◌, subst, arith, inl, inr}
-use Rattle.std.specs.List.{insert, remove, sum_by}
+use Rattle.std.proofs.Common.{◌≡◌, ◌≢◌, ℕ, zero, suc, ◌+◌, ◌-◌, ◌<◌, ◌≤◌, List, [], ◌∷◌, length, get_or, All, AllPairs, Result, Ok, Err, IfOk, IfErr, if◌then◌else◌, ◌==◌, refl, sym, ap, ◌∙◌, subst, arith, inl, inr}
+use Rattle.std.specs.List.{insert, sum_by}
 use Rattle.std.specs.List.Sorted.{IsSearchInRange, IsBinarySearchResult, IsNonDecreasingBy}
 use Rattle.std.specs.Ordering.{nat_cmp, ordering_index}
 use Rattle.std.proofs.lemmas.Bool.{cases_lt, eq-eqb, ne_eqb}
 use Rattle.std.proofs.lemmas.Bool.Decides.{nat_tests}
 use Rattle.std.proofs.lemmas.Cmp.{ranked}
-use Rattle.std.proofs.lemmas.Grind.{common_steps}
-use Rattle.std.proofs.lemmas.List.Edits.{length-insert, get_or-insert_below, get_or-insert_at, get_or-insert_above, length-remove, get_or-remove_below, get_or-remove_above}
-use Rattle.std.proofs.lemmas.List.Elements.{All-set}
+use Rattle.std.proofs.lemmas.List.Edits.{length-insert, get_or-insert_below, get_or-insert_at, get_or-insert_above}
 use Rattle.std.proofs.lemmas.List.Sorted.{IsNonDecreasingBy-from_default}
-use Rattle.std.proofs.lemmas.List.Sums.{sum_by-cons, sum_by-set, sum_by-insert, sum_by-remove, get_or-le-sum_by}
+use Rattle.std.proofs.lemmas.List.Sums.{sum_by-cons}
 use Rattle.rc_base.specs.declared.names.Gid.{Gid}
 use Rattle.task_binding.specs.declared.counts.GroupCount.{GroupCount}
 use Rattle.task_binding.specs.GroupCounts.{IsTable, IsCountAt, IsGapFor, count_in, count_in_all}
@@ -96,45 +94,6 @@ module _ (counts : List GroupCount) (table : IsTable counts) (group : Gid) (plac
   pub positive-place : (d : GroupCount) → 0 < (get_or counts place d).tasks
   positive-place d = table.positive place d at.within
 
-  -- it counts some of all tasks
-  pub tasks-le-count_in_all : (d : GroupCount) → (get_or counts place d).tasks ≤ count_in_all counts
-  tasks-le-count_in_all d = get_or-le-sum_by (λ (c : GroupCount). c.tasks) counts place d at.within
-
-  -- another count of the group
-  pub IsTable-set : (tasks : ℕ) → 0 < tasks → IsTable (set counts place (record { group = group; tasks = tasks }))
-  IsTable-set tasks some = record {
-    rising = λ i j d lt in_range. grind (arith, common_steps, table.rising i j d, table.rising i place d, table.rising place j d, at.within, at.there d);
-    positive = All-set (λ (c : GroupCount). 0 < c.tasks) counts place (record { group = group; tasks = tasks }) some table.positive;
-  }
-
-  -- it changes the counts by the difference
-  pub count_in-set : (tasks : ℕ) (d : GroupCount) (other : Gid)
-      → count_in other (set counts place (record { group = group; tasks = tasks })) + (if group.0 == other.0 then (get_or counts place d).tasks else 0) ≡ count_in other counts + (if group.0 == other.0 then tasks else 0)
-  count_in-set tasks d other =
-      let change = sum_by-set (count_of other) counts place (record { group = group; tasks = tasks }) d at.within in
-      subst (λ (n : ℕ). count_in other (set counts place (record { group = group; tasks = tasks })) + (if n == other.0 then (get_or counts place d).tasks else 0) ≡ count_in other counts + (if group.0 == other.0 then tasks else 0)) (at.there d) change
-
-  pub count_in_all-set : (tasks : ℕ) (d : GroupCount) → count_in_all (set counts place (record { group = group; tasks = tasks })) + (get_or counts place d).tasks ≡ count_in_all counts + tasks
-  count_in_all-set tasks d = sum_by-set (λ (c : GroupCount). c.tasks) counts place (record { group = group; tasks = tasks }) d at.within
-
-  -- without its entry
-  pub IsTable-remove : IsTable (remove counts place)
-  IsTable-remove =
-      let long = length-remove counts place at.within in
-      let below : (i : ℕ) (d : GroupCount) → i < place → get_or (remove counts place) i d ≡ get_or counts i d = λ i d lt. get_or-remove_below counts place d i lt at.within in
-      let above : (i : ℕ) (d : GroupCount) → place ≤ i → get_or (remove counts place) i d ≡ get_or counts (i + 1) d = λ i d le. get_or-remove_above counts place d i le at.within in
-      record {
-        rising = λ i j d lt in_range. grind (arith, below i d, above i d, below j d, above j d, table.rising i j d, table.rising i (j + 1) d, table.rising (i + 1) (j + 1) d, long);
-        positive = λ k d in_range. grind (arith, below k d, above k d, table.positive k d, table.positive (k + 1) d, long);
-      }
-
-  pub count_in-remove : (d : GroupCount) (other : Gid) → count_in other (remove counts place) + (if group.0 == other.0 then (get_or counts place d).tasks else 0) ≡ count_in other counts
-  count_in-remove d other =
-      subst (λ (n : ℕ). count_in other (remove counts place) + (if n == other.0 then (get_or counts place d).tasks else 0) ≡ count_in other counts) (at.there d) (sum_by-remove (count_of other) counts place d at.within)
-
-  pub count_in_all-remove : (d : GroupCount) → count_in_all (remove counts place) + (get_or counts place d).tasks ≡ count_in_all counts
-  count_in_all-remove d = sum_by-remove (λ (c : GroupCount). c.tasks) counts place d at.within
-
 -- a new entry in a gap
 module _ (counts : List GroupCount) (table : IsTable counts) (group : Gid) (place : ℕ) (gap : IsGapFor counts group place) (tasks : ℕ) where
   pub IsTable-insert : 0 < tasks → IsTable (insert counts place (record { group = group; tasks = tasks }))
@@ -149,9 +108,3 @@ module _ (counts : List GroupCount) (table : IsTable counts) (group : Gid) (plac
         rising = λ i j d lt in_range. grind (arith, below i d, here i d, above i d, below j d, here j d, above j d, table.rising i j d, table.rising i (j - 1) d, table.rising (i - 1) (j - 1) d, gap.below i d, gap.above (j - 1) d, long);
         positive = λ k d in_range. grind (arith, below k d, here k d, above k d, table.positive k d, table.positive (k - 1) d, long, some);
       }
-
-  pub count_in-insert : (other : Gid) → count_in other (insert counts place (record { group = group; tasks = tasks })) ≡ count_in other counts + (if group.0 == other.0 then tasks else 0)
-  count_in-insert other = sum_by-insert (count_of other) counts place (record { group = group; tasks = tasks })
-
-  pub count_in_all-insert : count_in_all (insert counts place (record { group = group; tasks = tasks })) ≡ count_in_all counts + tasks
-  count_in_all-insert = sum_by-insert (λ (c : GroupCount). c.tasks) counts place (record { group = group; tasks = tasks })

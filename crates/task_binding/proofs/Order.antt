@@ -4,7 +4,6 @@ use Rattle.std.specs.List.{AllWithin}
 use Rattle.std.specs.List.Sorted.{IsStrictlyIncreasing}
 use Rattle.std.proofs.lemmas.Bool.{eq-eqb, ne_eqb}
 use Rattle.std.proofs.lemmas.Bool.{cases_lt}
-use Rattle.std.proofs.lemmas.Grind.{common_steps}
 use Rattle.std.proofs.lemmas.List.{get_or_default}
 use Rattle.std.proofs.lemmas.List.Kept.{AllPairs-filter, AllPairs-from_increasing}
 use Rattle.task_binding.specs.declared.binding.Binding.{Binding}
@@ -85,10 +84,6 @@ AreRising-opening ids rising i j d below within =
     let second = get_or-opening_binding ids j d (omega arith) in
     let pair = AllPairs-from_increasing ids rising i j 0 below (omega arith) in
     omega (arith, first, second, pair)
-
--- a binding of the same task in its place keeps the order
-pub AreRising-set : (xs : List Binding) (place : ℕ) (to : Binding) → AreRising xs → place < length xs → ((d : Binding) → (get_or xs place d).task ≡ to.task) → AreRising (set xs place to)
-AreRising-set xs place to rising h same = λ i j d below within. grind (arith, common_steps, rising i j d, rising i place d, rising place j d, same d, h)
 
 -- all up to a binding that is below the task are below it, and all from one that is not on are not
 pub get_or-task_below : (task : ℕ) (xs : List Binding) (n : ℕ) (e : Binding) → AreRising xs → n < length xs → (get_or xs n e).task < task → (k : ℕ) (d : Binding) → k < n + 1 → (get_or xs k d).task < task

@@ -17,7 +17,7 @@ use Rattle.tree_core.specs.Kept.{IsKept, Keeps}
 use Rattle.tree_core.specs.Tables.{Tables}
 use Rattle.tree_core.specs.Values.{TreeValue}
 use Rattle.tree_law.specs.Existing.{group_of}
-use Rattle.tree_law.specs.Sound.{HasIds, IsDefault, IsUsed}
+use Rattle.tree_law.specs.Sound.{HasIds, IsDefault}
 use Rattle.tree_law.specs.Space.{is_id}
 use Rattle.tree_law.specs.State.{State}
 
@@ -70,11 +70,6 @@ module _ {m : Parameters} {t : Tables} {s : State} {epoch : ℕ} (keeps : Keeps 
   -- it has eight masks
   pub length-found_masks : (gid : Gid) (g : Group) → group_of s gid ≡ Some g → length g.masks ≡ 8
   length-found_masks gid g found = IsFound-all (λ (x : Group). length x.masks ≡ 8) (has_gid gid) s.groups g (IsFound-group_of gid g found) keeps.sound.masks.places
-
-  -- its RMID is the machine's
-  pub rmid-lt : (gid : Gid) (g : Group) (rmid : ℕ) → group_of s gid ≡ Some g → g.rmid ≡ Some rmid → rmid < m.rmids
-  rmid-lt gid g rmid found has =
-      (subst (λ (r : Option ℕ). IfSome r (IsUsed m s.limbo)) has (IsFound-all (λ (x : Group). IfSome x.rmid (IsUsed m s.limbo)) (has_gid gid) s.groups g (IsFound-group_of gid g found) keeps.sound.numbered.rmids)).0
 
   -- the class of each group is taken
   pub contains-class : (k : ℕ) (d : Group) (id : ℕ) → k < length s.groups → (get_or s.groups k d).class ≡ Some id → contains id t.classes.taken ≡ true

@@ -1,9 +1,8 @@
 -- A place for a group that no directory of a group has: an RMID is looked for, and no group is made.
-use Rattle.std.proofs.Common.{◌≡◌, ◌≢◌, ℕ, Bool, true, false, not, ◌&&◌, ◌||◌, cond, List, find, Option, None, Some, is_none, is_some, refl, sym, ap, ap₂, ◌∙◌, arith}
+use Rattle.std.proofs.Common.{◌≡◌, ◌≢◌, ℕ, Bool, true, false, not, ◌&&◌, cond, List, find, Option, None, Some, is_none, is_some, refl, sym, ap, ap₂, ◌∙◌, arith}
 use Rattle.std.specs.Option.{option_map}
 use Rattle.std.proofs.lemmas.Bool.{le-ltb}
 use Rattle.group_tree.specs.Records.{blank}
-use Rattle.hw_ids.proofs.laws.Membership.{contains-with_id}
 use Rattle.hw_ids.specs.Ids as ids
 use Rattle.hw_ids.specs.Ids.{contains, with_id}
 use Rattle.hw_ids.specs.MonitoringIds.{MonitoringIds, after_free}
@@ -13,7 +12,6 @@ use Rattle.path_names.specs.declared.path_ref.PathRef.{PathRef}
 use Rattle.path_names.specs.declared.path_ref.PathRef.TheVariants.{Dir, File, Free, Nowhere}
 use Rattle.rc_base.specs.declared.replies.Why.TheVariants.{Locking, NoSpace, OutOfClosids, OutOfRmids, RmidsBusy}
 use Rattle.script_ops.specs.declared.op.Op.TheVariants.{Mkdir}
-use Rattle.std.proofs.lemmas.Bool.{eq-eqb}
 use Rattle.tree_core.proofs.KeptTables.{IsDefault-first, contains-rmid, length-positive}
 use Rattle.tree_core.proofs.Refusals.{refusal-in_place}
 use Rattle.tree_core.proofs.Returns.{SameMembers-returned}
@@ -73,10 +71,6 @@ module _ (m : Parameters) (s : State) (path : PathRef) (nameless : is_group_dire
   accepted-nameless looks = (MakesNone-path m s path nameless).left
 
 module _ {m : Parameters} {t : Tables} {s : State} {epoch : ℕ} (keeps : Keeps m t s epoch) (mid : MonitoringIds) (rmid : ℕ) (taken : RmidTaken t.rmids mid rmid) where
-  -- an RMID that was taken may be given back
-  pub contains-taken : contains rmid mid.taken ≡ true
-  contains-taken = ap (λ (r : MonitoringIds). contains rmid r.taken) taken.taken ∙ contains-with_id rmid rmid t.rmids.taken ∙ ap (λ (b : Bool). b || contains rmid t.rmids.taken) (eq-eqb rmid rmid refl)
-
   pub rmid-not_zero : rmid ≢ 0
   rmid-not_zero zeroth =
       let first = IsDefault-first s.groups blank keeps.sound.named.first in

@@ -1,10 +1,9 @@
 -- What a use adds to a curve.
-use Rattle.std.proofs.Common.{◌≡◌, ◌≢◌, ℕ, ◌+◌, ◌%◌, ◌<◌, ◌≤◌, Bool, true, false, ◌==◌, ◌&&◌, nat_lt, List, [], ◌∷◌, ◌++◌, length, reverse, take, get_or, set, sum, replicate, Option, Some, None, arith, refl, sym, ◌∙◌, ap, subst, inl, inr}
+use Rattle.std.proofs.Common.{◌≡◌, ◌≢◌, ℕ, ◌+◌, ◌%◌, ◌<◌, ◌≤◌, Bool, true, false, ◌==◌, ◌&&◌, nat_lt, List, [], ◌∷◌, ◌++◌, length, reverse, take, get_or, set, sum, Option, Some, None, arith, refl, sym, ◌∙◌, ap, subst, inl, inr}
 use Rattle.std.specs.List.{filter, position, position_or_len}
 use Rattle.std.proofs.lemmas.Bool.{cases_Bool, cases_lt, lt-ltb, le-ltb, eqb-true, eqb-false}
-use Rattle.std.proofs.lemmas.List.{append-nil, get_or-replicate, get_or-set_other, get_or-set_same, length_push, map-append, reverse-append, take-replicate, take-take}
+use Rattle.std.proofs.lemmas.List.{append-nil, get_or-set_other, get_or-set_same, length_push, map-append, reverse-append, take-take}
 use Rattle.std.proofs.lemmas.List.Elements.{filter-append}
-use Rattle.std.proofs.lemmas.List.Folds.{sum_by-replicate}
 use Rattle.lists.proofs.Cuts.{list_any-position_ge, list_any-position_lt}
 use Rattle.lists.specs.Sums.{one_if}
 use Rattle.private_lru.specs.Private.{among, alive}
@@ -115,12 +114,4 @@ IsCurve-more sets count recent at new_at lines x distance below len is counted c
       let same : is_below ways distance ≡ is_set_hit sets ways lines x =
       ap (λ (o : Option ℕ). is_below ways o) (is ∙ ap (λ (l : List ℕ). position (λ (y : ℕ). y == x) l) (curve.recent (x % sets) below)) ∙ is_below-hit sets ways x lines le in
       total-more _ _ _ _ _ _ (counted ways le) (curve.hits ways le) (ap one_if same) (set_hits_after-push sets ways [] lines x);
-}
-
--- a curve of no uses
-pub IsCurve-none : (sets : ℕ) → IsCurve (record { sets = sets; uses = 0; recent = replicate sets []; at_distance = replicate 32 0 }) []
-IsCurve-none sets = record {
-  uses = refl;
-  recent = λ s lt. get_or-replicate sets s [] [] lt;
-  hits = λ ways le. ap sum (take-replicate ways 32 0 le) ∙ (sum_by-replicate (λ (x : ℕ). x) ways 0 ∙ omega arith);
 }

@@ -5,10 +5,8 @@ use Rattle.std.proofs.lemmas.List.{append-nil}
 use Rattle.std.proofs.lemmas.List.Folds.{list_any-append}
 use Rattle.lists.specs.Sums.{one_if}
 use Rattle.lackey_text.specs.declared.uses.LineUse.{LineUse}
-use Rattle.way_curve.specs.Counting.{all_lines, code_lines, data_lines}
 use Rattle.way_curve.specs.FirstUses.{first_uses_after, first_uses_of, is_line_of}
-use Rattle.way_curve.specs.Noted.{HaveNoted, HaveNotedUses, NoteLines, NotedLines, NoteUses, NotedUses}
-use Rattle.way_curve.proofs.UseLists.{all_lines-push, code_lines-push, code_lines-push_data, data_lines-push, data_lines-push_code}
+use Rattle.way_curve.specs.Noted.{HaveNotedUses, NoteLines, NotedLines, NoteUses, NotedUses}
 
 -- one part more in front
 add-front : (h n m a b : ℕ) → n ≡ m + a → a ≡ b → h + n ≡ h + m + b
@@ -56,44 +54,7 @@ NoteLines-push old new x added good is count has = λ lines noted.
       same = λ ok q. has q ∙ (ap (λ (b : Bool). cond b true (is_line_of old.lines q)) (flipped x q) ∙ (ap (λ (b : Bool). cond (q == x) true b) (known q) ∙ (is_line_of-push (is_line_of lines q) (q == x) ∙ sym (list_any-append (λ (y : ℕ). q == y) lines (x ∷ [])))));
     }
 
--- where memory ran out, nothing is known
-pub NoteLines-out : (old new : NotedLines) (more : List ℕ) → new.is_out ≡ true → NoteLines old new more
-NoteLines-out old new more out = λ lines noted. record {
-  count = λ ok. let never : true ≡ false = sym out ∙ ok in absurd cc;
-  same = λ ok q. let never : true ≡ false = sym out ∙ ok in absurd cc;
-}
-
--- no line was noted
-pub HaveNoted-nil : (noted : NotedLines) → noted.lines ≡ [] → HaveNoted noted []
-HaveNoted-nil noted none = record {
-  count = λ ok. ap (λ (ls : List ℕ). length ls) none;
-  same = λ ok x. ap (λ (ls : List ℕ). is_line_of ls x) none;
-}
-
 -- ---- uses of data and of code
-
--- the lines of uses that are the same
-HaveNoted-lines : (noted : NotedLines) (xs ys : List ℕ) → xs ≡ ys → HaveNoted noted xs → HaveNoted noted ys
-HaveNoted-lines noted xs ys same is = subst (λ (ls : List ℕ). HaveNoted noted ls) same is
-
-module _ (old : NotedUses) (own both : NotedLines) (u : LineUse) where
-  -- one use of code more
-  pub NoteUses-code : u.code ≡ true → NoteLines old.of_code own (u.line ∷ []) → NoteLines old.of_all both (u.line ∷ [])
-      → NoteUses old (record { of_all = both; of_data = old.of_data; of_code = own }) (u ∷ [])
-  NoteUses-code h more all = λ uses noted. record {
-    of_all = HaveNoted-lines both _ _ (sym (all_lines-push uses u)) (all (all_lines uses) noted.of_all);
-    of_data = HaveNoted-lines old.of_data _ _ (sym (data_lines-push_code uses u h)) noted.of_data;
-    of_code = HaveNoted-lines own _ _ (sym (code_lines-push uses u h)) (more (code_lines uses) noted.of_code);
-  }
-
-  -- one use of data more
-  pub NoteUses-data : u.code ≡ false → NoteLines old.of_data own (u.line ∷ []) → NoteLines old.of_all both (u.line ∷ [])
-      → NoteUses old (record { of_all = both; of_data = own; of_code = old.of_code }) (u ∷ [])
-  NoteUses-data h more all = λ uses noted. record {
-    of_all = HaveNoted-lines both _ _ (sym (all_lines-push uses u)) (all (all_lines uses) noted.of_all);
-    of_data = HaveNoted-lines own _ _ (sym (data_lines-push uses u h)) (more (data_lines uses) noted.of_data);
-    of_code = HaveNoted-lines old.of_code _ _ (sym (code_lines-push_data uses u h)) noted.of_code;
-  }
 
 -- uses after uses
 pub NoteUses-append : (a b c : NotedUses) (xs ys : List LineUse) → NoteUses a b xs → NoteUses b c ys → NoteUses a c (xs ++ ys)
@@ -102,7 +63,3 @@ NoteUses-append a b c xs ys first later = λ uses noted. subst (λ (us : List Li
 -- no uses
 pub NoteUses-nil : (a : NotedUses) → NoteUses a a []
 NoteUses-nil a = λ uses noted. subst (λ (us : List LineUse). HaveNotedUses a us) (sym (append-nil uses)) noted
-
--- no use was noted
-pub HaveNotedUses-nil : (noted : NotedUses) → HaveNoted noted.of_all [] → HaveNoted noted.of_data [] → HaveNoted noted.of_code [] → HaveNotedUses noted []
-HaveNotedUses-nil noted all_is data_is code_is = record { of_all = all_is; of_data = data_is; of_code = code_is }

@@ -35,16 +35,6 @@ IsBadAt-line text before uses whole line later said count all none = record {
 }
 
 module _ (j : JoinerValue) (text : List ℕ) (uses : List LineUse) (joins : Joins j text uses) where
-  -- a byte of a line that goes on
-  pub Joins-byte : (new : JoinerValue) (b : ℕ) → (b == 10) ≡ false → new.ended ≡ j.ended → new.rest ≡ j.rest ++ b ∷ [] → Joins new (text ++ b ∷ []) uses
-  Joins-byte new b other same longer = record {
-    whole = joins.whole;
-    begins = subst (λ (l : List ℕ). BeginsWith (text ++ b ∷ []) joins.whole l) (sym longer) (BeginsWith-byte text joins.whole j.rest joins.begins b);
-    is_open = subst IsOpen (sym longer) (IsOpen-more j.rest b other joins.is_open);
-    said = joins.said;
-    count = same ∙ joins.count;
-  }
-
   -- a byte that makes a line too long
   pub bad-long : (b : ℕ) → (b == 10) ≡ false → 65536 < length j.rest → (more : List ℕ) → IsBadAt ((text ++ b ∷ []) ++ more) j.ended uses
   bad-long b other full more =

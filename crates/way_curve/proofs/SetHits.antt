@@ -8,10 +8,6 @@ use Rattle.private_lru.specs.Private.{among, alive}
 use Rattle.way_curve.specs.Curves.{is_set_hit, set_hits_after}
 use Rattle.way_curve.proofs.Alive.{among-take, before_line, private_hit-uses, uses}
 
--- sums of equal parts
-add-end : (n a b c : ℕ) → a ≡ b → n ≡ c → n + a ≡ c + b
-add-end n a b c e d = omega arith
-
 -- one part more in front
 add-front : (h n m a b : ℕ) → n ≡ m + a → a ≡ b → h + n ≡ h + m + b
 add-front h n m a b e d = omega arith
