@@ -1,5 +1,5 @@
 //! The canonical texts of numbers.
-ghost use Rattle.std.specs.Prelude.{◌≡◌, ◌+◌, ◌≤◌, ◌<◌, [], ◌∷◌, ◌++◌, length, decimal, false};
+ghost use Rattle.std.specs.Prelude.{◌≡◌, ◌+◌, ◌/◌, ◌%◌, ◌≤◌, ◌<◌, [], ◌∷◌, ◌++◌, length, decimal, false};
 ghost use Rattle.std.specs.Fmt.{digit_glyph};
 ghost use Rattle.num_text.specs.Printed.{hexadecimal};
 
@@ -17,18 +17,33 @@ fn glyph(digit: u8) -> u8
     }
 }
 
-// The digits of a number in hexadecimal, at least `width` of them.
+// Adds two digits in hexadecimal.
+#[inline]
+fn push_pair(n: u8, out: &mut TextBuf)
+    requires { 2 ≤ out.old.spare }
+    ensures bytes { out.new.bytes ≡ out.old.bytes ++ digit_glyph false (n / 16) ∷ digit_glyph false (n % 16) ∷ [] }
+    ensures spare { out.new.spare + 2 ≡ out.old.spare }
+{
+    out.push(glyph(n / 16));
+    out.push(glyph(n % 16));
+}
+
+// The digits of a number in hexadecimal, at least `width` of them, two at a time.
 fn push_digits(n: u64, width: u8, out: &mut TextBuf)
     requires { length (hexadecimal width n) ≤ out.old.spare }
     ensures bytes { out.new.bytes ≡ out.old.bytes ++ hexadecimal width n }
     ensures spare { out.new.spare + length (hexadecimal width n) ≡ out.old.spare }
 {
-    if n >= 16 {
-        push_digits(n / 16, width.saturating_sub(1), out);
-        out.push(glyph((n % 16) as u8));
+    if n >= 256 {
+        push_digits(n / 256, width.saturating_sub(2), out);
+        push_pair((n % 256) as u8, out);
+    } else if width > 2 {
+        push_digits(0, width - 2, out);
+        push_pair(n as u8, out);
+    } else if n >= 16 {
+        push_pair(n as u8, out);
     } else if width > 1 {
-        push_digits(0, width - 1, out);
-        out.push(glyph(n as u8));
+        push_pair(n as u8, out);
     } else {
         out.push(glyph(n as u8));
     }
