@@ -1,5 +1,5 @@
 //! A text that grows.
-ghost use Rattle.std.specs.Prelude.{◌≡◌, ◌+◌, ◌≤◌, [], ◌∷◌, ◌++◌, IfOk, OnOk, decimal, length, vec_len, vec_capacity};
+ghost use Rattle.std.specs.Prelude.{◌≡◌, ◌+◌, ◌/◌, ◌%◌, ◌<◌, ◌≤◌, [], ◌∷◌, ◌++◌, IfOk, OnOk, decimal, length, vec_len, vec_capacity};
 ghost use Rattle.path_names.specs.NamesIn.{path_ids, AreKnown};
 ghost use Rattle.path_names.specs.PathTexts.{path_text};
 
@@ -39,7 +39,20 @@ fn make_room(text: &mut Vec<u8>, bytes: usize) -> Result<(), NoMemory>
     Ok(())
 }
 
-// Adds the digits of a number, for which there is room.
+// Adds two digits, for which there is room.
+#[inline]
+fn push_pair(text: &mut Vec<u8>, n: u8)
+    requires two { n < 100 }
+    requires room { vec_len text.old + 2 ≤ vec_capacity text.old }
+    ensures items { text.new.items ≡ text.old.items ++ (48 + n / 10) ∷ (48 + n % 10) ∷ [] }
+    ensures len { vec_len text.new ≡ vec_len text.old + 2 }
+    ensures capacity { vec_capacity text.new ≡ vec_capacity text.old }
+{
+    text.push_reserved(b'0' + n / 10);
+    text.push_reserved(b'0' + n % 10);
+}
+
+// Adds the digits of a number, for which there is room, two at a time.
 fn push_digits(text: &mut Vec<u8>, n: u64)
     requires { vec_len text.old + length (decimal n) ≤ vec_capacity text.old }
     ensures items { text.new.items ≡ text.old.items ++ decimal n }
@@ -48,9 +61,11 @@ fn push_digits(text: &mut Vec<u8>, n: u64)
 {
     if n < 10 {
         text.push_reserved(b'0' + n as u8);
+    } else if n < 100 {
+        push_pair(text, n as u8);
     } else {
-        push_digits(text, n / 10);
-        text.push_reserved(b'0' + (n % 10) as u8);
+        push_digits(text, n / 100);
+        push_pair(text, (n % 100) as u8);
     }
 }
 

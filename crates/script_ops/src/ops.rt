@@ -1,6 +1,6 @@
 //! The ops of a thread.
 ghost use Rattle.std.specs.Prelude.{◌≡◌, ℕ, ◌<◌, [], ◌∷◌, ◌++◌, IfSome, OnOk, OnErr, HoldsAt, Some, false, length, slice_get};
-ghost use Rattle.script_ops.specs.Slots.{is_access};
+ghost use Rattle.script_ops.specs.Slots.{commands_in, is_access};
 ghost use Rattle.script_ops.specs.declared.op.Op.TheVariants.{Access};
 
 use crate::op::Op;
@@ -85,6 +85,14 @@ impl Ops {
         }
     }
 
+    /// Its commands alone, in order.
+    #[inline]
+    pub fn commands(&self) -> &[Op]
+        ensures { result.now ≡ commands_in self.now }
+    {
+        self.commands.as_slice()
+    }
+
     /// Takes room for so many accesses more.
     pub fn reserve(&mut self, more: usize) -> Result<(), NoMemory>
         ensures { self.new ≡ self.old }
@@ -103,15 +111,16 @@ impl Ops {
         Ok(())
     }
 
-    // Adds a command.
+    // Adds a command. It takes the room for both places first, so that no command is without a slot.
     fn push_command(&mut self, op: Op) -> Result<(), NoMemory>
         requires { is_access op ≡ false }
         ensures ok { OnOk result (self.new ≡ self.old ++ op ∷ []) }
         ensures err { OnErr result (self.new ≡ self.old) }
     {
         let number = self.commands.len();
+        self.slots.reserve(1)?;
         self.commands.push(op)?;
-        self.slots.push(Slot::Command(number))?;
+        self.slots.push_reserved(Slot::Command(number));
         Ok(())
     }
 
