@@ -49,6 +49,11 @@ quota m i (ops.Access task cpu addr) = line_quota m i cpu addr
 quota m i (ops.Touch cpu path task offset) = line_quota m i cpu offset
 quota m i op = common_quota m op
 
+-- the same of an access, and 0 of a command
+abbrev pub access_quota : Parameters → ℕ → Op → ℕ
+access_quota m i (ops.Access task cpu addr) = line_quota m i cpu addr
+access_quota m i op = 0
+
 -- the most entries that these ops together can make in slice i
 abbrev pub quotas_of : Parameters → ℕ → List Op → ℕ
 quotas_of m i ops = sum_by (quota m i) ops

@@ -1,9 +1,8 @@
 //! The rooms of the journals: what all ops can make in each slice, and how many commands there are.
-ghost use Rattle.std.specs.Prelude.{◌≡◌, ◌<◌, ◌≤◌, ◌*◌, ◌^◌, All, IfOk, HoldsAt, length};
+ghost use Rattle.std.specs.Prelude.{◌≡◌, ◌+◌, ◌<◌, ◌≤◌, ◌*◌, ◌^◌, All, IfOk, HoldsAt, length, sum_by};
 ghost use Rattle.machine.specs.Maps.{parameters_of};
 ghost use Rattle.machine.specs.Slices.{slice_count};
-ghost use Rattle.run_law.specs.Ops.{is_command};
-ghost use Rattle.run_law.specs.Quotas.{AreCounted, AreRooms, AreWithin, HaveGrown, command_count, commands_of, line_quota, quota, quotas_of};
+ghost use Rattle.run_law.specs.Quotas.{AreCounted, AreRooms, AreWithin, HaveGrown, access_quota, command_count, commands_of, line_quota, quota, quotas_of};
 ghost use Rattle.script_ops.specs.Fits.{Fits};
 ghost use Rattle.script_ops.specs.declared.limits.TheConstants.{MOST_WEIGHT};
 ghost use Rattle.script_ops.specs.Values.{threads_of};
@@ -52,6 +51,52 @@ fn add_op(script: &Script, op: &Op, rooms: &mut [u64])
     }
 }
 
+// Adds one to the room of the slice that the op of this number reaches, where that op is an access.
+fn add_access(script: &Script, ops: &Ops, i: usize, rooms: &mut [u64])
+    requires within { i < length ops.now }
+    requires fit { All (Fits script.now.machine script.now.tasks) ops.now }
+    requires count { length rooms.old ≡ slice_count script.now.machine }
+    requires small { AreWithin (2 ^ 63) rooms.old }
+    ensures { HoldsAt (λ op. HaveGrown (λ s. access_quota script.now.machine s op) 257 rooms.old rooms.new) ops.now i }
+{
+    match ops.access(i) {
+        Some((_, cpu, addr)) => add_line(script.machine(), cpu, addr, rooms),
+        None => {}
+    }
+}
+
+// Adds to each room the entries that the accesses among these ops can make in its slice; `commands` says how many ops are commands.
+fn add_accesses(script: &Script, ops: &Ops, commands: u64, rooms: &mut [u64])
+    requires fit { All (Fits script.now.machine script.now.tasks) ops.now }
+    requires few { length ops.now ≤ MOST_WEIGHT }
+    requires commands { commands ≡ commands_of ops.now }
+    requires count { length rooms.old ≡ slice_count script.now.machine }
+    requires small { AreWithin (2 ^ 62) rooms.old }
+    ensures { HaveGrown (λ i. sum_by (access_quota script.now.machine i) ops.now) (2 ^ 30) rooms.old rooms.new }
+{
+    // Where there is one slice, each access makes one entry in it.
+    if script.machine().slice_count() == 1 {
+        rooms[0] += ops.len() as u64 - commands;
+        return;
+    }
+    for i in 0..ops.len() {
+        add_access(script, ops, i, rooms);
+    }
+}
+
+// Adds to each room the most entries that these ops can make in its slice.
+fn add_each(script: &Script, ops: &[Op], rooms: &mut [u64])
+    requires fit { All (Fits script.now.machine script.now.tasks) ops.now }
+    requires few { length ops.now ≤ MOST_WEIGHT }
+    requires count { length rooms.old ≡ slice_count script.now.machine }
+    requires small { AreWithin (2 ^ 62 + 2 ^ 30) rooms.old }
+    ensures { HaveGrown (λ i. quotas_of script.now.machine i ops.now) (257 * length ops.now) rooms.old rooms.new }
+{
+    for i in 0..ops.len() {
+        add_op(script, &ops[i], rooms);
+    }
+}
+
 /// Adds to each room, of which there is one for each slice, the most entries that these ops can make in its slice; `commands` says
 /// how many of them are commands.
 pub fn add_ops(script: &Script, ops: &Ops, commands: u64, rooms: &mut [u64])
@@ -62,15 +107,8 @@ pub fn add_ops(script: &Script, ops: &Ops, commands: u64, rooms: &mut [u64])
     requires small { AreWithin (2 ^ 62) rooms.old }
     ensures { HaveGrown (λ i. quotas_of script.now.machine i ops.now) (2 ^ 30) rooms.old rooms.new }
 {
-    // Where all are accesses and there is one slice, each makes one.
-    if commands == 0 && script.machine().slice_count() == 1 {
-        rooms[0] += ops.len() as u64;
-        return;
-    }
-    for i in 0..ops.len() {
-        let op = ops.at(i);
-        add_op(script, op.get(), rooms);
-    }
+    add_accesses(script, ops, commands, rooms);
+    add_each(script, ops.commands(), rooms);
 }
 
 /// The rooms of all slices, in order: for each the most entries that all ops can make in it. `counts` says how many commands each
@@ -86,25 +124,13 @@ pub fn slice_rooms(alloc: Global, script: &Script, counts: &[u64]) -> Result<Vec
     Ok(rooms)
 }
 
-// Whether the op of this number is a command.
-fn takes_tree(ops: &Ops, i: usize) -> bool
-    requires { i < length ops.now }
-    ensures { HoldsAt (λ op. result ≡ is_command op) ops.now i }
-{
-    ops.access(i).is_none()
-}
-
 /// How many of these ops are commands.
 pub fn count_commands(ops: &Ops) -> u64
     requires few { length ops.now ≤ MOST_WEIGHT }
     ensures count { result ≡ commands_of ops.now }
     ensures few { result ≤ MOST_WEIGHT }
 {
-    let mut count: u64 = 0;
-    for i in 0..ops.len() {
-        count += u64::from(takes_tree(ops, i));
-    }
-    count
+    ops.commands().len() as u64
 }
 
 /// How many commands each thread has.

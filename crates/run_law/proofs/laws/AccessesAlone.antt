@@ -1,6 +1,6 @@
 -- Ops that are accesses alone: they make one entry each where there is one slice.
 use Rattle.std.proofs.Common.{◌≡◌, ℕ, ◌+◌, ◌<◌, Bool, true, false, List, [], ◌∷◌, length, refl, sym, ap, ◌∙◌, arith}
-use Rattle.std.specs.Prelude.{All}
+use Rattle.std.specs.Prelude.{All, sum_by}
 use Rattle.std.proofs.lemmas.Bool.{eq-eqb}
 use Rattle.std.proofs.lemmas.List.Elements.{All-head, All-tail}
 use Rattle.std.proofs.lemmas.List.Sums.{sum_by-cons}
@@ -12,7 +12,7 @@ use Rattle.machine.specs.declared.parameters.Parameters.{Parameters}
 use Rattle.machine.proofs.laws.Domains.{domain_of-lt}
 use Rattle.machine.proofs.laws.Slices.{slice_number-lt}
 use Rattle.run_law.specs.Ops.{is_command}
-use Rattle.run_law.specs.Quotas.{commands_of, quota, quotas_of}
+use Rattle.run_law.specs.Quotas.{access_quota, commands_of, quota}
 use Rattle.script_ops.specs.Fits.{Fits}
 use Rattle.script_ops.specs.declared.op.Op.{Op}
 use Rattle.script_ops.specs.declared.op.Op.TheVariants as ops
@@ -33,9 +33,13 @@ quota-access m tasks i (ops.Access task cpu addr) range one first fits is =
     ap one_if (eq-eqb i (slice_of_line m (domain_of m cpu) line) (omega (arith, first, lt, one)))
 quota-access m tasks i op range one first fits is = absurd cc
 
--- so that all make as many entries as they are
-pub quotas_of-accesses : (m : Parameters) (tasks : List ℕ) (i : ℕ) (ops : List Op) → InRange m → slice_count m ≡ 1 → i < slice_count m → All (Fits m tasks) ops → commands_of ops ≡ 0 → quotas_of m i ops ≡ length ops
-quotas_of-accesses m tasks i [] range one within fit none = refl
-quotas_of-accesses m tasks i (op ∷ ops) range one within fit none =
-    let both = first_none (is_command op) (commands_of ops) (sym (sum_by-cons (λ o. one_if (is_command o)) op ops) ∙ none) in
-    sum_by-cons (quota m i) op ops ∙ omega (arith, quota-access m tasks i op range one (omega (arith, within, one)) (All-head (Fits m tasks) op ops fit) both.0, quotas_of-accesses m tasks i ops range one within (All-tail (Fits m tasks) op ops fit) both.1)
+-- and of a command none is added with the accesses
+access_quota-either : (m : Parameters) (tasks : List ℕ) (i : ℕ) (op : Op) → InRange m → slice_count m ≡ 1 → i < 1 → Fits m tasks op → access_quota m i op + one_if (is_command op) ≡ 1
+access_quota-either m tasks i (ops.Access task cpu addr) range one first fits = omega (arith, quota-access m tasks i (ops.Access task cpu addr) range one first fits refl)
+access_quota-either m tasks i op range one first fits = refl
+
+-- so that all accesses make as many entries as they are
+pub access_quotas-one : (m : Parameters) (tasks : List ℕ) (i : ℕ) (ops : List Op) → InRange m → slice_count m ≡ 1 → i < 1 → All (Fits m tasks) ops → sum_by (access_quota m i) ops + commands_of ops ≡ length ops
+access_quotas-one m tasks i [] range one first fit = refl
+access_quotas-one m tasks i (op ∷ ops) range one first fit =
+    omega (arith, sum_by-cons (access_quota m i) op ops, sum_by-cons (λ o. one_if (is_command o)) op ops, access_quota-either m tasks i op range one first (All-head (Fits m tasks) op ops fit), access_quotas-one m tasks i ops range one first (All-tail (Fits m tasks) op ops fit))
