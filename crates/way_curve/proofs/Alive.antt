@@ -48,7 +48,7 @@ pub among-without_same : (x : ℕ) (l : List ℕ) → among x (without x l) ≡ 
 among-without_same x l = let e : (x == x) ≡ true = eq-eqb x x refl in rw (among-without x x l, e) refl
 
 -- another is where it was
-among-without_other : (x y : ℕ) (l : List ℕ) → (x == y) ≡ false → among x (without y l) ≡ among x l
+pub among-without_other : (x y : ℕ) (l : List ℕ) → (x == y) ≡ false → among x (without y l) ≡ among x l
 among-without_other x y l h = rw (among-without x y l, h) refl
 
 -- a line that is not there does not come
@@ -68,7 +68,7 @@ without-absent x (y ∷ ys) h =
     rw here (ap (λ l. y ∷ l) (without-absent x ys parts.1))
 
 -- taking out a line that stands before another
-before_line-without : (x y : ℕ) (l : List ℕ) → (y == x) ≡ false → before_line x (without y l) ≡ without y (before_line x l)
+pub before_line-without : (x y : ℕ) (l : List ℕ) → (y == x) ≡ false → before_line x (without y l) ≡ without y (before_line x l)
 before_line-without x y [] h = refl
 before_line-without x y (z ∷ zs) h =
     let ih : before_line x (without y zs) ≡ without y (before_line x zs) = before_line-without x y zs h in
@@ -81,7 +81,7 @@ before_line-without x y (z ∷ zs) h =
     ]
 
 -- different lines stay different
-AllDiffer-without : (x : ℕ) (l : List ℕ) → AllDiffer l → AllDiffer (without x l)
+pub AllDiffer-without : (x : ℕ) (l : List ℕ) → AllDiffer l → AllDiffer (without x l)
 AllDiffer-without x [] d = tt
 AllDiffer-without x (y ∷ ys) d = elim (cases_Bool (y == x)) [
   | inl k ↦ rw k (AllDiffer-without x ys d.1)

@@ -1,117 +1,113 @@
--- What a use adds to a curve.
-use Rattle.std.proofs.Common.{◌≡◌, ◌≢◌, ℕ, ◌+◌, ◌%◌, ◌<◌, ◌≤◌, Bool, true, false, ◌==◌, ◌&&◌, nat_lt, List, [], ◌∷◌, ◌++◌, length, reverse, take, get_or, set, sum, Option, Some, None, arith, refl, sym, ◌∙◌, ap, subst, inl, inr}
-use Rattle.std.specs.List.{filter, position, position_or_len}
-use Rattle.std.proofs.lemmas.Bool.{cases_Bool, cases_lt, lt-ltb, le-ltb, eqb-true, eqb-false}
-use Rattle.std.proofs.lemmas.List.{append-nil, get_or-set_other, get_or-set_same, length_push, map-append, reverse-append, take-take}
-use Rattle.std.proofs.lemmas.List.Elements.{filter-append}
-use Rattle.lists.proofs.Cuts.{list_any-position_ge, list_any-position_lt}
+-- What a use and a drop add to a curve.
+use Rattle.std.proofs.Common.{◌≡◌, ℕ, ◌+◌, ◌%◌, ◌<◌, ◌≤◌, true, ◌==◌, List, [], ◌∷◌, ◌++◌, length, take, get_or, set, sum, replicate, Option, arith, refl, sym, ◌∙◌, ap, subst}
+use Rattle.std.specs.List.{position}
+use Rattle.std.proofs.lemmas.Bool.{eq-eqb}
+use Rattle.std.proofs.lemmas.List.{take-replicate}
+use Rattle.std.proofs.lemmas.List.Folds.{sum_by-replicate}
 use Rattle.lists.specs.Sums.{one_if}
-use Rattle.private_lru.specs.Private.{among, alive}
 use Rattle.private_lru.specs.declared.item.Item.{Item}
-use Rattle.private_lru.specs.declared.item.Item.TheVariants.{Use}
+use Rattle.private_lru.specs.declared.item.Item.TheVariants.{Use, Drop}
 use Rattle.way_curve.specs.Curves.{is_set_hit, uses_of_set}
 use Rattle.way_curve.specs.Distances.{is_below}
-use Rattle.way_curve.specs.IsCurve.{IsCurve}
-use Rattle.way_curve.specs.Shifts.{without_first}
-use Rattle.way_curve.proofs.Alive.{AllDiffer, AllDiffer-alive, among-take, before_line, private_hit-uses, reverse-uses, uses}
-use Rattle.way_curve.proofs.Fronts.{take-moved}
-use Rattle.way_curve.proofs.SetHits.{set_hits_after-push}
+use Rattle.way_curve.specs.IsCurve.{AddsItem, AddsUse, CurveValue, IsCurve, IsItemCurve}
+use Rattle.way_curve.specs.ItemCurves.{is_item_hit, items_of_set, line_of}
+use Rattle.way_curve.specs.Slots.{Serve, dropped, empty_slots, has_line, pushed}
+use Rattle.way_curve.proofs.Alive.{uses}
+use Rattle.way_curve.proofs.ItemLists.{item_hits_after-push, item_hits_after-uses, items_of_set-other, items_of_set-own, items_of_set-uses, uses-push, uses_in-push, uses_in-uses, uses_of_set-other, uses_of_set-own}
+use Rattle.way_curve.proofs.Serving.{Serve-drop, Serve-each, Serve-hit, Serve-none, Serve-use}
 
--- a set's uses and one more of its own
-uses_of_set-own : (sets set x : ℕ) (lines : List ℕ) → (x % sets == set) ≡ true → uses_of_set sets set (lines ++ x ∷ []) ≡ uses_of_set sets set lines ++ Use x ∷ []
-uses_of_set-own sets set x lines own =
-    let one : filter (λ (y : ℕ). y % sets == set) (x ∷ []) ≡ x ∷ [] = rw own refl in
-    ap uses (filter-append (λ (y : ℕ). y % sets == set) lines (x ∷ []) ∙ ap (λ (l : List ℕ). filter (λ (y : ℕ). y % sets == set) lines ++ l) one)
-    ∙ map-append (λ (y : ℕ). Use y) (filter (λ (y : ℕ). y % sets == set) lines) (x ∷ [])
+-- ---- a level
 
--- and one of another set
-uses_of_set-other : (sets set x : ℕ) (lines : List ℕ) → (x % sets == set) ≡ false → uses_of_set sets set (lines ++ x ∷ []) ≡ uses_of_set sets set lines
-uses_of_set-other sets set x lines other =
-    let none : filter (λ (y : ℕ). y % sets == set) (x ∷ []) ≡ [] = rw other refl in
-    ap uses (filter-append (λ (y : ℕ). y % sets == set) lines (x ∷ [])
-    ∙ (ap (λ (l : List ℕ). filter (λ (y : ℕ). y % sets == set) lines ++ l) none ∙ append-nil (filter (λ (y : ℕ). y % sets == set) lines)))
+-- the slots of each set after a use
+pub recent-more : (sets : ℕ) (recent : List (List (Option ℕ))) (lines : List ℕ) (x : ℕ) → x % sets < sets → length recent ≡ sets
+    → ((s : ℕ) → s < sets → Serve (get_or recent s []) (uses_of_set sets s lines))
+    → (s : ℕ) → s < sets → Serve (get_or (set recent (x % sets) (pushed x (dropped x (get_or recent (x % sets) [])))) s []) (uses_of_set sets s (lines ++ x ∷ []))
+recent-more sets recent lines x below len serve =
+    let own : ℕ = x % sets in
+    let slots : List (Option ℕ) = get_or recent own [] in
+    Serve-each sets own recent (pushed x (dropped x slots)) (λ s. uses_of_set sets s lines) (λ s. uses_of_set sets s (lines ++ x ∷ [])) len
+    (subst (λ (l : List Item). Serve (pushed x (dropped x slots)) l) (sym (uses_of_set-own sets own x lines (eq-eqb own own refl))) (Serve-use slots (uses_of_set sets own lines) x (serve own below)))
+    (λ s other. uses_of_set-other sets s x lines other) serve
 
--- the lines of a set that are alive differ
-AllDiffer-set : (sets set : ℕ) (lines : List ℕ) → AllDiffer (alive (reverse (uses_of_set sets set lines)))
-AllDiffer-set sets set lines =
-    let own : List ℕ = filter (λ (y : ℕ). y % sets == set) lines in
-    subst (λ (items : List Item). AllDiffer (alive items)) (sym (reverse-uses own)) (AllDiffer-alive (reverse own))
+-- a use hits just where its slot is one of as many as there are ways
+pub is_below-hit : (sets ways x : ℕ) (lines : List ℕ) (slots : List (Option ℕ)) → ways ≤ 32 → Serve slots (uses_of_set sets (x % sets) lines)
+    → is_below ways (position (has_line x) slots) ≡ is_set_hit sets ways lines x
+is_below-hit sets ways x lines slots le serve = Serve-hit slots (uses_of_set sets (x % sets) lines) x serve ways le
 
--- the last lines of its set after a use
-recent-own : (sets set x : ℕ) (lines : List ℕ) → (x % sets == set) ≡ true
-    → take 32 (x ∷ without_first x (take 32 (alive (reverse (uses_of_set sets set lines))))) ≡ take 32 (alive (reverse (uses_of_set sets set (lines ++ x ∷ []))))
-recent-own sets set x lines own =
-    let old : List Item = uses_of_set sets set lines in
-    let moved : reverse (uses_of_set sets set (lines ++ x ∷ [])) ≡ Use x ∷ reverse old = ap reverse (uses_of_set-own sets set x lines own) ∙ reverse-append old (Use x ∷ []) in
-    take-moved 31 x (alive (reverse old)) (AllDiffer-set sets set lines) ∙ ap (λ (items : List Item). take 32 (alive items)) (sym moved)
+-- ---- a curve of uses and drops
 
--- the place of a line is the number of those before it
-length-before_line : (x : ℕ) (l : List ℕ) → length (before_line x l) ≡ position_or_len (λ (y : ℕ). y == x) l
-length-before_line x [] = refl
-length-before_line x (y ∷ ys) = elim (cases_Bool (y == x)) [
-  | inl k ↦ rw k refl
-  | inr k ↦ let ih : length (before_line x ys) ≡ position_or_len (λ (y : ℕ). y == x) ys = length-before_line x ys in rw k (omega (arith, ih))
-]
+module _ (sets count : ℕ) (recent : List (List (Option ℕ))) (at : List ℕ) (items : List Item) (x : ℕ) where
+  -- the curve of these items
+  abbrev is_curve : Type 0
+  is_curve = IsItemCurve (record { sets = sets; uses = count; recent = recent; at_distance = at }) items
 
--- a line is below a distance where it is in so long a front
-is_below-position : (x most : ℕ) (l : List ℕ) → is_below most (position (λ (y : ℕ). y == x) l) ≡ among x (take most l)
-is_below-position x most l =
-    let n : ℕ = position_or_len (λ (y : ℕ). y == x) l in
-    let front : among x (take most l) ≡ (among x l && nat_lt n most) = among-take x most l ∙ ap (λ (k : ℕ). among x l && nat_lt k most) (length-before_line x l) in
-    elim (cases_lt n (length l)) [
-      | inl lt ↦
-          let there : among x l ≡ true = list_any-position_lt (λ (y : ℕ). y == x) l lt in
-          let at : position (λ (y : ℕ). y == x) l ≡ Some n = rw (lt-ltb n (length l) lt) refl in
-          ap (λ (o : Option ℕ). is_below most o) at ∙ sym (front ∙ ap (λ (b : Bool). b && nat_lt n most) there)
-      | inr ge ↦
-          let gone : among x l ≡ false = list_any-position_ge (λ (y : ℕ). y == x) l ge in
-          let at : position (λ (y : ℕ). y == x) l ≡ None = rw (le-ltb n (length l) ge) refl in
-          ap (λ (o : Option ℕ). is_below most o) at ∙ sym (front ∙ ap (λ (b : Bool). b && nat_lt n most) gone)
-    ]
+  -- the slots of each set after an item
+  recent-item : (item : Item) (new : List (Option ℕ)) → x % sets < sets → length recent ≡ sets → is_curve → line_of item ≡ x → Serve new (items_of_set sets (x % sets) items ++ item ∷ [])
+      → (s : ℕ) → s < sets → Serve (get_or (set recent (x % sets) new) s []) (items_of_set sets s (items ++ item ∷ []))
+  recent-item item new below len curve is now =
+      let own : ℕ = x % sets in
+      let here : (line_of item % sets == own) ≡ true = ap (λ (y : ℕ). y % sets == own) is ∙ eq-eqb own own refl in
+      Serve-each sets own recent new (λ s. items_of_set sets s items) (λ s. items_of_set sets s (items ++ item ∷ [])) len
+      (subst (λ (l : List Item). Serve new l) (sym (items_of_set-own sets own items item here)) now)
+      (λ s other. items_of_set-other sets s items item (ap (λ (y : ℕ). y % sets == s) is ∙ other)) curve.recent
 
--- a use hits just with more ways than its distance
-pub is_below-hit : (sets ways x : ℕ) (lines : List ℕ) → ways ≤ 32
-    → is_below ways (position (λ (y : ℕ). y == x) (take 32 (alive (reverse (uses_of_set sets (x % sets) lines))))) ≡ is_set_hit sets ways lines x
-is_below-hit sets ways x lines le =
-    let own : List ℕ = filter (λ (y : ℕ). y % sets == x % sets) lines in
-    let all : List ℕ = alive (reverse (uses own)) in
-    is_below-position x ways (take 32 all) ∙ (ap (λ (l : List ℕ). among x l) (take-take ways 32 all le) ∙ sym (private_hit-uses ways x own))
+  -- a use more
+  pub IsItemCurve-use : (new_at : List ℕ) (slot : Option ℕ) → x % sets < sets → length recent ≡ sets
+      → slot ≡ position (has_line x) (get_or recent (x % sets) [])
+      → ((most : ℕ) → most ≤ 32 → sum (take most new_at) ≡ sum (take most at) + one_if (is_below most slot))
+      → is_curve
+      → IsItemCurve (record { sets = sets; uses = count + 1; recent = set recent (x % sets) (pushed x (dropped x (get_or recent (x % sets) []))); at_distance = new_at }) (items ++ Use x ∷ [])
+  IsItemCurve-use new_at slot below len is counted curve =
+      let own : ℕ = x % sets in
+      let slots : List (Option ℕ) = get_or recent own [] in
+      record {
+        uses = omega (arith, curve.uses, uses_in-push items (Use x));
+        recent = recent-item (Use x) (pushed x (dropped x slots)) below len curve refl (Serve-use slots (items_of_set sets own items) x (curve.recent own below));
+        hits = λ ways le.
+            let same : one_if (is_below ways slot) ≡ one_if (is_item_hit sets ways items (Use x)) =
+            ap one_if (ap (λ (o : Option ℕ). is_below ways o) is ∙ Serve-hit slots (items_of_set sets own items) x (curve.recent own below) ways le) in
+            omega (arith, counted ways le, curve.hits ways le, same, item_hits_after-push sets ways [] items (Use x));
+      }
 
--- the last lines of each set after a use
-pub recent-more : (sets : ℕ) (recent : List (List ℕ)) (lines : List ℕ) (x : ℕ) → length recent ≡ sets
-    → ((s : ℕ) → s < sets → get_or recent s [] ≡ take 32 (alive (reverse (uses_of_set sets s lines))))
-    → (s : ℕ) → s < sets → get_or (set recent (x % sets) (take 32 (x ∷ without_first x (get_or recent (x % sets) [])))) s [] ≡ take 32 (alive (reverse (uses_of_set sets s (lines ++ x ∷ []))))
-recent-more sets recent lines x len are = λ s lt. elim (cases_Bool (x % sets == s)) [
-  | inl own ↦
-      let here : x % sets ≡ s = eqb-true (x % sets) s own in
-      let moved : List ℕ = take 32 (x ∷ without_first x (get_or recent (x % sets) [])) in
-      let last : get_or recent (x % sets) [] ≡ take 32 (alive (reverse (uses_of_set sets s lines))) = ap (λ (k : ℕ). get_or recent k []) here ∙ are s lt in
-      ap (λ (k : ℕ). get_or (set recent k moved) s []) here
-      ∙ (get_or-set_same recent s moved [] (subst (λ (n : ℕ). s < n) (sym len) lt)
-      ∙ (ap (λ (l : List ℕ). take 32 (x ∷ without_first x l)) last ∙ recent-own sets s x lines own))
-  | inr other ↦
-      let ne : s ≢ x % sets = λ e. eqb-false (x % sets) s other (sym e) in
-      get_or-set_other recent (x % sets) s (take 32 (x ∷ without_first x (get_or recent (x % sets) []))) [] ne
-      ∙ (are s lt ∙ ap (λ (items : List Item). take 32 (alive (reverse items))) (sym (uses_of_set-other sets s x lines other)))
-]
+  -- a drop more
+  pub IsItemCurve-drop : x % sets < sets → length recent ≡ sets → is_curve
+      → IsItemCurve (record { sets = sets; uses = count; recent = set recent (x % sets) (dropped x (get_or recent (x % sets) [])); at_distance = at }) (items ++ Drop x ∷ [])
+  IsItemCurve-drop below len curve =
+      let own : ℕ = x % sets in
+      let slots : List (Option ℕ) = get_or recent own [] in
+      record {
+        uses = omega (arith, curve.uses, uses_in-push items (Drop x));
+        recent = recent-item (Drop x) (dropped x slots) below len curve refl (Serve-drop slots (items_of_set sets own items) x (curve.recent own below));
+        hits = λ ways le. omega (arith, curve.hits ways le, item_hits_after-push sets ways [] items (Drop x));
+      }
 
--- two totals that were equal, and one more of each
-total-more : (total old hit hits new_hits is_hit : ℕ) → total ≡ old + hit → old ≡ hits → hit ≡ is_hit → new_hits ≡ hits + is_hit → total ≡ new_hits
-total-more total old hit hits new_hits is_hit a b c d = omega arith
-
--- a curve of one use more
-pub IsCurve-more :
-    (sets count : ℕ) (recent : List (List ℕ)) (at new_at : List ℕ) (lines : List ℕ) (x : ℕ) (distance : Option ℕ)
-    → x % sets < sets → length recent ≡ sets
-    → distance ≡ position (λ (y : ℕ). y == x) (get_or recent (x % sets) [])
-    → ((most : ℕ) → most ≤ 32 → sum (take most new_at) ≡ sum (take most at) + one_if (is_below most distance))
-    → IsCurve (record { sets = sets; uses = count; recent = recent; at_distance = at }) lines
-    → IsCurve (record { sets = sets; uses = count + 1; recent = set recent (x % sets) (take 32 (x ∷ without_first x (get_or recent (x % sets) []))); at_distance = new_at }) (lines ++ x ∷ [])
-IsCurve-more sets count recent at new_at lines x distance below len is counted curve = record {
-  uses = ap (λ (n : ℕ). n + 1) curve.uses ∙ sym (length_push lines x);
-  recent = recent-more sets recent lines x len curve.recent;
-  hits = λ ways le.
-      let same : is_below ways distance ≡ is_set_hit sets ways lines x =
-      ap (λ (o : Option ℕ). is_below ways o) (is ∙ ap (λ (l : List ℕ). position (λ (y : ℕ). y == x) l) (curve.recent (x % sets) below)) ∙ is_below-hit sets ways x lines le in
-      total-more _ _ _ _ _ _ (counted ways le) (curve.hits ways le) (ap one_if same) (set_hits_after-push sets ways [] lines x);
+-- a curve of no items
+pub IsItemCurve-nil : (sets : ℕ) (recent : List (List (Option ℕ))) → recent ≡ replicate sets empty_slots → IsItemCurve (record { sets = length recent; uses = 0; recent = recent; at_distance = replicate 32 0 }) []
+IsItemCurve-nil sets recent made = record {
+  uses = refl;
+  recent = Serve-none sets recent made;
+  hits = λ ways le. ap sum (take-replicate ways 32 0 le) ∙ (sum_by-replicate (λ (x : ℕ). x) ways 0 ∙ omega arith);
 }
+
+-- ---- a curve of uses alone
+
+-- it is one of items
+pub IsItemCurve-uses : (curve : CurveValue) (lines : List ℕ) → IsCurve curve lines → IsItemCurve curve (uses lines)
+IsItemCurve-uses curve lines is = record {
+  uses = is.uses ∙ sym (uses_in-uses lines);
+  recent = λ s lt. subst (λ (l : List Item). Serve (get_or curve.recent s []) l) (sym (items_of_set-uses curve.sets s lines)) (is.recent s lt);
+  hits = λ ways le. is.hits ways le ∙ sym (item_hits_after-uses curve.sets ways [] lines);
+}
+
+-- one of items that are uses is one of lines
+pub IsCurve-items : (curve : CurveValue) (lines : List ℕ) → IsItemCurve curve (uses lines) → IsCurve curve lines
+IsCurve-items curve lines is = record {
+  uses = is.uses ∙ uses_in-uses lines;
+  recent = λ s lt. subst (λ (l : List Item). Serve (get_or curve.recent s []) l) (items_of_set-uses curve.sets s lines) (is.recent s lt);
+  hits = λ ways le. is.hits ways le ∙ item_hits_after-uses curve.sets ways [] lines;
+}
+
+-- what adds a use to items adds it to lines
+pub AddsUse-item : (old new : CurveValue) (x : ℕ) → AddsItem old new (Use x) → AddsUse old new x
+AddsUse-item old new x adds = λ lines is.
+    IsCurve-items new (lines ++ x ∷ []) (subst (λ (l : List Item). IsItemCurve new l) (uses-push lines x) (adds (uses lines) (IsItemCurve-uses old lines is)))

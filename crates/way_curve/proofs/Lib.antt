@@ -8,9 +8,13 @@ pub mod FilterSteps
 pub mod FilteredSteps
 pub mod FirstCounts
 mod Fronts
+mod ItemLists
 pub mod JoinSteps
 pub mod LevelSteps
+mod KeptLines
 mod ModifiedLines
+mod MoreWays
+mod NotedSlots
 mod Powers
 mod RepeatedRuns
 mod Repeats
@@ -18,7 +22,11 @@ mod RunCounts
 mod RunTotals
 pub mod SampleLists
 mod SetHits
+mod Serving
 mod Shifted
+mod SlotLists
+mod SlotMoves
+mod SlotWords
 pub mod Steps
 mod Totals
 pub mod TraceUses

@@ -1,5 +1,5 @@
 -- A curve after a run of lines, one after the other, that is used a second time.
-use Rattle.std.proofs.Common.{◌≡◌, ℕ, zero, suc, ◌+◌, ◌-◌, ◌*◌, ◌%◌, ◌/◌, ◌<◌, ◌≤◌, Bool, true, ◌==◌, nat_lt, List, [], ◌∷◌, ◌++◌, length, reverse, take, sum, arith, refl, sym, ◌∙◌, ap, subst}
+use Rattle.std.proofs.Common.{◌≡◌, ℕ, zero, suc, ◌+◌, ◌-◌, ◌*◌, ◌%◌, ◌/◌, ◌<◌, ◌≤◌, Bool, true, ◌==◌, nat_lt, List, [], ◌∷◌, ◌++◌, length, reverse, take, sum, slice_index_or, Option, arith, refl, sym, ◌∙◌, ap, subst}
 use Rattle.std.specs.List.{filter, range_with_len}
 use Rattle.std.proofs.Math.Nat.{mod-add-div', mod-lt}
 use Rattle.std.proofs.lemmas.Bool.{eq-eqb}
@@ -12,10 +12,16 @@ use Rattle.lists.specs.Sums.{one_if, sum_below}
 use Rattle.private_lru.specs.Private.{alive, private_hit}
 use Rattle.way_curve.specs.Curves.{is_set_hit, set_hits_after, set_hits_of, uses_of_set}
 use Rattle.way_curve.specs.IsCurve.{IsCurve}
-use Rattle.way_curve.proofs.Alive.{AllDiffer, reverse-uses, uses}
+use Rattle.way_curve.specs.Slots.{Serve}
+use Rattle.way_curve.proofs.Alive.{AllDiffer, uses}
 use Rattle.way_curve.proofs.Repeats.{AllDiffer-filter, AllDiffer-range, alive-twice, private_hit-again}
 use Rattle.way_curve.proofs.RunCounts.{length-own_run, sum_below-run}
+use Rattle.way_curve.proofs.Serving.{Serve-uses}
 use Rattle.way_curve.proofs.SetHits.{set_hits_after-append, set_hits_after-push}
+
+-- the lines of a set
+abbrev own_lines : ℕ → ℕ → List ℕ → List ℕ
+own_lines sets set lines = filter (λ (y : ℕ). y % sets == set) lines
 
 -- a run in two parts
 range_with_len-append : (a n m : ℕ) → range_with_len a (n + m) ≡ range_with_len a n ++ range_with_len (a + n) m
@@ -93,25 +99,27 @@ module _ (sets ways a n : ℕ) (lines : List ℕ) (some : 0 < sets) where
       ∙ ap (λ (m : ℕ). set_hits_of sets ways (lines ++ range_with_len a n) + m) (again ∙ counted)
 
 -- what is alive in a set after the second use of a run
-alive-set_twice : (sets set : ℕ) (lines xs : List ℕ) → alive (reverse (uses_of_set sets set (lines ++ xs))) ≡ alive (reverse (uses_of_set sets set ((lines ++ xs) ++ xs)))
+alive-set_twice : (sets set : ℕ) (lines xs : List ℕ) → alive (uses (reverse (own_lines sets set (lines ++ xs)))) ≡ alive (uses (reverse (own_lines sets set ((lines ++ xs) ++ xs))))
 alive-set_twice sets set lines xs =
     let p : ℕ → Bool = λ (y : ℕ). y % sets == set in
     let once : filter p (lines ++ xs) ≡ filter p lines ++ filter p xs = filter-append p lines xs in
     let twice : filter p ((lines ++ xs) ++ xs) ≡ (filter p lines ++ filter p xs) ++ filter p xs = filter-append p (lines ++ xs) xs ∙ ap (λ (l : List ℕ). l ++ filter p xs) once in
-    ap alive (reverse-uses (filter p (lines ++ xs)))
-    ∙ (ap (λ (l : List ℕ). alive (uses (reverse l))) once
-    ∙ (sym (alive-twice (filter p xs) (filter p lines))
-    ∙ (ap (λ (l : List ℕ). alive (uses (reverse l))) (sym twice) ∙ ap alive (sym (reverse-uses (filter p ((lines ++ xs) ++ xs)))))))
+    ap (λ (l : List ℕ). alive (uses (reverse l))) once
+    ∙ (sym (alive-twice (filter p xs) (filter p lines)) ∙ ap (λ (l : List ℕ). alive (uses (reverse l))) (sym twice))
+
+-- the slots of a set serve as before
+Serve-twice : (slots : List (Option ℕ)) (sets set : ℕ) (lines xs : List ℕ) → Serve slots (uses_of_set sets set (lines ++ xs)) → Serve slots (uses_of_set sets set ((lines ++ xs) ++ xs))
+Serve-twice slots sets set lines xs serve = Serve-uses slots (own_lines sets set (lines ++ xs)) (own_lines sets set ((lines ++ xs) ++ xs)) (alive-set_twice sets set lines xs) serve
 
 -- a curve of a run that is used a second time
 pub IsCurve-twice :
-    (sets count : ℕ) (recent : List (List ℕ)) (at new_at : List ℕ) (a n : ℕ) (lines : List ℕ)
+    (sets count : ℕ) (recent : List (List (Option ℕ))) (at new_at : List ℕ) (a n : ℕ) (lines : List ℕ)
     → 0 < sets
     → ((most : ℕ) → most ≤ 32 → sum (take most new_at) ≡ sum (take most at) + ((n % sets * (n / sets) + n % sets) * one_if (nat_lt (n / sets) most) + ((sets - n % sets) * (n / sets)) * one_if (nat_lt (n / sets - 1) most)))
     → IsCurve (record { sets = sets; uses = count; recent = recent; at_distance = at }) (lines ++ range_with_len a n)
     → IsCurve (record { sets = sets; uses = count + n; recent = recent; at_distance = new_at }) ((lines ++ range_with_len a n) ++ range_with_len a n)
 IsCurve-twice sets count recent at new_at a n lines some counted curve = record {
   uses = omega (arith, curve.uses, length-append (lines ++ range_with_len a n) (range_with_len a n), length-range_with_len a n);
-  recent = λ set lt. curve.recent set lt ∙ ap (λ (l : List ℕ). take 32 l) (alive-set_twice sets set lines (range_with_len a n));
+  recent = λ set lt. Serve-twice (slice_index_or recent set []) sets set lines (range_with_len a n) (curve.recent set lt);
   hits = λ ways le. counted ways le ∙ (ap (λ (m : ℕ). m + ((n % sets * (n / sets) + n % sets) * one_if (nat_lt (n / sets) ways) + ((sets - n % sets) * (n / sets)) * one_if (nat_lt (n / sets - 1) ways))) (curve.hits ways le) ∙ sym (set_hits_of-twice sets ways a n lines some));
 }

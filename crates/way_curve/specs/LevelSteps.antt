@@ -1,22 +1,22 @@
 -- Which lines were used in a level, and which uses levels have seen.
 -- (For functions and proofs: no promise of the program stands on it.)
-use Rattle.std.specs.Prelude.{◌≡◌, ℕ, ◌<◌, ◌≤◌, Bool, true, List, [], ◌∷◌, ◌++◌, reverse, take, slice_index_or, if◌then◌else◌, Option, Some, None}
+use Rattle.std.specs.Prelude.{◌≡◌, ℕ, ◌<◌, ◌≤◌, Bool, true, List, [], ◌∷◌, ◌++◌, slice_index_or, if◌then◌else◌, Option, Some, None}
 use Rattle.lackey_text.specs.declared.uses.LineUse.{LineUse}
-use Rattle.private_lru.specs.Private.{alive}
 use Rattle.way_curve.specs.Counting.{all_lines, code_lines, data_lines}
 use Rattle.way_curve.specs.Curves.{uses_of_set}
 use Rattle.way_curve.specs.FirstLevels.{is_missing, left_by, left_by_l1}
+use Rattle.way_curve.specs.Slots.{Serve}
 use Rattle.way_curve.specs.declared.first_level.LevelShape.{LevelShape}
 use Rattle.way_curve.specs.declared.first_levels.LevelShapes.{LevelShapes}
 
--- what contracts see: the shape, and the last lines of each set
+-- what contracts see: the shape, and the slots of each set
 pub record LevelValue : Type 0 where
   pub shape : LevelShape
-  pub recent : List (List ℕ)
+  pub recent : List (List (Option ℕ))
 
--- Just these lines were used in it, in order: each set has the last 32 lines that are used in it.
+-- Just these lines were used in it, in order: the slots of each set are those of the lines that are used in it.
 pub record HasUsed (level : LevelValue) (lines : List ℕ) : Type 0 where
-  pub recent : (set : ℕ) → set < level.shape.sets → slice_index_or level.recent set [] ≡ take 32 (alive (reverse (uses_of_set level.shape.sets set lines)))
+  pub recent : (set : ℕ) → set < level.shape.sets → Serve (slice_index_or level.recent set []) (uses_of_set level.shape.sets set lines)
 
 -- Whatever lines were used in it, those and this one were now.
 abbrev pub UsesLine : LevelValue → LevelValue → ℕ → Type 0

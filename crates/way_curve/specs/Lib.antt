@@ -8,6 +8,7 @@ pub mod Filters
 pub mod FirstLevels
 pub mod FirstUses
 pub mod IsCurve
+pub mod ItemCurves
 pub mod Joining
 pub mod Laws
 pub mod LevelSteps
@@ -16,4 +17,5 @@ pub mod Reading
 pub mod Samples
 pub mod Sampling
 pub mod Shifts
+pub mod Slots
 pub mod TraceTexts

@@ -1,7 +1,11 @@
 //! The curve of the hits by ways.
 ghost use Rattle.std.specs.Prelude.{◌≡◌, ℕ, ◌+◌, ◌-◌, ◌^◌, ◌<◌, ◌≤◌, ◌%◌, List, [], replicate, IfOk};
+ghost use Rattle.private_lru.specs.declared.item.Item.{Item};
+ghost use Rattle.private_lru.specs.declared.item.Item.TheVariants.{Drop, Use};
 ghost use Rattle.way_curve.specs.Curves.{set_hits_of};
-ghost use Rattle.way_curve.specs.IsCurve.{AddsUse, IsCurve, RepeatsRun};
+ghost use Rattle.way_curve.specs.IsCurve.{AddsItem, AddsUse, IsCurve, IsItemCurve, RepeatsRun};
+ghost use Rattle.way_curve.specs.ItemCurves.{item_hits_of};
+ghost use Rattle.way_curve.specs.Slots.{empty_slots};
 
 use crate::distances::{count, count_run, total};
 use crate::recent_lines::{MOST_WAYS, RecentLines};
@@ -10,11 +14,12 @@ use std::alloc::Global;
 use std::marker::Model;
 
 /// The hits that a private cache would have with each number of ways, from 0 to 32, counted line by line. Contracts see whose
-/// curve it is (`IsCurve`): that of the lines that were noted, in order.
+/// curve it is: that of the lines that were noted, in order (`IsCurve`), and where lines were dropped in between, that of the uses and
+/// drops (`IsItemCurve`).
 ///
-/// `recent` has the last lines of each set. `at_distance` has for each number below 32 how many uses came when so many other
-/// lines of their set had been used since the last use of their own: just these hit with more ways than that. A use at a
-/// greater distance, or of a line that is new, is counted in `uses` alone.
+/// `recent` has the slots of each set. `at_distance` has for each of the 32 slots how many uses came when their line was in it: just
+/// these hit with more ways than that. While no line is dropped, so many other lines of the set were used since the line's last use.
+/// A use of a line that is in no slot is counted in `uses` alone.
 #[derive(Drop)]
 pub struct Curve {
     recent: Vec<RecentLines>,
@@ -41,6 +46,7 @@ impl Curve {
         ensures sets { IfOk result (λ c. c.sets ≡ sets) }
         ensures uses { IfOk result (λ c. c.uses ≡ 0) }
         ensures empty { IfOk result (λ c. IsCurve c []) }
+        ensures no_items { IfOk result (λ c. IsItemCurve c []) }
     {
         let recent = empty_sets(alloc, sets)?;
         Ok(Curve {
@@ -51,17 +57,29 @@ impl Curve {
     }
 
     /// Notes the use of a line, whose set is its number modulo the sets. It takes as many steps as other lines of the set were
-    /// used since its last use, 32 at most.
+    /// used since its last use, 32 at most. After a drop it may take 32 steps.
     pub fn note(&mut self, line: u64)
         requires room { self.old.uses < 2 ^ 64 - 1 }
         ensures sets { self.new.sets ≡ self.old.sets }
         ensures uses { self.new.uses ≡ self.old.uses + 1 }
         ensures line { AddsUse self.old self.new line }
+        ensures item { AddsItem self.old self.new (Use line) }
     {
         let set = set_of(self.recent.len(), line);
         let distance = self.recent[set].note(line);
         count(&mut self.at_distance, distance);
         self.uses += 1;
+    }
+
+    /// Notes that a line is dropped from the caches, whatever number of ways they have: its next use misses, and the next line that
+    /// is not there takes its place. It takes 32 steps at most.
+    pub fn drop_line(&mut self, line: u64)
+        ensures sets { self.new.sets ≡ self.old.sets }
+        ensures uses { self.new.uses ≡ self.old.uses }
+        ensures item { AddsItem self.old self.new (Drop line) }
+    {
+        let set = set_of(self.recent.len(), line);
+        self.recent[set].drop_line(line);
     }
 
     /// Notes once more the uses of as many lines as were noted last, if these are lines one after the other, rising. The lists of the
@@ -90,6 +108,7 @@ impl Curve {
         requires { ways ≤ 32 }
         ensures within { result ≤ self.now.uses }
         ensures hits { (lines : List ℕ) → IsCurve self.now lines → result ≡ set_hits_of self.now.sets ways lines }
+        ensures item_hits { (items : List Item) → IsItemCurve self.now items → result ≡ item_hits_of self.now.sets ways items }
     {
         total(&self.at_distance[..ways as usize])
     }
@@ -97,7 +116,8 @@ impl Curve {
     /// How many of the uses miss in such a cache.
     pub fn misses(&self, ways: u8) -> u64
         requires { ways ≤ 32 }
-        ensures { (lines : List ℕ) → IsCurve self.now lines → result + set_hits_of self.now.sets ways lines ≡ self.now.uses }
+        ensures misses { (lines : List ℕ) → IsCurve self.now lines → result + set_hits_of self.now.sets ways lines ≡ self.now.uses }
+        ensures item_misses { (items : List Item) → IsItemCurve self.now items → result + item_hits_of self.now.sets ways items ≡ self.now.uses }
     {
         self.uses - self.hits(ways)
     }
@@ -118,7 +138,7 @@ pub(crate) fn set_of(sets: usize, line: u64) -> usize
 
 /// So many sets of which no line was used.
 pub(crate) fn empty_sets(alloc: Global, sets: u32) -> Result<Vec<RecentLines>, NoMemory>
-    ensures { IfOk result (λ v. v.items ≡ replicate sets []) }
+    ensures { IfOk result (λ v. v.items ≡ replicate sets empty_slots) }
 {
     let mut recent = Vec::with_capacity(alloc, sets as usize)?;
     for _ in 0..sets {

@@ -5,6 +5,8 @@
 //!
 //! A cache of w ways that replaces the line used longest ago keeps the w lines used last of each set. So one list of the last
 //! 32 lines of a set serves every number of ways: a line at place d of the list hits with more than d ways, and with no fewer.
+//! A line that is dropped from the caches leaves a hole in the list. The next line that comes to the front moves only those before the
+//! hole, so the lines of the first w places, and no others, are those of a cache of w ways.
 //!
 //! Cold misses, the first use of each line, are counted only where that is asked for (`NotedUses`): that takes every line that was ever
 //! used, which is memory without bound. A line that comes back after 32 others of its set counts as a miss for every number of ways,
@@ -23,6 +25,7 @@ pub mod filtered_curves;
 pub mod first_level;
 pub mod first_levels;
 pub mod first_uses;
+mod holes;
 pub mod level_report;
 pub mod limits;
 mod line_joiner;

@@ -6,7 +6,7 @@ use Rattle.std.proofs.lemmas.List.{at_drop_more}
 use Rattle.std.proofs.lemmas.List.Folds.{drop_split, list_any-append}
 use Rattle.cache_core.specs.Filled.{empties}
 use Rattle.cache_core.specs.declared.entry.SliceEntry.{SliceEntry}
-use Rattle.way_plans.specs.GroupLines.{since_emptied}
+use Rattle.way_plans.specs.GroupItems.{since_emptied}
 
 -- whether an entry empties the slice
 abbrev pub is_emptying : SliceEntry → Bool

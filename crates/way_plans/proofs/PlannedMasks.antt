@@ -21,7 +21,7 @@ use Rattle.way_plans.proofs.GivenWays.{ways_op, ways_ops}
 use Rattle.way_plans.proofs.PlanMasks.{free-exists, masks-in-any-order}
 use Rattle.way_plans.proofs.InOrder.{IsDivision-in_any_order}
 use Rattle.way_plans.proofs.PlannedEntries.{AreGiven, entries, masks_at-entries}
-use Rattle.way_plans.specs.GroupLines.{lines_of}
+use Rattle.way_plans.specs.GroupItems.{items_of}
 use Rattle.way_plans.specs.Masks.{AreMasksOf, mask_of, span_at}
 use Rattle.way_plans.specs.PlanCommands.{schemata_ops, write_op}
 use Rattle.way_plans.specs.PlanTexts.{DomainPart, is_whole, masks_at}
@@ -99,7 +99,7 @@ module _ (script : ScriptValue) (j : JournalsValue) (parts : List DomainPart) (a
 
   -- one span for each group
   length-divided : (domain : ℕ) → (d : IsDivided script j domain (get_or parts domain nothing).spans) → length d.spans ≡ length groups
-  length-divided domain d = d.plan.all ∙ length-map groups (λ (g : Group). misses_of m.sets (lines_of m j domain g.gid.0))
+  length-divided domain d = d.plan.all ∙ length-map groups (λ (g : Group). misses_of m.sets (items_of m j domain g.gid.0))
 
   -- a fact of the mask of a span
   of-span : (P : ℕ → Type 0) (domain place : ℕ) → (d : IsDivided script j domain (get_or parts domain nothing).spans) → P (mask_of (get_or d.spans place (record { first = 0; count = 0 }))) → P (planned_mask parts domain place)

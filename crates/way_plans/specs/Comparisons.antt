@@ -5,13 +5,15 @@ use Rattle.std.specs.List.{flat_map, list_any, range_with_len}
 use Rattle.lists.specs.Sums.{sum_below}
 use Rattle.cache_core.specs.declared.entry.SliceEntry.{SliceEntry}
 use Rattle.cache_core.specs.declared.entry.What.{What}
-use Rattle.cache_core.specs.declared.entry.What.TheVariants.{Access}
+use Rattle.cache_core.specs.declared.entry.What.TheVariants.{Access, Drop}
 use Rattle.group_tree.specs.declared.group.Group.{Group}
 use Rattle.machine.specs.Slices.{slice_number}
 use Rattle.machine.specs.declared.parameters.Parameters.{Parameters}
+use Rattle.private_lru.specs.declared.item.Item.{Item}
+use Rattle.private_lru.specs.declared.item.Item.TheVariants.{Use, Drop as Dropped}
 use Rattle.run_law.specs.Journals.{JournalsValue, slice_at}
 use Rattle.script_ops.specs.Values.{ScriptValue}
-use Rattle.way_plans.specs.GroupLines.{since_emptied}
+use Rattle.way_plans.specs.GroupItems.{since_emptied}
 use Rattle.way_plans.specs.Plans.{misses_with}
 use Rattle.way_plans.specs.declared.comparison.Comparison.{Comparison}
 
@@ -21,26 +23,27 @@ is_of groups gid = list_any (λ (g : Group). g.gid.0 == gid) groups
 
 -- ---- all groups in one cache
 
--- the line of an access of one of the groups
-abbrev pub shared_line : List Group → What → Option ℕ
-shared_line groups (Access hit way owner rmid mask line) = if is_of groups owner.0 then Some line else None
-shared_line groups what = None
+-- what an entry is to a private cache of all groups: a use of a line by one of them, or the drop of a line by anyone's `clflush`
+abbrev pub shared_item : List Group → What → Option Item
+shared_item groups (Access hit way owner rmid mask line) = if is_of groups owner.0 then Some (Use line) else None
+shared_item groups (Drop line at) = Some (Dropped line)
+shared_item groups what = None
 
--- the lines of the groups' accesses among these entries, in order
-abbrev pub shared_among : List Group → List SliceEntry → List ℕ
-shared_among groups entries = filter_map (λ (e : SliceEntry). shared_line groups e.what) entries
+-- the groups' items among these entries, in order
+abbrev pub shared_among : List Group → List SliceEntry → List Item
+shared_among groups entries = filter_map (λ (e : SliceEntry). shared_item groups e.what) entries
 
--- the lines that the groups used in a slice since it was last emptied, in the order in which they used them
-abbrev pub shared_in : List Group → List SliceEntry → List ℕ
+-- the groups' items in a slice since it was last emptied, in order
+abbrev pub shared_in : List Group → List SliceEntry → List Item
 shared_in groups entries = shared_among groups (since_emptied entries)
 
--- The lines that the groups used in a domain, slice after slice. A set is in one slice, so the uses of each set are in their order.
-abbrev pub shared_lines : Parameters → JournalsValue → ℕ → List Group → List ℕ
-shared_lines m j domain groups = flat_map (λ (slice : ℕ). shared_in groups (slice_at j (slice_number m domain slice))) (range_with_len 0 m.slices)
+-- The groups' items in a domain, slice after slice. A set is in one slice, so the items of each set are in their order.
+abbrev pub shared_items : Parameters → JournalsValue → ℕ → List Group → List Item
+shared_items m j domain groups = flat_map (λ (slice : ℕ). shared_in groups (slice_at j (slice_number m domain slice))) (range_with_len 0 m.slices)
 
--- how many of these would miss in one private cache that has all ways of the machine
+-- how many of the uses among these would miss in one private cache that has all ways of the machine
 abbrev pub shared_misses : Parameters → JournalsValue → ℕ → List Group → ℕ
-shared_misses m j domain groups = misses_with m.sets (shared_lines m j domain groups) m.ways
+shared_misses m j domain groups = misses_with m.sets (shared_items m j domain groups) m.ways
 
 -- ---- the script as it was played
 

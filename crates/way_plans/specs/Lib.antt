@@ -3,7 +3,7 @@ pub mod AppliedTexts
 pub mod ComparedTexts
 pub mod Comparisons
 pub mod Divisions
-pub mod GroupLines
+pub mod GroupItems
 pub mod Masks
 pub mod NoWays
 pub mod Noted

@@ -1,8 +1,9 @@
--- What several uses add to a curve.
+-- What several uses and drops add to a curve.
 -- (For functions and proofs: no promise of the program stands on it.)
-use Rattle.std.specs.Prelude.{ℕ, List, ◌++◌}
-use Rattle.way_curve.specs.IsCurve.{CurveValue, IsCurve}
+use Rattle.std.specs.Prelude.{List, ◌++◌}
+use Rattle.private_lru.specs.declared.item.Item.{Item}
+use Rattle.way_curve.specs.IsCurve.{CurveValue, IsItemCurve}
 
--- Whatever uses the curve was that of, it is now that of these and of more.
-abbrev pub AddsUses : CurveValue → CurveValue → List ℕ → Type 0
-AddsUses old new more = (lines : List ℕ) → IsCurve old lines → IsCurve new (lines ++ more)
+-- Whatever items the curve was that of, it is now that of these and of more.
+abbrev pub AddsItems : CurveValue → CurveValue → List Item → Type 0
+AddsItems old new more = (items : List Item) → IsItemCurve old items → IsItemCurve new (items ++ more)

@@ -2,8 +2,7 @@
 //! number of ways, and the text of such a plan. A call that runs out of memory answers NoMemory.
 //!
 //! The curve of a group counts its accesses that the journals have since the last flush or lock of each slice, from where its
-//! windows begin too. What is flushed line by line in between is left out: the private caches of a curve only ever lose a line to
-//! another one.
+//! windows begin too. A line that `clflush` drops in between is gone from the private caches of every curve, whoever dropped it.
 //!
 //! Where the free ways are in one run, the order of the groups does not matter: they get their ways in order, from way 0 up. For the
 //! groups from one on and the ways from one on, the fewest misses of all their divisions are known once they are known for the groups
@@ -34,6 +33,7 @@ mod domains;
 mod final_tree;
 mod free;
 mod groups;
+mod items;
 pub mod limits;
 mod masks;
 mod order;

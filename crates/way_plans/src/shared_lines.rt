@@ -1,11 +1,13 @@
-//! The lines that several groups used in a slice.
+//! The lines that several groups used in a slice, and those that were dropped.
 ghost use Rattle.std.specs.Prelude.{◌≡◌, ◌+◌, ◌^◌, ◌<◌, ◌≤◌, length};
-ghost use Rattle.way_plans.specs.Comparisons.{is_of, shared_among, shared_in, shared_line};
-ghost use Rattle.way_plans.specs.Noted.{AddsUses};
+ghost use Rattle.way_plans.specs.Comparisons.{is_of, shared_among, shared_in, shared_item};
+ghost use Rattle.way_plans.specs.Noted.{AddsItems};
 
+use crate::items::note_item;
 use crate::slice_lines::behind_emptied;
 use cache_core::{SliceEntry, What};
 use group_tree::Group;
+use private_lru::Item;
 use rc_base::Gid;
 use way_curve::Curve;
 
@@ -16,36 +18,37 @@ pub(crate) fn is_of(groups: &[Group], gid: Gid) -> bool
     groups.iter().any(|group| group.gid.0 == gid.0)
 }
 
-// The line, where it is an access of one of the groups.
-fn shared_line(what: What, groups: &[Group]) -> Option<u64>
-    ensures { result ≡ shared_line groups.now what }
+// What an entry is to a private cache of all groups.
+fn shared_item(what: What, groups: &[Group]) -> Option<Item>
+    ensures { result ≡ shared_item groups.now what }
 {
     match what {
-        What::Access { owner, line, .. } if is_of(groups, owner) => Some(line),
+        What::Access { owner, line, .. } if is_of(groups, owner) => Some(Item::Use { line }),
+        What::Drop { line, .. } => Some(Item::Drop { line }),
         _ => None,
     }
 }
 
-// Notes the lines of the groups' accesses among these entries.
+// Notes the groups' items among these entries.
 fn note_among(curve: &mut Curve, entries: &[SliceEntry], groups: &[Group])
     requires room { curve.old.uses + length entries.now < 2 ^ 64 }
     ensures sets { curve.new.sets ≡ curve.old.sets }
     ensures few { curve.new.uses ≤ curve.old.uses + length entries.now }
-    ensures lines { AddsUses curve.old curve.new (shared_among groups.now entries.now) }
+    ensures items { AddsItems curve.old curve.new (shared_among groups.now entries.now) }
 {
     for entry in entries {
-        if let Some(line) = shared_line(entry.what, groups) {
-            curve.note(line);
+        if let Some(item) = shared_item(entry.what, groups) {
+            note_item(curve, item);
         }
     }
 }
 
-/// Notes the lines that the groups used in a slice since it was last emptied, in the order in which they used them.
+/// Notes the lines that the groups used in a slice since it was last emptied, and those that were dropped, in order.
 pub(crate) fn note_shared(curve: &mut Curve, entries: &[SliceEntry], groups: &[Group])
     requires room { curve.old.uses + length entries.now < 2 ^ 64 }
     ensures sets { curve.new.sets ≡ curve.old.sets }
     ensures few { curve.new.uses ≤ curve.old.uses + length entries.now }
-    ensures lines { AddsUses curve.old curve.new (shared_in groups.now entries.now) }
+    ensures items { AddsItems curve.old curve.new (shared_in groups.now entries.now) }
 {
     note_among(curve, &entries[behind_emptied(entries)..], groups);
 }

@@ -1,10 +1,10 @@
 //! The misses of several groups that share a cache.
 ghost use Rattle.std.specs.Prelude.{◌≡◌, ◌<◌, ◌≤◌, IfOk};
-ghost use Rattle.way_plans.specs.Comparisons.{shared_lines, shared_misses};
+ghost use Rattle.way_plans.specs.Comparisons.{shared_items, shared_misses};
 ghost use Rattle.way_plans.specs.declared.limits.TheConstants.{MOST_USES};
 ghost use Rattle.run_law.specs.Runs.{IsRun};
 ghost use Rattle.script_ops.specs.Values.{IsLawful};
-ghost use Rattle.way_curve.specs.IsCurve.{IsCurve};
+ghost use Rattle.way_curve.specs.IsCurve.{IsItemCurve};
 
 use crate::shared_lines::note_shared;
 use group_tree::Group;
@@ -14,7 +14,7 @@ use script_ops::Script;
 use std::alloc::Global;
 use way_curve::Curve;
 
-// The curve of what all groups used in a domain since its slices were last emptied.
+// The curve of what all groups used in a domain since its slices were last emptied, and of the lines that were dropped meanwhile.
 fn shared_curve(
     alloc: Global,
     script: &Script,
@@ -27,7 +27,7 @@ fn shared_curve(
     requires domain { domain < script.now.machine.domains }
     ensures sets { IfOk result (λ c. c.sets ≡ script.now.machine.sets) }
     ensures few { IfOk result (λ c. c.uses ≤ MOST_USES) }
-    ensures curve { IfOk result (λ c. IsCurve c (shared_lines script.now.machine journals.now domain groups.now)) }
+    ensures curve { IfOk result (λ c. IsItemCurve c (shared_items script.now.machine journals.now domain groups.now)) }
 {
     let machine = script.machine();
     let mut curve = Curve::create(alloc, machine.sets)?;

@@ -1,10 +1,12 @@
-//! The lines that a group used in a slice.
+//! The lines that a group used in a slice, and those that were dropped.
 ghost use Rattle.std.specs.Prelude.{◌≡◌, ℕ, ◌+◌, ◌^◌, ◌<◌, ◌≤◌, List, drop, length};
 ghost use Rattle.cache_core.specs.Filled.{empties};
-ghost use Rattle.way_plans.specs.GroupLines.{line_of, lines_in, lines_among, since_emptied};
-ghost use Rattle.way_plans.specs.Noted.{AddsUses};
+ghost use Rattle.way_plans.specs.GroupItems.{item_of, items_among, items_in, since_emptied};
+ghost use Rattle.way_plans.specs.Noted.{AddsItems};
 
+use crate::items::note_item;
 use cache_core::{SliceEntry, What};
+use private_lru::Item;
 use rc_base::Gid;
 use way_curve::Curve;
 
@@ -27,36 +29,37 @@ pub(crate) fn behind_emptied(entries: &[SliceEntry]) -> usize
     from
 }
 
-// The line, where it is an access of the group.
-fn line_of(what: What, gid: Gid) -> Option<u64>
-    ensures { result ≡ line_of gid.0 what }
+// What an entry is to a private cache of the group.
+fn item_of(what: What, gid: Gid) -> Option<Item>
+    ensures { result ≡ item_of gid.0 what }
 {
     match what {
-        What::Access { owner, line, .. } if owner == gid => Some(line),
+        What::Access { owner, line, .. } if owner == gid => Some(Item::Use { line }),
+        What::Drop { line, .. } => Some(Item::Drop { line }),
         _ => None,
     }
 }
 
-// Notes the lines of the group's accesses among these entries.
+// Notes the group's items among these entries.
 fn note_among(curve: &mut Curve, entries: &[SliceEntry], gid: Gid)
     requires room { curve.old.uses + length entries.now < 2 ^ 64 }
     ensures sets { curve.new.sets ≡ curve.old.sets }
     ensures few { curve.new.uses ≤ curve.old.uses + length entries.now }
-    ensures lines { AddsUses curve.old curve.new (lines_among gid.0 entries.now) }
+    ensures items { AddsItems curve.old curve.new (items_among gid.0 entries.now) }
 {
     for entry in entries {
-        if let Some(line) = line_of(entry.what, gid) {
-            curve.note(line);
+        if let Some(item) = item_of(entry.what, gid) {
+            note_item(curve, item);
         }
     }
 }
 
-/// Notes the lines that the group used in a slice since it was last emptied.
+/// Notes the lines that the group used in a slice since it was last emptied, and those that were dropped.
 pub(crate) fn note_slice(curve: &mut Curve, entries: &[SliceEntry], gid: Gid)
     requires room { curve.old.uses + length entries.now < 2 ^ 64 }
     ensures sets { curve.new.sets ≡ curve.old.sets }
     ensures few { curve.new.uses ≤ curve.old.uses + length entries.now }
-    ensures lines { AddsUses curve.old curve.new (lines_in gid.0 entries.now) }
+    ensures items { AddsItems curve.old curve.new (items_in gid.0 entries.now) }
 {
     note_among(curve, &entries[behind_emptied(entries)..], gid);
 }

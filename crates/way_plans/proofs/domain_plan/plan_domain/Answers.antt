@@ -1,7 +1,7 @@
 use Rattle.std.proofs.Common.{ℕ, ◌^◌, ◌≤◌, Bool, List, length, sym, ap, ◌∙◌, subst, arith, take_all}
 use Rattle.std.specs.Prelude.{All, option_map}
 use Rattle.std.proofs.lemmas.List.{length-map}
-use Rattle.way_plans.specs.GroupLines.{lines_of}
+use Rattle.way_plans.specs.GroupItems.{items_of}
 use Rattle.group_tree.specs.declared.group.Group.{Group}
 use Rattle.machine.specs.declared.parameters.Parameters.{Parameters}
 use Rattle.run_law.proofs.laws.SoundHistories.{IsSound-take}
@@ -23,7 +23,7 @@ best_division-requires-clause-few c =
     let few = length-planned script.machine (tree_after script tree) whole in
     let groups = ap length (c.requires.groups ∙ ap planned c.requires.state) in
     let rows = ap length (c.as_slice.ensures.value ∙ c.in_ok-misses.ensures.rows) in
-    let all = length-map c.args.groups.now (λ (g : Group). misses_of script.machine.sets (lines_of script.machine c.args.journals.now c.args.domain g.gid.0)) in
+    let all = length-map c.args.groups.now (λ (g : Group). misses_of script.machine.sets (items_of script.machine c.args.journals.now c.args.domain g.gid.0)) in
     omega (arith, rows, all, groups, few, c.requires.lawful.in_range.class_limit)
 
 pub returns-clause-few_groups : goal.returns-clause-few_groups
@@ -35,7 +35,7 @@ returns-clause-few_groups c =
     let few = length-planned script.machine (tree_after script tree) whole in
     let groups = ap length (c.requires.groups ∙ ap planned c.requires.state) in
     let rows = ap length c.in_ok-misses.ensures.rows in
-    let all = length-map c.args.groups.now (λ (g : Group). misses_of script.machine.sets (lines_of script.machine c.args.journals.now c.args.domain g.gid.0)) in
+    let all = length-map c.args.groups.now (λ (g : Group). misses_of script.machine.sets (items_of script.machine c.args.journals.now c.args.domain g.gid.0)) in
     omega (arith, rows, all, groups, few, c.requires.lawful.in_range.class_limit)
 
 pub best_division-requires-clause-counts : goal.best_division-requires-clause-counts

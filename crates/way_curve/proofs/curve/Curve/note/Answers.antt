@@ -1,12 +1,13 @@
 use Rattle.std.proofs.Common.{◌≡◌, ℕ, ◌+◌, ◌-◌, ◌%◌, ◌<◌, List, [], ◌∷◌, ◌++◌, length, set, take, get_or, sum, vec_len, rules, refl, arith, sym, ap, ◌∙◌, subst, length-set}
-use Rattle.std.specs.Prelude.{◌^◌, ◌==◌, position}
+use Rattle.std.specs.Prelude.{◌^◌, Option, position}
 use Rattle.std.proofs.Math.Nat.{mod-lt}
 use Rattle.std.proofs.lemmas.List.{get_or_default, take_all}
 use Rattle.lists.proofs.Sums.{one_if-le}
 use Rattle.way_curve.specs.Distances.{is_below}
-use Rattle.way_curve.specs.IsCurve.{CurveValue, IsCurve}
-use Rattle.way_curve.specs.Shifts.{without_first}
-use Rattle.way_curve.proofs.CurveSteps.{IsCurve-more}
+use Rattle.private_lru.specs.declared.item.Item.TheVariants.{Use}
+use Rattle.way_curve.specs.IsCurve.{CurveValue, IsItemCurve}
+use Rattle.way_curve.specs.Slots.{dropped, has_line, pushed}
+use Rattle.way_curve.proofs.CurveSteps.{AddsUse-item, IsItemCurve-use}
 use Rattle.way_curve.proofs.curve.Curve.note.Goals as goal
 
 pub invariant_of-self : goal.invariant_of-self
@@ -23,20 +24,26 @@ invariant_of-self c =
       fits = omega (arith, room);
     }
 
-pub returns-clause-line : goal.returns-clause-line
-returns-clause-line c = λ lines curve.
+-- what a use adds to a curve of items
+pub returns-clause-item : goal.returns-clause-item
+returns-clause-item c = λ items curve.
     let sets = c.self.inside.recent.items in
+    let x = c.args.line in
+    let own : ℕ = x % length sets in
     let full : length c.self.inside.at_distance ≡ 32 = search rules in
     let long : vec_len c.self.inside.recent ≡ length sets = search rules in
-    let place : c.set_of-set.result ≡ c.args.line % length sets = c.set_of-set.ensures ∙ ap (λ (n : ℕ). c.args.line % n) (c.len.ensures ∙ long) in
-    let below : c.args.line % length sets < length sets = mod-lt c.args.line c.self.invariant.some in
-    let own : c.index_mut.result.now ≡ get_or sets (c.args.line % length sets) [] = c.index_mut.ensures.value ∙ (ap (λ (k : ℕ). get_or sets k c.index_mut.result.now) place ∙ get_or_default sets (c.args.line % length sets) c.index_mut.result.now [] below) in
-    let distance : c.note-distance.result ≡ position (λ (y : ℕ). y == c.args.line) (get_or sets (c.args.line % length sets) []) = c.note-distance.ensures.distance ∙ ap (λ (l : List ℕ). position (λ (y : ℕ). y == c.args.line) l) own in
-    let is : IsCurve _ lines = subst (λ (v : CurveValue). IsCurve v lines) (sym c.self.view_is) curve in
-    let next = IsCurve-more (length sets) c.self.inside.uses sets c.self.inside.at_distance c.count.new.uses lines c.args.line c.note-distance.result below refl distance (λ most le. c.count.ensures most (omega (arith, le, full))) is in
-    let moved : c.note-distance.new.self ≡ take 32 (c.args.line ∷ without_first c.args.line (get_or sets (c.args.line % length sets) [])) = c.note-distance.ensures.moved ∙ ap (λ (l : List ℕ). take 32 (c.args.line ∷ without_first c.args.line l)) own in
-    let kept : set sets c.set_of-set.result c.note-distance.new.self ≡ set sets (c.args.line % length sets) (take 32 (c.args.line ∷ without_first c.args.line (get_or sets (c.args.line % length sets) []))) =
-    ap (λ (k : ℕ). set sets k c.note-distance.new.self) place ∙ ap (λ (l : List ℕ). set sets (c.args.line % length sets) l) moved in
-    subst (λ (n : ℕ). IsCurve (record { sets = n; uses = c.self.inside.uses + 1; recent = set sets c.set_of-set.result c.note-distance.new.self; at_distance = c.count.new.uses }) (lines ++ c.args.line ∷ []))
+    let place : c.set_of-set.result ≡ own = c.set_of-set.ensures ∙ ap (λ (n : ℕ). x % n) (c.len.ensures ∙ long) in
+    let below : own < length sets = mod-lt x c.self.invariant.some in
+    let slots : c.index_mut.result.now ≡ get_or sets own [] = c.index_mut.ensures.value ∙ (ap (λ (k : ℕ). get_or sets k c.index_mut.result.now) place ∙ get_or_default sets own c.index_mut.result.now [] below) in
+    let slot : c.note-distance.result ≡ position (has_line x) (get_or sets own []) = c.note-distance.ensures.slot ∙ ap (λ (l : List (Option ℕ)). position (has_line x) l) slots in
+    let is : IsItemCurve _ items = subst (λ (v : CurveValue). IsItemCurve v items) (sym c.self.view_is) curve in
+    let next = IsItemCurve-use (length sets) c.self.inside.uses sets c.self.inside.at_distance items x c.count.new.uses c.note-distance.result below refl slot (λ most le. c.count.ensures most (omega (arith, le, full))) is in
+    let moved : c.note-distance.new.self ≡ pushed x (dropped x (get_or sets own [])) = c.note-distance.ensures.moved ∙ ap (λ (l : List (Option ℕ)). pushed x (dropped x l)) slots in
+    let kept : set sets c.set_of-set.result c.note-distance.new.self ≡ set sets own (pushed x (dropped x (get_or sets own []))) =
+    ap (λ (k : ℕ). set sets k c.note-distance.new.self) place ∙ ap (λ (l : List (Option ℕ)). set sets own l) moved in
+    subst (λ (n : ℕ). IsItemCurve (record { sets = n; uses = c.self.inside.uses + 1; recent = set sets c.set_of-set.result c.note-distance.new.self; at_distance = c.count.new.uses }) (items ++ Use x ∷ []))
     (sym (length-set sets c.set_of-set.result c.note-distance.new.self))
-    (subst (λ (r : List (List ℕ)). IsCurve (record { sets = length sets; uses = c.self.inside.uses + 1; recent = r; at_distance = c.count.new.uses }) (lines ++ c.args.line ∷ [])) (sym kept) next)
+    (subst (λ (r : List (List (Option ℕ))). IsItemCurve (record { sets = length sets; uses = c.self.inside.uses + 1; recent = r; at_distance = c.count.new.uses }) (items ++ Use x ∷ [])) (sym kept) next)
+
+pub returns-clause-line : goal.returns-clause-line
+returns-clause-line c = AddsUse-item c.args.self.now _ c.args.line (returns-clause-item c)
