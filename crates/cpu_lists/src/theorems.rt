@@ -2,13 +2,13 @@
 ghost use Rattle.cpu_lists.specs.Printed.{ListReadsBack, MaskReadsBack};
 
 /// The mask text of a set of CPUs that exist reads back as the set.
-#[tactic(auto, using(crate::proofs::RoundTrips::mask_reads_back))]
+#[tactic(auto, using(crate::proofs::MaskRoundTrips::mask_reads_back))]
 pub fn mask_reads_back()
     ensures { MaskReadsBack }
 {}
 
 /// The list text of a set of CPUs that exist reads back as the set.
-#[tactic(auto, using(crate::proofs::RoundTrips::list_reads_back))]
+#[tactic(auto, using(crate::proofs::ListRoundTrips::list_reads_back))]
 pub fn list_reads_back()
     ensures { ListReadsBack }
 {}

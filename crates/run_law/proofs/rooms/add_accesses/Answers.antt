@@ -9,8 +9,8 @@ use Rattle.run_law.proofs.rooms.add_accesses.Goals as goal
 use Rattle.run_law.specs.Quotas.{access_quota}
 use Rattle.script_ops.specs.declared.op.Op.TheVariants.{Tick}
 
-pub overflow_sub : goal.overflow_sub
-overflow_sub c = omega (arith, c.requires.commands, c.len.ensures, commands_of-le c.args.ops.now)
+pub overflow_sub-rooms : goal.overflow_sub-rooms
+overflow_sub-rooms c = omega (arith, c.requires.commands, c.len.ensures, commands_of-le c.args.ops.now)
 
 pub returns-then-slice_count-eq1 : goal.returns-then-slice_count-eq1
 returns-then-slice_count-eq1 c =

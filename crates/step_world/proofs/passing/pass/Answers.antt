@@ -50,7 +50,7 @@ returns c =
     let number : i ≡ slice_of_line c.args.script.now.machine c.args.tag.now.domain line = c.line_slice-slice.ensures.number ∙ ap (λ p. slice_of_line p c.args.tag.now.domain line) c.machine.ensures in
     let was : before ≡ get_or w.slices.items i s = c.index_mut.ensures.value ∙ get_or_default w.slices.items i before s there in
     let there_too : c.args.t < length w.threads.items = within-next c.args.script.now w c.args.t (ops.Access c.requires.can.task c.requires.can.cpu c.args.addr) c.requires.world c.requires.can.next in
-    let ready : c.index_mut-2.result.now.place ≡ Ready =
+    let ready : c.index_mut-2.result.now.state ≡ Ready =
     ap (λ (x : Thread). x.state) (c.index_mut-2.ensures.value ∙ get_or_default w.threads.items c.args.t c.index_mut-2.result.now opening_thread there_too) ∙ c.requires.can.place in
     let its = passed c.args.script.now c.args.t c.args.n c.args.addr c.args.tag.now w c.requires.world c.requires.can _ i line s c.access.result refl number there
     (record { tree = refl; commands = refl; lists = refl; phase = refl; threads = ap (λ place. slice_set w.threads.items c.args.t (record { next = c.args.n + 1; state = place })) ready; closing = refl }) refl refl refl
