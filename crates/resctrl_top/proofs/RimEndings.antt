@@ -1,5 +1,5 @@
 -- How the calls of the rim end, as endings of the top calls.
-use Rattle.std.proofs.Common.{◌≡◌, ℕ, ◌<◌, Bool, true, false, if◌then◌else◌, IsSomeAnd, List, [], ◌∷◌, ◌++◌, codes, Option, Some, None, Err, length, refl, sym, subst, ap, ◌∙◌, inl, inr, arith}
+use Rattle.std.proofs.Common.{◌≡◌, ℕ, ◌<◌, true, false, IsSomeAnd, List, [], ◌∷◌, ◌++◌, codes, Option, Some, None, Err, length, refl, sym, subst, ap, ◌∙◌, inl, inr, arith}
 use Rattle.std.proofs.lemmas.Bool.{lt-ltb}
 use Rattle.std.proofs.lemmas.Fmt.{decimal_digit}
 use Rattle.call_rim.proofs.laws.Ends.{Ends-as, Ends-made, IsComplete-ends, LeavesRest-refused}
@@ -13,14 +13,14 @@ use Rattle.call_rim.specs.declared.performed.Performed.{Performed}
 use Rattle.call_rim.specs.declared.performed.Performed.TheVariants as performed
 use Rattle.call_rim.specs.declared.status.Status.{Status}
 use Rattle.call_rim.specs.declared.status.Status.TheVariants.{Usage}
-use Rattle.resctrl_top.specs.Endings.{Ends, IsComplete, IsPlayed, IsRefused, call_of, rim_call}
+use Rattle.resctrl_top.specs.Endings.{Ends, IsComplete, IsPlayed, IsRefused, call_of, origin_of, rim_call}
 use Rattle.resctrl_top.specs.Performances.{Plays, RefusesBytes}
 use Rattle.run_law.specs.Journals.{JournalsValue}
 use Rattle.script_ops.specs.declared.limits.TheConstants.{MOST_SCRIPT_BYTES}
-use Rattle.top_parts.specs.Forms.{bytes_of, is_of_source, usage_line}
+use Rattle.top_parts.specs.Forms.{is_of_source, usage_line}
 use Rattle.top_parts.specs.Meaning.{meaning, refusal_line}
 use Rattle.top_parts.specs.declared.command.Command.{Command}
-use Rattle.top_parts.specs.declared.command.Command.TheVariants.{Gen}
+use Rattle.top_parts.specs.declared.command.Command.TheVariants.{Gen, Run, Step}
 use Rattle.top_parts.specs.declared.form.Form.{Form}
 use Rattle.top_parts.specs.declared.refusal.Refusal.TheVariants.{TooLarge}
 use Rattle.trace_gen.specs.Trace.{trace_text}
@@ -56,6 +56,12 @@ complete form source sink status journals ends =
 
 -- ---- a command that has the source read
 
+-- what it plays comes from the source
+origin_of-read : (command : Command) (source : Reading) → is_of_source command ≡ true → origin_of command source ≡ source
+origin_of-read Step source reads = refl
+origin_of-read Run source reads = refl
+origin_of-read (Gen n) source reads = absurd cc
+
 module _ (form : Form) (reads : is_of_source form.command ≡ true) where
   is_refused : (bytes line : List ℕ) → RefusesWithin MOST_SCRIPT_BYTES RefusesBytes bytes line → IsRefused (Some form) bytes line
   is_refused bytes line (inl large) = record { refusal = TooLarge; reads = reads; no_script = meaning-too_large bytes large.0; is_line = large.1 ∙ refusal_line-too_large }
@@ -66,10 +72,9 @@ module _ (form : Form) (reads : is_of_source form.command ≡ true) where
       → rim.Ends (RefusesWithin MOST_SCRIPT_BYTES RefusesBytes) (ReportsWithin MOST_SCRIPT_BYTES (IsPlayed form)) (rim.call_of true usage_line source sink) status journals → LeavesBy MOST_SCRIPT_BYTES source status
       → Ends (call_of (Some form) source sink) status journals
   Ends-called source sink status journals ends leaves =
-      let own : Reading = record { left = bytes_of form.command source.left; left_now = Some []; faults = 0; faults_now = 0 } in
       let called = Ends-as (RefusesWithin MOST_SCRIPT_BYTES RefusesBytes) (refuses_by (Some form) source) (ReportsWithin MOST_SCRIPT_BYTES (IsPlayed form)) (reports_by (Some form)) (rim.call_of true usage_line source sink) journals status
       (λ is bytes line no. (is_refused bytes line no, LeavesRest-refused MOST_SCRIPT_BYTES source status leaves is)) (λ bytes run text few. few.1) ends in (
-        subst (λ (of_source : Bool). rim.Ends (refuses_by (Some form) source) (reports_by (Some form)) (rim.call_of true usage_line (if of_source then source else own) sink) status journals) (sym reads) called,
+        subst (λ (origin : Reading). rim.Ends (refuses_by (Some form) source) (reports_by (Some form)) (rim.call_of true usage_line origin sink) status journals) (sym (origin_of-read form.command source reads)) called,
         λ no. absurd (let not : is_of_source form.command ≡ false = no in cc),
       )
 
@@ -86,8 +91,7 @@ module _ (form : Form) (n : ℕ) (is_gen : form.command ≡ Gen n) (source : Rea
   Ends-generated status journals made plays told =
       let own : Reading = record { left = Some (trace_text n); left_now = Some []; faults = 0; faults_now = 0 } in
       let ends = Ends-made (refuses_by (Some form) source) (reports_by (Some form)) (rim.call_of true usage_line own sink) status journals made refl refl (IsMade-generated made plays) told in
-      let origin : Command → Reading = λ (command : Command). if is_of_source command then source else record { left = bytes_of command source.left; left_now = Some []; faults = 0; faults_now = 0 } in
-      (subst (λ (command : Command). rim.Ends (refuses_by (Some form) source) (reports_by (Some form)) (rim.call_of true usage_line (origin command) sink) status journals) (sym is_gen) ends, λ no. (same, read))
+      (subst (λ (command : Command). rim.Ends (refuses_by (Some form) source) (reports_by (Some form)) (rim.call_of true usage_line (origin_of command source) sink) status journals) (sym is_gen) ends, λ no. (same, read))
 
 -- ---- a command line that is not valid
 

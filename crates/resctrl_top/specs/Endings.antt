@@ -1,12 +1,12 @@
 -- What each status of the top call says: the endings of `call_rim`, with what a form plays and what is promised of it.
-use Rattle.std.specs.Prelude.{◌≡◌, ℕ, false, true, is_some, IsSomeAnd, if◌then◌else◌, List, [], Option, Some, None, Ok, Err}
+use Rattle.std.specs.Prelude.{◌≡◌, ℕ, false, true, is_some, IsSomeAnd, List, [], Option, Some, Ok, Err, option_map, unwrap_or}
 use Rattle.call_rim.specs.Endings as rim
 use Rattle.call_rim.specs.Outside.{LeavesRest, Reading, Writing}
 use Rattle.call_rim.specs.declared.status.Status.{Status}
 use Rattle.top_parts.specs.declared.command.Command.{Command}
 use Rattle.top_parts.specs.declared.command.Command.TheVariants.{Gen, Run, Step}
 use Rattle.top_parts.specs.declared.form.Form.{Form}
-use Rattle.top_parts.specs.Forms.{input_of, is_of_source, reads_source, usage_line}
+use Rattle.top_parts.specs.Forms.{reads_source, usage_line}
 use Rattle.resctrl_top.specs.Isolation.{BeginsGroupWindows, BeginsLockWindows, HoldsRegions, IsolatesGroups}
 use Rattle.top_parts.specs.Meaning.{meaning, refusal_line}
 use Rattle.resctrl_top.specs.Outputs.{IsOutput}
@@ -16,6 +16,7 @@ use Rattle.run_law.specs.Journals.{JournalsValue}
 use Rattle.script_ops.specs.Values.{IsLawful, ScriptValue}
 use Rattle.script_ops.specs.declared.limits.TheConstants.{MOST_SCRIPT_BYTES}
 use Rattle.step_world.specs.Play.{IsPlay, IsPlayBy}
+use Rattle.trace_gen.specs.Trace.{trace_text}
 
 -- a call as it is seen from outside: the form of its words, and its source and its sink before and after
 pub record Call : Type 0 where
@@ -60,14 +61,16 @@ pub record IsRefused (form : Option Form) (bytes line : List ℕ) : Type 0 where
   pub no_script : meaning bytes ≡ Err refusal
   pub is_line : line ≡ refusal_line refusal
 
--- where the bytes that a form plays come from: the source, or else a text of its own, which is read to its end and does not fail
-abbrev pub origin_of : Option Form → Reading → Reading
-origin_of None source = source
-origin_of (Some form) source = if is_of_source form.command then source else record { left = input_of form source.left; left_now = Some []; faults = 0; faults_now = 0 }
+-- where the bytes that a command plays come from: the source, or for `gen` the generator's text, which is read to its end and does not
+-- fail
+abbrev pub origin_of : Command → Reading → Reading
+origin_of Step source = source
+origin_of Run source = source
+origin_of (Gen n) source = record { left = Some (trace_text n); left_now = Some []; faults = 0; faults_now = 0 }
 
 -- the call as the rim has it, by where its bytes come from
 abbrev pub rim_call : Call → rim.Call
-rim_call c = record { has_form = is_some c.form; usage = usage_line; source = origin_of c.form c.source; sink = c.sink }
+rim_call c = record { has_form = is_some c.form; usage = usage_line; source = unwrap_or (option_map (λ form. origin_of form.command c.source) c.form) c.source; sink = c.sink }
 
 -- What a status says of its call and of its journals. Behind a refusal the source has the rest left, after one byte more than a script
 -- may have. One that is not read has all that it had, and did not fail.

@@ -9,7 +9,6 @@ use Rattle.top_parts.specs.declared.command.Command.{Command}
 use Rattle.top_parts.specs.declared.command.Command.TheVariants.{Gen, Run, Step}
 use Rattle.top_parts.specs.declared.form.Form.{Form}
 use Rattle.run_law.specs.declared.flags.Flags.{Flags}
-use Rattle.trace_gen.specs.Trace.{trace_text}
 use Rattle.trace_gen.specs.declared.making.TheConstants.{MOST_THREAD_ACCESSES}
 
 -- ---- flags
@@ -100,13 +99,3 @@ IsInRange (Gen n) = (1 ≤ n) × (n ≤ MOST_THREAD_ACCESSES)
 abbrev pub reads_source : Option Form → Bool
 reads_source None = false
 reads_source (Some form) = is_of_source form.command
-
--- the bytes that a command plays, where they are known: for `step` and `run` what the source has left, for `gen` the generator's text
-abbrev pub bytes_of : Command → Option (List ℕ) → Option (List ℕ)
-bytes_of Step left = left
-bytes_of Run left = left
-bytes_of (Gen n) left = Some (trace_text n)
-
--- the bytes that a form plays, where they are known
-abbrev pub input_of : Form → Option (List ℕ) → Option (List ℕ)
-input_of form left = bytes_of form.command left
