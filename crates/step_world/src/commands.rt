@@ -9,6 +9,7 @@ ghost use Rattle.step_world.specs.declared.thread_state.ThreadState.TheVariants.
 
 use crate::steps::move_to;
 use crate::thread_state::ThreadState;
+use crate::turn::Turn;
 use crate::work::Work;
 use crate::world::World;
 use rc_base::Reply;
@@ -34,92 +35,88 @@ fn count_on(work: &mut Work, lists: &mut LookLists, slices: u8, lines: u64)
 }
 
 /// A command that still needs counts looks at the next slice, and answers the lines that it found.
-pub(crate) fn look(world: &mut World, script: &Script, t: u32, n: u32, made: u64, op: &Op) -> u64
+pub(crate) fn look(world: &mut World, script: &Script, turn: Turn, made: u64, op: &Op) -> u64
     requires world { IsWorldOf script.now world.old }
-    requires next { HasNext script.now (machine_of world.old) t op.now }
-    requires number { n ≡ (thread_at (machine_of world.old) t).next }
-    requires place { (thread_at (machine_of world.old) t).state ≡ Looking made }
+    requires next { HasNext script.now (machine_of world.old) turn.thread op.now }
+    requires number { turn.number ≡ (thread_at (machine_of world.old) turn.thread).next }
+    requires place { (thread_at (machine_of world.old) turn.thread).state ≡ Looking made }
     requires more { world.old.work.at < world.old.work.count }
     ensures world { IsWorldOf script.now world.new }
-    ensures counted { HasCounted script.now t result op.now (machine_of world.old) (machine_of world.new) }
+    ensures counted { HasCounted script.now turn.thread result op.now (machine_of world.old) (machine_of world.new) }
 {
     let m = script.machine();
     let (domain, rmid) = world.work.need();
     let slice = m.slice_number(domain, world.work.slice);
-    let lines = world.slices[slice].look(t, n, world.tree.epoch(), rmid);
+    let lines = world.slices[slice].look(turn, world.tree.epoch(), rmid);
     count_on(
         &mut world.work,
-        &mut world.lists[t as usize],
+        &mut world.lists[turn.thread as usize],
         m.slices,
         lines,
     );
     move_to(
         &mut world.threads,
-        t,
-        n,
+        turn,
         ThreadState::Looking { made: made + 1 },
     );
     lines
 }
 
 // There is more to follow, or the tree is let go.
-fn settle(world: &mut World, t: u32, n: u32, made: u64)
-    requires thread { t < length world.old.threads.items }
-    requires number { n + 1 < 2 ^ 32 }
-    ensures { Settles t n made world.old world.new }
+fn settle(world: &mut World, turn: Turn, made: u64)
+    requires thread { turn.thread < length world.old.threads.items }
+    requires number { turn.number + 1 < 2 ^ 32 }
+    ensures { Settles turn.thread turn.number made world.old world.new }
 {
     if (world.work.at as usize) < world.work.after.len() {
-        move_to(&mut world.threads, t, n, ThreadState::Following { made });
+        move_to(&mut world.threads, turn, ThreadState::Following { made });
     } else {
         world.holder = None;
-        move_to(&mut world.threads, t, n + 1, ThreadState::Ready);
+        let next = Turn {
+            number: turn.number + 1,
+            ..turn
+        };
+        move_to(&mut world.threads, next, ThreadState::Ready);
     }
 }
 
 /// A command that has all its counts is decided, and answers its reply. Where nothing follows it, the tree is let go.
-pub(crate) fn decide(
-    world: &mut World,
-    script: &Script,
-    t: u32,
-    n: u32,
-    made: u64,
-    op: &Op,
-) -> Reply
+pub(crate) fn decide(world: &mut World, script: &Script, turn: Turn, made: u64, op: &Op) -> Reply
     requires world { IsWorldOf script.now world.old }
-    requires next { HasNext script.now (machine_of world.old) t op.now }
-    requires number { n ≡ (thread_at (machine_of world.old) t).next }
-    requires place { (thread_at (machine_of world.old) t).state ≡ Looking made }
+    requires next { HasNext script.now (machine_of world.old) turn.thread op.now }
+    requires number { turn.number ≡ (thread_at (machine_of world.old) turn.thread).next }
+    requires place { (thread_at (machine_of world.old) turn.thread).state ≡ Looking made }
     requires all { world.old.work.count ≤ world.old.work.at }
     ensures world { IsWorldOf script.now world.new }
-    ensures decided { HasDecided script.now t result op.now (machine_of world.old) (machine_of world.new) }
+    ensures decided { HasDecided script.now turn.thread result op.now (machine_of world.old) (machine_of world.new) }
 {
-    let looks = world.lists[t as usize].take();
+    let looks = world.lists[turn.thread as usize].take();
     let (reply, after) = world.tree.apply(op, looks.items());
     world.commands.push_reserved(TreeEntry {
-        thread: t,
-        op: n,
+        thread: turn.thread,
+        op: turn.number,
         reply,
         looks,
     });
     world.work.follow_with(after);
-    settle(world, t, n, made);
+    settle(world, turn, made);
     reply
 }
 
 /// One entry follows a command that was decided. After the last the tree is let go.
-pub(crate) fn follow(world: &mut World, script: &Script, t: u32, n: u32, made: u64, op: &Op)
+pub(crate) fn follow(world: &mut World, script: &Script, turn: Turn, made: u64, op: &Op)
     requires world { IsWorldOf script.now world.old }
-    requires next { HasNext script.now (machine_of world.old) t op.now }
-    requires number { n ≡ (thread_at (machine_of world.old) t).next }
-    requires place { (thread_at (machine_of world.old) t).state ≡ Following made }
+    requires next { HasNext script.now (machine_of world.old) turn.thread op.now }
+    requires number { turn.number ≡ (thread_at (machine_of world.old) turn.thread).next }
+    requires place { (thread_at (machine_of world.old) turn.thread).state ≡ Following made }
     ensures world { IsWorldOf script.now world.new }
-    ensures done { HasDone script.now t op.now (machine_of world.old) (machine_of world.new) }
+    ensures done { HasDone script.now turn.thread op.now (machine_of world.old) (machine_of world.new) }
 {
     let m = script.machine();
     let follows = world.work.after.as_slice();
     let next = follows[world.work.at as usize];
     let slice = slice_for(m, next, world.work.slice);
-    world.slices[slice].follow(t, n, world.tree.epoch(), next);
+    world.slices[slice].follow(turn, world.tree.epoch(), next);
     world.work.follow_on(slices_for(m, next));
-    settle(world, t, n, made + 1);
+    settle(world, turn, made + 1);
 }

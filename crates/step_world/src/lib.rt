@@ -17,6 +17,7 @@ mod step;
 mod steps;
 pub mod theorems;
 pub mod thread_state;
+mod turn;
 pub mod work;
 pub mod world;
 

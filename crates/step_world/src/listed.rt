@@ -13,6 +13,7 @@ ghost use Rattle.tree_law.specs.State.{tasks_of};
 
 use crate::steps::{move_to, touch};
 use crate::thread_state::ThreadState;
+use crate::turn::{Access, Turn};
 use crate::world::World;
 use rc_base::Tag;
 use script_ops::{Op, Script};
@@ -79,25 +80,22 @@ fn cached_tag(world: &World, cached: &mut Option<CachedTag>, task: u32, cpu: u8)
 fn read_cached(
     world: &mut World,
     script: &Script,
-    t: u32,
-    n: u32,
-    task: u32,
-    cpu: u8,
-    addr: u64,
+    turn: Turn,
+    access: Access,
     cached: &mut Option<CachedTag>,
 )
     requires world { IsWorldOf script.now world.old }
-    requires next { HasNext script.now (machine_of world.old) t (ops.Access task cpu addr) }
-    requires number { n ≡ (thread_at (machine_of world.old) t).next }
-    requires place { (thread_at (machine_of world.old) t).state ≡ Ready }
+    requires next { HasNext script.now (machine_of world.old) turn.thread (ops.Access access.task access.cpu access.addr) }
+    requires number { turn.number ≡ (thread_at (machine_of world.old) turn.thread).next }
+    requires place { (thread_at (machine_of world.old) turn.thread).state ≡ Ready }
     requires free { world.old.holder ≡ None }
     requires cached { IsCurrent cached.old world.old }
     ensures world { IsWorldOf script.now world.new }
-    ensures steps { Steps script.now t (machine_of world.old) (machine_of world.new) }
+    ensures steps { Steps script.now turn.thread (machine_of world.old) (machine_of world.new) }
     ensures cached { IsCurrent cached.new world.new }
 {
-    let tag = cached_tag(world, cached, task, cpu);
-    move_to(&mut world.threads, t, n, ThreadState::Tagged { tag });
+    let tag = cached_tag(world, cached, access.task, access.cpu);
+    move_to(&mut world.threads, turn, ThreadState::Tagged { tag });
 }
 
 // A thread that has this op to do takes a step. An access leaves the tree as it is, so that a cached tag stays current.
@@ -111,13 +109,36 @@ fn step_op(world: &mut World, script: &Script, t: u32, op: &Op, cached: &mut Opt
     ensures cached { IsCurrent cached.new world.new }
 {
     let thread = world.threads[t as usize];
-    let n = thread.next;
+    let turn = Turn {
+        thread: t,
+        number: thread.next,
+    };
     match (op, thread.state) {
         (Op::Access { task, cpu, addr }, ThreadState::Ready) if world.holder.is_none() => {
-            read_cached(world, script, t, n, *task, *cpu, *addr, cached);
+            read_cached(
+                world,
+                script,
+                turn,
+                Access {
+                    task: *task,
+                    cpu: *cpu,
+                    addr: *addr,
+                },
+                cached,
+            );
         }
         (Op::Access { task, cpu, addr }, ThreadState::Tagged { tag }) => {
-            touch(world, script, t, n, tag, *task, *cpu, *addr);
+            touch(
+                world,
+                script,
+                turn,
+                tag,
+                Access {
+                    task: *task,
+                    cpu: *cpu,
+                    addr: *addr,
+                },
+            );
         }
         _ => {
             world.act(script, t, op);

@@ -6,21 +6,22 @@ ghost use Rattle.step_world.specs.Passing.{CanPass, HasPassed, IsBefore};
 ghost use Rattle.step_world.specs.Turns.{TakesTurn};
 ghost use Rattle.step_world.specs.Worlds.{IsWorldOf, machine_of};
 
+use crate::turn::Turn;
 use crate::world::World;
 use rc_base::Tag;
 use script_ops::{Ops, Script};
 
 // An access reads its tag, which is this one, and goes to its slice with it: two steps, and the tag is never stale.
-fn pass(world: &mut World, script: &Script, t: u32, n: u32, tag: &Tag, addr: u64)
+fn pass(world: &mut World, script: &Script, turn: Turn, tag: &Tag, addr: u64)
     requires world { IsWorldOf script.now world.old }
-    requires can { CanPass script.now world.old t n addr tag.now }
+    requires can { CanPass script.now world.old turn.thread turn.number addr tag.now }
     ensures world { IsWorldOf script.now world.new }
-    ensures passed { HasPassed script.now t n world.old world.new }
+    ensures passed { HasPassed script.now turn.thread turn.number world.old world.new }
 {
     let line = addr / 64;
     let slice = script.machine().line_slice(tag.domain, line);
-    world.slices[slice].access(t, n, tag, line);
-    world.threads[t as usize].next = n + 1;
+    world.slices[slice].access(turn, tag, line);
+    world.threads[turn.thread as usize].next = turn.number + 1;
 }
 
 // The address of the op of this number, where it is an access of this task on this CPU.
@@ -45,7 +46,16 @@ pub(crate) fn pass_all(world: &mut World, script: &Script, t: u32, ops: &Ops, ta
     let tag = world.tree.resolve(task, cpu);
     let mut n = world.threads[t as usize].next;
     while let Some(addr) = address_at(ops, n, task, cpu) {
-        pass(world, script, t, n, &tag, addr);
+        pass(
+            world,
+            script,
+            Turn {
+                thread: t,
+                number: n,
+            },
+            &tag,
+            addr,
+        );
         n += 1;
     }
 }

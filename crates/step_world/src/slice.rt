@@ -8,6 +8,7 @@ ghost use Rattle.machine.specs.Slices.{slice_number};
 ghost use Rattle.cache_steps.specs.Needs.{CanFollow};
 ghost use Rattle.step_world.specs.Slices.{FollowsUp, CountsLines, TouchesLine, IsFresh};
 
+use crate::turn::Turn;
 use cache_core::{Cache, SliceEntry, Touched, What};
 use cache_steps::{Reached, access_of, enact, entry};
 use machine::Machine;
@@ -53,26 +54,19 @@ impl Slice {
 
     /// Makes the access of an op, and notes it where its tag is not stale.
     #[inline(always)]
-    pub(crate) fn access(&mut self, thread: u32, op: u32, tag: &Tag, line: u64) -> Touched
+    pub(crate) fn access(&mut self, turn: Turn, tag: &Tag, line: u64) -> Touched
         requires own { IsOwn self.old.cache.shape (line % self.old.cache.shape.sets) }
         requires mask { 0 < tag.now.mask % 2 ^ self.old.cache.shape.ways }
         requires rmid { tag.now.rmid < self.old.cache.rmids }
         requires clock { self.old.cache.clock < 2 ^ 32 }
         requires room { length self.old.entries < self.old.room }
-        ensures { TouchesLine thread op tag.now line self.old self.new result }
+        ensures { TouchesLine turn.thread turn.number tag.now line self.old self.new result }
     {
         let touched = self.cache.access(tag, line);
         match touched {
-            Touched::Hit { way } => self.note_access(
-                thread,
-                op,
-                tag,
-                line,
-                Reached { hit: true, way },
-            ),
+            Touched::Hit { way } => self.note_access(turn, tag, line, Reached { hit: true, way }),
             Touched::Filled { way } => self.note_access(
-                thread,
-                op,
+                turn,
                 tag,
                 line,
                 Reached { hit: false, way },
@@ -83,49 +77,50 @@ impl Slice {
     }
 
     /// Counts the lines of an RMID for a command, and notes the look.
-    pub(crate) fn look(&mut self, thread: u32, op: u32, epoch: u64, rmid: u16) -> u64
+    pub(crate) fn look(&mut self, turn: Turn, epoch: u64, rmid: u16) -> u64
         requires rmid { rmid < self.old.cache.rmids }
         requires room { length self.old.entries < self.old.room }
-        ensures { CountsLines thread op epoch rmid result self.old self.new }
+        ensures { CountsLines turn.thread turn.number epoch rmid result self.old self.new }
     {
         let lines = self.cache.look(rmid);
-        self.note(thread, op, epoch, What::Look { rmid, lines });
+        self.note(turn, epoch, What::Look { rmid, lines });
         lines
     }
 
     /// Does what follows a command, and notes it. A touch is an access of the command's op with the epoch of the command, so that
     /// it is never stale.
-    pub(crate) fn follow(&mut self, thread: u32, op: u32, epoch: u64, follow: Follow)
+    pub(crate) fn follow(&mut self, turn: Turn, epoch: u64, follow: Follow)
         requires can { CanFollow self.old.cache.shape self.old.cache.rmids follow }
         requires floor { self.old.cache.floor ≤ epoch }
         requires clock { self.old.cache.clock < 2 ^ 32 }
         requires room { length self.old.entries < self.old.room }
-        ensures { FollowsUp thread op epoch follow self.old self.new }
+        ensures { FollowsUp turn.thread turn.number epoch follow self.old self.new }
     {
         let what = enact(&mut self.cache, epoch, follow);
-        self.note(thread, op, epoch, what);
+        self.note(turn, epoch, what);
     }
 
     // Notes the entry of an access that came to this.
     #[inline(always)]
-    fn note_access(&mut self, thread: u32, op: u32, tag: &Tag, line: u64, reached: Reached)
+    fn note_access(&mut self, turn: Turn, tag: &Tag, line: u64, reached: Reached)
         requires room { length self.old.entries < self.old.room }
         ensures cache { self.new.cache ≡ self.old.cache }
         ensures room { self.new.room ≡ self.old.room }
-        ensures entries { self.new.entries ≡ self.old.entries ++ entry_of thread op tag.now.epoch (whats.Access reached.hit reached.way tag.now.owner tag.now.rmid tag.now.mask line) ∷ [] }
+        ensures entries { self.new.entries ≡ self.old.entries ++ entry_of turn.thread turn.number tag.now.epoch (whats.Access reached.hit reached.way tag.now.owner tag.now.rmid tag.now.mask line) ∷ [] }
     {
-        self.note(thread, op, tag.epoch, access_of(tag, line, reached));
+        self.note(turn, tag.epoch, access_of(tag, line, reached));
     }
 
     // Notes the entry of a step.
     #[inline(always)]
-    fn note(&mut self, thread: u32, op: u32, epoch: u64, what: What)
+    fn note(&mut self, turn: Turn, epoch: u64, what: What)
         requires room { length self.old.entries < self.old.room }
         ensures cache { self.new.cache ≡ self.old.cache }
         ensures room { self.new.room ≡ self.old.room }
-        ensures entries { self.new.entries ≡ self.old.entries ++ entry_of thread op epoch what ∷ [] }
+        ensures entries { self.new.entries ≡ self.old.entries ++ entry_of turn.thread turn.number epoch what ∷ [] }
     {
-        self.entries.push_reserved(entry(thread, op, epoch, what));
+        self.entries
+            .push_reserved(entry(turn.thread, turn.number, epoch, what));
     }
 
     /// Its entries.

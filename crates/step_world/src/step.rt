@@ -12,6 +12,7 @@ use crate::action::{Action, Stepped};
 use crate::commands::{decide, follow, look};
 use crate::steps::{read_tag, take, touch};
 use crate::thread_state::{Thread, ThreadState};
+use crate::turn::{Access, Turn};
 use crate::world::World;
 use rc_base::Tag;
 use script_ops::{Op, OpAt, Script};
@@ -48,26 +49,35 @@ impl World {
     }
 
     // Takes the tree, or reads a tag, where nobody holds the tree.
-    fn begin(&mut self, script: &Script, t: u32, n: u32, op: &Op) -> Stepped
+    fn begin(&mut self, script: &Script, turn: Turn, op: &Op) -> Stepped
         requires world { IsWorldOf script.now self.old }
-        requires next { HasNext script.now (machine_of self.old) t op.now }
-        requires number { n ≡ (thread_at (machine_of self.old) t).next }
-        requires place { (thread_at (machine_of self.old) t).state ≡ Ready }
+        requires next { HasNext script.now (machine_of self.old) turn.thread op.now }
+        requires number { turn.number ≡ (thread_at (machine_of self.old) turn.thread).next }
+        requires place { (thread_at (machine_of self.old) turn.thread).state ≡ Ready }
         ensures world { IsWorldOf script.now self.new }
-        ensures answers { Answers script.now t result (machine_of self.old) (machine_of self.new) }
+        ensures answers { Answers script.now turn.thread result (machine_of self.old) (machine_of self.new) }
     {
         if self.holder.is_some() {
             return Stepped::Blocked;
         }
         match op {
             Op::Access { task, cpu, addr } => {
-                let tag = read_tag(self, script, t, n, *task, *cpu, *addr);
+                let tag = read_tag(
+                    self,
+                    script,
+                    turn,
+                    Access {
+                        task: *task,
+                        cpu: *cpu,
+                        addr: *addr,
+                    },
+                );
                 Stepped::Did {
                     action: Action::Tagged { epoch: tag.epoch },
                 }
             }
             _ => {
-                take(self, script, t, n, op);
+                take(self, script, turn, op);
                 Stepped::Did {
                     action: Action::Took,
                 }
@@ -76,37 +86,47 @@ impl World {
     }
 
     // Looks, or decides where all looks are made.
-    fn look_or_decide(&mut self, script: &Script, t: u32, n: u32, made: u64, op: &Op) -> Action
+    fn look_or_decide(&mut self, script: &Script, turn: Turn, made: u64, op: &Op) -> Action
         requires world { IsWorldOf script.now self.old }
-        requires next { HasNext script.now (machine_of self.old) t op.now }
-        requires number { n ≡ (thread_at (machine_of self.old) t).next }
-        requires place { (thread_at (machine_of self.old) t).state ≡ Looking made }
+        requires next { HasNext script.now (machine_of self.old) turn.thread op.now }
+        requires number { turn.number ≡ (thread_at (machine_of self.old) turn.thread).next }
+        requires place { (thread_at (machine_of self.old) turn.thread).state ≡ Looking made }
         ensures world { IsWorldOf script.now self.new }
-        ensures does { Does script.now t result op.now (machine_of self.old) (machine_of self.new) }
+        ensures does { Does script.now turn.thread result op.now (machine_of self.old) (machine_of self.new) }
     {
         if self.work.at < self.work.count {
             Action::Looked {
-                lines: look(self, script, t, n, made, op),
+                lines: look(self, script, turn, made, op),
             }
         } else {
             Action::Decided {
-                reply: decide(self, script, t, n, made, op),
+                reply: decide(self, script, turn, made, op),
             }
         }
     }
 
     // Goes with a tag to the slice of its line.
-    fn touch_line(&mut self, script: &Script, t: u32, n: u32, tag: Tag, op: &Op) -> Action
+    fn touch_line(&mut self, script: &Script, turn: Turn, tag: Tag, op: &Op) -> Action
         requires world { IsWorldOf script.now self.old }
-        requires next { HasNext script.now (machine_of self.old) t op.now }
-        requires number { n ≡ (thread_at (machine_of self.old) t).next }
-        requires place { (thread_at (machine_of self.old) t).state ≡ Tagged tag }
+        requires next { HasNext script.now (machine_of self.old) turn.thread op.now }
+        requires number { turn.number ≡ (thread_at (machine_of self.old) turn.thread).next }
+        requires place { (thread_at (machine_of self.old) turn.thread).state ≡ Tagged tag }
         ensures world { IsWorldOf script.now self.new }
-        ensures does { Does script.now t result op.now (machine_of self.old) (machine_of self.new) }
+        ensures does { Does script.now turn.thread result op.now (machine_of self.old) (machine_of self.new) }
     {
         match op {
             Op::Access { task, cpu, addr } => Action::Touched {
-                touched: touch(self, script, t, n, tag, *task, *cpu, *addr),
+                touched: touch(
+                    self,
+                    script,
+                    turn,
+                    tag,
+                    Access {
+                        task: *task,
+                        cpu: *cpu,
+                        addr: *addr,
+                    },
+                ),
             },
             _ => unreachable!(),
         }
@@ -120,19 +140,23 @@ impl World {
         ensures answers { Answers script.now t result (machine_of self.old) (machine_of self.new) }
     {
         let Thread { next, state } = self.threads[t as usize];
+        let turn = Turn {
+            thread: t,
+            number: next,
+        };
         match state {
-            ThreadState::Ready => self.begin(script, t, next, op),
+            ThreadState::Ready => self.begin(script, turn, op),
             ThreadState::Looking { made } => Stepped::Did {
-                action: self.look_or_decide(script, t, next, made, op),
+                action: self.look_or_decide(script, turn, made, op),
             },
             ThreadState::Following { made } => {
-                follow(self, script, t, next, made, op);
+                follow(self, script, turn, made, op);
                 Stepped::Did {
                     action: Action::Followed,
                 }
             }
             ThreadState::Tagged { tag } => Stepped::Did {
-                action: self.touch_line(script, t, next, tag, op),
+                action: self.touch_line(script, turn, tag, op),
             },
         }
     }

@@ -18,7 +18,7 @@ use Rattle.tree_law.specs.declared.follow.Follow.TheVariants.{Raise}
 pub bounds-follows-world : goal.bounds-follows-world
 bounds-follows-world c =
     let r = c.requires in
-    omega (arith, (following c.args.script.now c.args.t c.args.made c.args.op.now c.args.world.now r.world r.next r.place).within, ap length c.as_slice-follows.ensures.value)
+    omega (arith, (following c.args.script.now c.args.turn.thread c.args.made c.args.op.now c.args.world.now r.world r.next r.place).within, ap length c.as_slice-follows.ensures.value)
 
 pub slice_for-slice-requires-clause-domain : goal.slice_for-slice-requires-clause-domain
 slice_for-slice-requires-clause-domain c =
@@ -27,9 +27,9 @@ slice_for-slice-requires-clause-domain c =
     let w = c.args.world.now in
     let op = c.args.op.now in
     let f : Follow = get_or c.as_slice-follows.result.now w.work.at (Raise 0) in
-    let within = (following script c.args.t c.args.made op w r.world r.next r.place).within in
+    let within = (following script c.args.turn.thread c.args.made op w r.world r.next r.place).within in
     let is : slice_get w.work.after.items w.work.at ≡ Some f = slice_get-get_or w.work.after.items w.work.at (Raise 0) within ∙ ap (λ fs. Some (get_or fs w.work.at (Raise 0))) (sym c.as_slice-follows.ensures.value) in
-    omega (arith, ap (λ (m : Parameters). m.domains) c.machine-m.ensures, domain-there script c.args.t c.args.made op w r.world r.next r.place f is)
+    omega (arith, ap (λ (m : Parameters). m.domains) c.machine-m.ensures, domain-there script c.args.turn.thread c.args.made op w r.world r.next r.place f is)
 
 pub slice_for-slice-requires-clause-slice : goal.slice_for-slice-requires-clause-slice
 slice_for-slice-requires-clause-slice c =
@@ -38,9 +38,9 @@ slice_for-slice-requires-clause-slice c =
     let w = c.args.world.now in
     let op = c.args.op.now in
     let f : Follow = get_or c.as_slice-follows.result.now w.work.at (Raise 0) in
-    let within = (following script c.args.t c.args.made op w r.world r.next r.place).within in
+    let within = (following script c.args.turn.thread c.args.made op w r.world r.next r.place).within in
     let is : slice_get w.work.after.items w.work.at ≡ Some f = slice_get-get_or w.work.after.items w.work.at (Raise 0) within ∙ ap (λ fs. Some (get_or fs w.work.at (Raise 0))) (sym c.as_slice-follows.ensures.value) in
-    omega (arith, ap (λ (m : Parameters). m.slices) c.machine-m.ensures, slice-there script c.args.t c.args.made op w r.world r.next r.place f is)
+    omega (arith, ap (λ (m : Parameters). m.slices) c.machine-m.ensures, slice-there script c.args.turn.thread c.args.made op w r.world r.next r.place f is)
 
 pub follow-requires-clause-can : goal.follow-requires-clause-can
 follow-requires-clause-can c =
@@ -49,13 +49,13 @@ follow-requires-clause-can c =
     let w = c.args.world.now in
     let op = c.args.op.now in
     let f : Follow = get_or c.as_slice-follows.result.now w.work.at (Raise 0) in
-    let within = (following script c.args.t c.args.made op w r.world r.next r.place).within in
+    let within = (following script c.args.turn.thread c.args.made op w r.world r.next r.place).within in
     let is : slice_get w.work.after.items w.work.at ≡ Some f = slice_get-get_or w.work.after.items w.work.at (Raise 0) within ∙ ap (λ fs. Some (get_or fs w.work.at (Raise 0))) (sym c.as_slice-follows.ensures.value) in
     let i = c.slice_for-slice.result in
     let s = c.index_mut.result.now in
     let there : i < length w.slices.items = omega (arith, c.slice_for-slice.ensures.within, ap slice_count c.machine-m.ensures, r.world.slices.count) in
     let number : i ≡ slice_for script.machine f w.work.slice = c.slice_for-slice.ensures.number ∙ ap (λ p. slice_for p f w.work.slice) c.machine-m.ensures in
-    subst (λ (x : SliceValue). CanFollow x.cache.shape x.cache.rmids f) (sym c.index_mut.ensures.value) (can script c.args.t c.args.made op w r.world r.next r.place f is i s there number)
+    subst (λ (x : SliceValue). CanFollow x.cache.shape x.cache.rmids f) (sym c.index_mut.ensures.value) (can script c.args.turn.thread c.args.made op w r.world r.next r.place f is i s there number)
 
 pub follow-requires-clause-floor : goal.follow-requires-clause-floor
 follow-requires-clause-floor c =
@@ -64,13 +64,13 @@ follow-requires-clause-floor c =
     let w = c.args.world.now in
     let op = c.args.op.now in
     let f : Follow = get_or c.as_slice-follows.result.now w.work.at (Raise 0) in
-    let within = (following script c.args.t c.args.made op w r.world r.next r.place).within in
+    let within = (following script c.args.turn.thread c.args.made op w r.world r.next r.place).within in
     let is : slice_get w.work.after.items w.work.at ≡ Some f = slice_get-get_or w.work.after.items w.work.at (Raise 0) within ∙ ap (λ fs. Some (get_or fs w.work.at (Raise 0))) (sym c.as_slice-follows.ensures.value) in
     let i = c.slice_for-slice.result in
     let s = c.index_mut.result.now in
     let there : i < length w.slices.items = omega (arith, c.slice_for-slice.ensures.within, ap slice_count c.machine-m.ensures, r.world.slices.count) in
     let number : i ≡ slice_for script.machine f w.work.slice = c.slice_for-slice.ensures.number ∙ ap (λ p. slice_for p f w.work.slice) c.machine-m.ensures in
-    omega (arith, ap (λ (x : SliceValue). x.cache.floor) c.index_mut.ensures.value, floor-below script c.args.t c.args.made op w r.world r.next r.place i s there, c.epoch.ensures)
+    omega (arith, ap (λ (x : SliceValue). x.cache.floor) c.index_mut.ensures.value, floor-below script c.args.turn.thread c.args.made op w r.world r.next r.place i s there, c.epoch.ensures)
 
 pub follow-requires-clause-clock : goal.follow-requires-clause-clock
 follow-requires-clause-clock c =
@@ -79,7 +79,7 @@ follow-requires-clause-clock c =
     let w = c.args.world.now in
     let op = c.args.op.now in
     let f : Follow = get_or c.as_slice-follows.result.now w.work.at (Raise 0) in
-    let within = (following script c.args.t c.args.made op w r.world r.next r.place).within in
+    let within = (following script c.args.turn.thread c.args.made op w r.world r.next r.place).within in
     let is : slice_get w.work.after.items w.work.at ≡ Some f = slice_get-get_or w.work.after.items w.work.at (Raise 0) within ∙ ap (λ fs. Some (get_or fs w.work.at (Raise 0))) (sym c.as_slice-follows.ensures.value) in
     let i = c.slice_for-slice.result in
     let s = c.index_mut.result.now in
@@ -94,13 +94,13 @@ follow-requires-clause-room c =
     let w = c.args.world.now in
     let op = c.args.op.now in
     let f : Follow = get_or c.as_slice-follows.result.now w.work.at (Raise 0) in
-    let within = (following script c.args.t c.args.made op w r.world r.next r.place).within in
+    let within = (following script c.args.turn.thread c.args.made op w r.world r.next r.place).within in
     let is : slice_get w.work.after.items w.work.at ≡ Some f = slice_get-get_or w.work.after.items w.work.at (Raise 0) within ∙ ap (λ fs. Some (get_or fs w.work.at (Raise 0))) (sym c.as_slice-follows.ensures.value) in
     let i = c.slice_for-slice.result in
     let s = c.index_mut.result.now in
     let there : i < length w.slices.items = omega (arith, c.slice_for-slice.ensures.within, ap slice_count c.machine-m.ensures, r.world.slices.count) in
     let number : i ≡ slice_for script.machine f w.work.slice = c.slice_for-slice.ensures.number ∙ ap (λ p. slice_for p f w.work.slice) c.machine-m.ensures in
-    subst (λ (x : SliceValue). length x.entries < x.room) (sym c.index_mut.ensures.value) (room-follow script c.args.t c.args.made op w r.world r.next r.place f is i s there number)
+    subst (λ (x : SliceValue). length x.entries < x.room) (sym c.index_mut.ensures.value) (room-follow script c.args.turn.thread c.args.made op w r.world r.next r.place f is i s there number)
 
 pub follow_on-requires-clause-at : goal.follow_on-requires-clause-at
 follow_on-requires-clause-at c =
@@ -109,7 +109,7 @@ follow_on-requires-clause-at c =
     let w = c.args.world.now in
     let op = c.args.op.now in
     let f : Follow = get_or c.as_slice-follows.result.now w.work.at (Raise 0) in
-    let within = (following script c.args.t c.args.made op w r.world r.next r.place).within in
+    let within = (following script c.args.turn.thread c.args.made op w r.world r.next r.place).within in
     let is : slice_get w.work.after.items w.work.at ≡ Some f = slice_get-get_or w.work.after.items w.work.at (Raise 0) within ∙ ap (λ fs. Some (get_or fs w.work.at (Raise 0))) (sym c.as_slice-follows.ensures.value) in
     omega (arith, within, ap length c.as_slice-follows.ensures.value, c.as_slice-follows.ensures.fits)
 
@@ -120,9 +120,9 @@ follow_on-requires-clause-slice c =
     let w = c.args.world.now in
     let op = c.args.op.now in
     let f : Follow = get_or c.as_slice-follows.result.now w.work.at (Raise 0) in
-    let within = (following script c.args.t c.args.made op w r.world r.next r.place).within in
+    let within = (following script c.args.turn.thread c.args.made op w r.world r.next r.place).within in
     let is : slice_get w.work.after.items w.work.at ≡ Some f = slice_get-get_or w.work.after.items w.work.at (Raise 0) within ∙ ap (λ fs. Some (get_or fs w.work.at (Raise 0))) (sym c.as_slice-follows.ensures.value) in
-    omega (arith, (following script c.args.t c.args.made op w r.world r.next r.place).slice f is, c.slices_for.ensures, ap (λ p. slices_for p f) c.machine-m.ensures)
+    omega (arith, (following script c.args.turn.thread c.args.made op w r.world r.next r.place).slice f is, c.slices_for.ensures, ap (λ p. slices_for p f) c.machine-m.ensures)
 
 pub overflow_add-made : goal.overflow_add-made
 overflow_add-made c =
@@ -131,9 +131,9 @@ overflow_add-made c =
     let w = c.args.world.now in
     let op = c.args.op.now in
     let f : Follow = get_or c.as_slice-follows.result.now w.work.at (Raise 0) in
-    let within = (following script c.args.t c.args.made op w r.world r.next r.place).within in
+    let within = (following script c.args.turn.thread c.args.made op w r.world r.next r.place).within in
     let is : slice_get w.work.after.items w.work.at ≡ Some f = slice_get-get_or w.work.after.items w.work.at (Raise 0) within ∙ ap (λ fs. Some (get_or fs w.work.at (Raise 0))) (sym c.as_slice-follows.ensures.value) in
-    omega (arith, made-few script c.args.t c.args.made op w r.world r.next r.place (omega (arith, ap length c.as_slice-follows.ensures.value, c.as_slice-follows.ensures.fits)))
+    omega (arith, made-few script c.args.turn.thread c.args.made op w r.world r.next r.place (omega (arith, ap length c.as_slice-follows.ensures.value, c.as_slice-follows.ensures.fits)))
 
 pub settle-requires-clause-number : goal.settle-requires-clause-number
 settle-requires-clause-number c =
@@ -142,9 +142,9 @@ settle-requires-clause-number c =
     let w = c.args.world.now in
     let op = c.args.op.now in
     let f : Follow = get_or c.as_slice-follows.result.now w.work.at (Raise 0) in
-    let within = (following script c.args.t c.args.made op w r.world r.next r.place).within in
+    let within = (following script c.args.turn.thread c.args.made op w r.world r.next r.place).within in
     let is : slice_get w.work.after.items w.work.at ≡ Some f = slice_get-get_or w.work.after.items w.work.at (Raise 0) within ∙ ap (λ fs. Some (get_or fs w.work.at (Raise 0))) (sym c.as_slice-follows.ensures.value) in
-    omega (arith, r.number, op-few script c.args.t (thread_at (machine_of w) c.args.t).next op r.world.lawful r.next.is)
+    omega (arith, r.number, op-few script c.args.turn.thread (thread_at (machine_of w) c.args.turn.thread).next op r.world.lawful r.next.is)
 
 pub returns : goal.returns
 returns c =
@@ -153,12 +153,12 @@ returns c =
     let w = c.args.world.now in
     let op = c.args.op.now in
     let f : Follow = get_or c.as_slice-follows.result.now w.work.at (Raise 0) in
-    let within = (following script c.args.t c.args.made op w r.world r.next r.place).within in
+    let within = (following script c.args.turn.thread c.args.made op w r.world r.next r.place).within in
     let is : slice_get w.work.after.items w.work.at ≡ Some f = slice_get-get_or w.work.after.items w.work.at (Raise 0) within ∙ ap (λ fs. Some (get_or fs w.work.at (Raise 0))) (sym c.as_slice-follows.ensures.value) in
     let i = c.slice_for-slice.result in
     let s = c.index_mut.result.now in
     let there : i < length w.slices.items = omega (arith, c.slice_for-slice.ensures.within, ap slice_count c.machine-m.ensures, r.world.slices.count) in
     let number : i ≡ slice_for script.machine f w.work.slice = c.slice_for-slice.ensures.number ∙ ap (λ p. slice_for p f w.work.slice) c.machine-m.ensures in
-    let done = followed script c.args.t c.args.made op w r.world r.next r.place f is c.args.n i c.epoch.result c.slices_for.result c.follow.new.self s _ c.settle.new.world r.number there number c.index_mut.ensures.value c.epoch.ensures c.follow.ensures
+    let done = followed script c.args.turn.thread c.args.made op w r.world r.next r.place f is c.args.turn.number i c.epoch.result c.slices_for.result c.follow.new.self s _ c.settle.new.world r.number there number c.index_mut.ensures.value c.epoch.ensures c.follow.ensures
     (c.slices_for.ensures ∙ ap (λ p. slices_for p f) c.machine-m.ensures) c.follow_on.ensures refl refl refl refl refl refl refl refl c.settle.ensures in
     record { world = done.0; done = done.1 }

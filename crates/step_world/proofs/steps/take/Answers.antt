@@ -15,13 +15,13 @@ counts-counts-requires c =
     record {
       fits =
           subst (λ m. Fits m (tasks_of w.tree.state) c.args.op.now) (sym tree.machine) (subst (λ s. Fits c.args.script.now.machine (tasks_of s) c.args.op.now) (sym tree.state)
-          (Fits-tree_after c.args.script.now (map entry_value w.commands.items) c.args.t (thread_at (machine_of w) c.args.t).next c.args.op.now c.requires.world.lawful c.requires.next.is));
+          (Fits-tree_after c.args.script.now (map entry_value w.commands.items) c.args.turn.thread (thread_at (machine_of w) c.args.turn.thread).next c.args.op.now c.requires.world.lawful c.requires.next.is));
     }
 
 pub returns-clause-world : goal.returns-clause-world
 returns-clause-world c =
     let told = c.look_for.ensures in
-    (IsWorldOf-taken c.args.script.now c.args.t c.args.n c.args.op.now c.args.world.now _ c.requires.world c.requires.next c.requires.number c.requires.place c.requires.free c.requires.command
+    (IsWorldOf-taken c.args.script.now c.args.turn.thread c.args.turn.number c.args.op.now c.args.world.now _ c.requires.world c.requires.next c.requires.number c.requires.place c.requires.free c.requires.command
     (record { tree = refl; commands = refl; lists = refl; closing = refl; phase = refl; threads = c.move_to.ensures }) refl refl
     (record {
       counts = λ some. told.counts some ∙ ap (λ x. Some x) c.counts-counts.ensures.needs;
