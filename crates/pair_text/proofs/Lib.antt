@@ -1,5 +1,8 @@
 pub mod AddedUses
+pub mod BoundedScripts
 pub mod CountedLines
+pub mod CountedOps
+pub mod LawfulScripts
 pub mod NextPairLine
 pub mod Readiness
 pub mod ReadyLines

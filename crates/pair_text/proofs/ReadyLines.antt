@@ -1,35 +1,26 @@
--- Each line keeps what the lines before it keep to, and so a script is lawful.
-use Rattle.std.proofs.Common.{◌≡◌, ℕ, ◌+◌, ◌/◌, ◌<◌, Bool, true, false, not, cond, ◌&&◌, eqb, ltb, List, [], ◌∷◌, ◌++◌, length, map, get_or, All, Contains, Result, Ok, Err, IfOk, refl, sym, ap, subst, ◌∙◌, arith, codes, ltb-false}
+-- Each line keeps what the lines before it keep to.
+use Rattle.std.proofs.Common.{◌≡◌, ℕ, ◌+◌, ◌/◌, ◌<◌, Bool, true, false, not, cond, ◌&&◌, eqb, ltb, List, [], ◌∷◌, ◌++◌, length, map, get_or, All, Contains, Ok, Err, IfOk, refl, sym, ap, subst, ◌∙◌, codes, ltb-false}
 use Rattle.std.specs.List.{range_with_len, list_any}
 use Rattle.std.proofs.lemmas.Bool.{not-false, true≢false}
 use Rattle.std.proofs.lemmas.List.Elements.{All-append, All-map, All-nil, All-push}
 use Rattle.lackey_text.specs.Lines.{line_of}
 use Rattle.lackey_text.specs.declared.uses.LineUse.{LineUse}
 use Rattle.line_words.specs.Lines.{behind_word, is_bad, is_comment, words}
-use Rattle.machine.proofs.laws.Ranges.{is_machine-true}
-use Rattle.machine.specs.Ranges.{is_machine, usual}
-use Rattle.pair_ops.specs.Values.{Fits, IsLawful, PairScriptValue}
 use Rattle.pair_ops.specs.declared.op.PairOp.{PairOp}
 use Rattle.pair_ops.specs.declared.op.PairOp.TheVariants as ops
 use Rattle.script_lines.proofs.laws.Uses.{access_of-fits, sweep_of-fits, task_of-declared, trace_of-fits}
 use Rattle.pair_text.specs.PairKeys.{machines_of}
 use Rattle.pair_text.specs.PairLines.{PairState, file_alone, group_alone, in_body, is_end, line_meaning, means, placed_line, plain_line, said_by, trace_line, traced, use_at, use_in, with_command, with_uses, word_means}
-use Rattle.pair_text.specs.declared.fault.PairFault.{PairFault}
 use Rattle.pair_text.specs.declared.kind.Kind.{Kind}
 use Rattle.pair_text.specs.declared.kind.Kind.TheVariants as kinds
 use Rattle.pair_text.specs.declared.kind.PairKind.{PairKind}
 use Rattle.pair_text.specs.declared.kind.Place.{Place}
 use Rattle.pair_text.specs.declared.kind.Place.TheVariants as places
-use Rattle.script_lines.proofs.laws.TaskRanges.{IsStrictlyIncreasing-ids_of, length-ids_of}
 use Rattle.script_lines.specs.Escapes.{text_behind, unescaped}
 use Rattle.pair_text.specs.Kinds.{is_start, may_stand, pair_kind_of}
 use Rattle.rc_base.specs.Faults.{◌>>=◌}
 use Rattle.rc_base.specs.Texts.{is_text}
 use Rattle.pair_text.specs.PairPaths.{file_at, or_long}
-use Rattle.std.specs.Str.Lines.{lines}
-use Rattle.pair_text.specs.declared.fault.PairError.{PairError}
-use Rattle.pair_text.specs.PairReading.{PairFaultAt, Reads, after_line, finished, finished_at, nothing_read, pair_script_of, reading_from, script_in}
-use lib.Count.{ones}
 use Rattle.script_lines.specs.Arguments.{access_of, first_of, sweep_of, trace_of}
 use Rattle.script_lines.specs.Tasks.{count_of, task_of, declared, ids_of}
 use Rattle.script_lines.specs.declared.fault.LineFault.TheVariants.{BadArgument, BadByte, BadEscape, BadMachine, BadPath, BadTasks, NoMachine, OutOfPlace, TooLarge, UnknownTask, UnknownWord}
@@ -193,62 +184,3 @@ IsReady-line_meaning kind s line ready = IfOk-fault_if IsReady (list_any is_bad 
     at places.Head e = IsReady-plain_line kind s line ready
     at places.Body e = IsReady-plain_line kind s line ready
     at (places.Trace task cpu) e = IsReady-trace_line s task cpu line e ready
-
--- ---- scripts
-
-is_machine-usual : is_machine usual ≡ true
-unfolding is_machine ones
-is_machine-usual = refl
-
--- before the first line
-pub IsReady-nothing_read : IsReady nothing_read
-IsReady-nothing_read = record {
-  machines = record { in_range = is_machine-true usual is_machine-usual; one_slice = refl; some_class = omega arith; below = tt };
-  tasks = tt;
-  few_tasks = omega arith;
-  fit = All-nil (FitsAt 1 []);
-  traced = tt;
-  bare = λ h. refl;
-}
-
--- what fits the state fits the script
-fits-script : (s : PairState) (op : PairOp) → FitsAt s.machines.machine.cpus (ids_of s.tasks) op → Fits (script_in s) op
-fits-script s (ops.Mkdir name) h = h
-fits-script s (ops.Rmdir name) h = tt
-fits-script s (ops.Write file text) h = tt
-fits-script s (ops.Read file) h = tt
-fits-script s ops.Flush h = tt
-fits-script s (ops.Use task cpu line code) h = h
-
-IsLawful-script_in : (s : PairState) → IsReady s → IsLawful (script_in s)
-IsLawful-script_in s ready = record {
-  machines = ready.machines;
-  rising = IsStrictlyIncreasing-ids_of s.tasks ready.tasks;
-  few_tasks = omega (arith, length-ids_of s.tasks, ready.few_tasks);
-  fit = λ k d h. fits-script s (get_or s.ops k d) (ready.fit k d h);
-}
-
-IsLawful-finished : (n : ℕ) (s : PairState) → IsReady s → IfOk (finished n s) IsLawful
-IsLawful-finished n s ready = at s.place
-  where
-    at : (p : Place) → IfOk (finished_at n p s) IsLawful
-    at places.Start = tt
-    at places.Head = IsLawful-script_in s ready
-    at places.Body = IsLawful-script_in s ready
-    at (places.Trace task cpu) = tt
-
-pub IsLawful-reading_from : (kind : PairKind) (n : ℕ) (s : PairState) (all : List (List ℕ)) → IsReady s → IfOk (reading_from kind n s all) IsLawful
-unfolding reading_from
-IsLawful-reading_from kind n s [] ready = IsLawful-finished n s ready
-IsLawful-reading_from kind n s (line ∷ all) ready = at (λ s' h. IsLawful-reading_from kind (n + 1) s' all h) (line_meaning kind s line) (IsReady-line_meaning kind s line ready)
-  where
-    at : ((s' : PairState) → IsReady s' → IfOk (reading_from kind (n + 1) s' all) IsLawful) → (r : Result PairState PairFault) → IfOk r IsReady → IfOk (after_line (n + 1) r (λ s'. reading_from kind (n + 1) s' all)) IsLawful
-    at rec (Ok s') h = rec s' h
-    at rec (Err e) h = tt
-
--- what is read is lawful
-pub Reads-lawful : (kind : PairKind) (text : List ℕ) (r : Result PairScriptValue PairError) → Reads r (pair_script_of kind text) → IfOk r IsLawful
-Reads-lawful kind text (Ok s) e = subst (λ (r : Result PairScriptValue PairFaultAt). IfOk r IsLawful) e (IsLawful-reading_from kind 0 nothing_read (lines text) IsReady-nothing_read)
-Reads-lawful kind text (Err e) h = tt
-
-pub ruleset lawful = (Reads-lawful)

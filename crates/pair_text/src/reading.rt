@@ -68,7 +68,7 @@ impl PairReader {
 
 /// The pair script of this kind that a text is. An error is the first bad line, counted from 1, with the first fault that it has, or out of
 /// memory (this project's profile; a trace has Valgrind's format).
-#[tactic(auto, using(crate::proofs::ReadyLines::lawful))]
+#[tactic(auto, using(crate::proofs::LawfulScripts::lawful))]
 pub fn read_pair(alloc: Global, text: &[u8], kind: PairKind) -> Result<PairScript, PairError>
     requires { length text.now ≤ 2 ^ 31 }
     ensures said { Reads result (pair_script_of kind text.now) }

@@ -1,3 +1,4 @@
 mod Complete
+mod FoundInputs
 mod OtherLines
 mod SameJournals

@@ -6,5 +6,6 @@ pub mod FullSlices
 pub mod LoadedPlaces
 pub mod Occupancies
 pub mod OtherCommands
+pub mod TouchEpochs
 pub mod TouchHits
 pub mod laws

@@ -5,7 +5,7 @@ use Rattle.run_law.specs.Journals.{JournalsValue}
 use Rattle.run_law.specs.Runs.{IsRun}
 use Rattle.run_windows.proofs.ChangeLists.{latest-exclusive}
 use Rattle.run_windows.proofs.KeptStays.{AreRisen-state_at}
-use Rattle.run_windows.proofs.OneGroup.{AreInOrder-exclusive, others-kept}
+use Rattle.run_windows.proofs.ExclusiveLists.{AreInOrder-exclusive, others-kept}
 use Rattle.run_windows.specs.Changes.{AreChanges, AreKeptBut, IsReplayed, logged}
 use Rattle.run_windows.specs.OneGroup.{AreInOrder, others}
 use Rattle.run_windows.specs.Stays.{exclusive_in}

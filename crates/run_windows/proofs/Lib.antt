@@ -3,8 +3,10 @@ mod ChangedGroups
 mod CountedWindows
 mod Entries
 mod Epochs
+mod ExclusiveLists
 mod Floors
 mod FrontWindows
+mod GivenCommands
 mod IsolatedWindows
 mod KeptStays
 mod LockEnds
@@ -15,12 +17,16 @@ mod OneGroup
 mod OneWindow
 mod Openings
 mod OtherGroups
+mod OtherLists
 mod Owners
 mod Pasts
+mod PlaceEdits
 mod QuietRuns
 mod Replays
 mod Restored
 mod RisingGids
+mod SharedCommands
+mod SharedStates
 mod SiteOrder
 mod StepFollows
 mod Sweeps

@@ -12,7 +12,8 @@ use Rattle.run_law.specs.Journals.{At, slice_at}
 use Rattle.run_windows.specs.Epochs.{state_at}
 use Rattle.run_windows.specs.WindowLaws.{LockWindowsExist}
 use Rattle.run_windows.specs.Regions.{HasRegion}
-use Rattle.run_windows.proofs.Entries.{IsGiven, IsRun-given}
+use Rattle.run_windows.proofs.Entries.{IsRun-given}
+use Rattle.run_windows.proofs.GivenCommands.{IsGiven}
 use Rattle.run_windows.proofs.StepFollows.{IsRegionOf}
 use Rattle.tree_law.specs.State.{State}
 

@@ -22,7 +22,8 @@ use Rattle.tree_law.specs.State.{State}
 use Rattle.run_windows.specs.Epochs.{state_at}
 use Rattle.run_windows.specs.WindowLaws.{RegionsHold}
 use Rattle.run_windows.specs.Regions.{HasRegion}
-use Rattle.run_windows.proofs.Entries.{IsGiven, IsGivenEntry, IsRun-given}
+use Rattle.run_windows.proofs.Entries.{IsRun-given}
+use Rattle.run_windows.proofs.GivenCommands.{IsGiven, IsGivenEntry}
 use Rattle.run_windows.proofs.Epochs.{IsSound-state_at}
 use Rattle.run_windows.proofs.IsolatedWindows.{All-between}
 use Rattle.run_windows.proofs.Owners.{mask_of_group-region}

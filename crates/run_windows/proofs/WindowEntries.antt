@@ -22,7 +22,8 @@ use Rattle.tree_law.specs.Sound.{IsSound}
 use Rattle.tree_law.specs.State.{State}
 use Rattle.run_windows.specs.Epochs.{state_at}
 use Rattle.run_windows.specs.Windows.{IsExclusive, IsWindow}
-use Rattle.run_windows.proofs.Entries.{IsGiven, IsGivenEntry, IsRun-given, domain_in-lt}
+use Rattle.run_windows.proofs.Entries.{IsRun-given}
+use Rattle.run_windows.proofs.GivenCommands.{IsGiven, IsGivenEntry, domain_in-lt}
 use Rattle.run_windows.proofs.Epochs.{IsSound-state_at}
 use Rattle.run_windows.proofs.Floors.{epoch-le, is_access, sets_floor-empties}
 use Rattle.run_windows.proofs.Owners.{IsValid-exclusive, mask_of_group-exclusive, overlaps-region}

@@ -9,7 +9,7 @@ use Rattle.way_plans.specs.declared.span.Span.{Span}
 use Rattle.way_plans.specs.Divisions.{AreFree, IsSpan, end, misses_of}
 use Rattle.way_plans.specs.Placings.{AreStateRows, at, first_row, left_at, spans_at}
 use Rattle.way_plans.specs.Runs.{runs_of, states_of}
-use Rattle.way_plans.proofs.BestRows.{within-free}
+use Rattle.way_plans.proofs.BestSpans.{within-free}
 use Rattle.way_plans.proofs.Lefts.{left_at-all, states_of-some}
 use Rattle.way_plans.proofs.Homes.{given_of, run_at-ends, taken-le}
 use Rattle.way_plans.proofs.RunLists.{AreRuns, AreRuns-below, IsInSome, IsInSome-runs, within-runs}

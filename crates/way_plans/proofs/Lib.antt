@@ -3,6 +3,7 @@ mod AnsweredPlans
 pub mod BestChoices
 pub mod BestOrders
 pub mod BestRows
+pub mod BestSpans
 mod ClosedGroups
 mod CommandLines
 mod CommandSteps

@@ -1,4 +1,4 @@
-use Rattle.pair_text.proofs.CountedLines.{IsBounded-of}
+use Rattle.pair_text.proofs.BoundedScripts.{IsBounded-of}
 use Rattle.pair_text.proofs.theorems.scripts_are_bounded.Goals as goal
 
 pub returns-clause-kinds : goal.returns-clause-kinds

@@ -1,7 +1,7 @@
 use Rattle.std.proofs.Common.{◌≡◌, List, [], ◌∷◌, ◌++◌, Option, refl, sym, subst, ap, ◌∙◌}
 use Rattle.run_windows.proofs.ChangeLists.{AreChanges-changed, AreChanges-latest}
 use Rattle.run_windows.proofs.ChangedGroups.{AreRisen-replayed}
-use Rattle.run_windows.proofs.OneGroup.{joined-exclusive}
+use Rattle.run_windows.proofs.ExclusiveLists.{joined-exclusive}
 use Rattle.run_windows.specs.Changes.{AreChanges}
 use Rattle.run_windows.specs.Edits.{changes_of, edited}
 use Rattle.run_windows.specs.OneGroup.{before, joined, others}

@@ -1,6 +1,6 @@
 use Rattle.std.proofs.Common.{List, ap, ◌∙◌}
 use Rattle.std.specs.List.{remove}
-use Rattle.run_windows.proofs.OneGroup.{remove-insert}
+use Rattle.run_windows.proofs.PlaceEdits.{remove-insert}
 use Rattle.run_windows.specs.declared.exclusive_group.ExclusiveGroup.{ExclusiveGroup}
 use Rattle.run_windows.proofs.edit.edit_new.Goals as goal
 

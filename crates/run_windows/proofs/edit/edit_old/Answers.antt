@@ -1,6 +1,6 @@
 use Rattle.std.proofs.Common.{List, ap, ◌∙◌}
 use Rattle.std.specs.List.{insert}
-use Rattle.run_windows.proofs.OneGroup.{insert-remove}
+use Rattle.run_windows.proofs.PlaceEdits.{insert-remove}
 use Rattle.run_windows.specs.declared.exclusive_group.ExclusiveGroup.{ExclusiveGroup}
 use Rattle.run_windows.proofs.edit.edit_old.Goals as goal
 

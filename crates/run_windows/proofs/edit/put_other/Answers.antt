@@ -1,6 +1,6 @@
 use Rattle.std.proofs.Common.{List, sym, ap, ◌∙◌}
 use Rattle.std.specs.List.{slice_set}
-use Rattle.run_windows.proofs.OneGroup.{set-back, set-own}
+use Rattle.run_windows.proofs.PlaceEdits.{set-back, set-own}
 use Rattle.run_windows.specs.declared.exclusive_group.ExclusiveGroup.{ExclusiveGroup}
 use Rattle.run_windows.proofs.edit.put_other.Goals as goal
 

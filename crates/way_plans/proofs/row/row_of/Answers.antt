@@ -1,6 +1,7 @@
 use Rattle.std.proofs.Common.{◌≡◌, ◌+◌, ◌-◌, arith, refl, ◌∙◌}
 use Rattle.std.proofs.lemmas.List.{length-set}
-use Rattle.way_plans.proofs.BestRows.{IsBestFrom-better, IsBestFrom-none, IsBestFrom-set, at-none}
+use Rattle.way_plans.proofs.BestRows.{at-none}
+use Rattle.way_plans.proofs.BestSpans.{IsBestFrom-better, IsBestFrom-none, IsBestFrom-set}
 use Rattle.way_plans.proofs.row.row_of.Goals as goal
 
 pub loop-way-init : goal.loop-way-init

@@ -1,4 +1,4 @@
-use Rattle.std.proofs.Common.{◌≡◌, ℕ, ◌+◌, ◌*◌, ◌^◌, ◌<◌, ◌≤◌, ◌∷◌, [], ◌++◌, List, length, map, take, sym, subst, ap, ◌∙◌, arith, take_all}
+use Rattle.std.proofs.Common.{◌≡◌, ℕ, ◌+◌, ◌*◌, ◌^◌, ◌∷◌, [], ◌++◌, List, length, map, take, subst, ap, ◌∙◌, arith, take_all}
 use Rattle.std.proofs.lemmas.List.{length-map}
 use Rattle.cache_core.specs.History.{shape_of, valid_of}
 use Rattle.cache_core.specs.declared.entry.SliceEntry.{SliceEntry}
@@ -7,7 +7,7 @@ use Rattle.machine.specs.declared.parameters.Parameters.{Parameters}
 use Rattle.run_counts.proofs.CachesCounted.{shape_in-alone, slice_at-alone, valid_in-more}
 use Rattle.run_counts.proofs.CountedAccesses.{HasTallied-none, HasTallied-suc, IsFewWith-le}
 use Rattle.run_counts.specs.CacheCounts.{slices_alone, valid_in}
-use Rattle.run_counts.specs.Tallies.{HasTallied, IsTallyOf}
+use Rattle.run_counts.specs.Tallies.{IsTallyOf}
 use Rattle.run_law.specs.Entries.{entries_of}
 use Rattle.run_law.specs.Journals.{slice_at}
 use Rattle.run_law.specs.Slices.{shape_in}
