@@ -19,6 +19,7 @@ mod report;
 mod row;
 pub mod score;
 mod scores;
+mod shared_cache;
 pub mod shares;
 pub mod step;
 pub mod stream;

@@ -15,6 +15,7 @@ use crate::played::Played;
 use crate::program::Program;
 use crate::report::{push_curves, push_verdict};
 use crate::scores::is_less;
+use crate::shared_cache::SharedCache;
 use crate::totals::{push_divided, push_misses, push_shared_lines, push_totals, score_of};
 use rc_base::NoMemory;
 use script_ops::GrowingText;
@@ -24,42 +25,39 @@ use std::alloc::Global;
 fn push_counted(
     alloc: Global,
     text: &mut GrowingText,
-    goal: Goal,
-    programs: &[Program],
-    demands: &[Demand],
-    shared: &[u64],
+    cache: &SharedCache<'_>,
     counts: &[u8],
 ) -> Result<(), NoMemory>
-    requires few { length demands.now ≤ 32 }
-    requires small { All IsSmall demands.now }
-    requires shared { All (λ n. n ≤ MOST_USES) shared.now }
-    ensures { OnOk result (text.new ≡ text.old ++ divided_text goal programs.now demands.now shared.now (Some counts.now)) }
+    requires few { length cache.now.demands.now ≤ 32 }
+    requires small { All IsSmall cache.now.demands.now }
+    requires shared { All (λ n. n ≤ MOST_USES) cache.now.shared.now }
+    ensures { OnOk result (text.new ≡ text.old ++ divided_text cache.now.goal cache.now.programs.now cache.now.demands.now cache.now.shared.now (Some counts.now)) }
 {
     let mut misses = Vec::new(alloc);
-    push_misses(&mut misses, demands, counts)?;
-    push_divided(text, programs, counts, &misses)?;
-    push_totals(text, goal, b"divided", demands, &misses)?;
-    let divided = score_of(goal, demands, &misses);
-    push_verdict(text, is_less(divided, score_of(goal, demands, shared)))
+    push_misses(&mut misses, cache.demands, counts)?;
+    push_divided(text, cache.programs, counts, &misses)?;
+    push_totals(text, cache.goal, b"divided", cache.demands, &misses)?;
+    let divided = score_of(cache.goal, cache.demands, &misses);
+    push_verdict(
+        text,
+        is_less(divided, score_of(cache.goal, cache.demands, cache.shared)),
+    )
 }
 
 // Adds the same, or that there is no division.
 fn push_division(
     alloc: Global,
     text: &mut GrowingText,
-    goal: Goal,
-    programs: &[Program],
-    demands: &[Demand],
-    shared: &[u64],
+    cache: &SharedCache<'_>,
     counts: Option<Vec<u8>>,
 ) -> Result<(), NoMemory>
-    requires few { length demands.now ≤ 32 }
-    requires small { All IsSmall demands.now }
-    requires shared { All (λ n. n ≤ MOST_USES) shared.now }
-    ensures { OnOk result (text.new ≡ text.old ++ divided_text goal programs.now demands.now shared.now (counts_in counts)) }
+    requires few { length cache.now.demands.now ≤ 32 }
+    requires small { All IsSmall cache.now.demands.now }
+    requires shared { All (λ n. n ≤ MOST_USES) cache.now.shared.now }
+    ensures { OnOk result (text.new ≡ text.old ++ divided_text cache.now.goal cache.now.programs.now cache.now.demands.now cache.now.shared.now (counts_in counts)) }
 {
     match counts {
-        Some(counts) => push_counted(alloc, text, goal, programs, demands, shared, &counts),
+        Some(counts) => push_counted(alloc, text, cache, &counts),
         None => text.push(b"divided: the ways do not suffice\n"),
     }
 }
@@ -67,25 +65,28 @@ fn push_division(
 // The report of what programs ask of a division, and of what they miss if they share.
 fn report_of(
     alloc: Global,
-    goal: Goal,
+    cache: &SharedCache<'_>,
     ways: u8,
-    programs: &[Program],
-    demands: &[Demand],
-    shared: &[u64],
     counts: Option<Vec<u8>>,
 ) -> Result<Vec<u8>, NoMemory>
     requires ways { ways ≤ 32 }
-    requires few { length demands.now ≤ 32 }
-    requires small { All IsSmall demands.now }
-    requires count { length shared.now ≤ 32 }
-    requires shared { All (λ n. n ≤ MOST_USES) shared.now }
-    ensures { IfOk result (λ text. text.items ≡ share_text goal ways programs.now demands.now shared.now (counts_in counts)) }
+    requires few { length cache.now.demands.now ≤ 32 }
+    requires small { All IsSmall cache.now.demands.now }
+    requires count { length cache.now.shared.now ≤ 32 }
+    requires shared { All (λ n. n ≤ MOST_USES) cache.now.shared.now }
+    ensures { IfOk result (λ text. text.items ≡ share_text cache.now.goal ways cache.now.programs.now cache.now.demands.now cache.now.shared.now (counts_in counts)) }
 {
     let mut text = GrowingText::create(alloc)?;
-    push_curves(&mut text, ways, programs, demands)?;
-    push_shared_lines(&mut text, programs, shared)?;
-    push_totals(&mut text, goal, b"shared", demands, shared)?;
-    push_division(alloc, &mut text, goal, programs, demands, shared, counts)?;
+    push_curves(&mut text, ways, cache.programs, cache.demands)?;
+    push_shared_lines(&mut text, cache.programs, cache.shared)?;
+    push_totals(
+        &mut text,
+        cache.goal,
+        b"shared",
+        cache.demands,
+        cache.shared,
+    )?;
+    push_division(alloc, &mut text, cache, counts)?;
     Ok(text.into_bytes())
 }
 
@@ -110,5 +111,11 @@ pub fn share_report(
     let mut shared = Vec::new(alloc);
     push_shared(&mut shared, programs, played.programs())?;
     let counts = divide(alloc, goal, &demands, ways)?;
-    report_of(alloc, goal, ways, programs, &demands, &shared, counts)
+    let cache = SharedCache {
+        goal,
+        programs,
+        demands: &demands,
+        shared: &shared,
+    };
+    report_of(alloc, &cache, ways, counts)
 }
