@@ -1,5 +1,5 @@
 -- What a thread has seen only grows.
-use Rattle.std.proofs.Common.{◌≡◌, ℕ, ◌==◌, inl, inr, List, [], ◌∷◌, ◌++◌, get_or, sym, ap, ◌∙◌, subst}
+use Rattle.std.proofs.Common.{◌≡◌, ℕ, ◌==◌, inl, inr, List, [], ◌∷◌, ◌++◌, Option, None, Some, get_or, sym, ap, ◌∙◌, subst}
 use Rattle.std.proofs.lemmas.Bool.{cases_Bool, eqb-false, eqb-true}
 use Rattle.cache_core.specs.declared.entry.SliceEntry.{SliceEntry}
 use Rattle.live_law.proofs.laws.Prefixes.{IsPrefix-no_more, IsPrefix-push}
@@ -9,7 +9,8 @@ use Rattle.live_run.proofs.TakenTrees.{history_push}
 use Rattle.live_run.proofs.Trees.{lists_of}
 use Rattle.live_run.specs.Accesses.{HasAccessed}
 use Rattle.live_run.specs.Names.{SeenValue, history_of, seen_by}
-use Rattle.live_run.specs.Steps.{HasAdded, HasTaken}
+use Rattle.live_run.specs.Steps.{HasAdded, HasTaken, HasTouched}
+use Rattle.rc_base.specs.declared.names.Tag.{Tag}
 use Rattle.run_law.specs.Entries.{entry_value}
 use Rattle.run_law.specs.Journals.{JournalsValue, slice_at}
 use Rattle.run_law.specs.declared.journals.TreeEntry.{TreeEntry}
@@ -44,6 +45,13 @@ pub HasGrown-accessed : (script : ScriptValue) (op task cpu addr : ℕ) (r : Rea
 HasGrown-accessed script op task cpu addr r old new accessed =
     HasGrown-through (seen_by old) accessed.at (seen_by new) (HasGrown-more old.thread (seen_by old) accessed.at accessed.sees)
     (HasGrown-adds_entry old.thread _ _ accessed.at (seen_by new) accessed.adds)
+
+-- by a touch
+pub HasGrown-touched : (i op : ℕ) (tag : Tag) (line : ℕ) (old new : SeenValue) (r : Option Reached) → HasTouched i op tag line old new r → HasGrown (seen_by old) (seen_by new)
+HasGrown-touched i op tag line old new None touched = HasGrown-more old.thread (seen_by old) (seen_by new) touched.0.sees
+HasGrown-touched i op tag line old new (Some r) touched =
+    let (mid, meets, added, tree) = touched in
+    HasGrown-through (seen_by old) (seen_by mid) (seen_by new) (HasGrown-more old.thread (seen_by old) (seen_by mid) meets.sees) (HasGrown-added i _ mid new added)
 
 -- by a command that is decided
 pub HasGrown-decided : (thread : ℕ) (entry : TreeEntry) (old new : SeenValue) → new.tree.seen ≡ old.tree.seen ++ (thread, entry) ∷ [] → new.slices ≡ old.slices → HasGrown (seen_by old) (seen_by new)

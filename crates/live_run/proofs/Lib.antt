@@ -14,6 +14,7 @@ pub mod FreshTree
 pub mod Gathered
 pub mod Growth
 pub mod HeldTrees
+mod CachedTags
 pub mod Meetings
 pub mod MetThreads
 pub mod NumberedParts

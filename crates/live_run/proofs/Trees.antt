@@ -4,21 +4,12 @@ use Rattle.atomic_table.specs.Seated.{TableId}
 use Rattle.cache_core.specs.declared.entry.SliceEntry.{SliceEntry}
 use Rattle.live_law.specs.Cells.{AreMade}
 use Rattle.seen_journal.specs.Prefixes.{IsPrefix}
-use Rattle.live_law.proofs.laws.AccessStages.{HoldsTag-tag}
 use Rattle.seen_journal.proofs.laws.Prefixes.{IsPrefix-self}
 use Rattle.live_law.proofs.laws.TreeCells.{TreeKeeps-grown}
-use Rattle.live_law.specs.Stages.{HoldsTag}
-use Rattle.live_run.proofs.Bridges.{history_length}
-use Rattle.seen_journal.proofs.laws.Entries.{IsPrefix-list_of, length-list_of}
+use Rattle.seen_journal.proofs.laws.Entries.{IsPrefix-list_of}
 use Rattle.live_run.specs.Cells.{ArePasses, TreeCellValue, TreeIsKept, pass_in, seen_in}
 use Rattle.live_run.specs.Names.{SeenValue, history_of, seen_by}
 use Rattle.live_run.specs.Steps.{HaveGrown, HaveSeenSame}
-use Rattle.machine.specs.Maps.{domain_of}
-use Rattle.machine.specs.declared.parameters.Parameters.{Parameters}
-use Rattle.rc_base.proofs.laws.Tags.{same_tag}
-use Rattle.rc_base.specs.declared.names.Tag.{Tag}
-use Rattle.run_law.specs.Growth.{tag_of}
-use Rattle.run_law.specs.TreeHistory.{tree_after}
 use Rattle.run_law.proofs.laws.Tasks.{tasks_of-tree_after}
 use Rattle.schedule_law.specs.declared.part.Part.{Part}
 use Rattle.script_ops.specs.Values.{ScriptValue}
@@ -26,8 +17,7 @@ use Rattle.seen_journal.specs.Entries.{list_of}
 use Rattle.seen_journal.specs.Journals.{JournalName}
 use Rattle.seen_journal.specs.Passes.{PassValue}
 use Rattle.shared_parts.specs.Shares.{ShareValue}
-use Rattle.tree_law.specs.Resolving.{Owned, resolve}
-use Rattle.tree_law.specs.State.{State, tasks_of}
+use Rattle.tree_law.specs.State.{tasks_of}
 
 -- the lists that passes have seen
 abbrev pub lists_of : List (PassValue SliceEntry) → List (List SliceEntry)
@@ -66,17 +56,6 @@ module _ (script : ScriptValue) (table : TableId) (tree : JournalName) (slices :
     share_is = record { table_is = same ∙ kept.share_is.table_is; words = kept.share_is.words; parts_are = parts ∙ kept.share_is.parts_are };
   }
 
-  -- what the tree gives to an access
-  pub tree_gives : (task cpu : ℕ) (tag : Tag) → tag.epoch ≡ c.tree.epoch → tag.owner ≡ (resolve c.tree.machine c.tree.state task cpu).owner
-      → tag.class ≡ (resolve c.tree.machine c.tree.state task cpu).class → tag.rmid ≡ (resolve c.tree.machine c.tree.state task cpu).rmid → tag.mask ≡ (resolve c.tree.machine c.tree.state task cpu).mask
-      → tag.domain ≡ domain_of c.tree.machine cpu → tag ≡ tag_of script.machine (tree_after script (history_of c.journal.entries)) (length (list_of c.journal.entries)) task cpu
-  tree_gives task cpu tag epoch owner class rmid mask domain =
-      let history = history_of c.journal.entries in
-      let owned : resolve c.tree.machine c.tree.state task cpu ≡ resolve script.machine (tree_after script history) task cpu =
-      ap (λ (m : Parameters). resolve m c.tree.state task cpu) kept.machine ∙ ap (λ (x : State). resolve script.machine x task cpu) kept.keeps.state_is in
-      same_tag tag (tag_of script.machine (tree_after script history) (length (list_of c.journal.entries)) task cpu) (epoch ∙ (kept.epoch ∙ sym (length-list_of c.journal.entries))) (owner ∙ ap (λ (o : Owned). o.owner) owned) (class ∙ ap (λ (o : Owned). o.class) owned)
-      (rmid ∙ ap (λ (o : Owned). o.rmid) owned) (mask ∙ ap (λ (o : Owned). o.mask) owned) (domain ∙ ap (λ (m : Parameters). domain_of m cpu) kept.machine)
-
   module _ (now : List (PassValue SliceEntry)) (passes : ArePasses script slices now) (grown : HaveGrown c.slices now) where
     -- its passes have met those of a thread
     pub tree_meets : TreeIsKept script table tree slices (record { tree = c.tree; journal = c.journal; slices = now; share = c.share })
@@ -103,18 +82,3 @@ module _ (script : ScriptValue) (table : TableId) (tree : JournalName) (slices :
         let had : AreMade script (record { tree = history_of c.journal.entries; slices = lists_of now }) (length (history_of c.journal.entries)) = tree_meets.keeps.made in
         subst (λ ls. AreMade script (record { tree = history_of s.tree.seen; slices = ls }) (length (history_of s.tree.seen))) (lists_same now s.slices same)
         (subst (λ xs. AreMade script (record { tree = history_of xs; slices = lists_of now }) (length (history_of xs))) (sym seen) had)
-
-    -- the tag that the tree gives
-    pub tree_tags : (s : SeenValue) (task cpu : ℕ) (tag : Tag) → s.tree.seen ≡ c.journal.entries → HaveSeenSame now s.slices → tag.epoch ≡ c.tree.epoch → tag.owner ≡ (resolve c.tree.machine c.tree.state task cpu).owner
-        → tag.class ≡ (resolve c.tree.machine c.tree.state task cpu).class → tag.rmid ≡ (resolve c.tree.machine c.tree.state task cpu).rmid → tag.mask ≡ (resolve c.tree.machine c.tree.state task cpu).mask
-        → tag.domain ≡ domain_of c.tree.machine cpu → HoldsTag script (seen_by s) task cpu tag
-    tree_tags s task cpu tag seen same epoch owner class rmid mask domain =
-        let history = history_of s.tree.seen in
-        let state : c.tree.state ≡ tree_after script history = kept.keeps.state_is ∙ ap (λ xs. tree_after script (history_of xs)) (sym seen) in
-        let owned : resolve c.tree.machine c.tree.state task cpu ≡ resolve script.machine (tree_after script history) task cpu =
-        ap (λ (m : Parameters). resolve m c.tree.state task cpu) kept.machine ∙ ap (λ (x : State). resolve script.machine x task cpu) state in
-        let is_epoch : tag.epoch ≡ length history = epoch ∙ (kept.epoch ∙ (ap length (sym seen) ∙ sym (history_length s.tree.seen))) in
-        let is : tag ≡ tag_of script.machine (tree_after script history) (length history) task cpu =
-        same_tag tag (tag_of script.machine (tree_after script history) (length history) task cpu) is_epoch (owner ∙ ap (λ (o : Owned). o.owner) owned) (class ∙ ap (λ (o : Owned). o.class) owned)
-        (rmid ∙ ap (λ (o : Owned). o.rmid) owned) (mask ∙ ap (λ (o : Owned). o.mask) owned) (domain ∙ ap (λ (m : Parameters). domain_of m cpu) kept.machine) in
-        subst (HoldsTag script (seen_by s) task cpu) (sym is) (HoldsTag-tag script (seen_by s) task cpu (tree_shows s seen same))

@@ -3,6 +3,7 @@ pub mod Cells
 pub mod Closings
 pub mod Commands
 pub mod Ends
+pub mod CachedTags
 pub mod Logs
 pub mod Names
 pub mod Openings

@@ -2,6 +2,7 @@
 ghost use Rattle.std.specs.Prelude.{◌≡◌, ◌+◌, Some, true};
 ghost use Rattle.live_law.specs.Stages.{slice_reached};
 ghost use Rattle.live_run.specs.Accesses.{HasAccessed, HasTurned};
+ghost use Rattle.live_run.specs.CachedTags.{HoldsCached};
 ghost use Rattle.live_run.specs.Sharing.{IsResting, op_after};
 ghost use Rattle.live_run.specs.Visits.{HasRoomIn};
 ghost use Rattle.machine.specs.Maps.{domain_of, line_of};
@@ -9,6 +10,7 @@ ghost use Rattle.machine.specs.Slices.{slice_of_line};
 ghost use Rattle.script_ops.specs.Values.{op_at};
 ghost use Rattle.script_ops.specs.declared.op.Op.TheVariants.{Access};
 
+use crate::cached_tag::CachedTag;
 use crate::live::Live;
 use crate::run_names::{NamedTable, RunNames, StepShare};
 use crate::seen::Seen;
@@ -42,6 +44,7 @@ impl<N: RunNames, T: NamedTable> Live<N, T> {
         hold: &impl Hold,
         s: &mut Seen<N>,
         worker: &mut StepShare<N>,
+        cached: &mut Option<CachedTag>,
         op: u32,
         task: u32,
         cpu: u8,
@@ -50,10 +53,12 @@ impl<N: RunNames, T: NamedTable> Live<N, T> {
         requires op { op_at N.script s.old.thread op ≡ Some (Access task cpu addr) }
         requires room { HasRoomIn N.script (slice_reached N.script.machine cpu addr) s.old }
         requires worker { IsResting T.table s.old.thread op true worker.old }
+        requires cached { HoldsCached N.script s.old cached.old }
+        ensures cached_now { HoldsCached N.script s.new cached.new }
         ensures turned { HasTurned N.script op task cpu addr s.old s.new result }
         ensures worker { IsResting T.table s.old.thread (op_after op result) true worker.new }
     {
-        let tag = self.tree.lock(rt).tag(s, worker, task, cpu);
+        let tag = self.tree.lock(rt).tag(s, worker, cached, task, cpu);
         let line = addr / 64;
         let slice = self.machine.line_slice(tag.domain, line);
         match self
@@ -72,6 +77,7 @@ impl<N: RunNames, T: NamedTable> Live<N, T> {
         hold: &impl Hold,
         s: &mut Seen<N>,
         worker: &mut StepShare<N>,
+        cached: &mut Option<CachedTag>,
         op: u32,
         task: u32,
         cpu: u8,
@@ -80,14 +86,16 @@ impl<N: RunNames, T: NamedTable> Live<N, T> {
         requires op { op_at N.script s.old.thread op ≡ Some (Access task cpu addr) }
         requires room { HasRoomIn N.script (slice_reached N.script.machine cpu addr) s.old }
         requires worker { IsResting T.table s.old.thread op true worker.old }
+        requires cached { HoldsCached N.script s.old cached.old }
+        ensures cached_now { HoldsCached N.script s.new cached.new }
         ensures accessed { HasAccessed N.script op task cpu addr result s.old s.new }
         ensures worker { IsResting T.table s.old.thread (op + 1) true worker.new }
     {
-        let mut turn = self.turn(rt, hold, s, worker, op, task, cpu, addr);
+        let mut turn = self.turn(rt, hold, s, worker, cached, op, task, cpu, addr);
         loop {
             match turn {
                 Ok(reached) => return reached,
-                Err(_) => turn = self.turn(rt, hold, s, worker, op, task, cpu, addr),
+                Err(_) => turn = self.turn(rt, hold, s, worker, cached, op, task, cpu, addr),
             }
         }
     }

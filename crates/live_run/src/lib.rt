@@ -2,6 +2,7 @@
 #![tactic(auto)]
 
 mod access;
+mod cached_tag;
 mod close;
 mod closing_room;
 mod command;

@@ -3,6 +3,7 @@ ghost use Rattle.std.specs.Prelude.{◌≡◌, ◌+◌, ◌<◌, ◌≤◌, ◌^
 ghost use Rattle.live_law.specs.SeenJournals.{HasGrown};
 ghost use Rattle.live_law.specs.Stages.{HoldsTag, IsReady};
 ghost use Rattle.live_run.specs.Commands.{HasReplied};
+ghost use Rattle.live_run.specs.CachedTags.{HoldsCached};
 ghost use Rattle.live_run.specs.Names.{seen_by};
 ghost use Rattle.live_run.specs.Openings.{AreNew};
 ghost use Rattle.live_run.specs.Sharing.{HasStepped, IsBeforeAccess, IsResting, IsShareOf};
@@ -15,9 +16,10 @@ ghost use Rattle.schedule_law.specs.LiveParts.{live_tree};
 ghost use Rattle.schedule_law.specs.declared.part.Happening.TheVariants as happenings;
 ghost use Rattle.script_ops.specs.Values.{IsLawful, op_at, threads_of};
 
+use crate::cached_tag::{CachedTag, current_tag, tag_of};
 use crate::command::{follow_all, look_all, show};
 use crate::run_names::{NamedTable, RunNames, StepShare, TREE_LOCK};
-use crate::seen::{Seen, decide, release, take};
+use crate::seen::{Seen, decide, release, take, take_unless};
 use crate::slices::Slices;
 use cache_core::SliceEntry;
 use rc_base::{LookList, NoMemory, Reply, Tag, TextBuf};
@@ -78,17 +80,22 @@ impl<N: RunNames, T: NamedTable> TreeCell<N, T> {
         })
     }
 
-    /// An access learns its tag: the thread has seen the tree's whole history, and what all its commands have made.
+    /// An access learns its tag: the thread has seen the tree's whole history, and what all its commands have made. Where the tree has
+    /// taken no command since it gave the cached tag, the thread had seen both by then. No command holds the tree now, as its lock is
+    /// held here.
     pub(crate) fn tag(
         &mut self,
         s: &mut Seen<N>,
         worker: &mut StepShare<N>,
+        cached: &mut Option<CachedTag>,
         task: u32,
         cpu: u8,
     ) -> Tag
         requires task { Contains N.script.tasks task }
         requires cpu { cpu < N.script.machine.cpus }
         requires worker { IsBeforeAccess N.script T.table task cpu s.old worker.old }
+        requires cached { HoldsCached N.script s.old cached.old }
+        ensures cached_now { HoldsCached N.script s.new cached.new }
         ensures taken { HasTaken s.old s.new }
         ensures tag { HoldsTag N.script (seen_by s.new) task cpu result }
         ensures fresh { length s.old.tree.seen ≤ result.epoch }
@@ -97,8 +104,10 @@ impl<N: RunNames, T: NamedTable> TreeCell<N, T> {
         ensures valid { (0 < result.mask) × (result.mask < 2 ^ N.script.machine.ways) }
         ensures worker { HasStepped (happenings.Label result) worker.old worker.new }
     {
-        take(&mut self.journal, &mut self.slices, s);
-        let tag = self.tree.resolve(task, cpu);
+        let current = current_tag(cached, &self.tree);
+        take_unless(current.is_some(), &mut self.journal, &mut self.slices, s);
+        let tag = tag_of(&self.tree, &current, task, cpu);
+        *cached = Some(CachedTag { task, cpu, tag });
         accesses::tag(&mut self.share, worker, TREE_LOCK, &tag);
         tag
     }

@@ -13,6 +13,7 @@ pub loop-turn-init : goal.loop-turn-init
 loop-turn-init g c = record {
   turning = turning_first g.N.RunNames.script c.args.op c.args.task c.args.cpu c.args.addr c.args.s.now c.turn-turn.new.s c.turn-turn.result c.turn-turn.ensures.turned;
   worker = c.turn-turn.ensures.worker;
+  cached = c.turn-turn.ensures.cached_now;
 }
 
 pub turn-turn-requires-in-Err-clause-op : goal.turn-turn-requires-in-Err-clause-op
@@ -42,6 +43,7 @@ loop-turn-preserved g c =
     record {
       turning = (turning_more g.N.RunNames.script c.args.op c.args.task c.args.cpu c.args.addr c.in-Err.field-0 c.args.s.now c.loop-turn.s c.turn-turn-in-Err.new.s c.turn-turn-in-Err.result was c.turn-turn-in-Err.ensures.turned).0;
       worker = subst (λ t. IsResting g.T.NamedTable.table t (op_after c.args.op c.turn-turn-in-Err.result) true c.turn-turn-in-Err.new.worker) was.0.thread c.turn-turn-in-Err.ensures.worker;
+      cached = c.turn-turn-in-Err.ensures.cached_now;
     }
 
 pub loop-turn-smaller : goal.loop-turn-smaller

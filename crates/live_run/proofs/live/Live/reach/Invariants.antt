@@ -1,12 +1,14 @@
 use Rattle.std.proofs.Common.{true}
 use Rattle.live_run.proofs.live.Live.reach.Given as goal
 use Rattle.live_run.specs.Accesses.{IsTurning, turns_left}
+use Rattle.live_run.specs.CachedTags.{HoldsCached}
 use Rattle.live_run.specs.Sharing.{IsResting, op_after}
 
 abbrev pub invariant-loop-turn : goal.invariant-loop-turn
 invariant-loop-turn g l = record {
   turning : IsTurning g.N.RunNames.script l.op l.task l.cpu l.addr l.fn.s l.s l.turn;
   worker : IsResting g.T.NamedTable.table l.fn.s.thread (op_after l.op l.turn) true l.worker;
+  cached : HoldsCached g.N.RunNames.script l.s l.cached;
 }
 
 abbrev pub decreases-loop-turn : goal.decreases-loop-turn

@@ -1,4 +1,6 @@
-use Rattle.std.proofs.Common.{◌≡◌, ◌∙◌, ap, arith}
+use Rattle.std.proofs.Common.{◌≡◌, ◌∙◌, None, Some, ap, arith}
+use Rattle.live_run.proofs.Growth.{HasGrown-touched}
+use Rattle.live_run.proofs.CachedTags.{HoldsCached-grown}
 use Rattle.live_run.proofs.TurnSteps.{stale_turn, tagged_turn, touched_turn}
 use Rattle.live_run.proofs.Turns.{access_fits, tag_domain, turn_can, turn_none, turn_some}
 use Rattle.live_run.proofs.live.Live.turn.Goals as goal
@@ -60,3 +62,12 @@ pub returns-in-None-clause-worker : goal.returns-in-None-clause-worker
 returns-in-None-clause-worker g c =
     stale_turn g.N.RunNames.script g.T.NamedTable.table c.line_slice-slice.result c.args.op (line_of c.args.addr) c.tag-tag.result c.args.s.now c.tag-tag.new.s c.tag-tag.new.worker c.touch.new.worker
     (is_tagged g (goal.at.returns-in-None-clause-worker g c).After-line_slice-slice) c.tag-tag.ensures.taken c.in-None.ensures.worker
+
+-- what it knows of its tag, it knows after it
+pub returns-in-Some-clause-cached_now : goal.returns-in-Some-clause-cached_now
+returns-in-Some-clause-cached_now g c =
+    HoldsCached-grown g.N.RunNames.script c.tag-tag.new.s c.touch.new.s c.tag-tag.new.cached (HasGrown-touched c.line_slice-slice.result c.args.op c.tag-tag.result (line_of c.args.addr) c.tag-tag.new.s c.touch.new.s (Some c.in-Some.reached) c.in-Some.ensures.touched) c.tag-tag.ensures.cached_now
+
+pub returns-in-None-clause-cached_now : goal.returns-in-None-clause-cached_now
+returns-in-None-clause-cached_now g c =
+    HoldsCached-grown g.N.RunNames.script c.tag-tag.new.s c.touch.new.s c.tag-tag.new.cached (HasGrown-touched c.line_slice-slice.result c.args.op c.tag-tag.result (line_of c.args.addr) c.tag-tag.new.s c.touch.new.s None c.in-None.ensures.touched) c.tag-tag.ensures.cached_now

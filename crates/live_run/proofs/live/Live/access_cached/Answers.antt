@@ -5,7 +5,8 @@ use Rattle.live_law.specs.SeenJournals.{HasGrown}
 use Rattle.live_run.proofs.Growth.{HasGrown-accessed}
 use Rattle.live_run.proofs.Openings.{lists_after_access, next_few, resting_after, resting_before, resting_begun, still_ended}
 use Rattle.live_run.proofs.Turns.{passes_access}
-use Rattle.live_run.proofs.live.Live.access.Goals as goal
+use Rattle.live_run.proofs.live.Live.access_cached.Goals as goal
+use Rattle.live_run.specs.CachedTags.{HoldsCached}
 use Rattle.live_run.specs.Names.{PassesValue, seen_by}
 use Rattle.run_law.specs.LookLists.{AreReady, rooms_of}
 use Rattle.script_ops.specs.Values.{op_at, ops_of}
@@ -17,6 +18,9 @@ reach-reached-requires-clause-room g c =
     let is : op_at script c.p.inside.seen.thread c.p.inside.next ≡ Some (Access c.in-Access.task c.in-Access.cpu c.in-Access.addr) =
     subst (λ (p : PassesValue). op_at script p.seen.thread p.next ≡ Some c.args.op.now) (sym c.p.view_is) c.requires.op ∙ ap (λ o. Some o) c.in-Access.is in
     access-room script c.p.inside.seen.thread c.p.inside.next c.in-Access.task c.in-Access.cpu c.in-Access.addr (seen_by c.p.inside.seen) c.self.invariant.lawful is c.p.invariant.keep
+
+pub reach-reached-requires-clause-cached : goal.reach-reached-requires-clause-cached
+reach-reached-requires-clause-cached g c = subst (λ (p : PassesValue). HoldsCached g.N.RunNames.script p.seen c.args.cached.now) (sym c.p.view_is) c.requires.cached
 
 pub reach-reached-requires-clause-worker : goal.reach-reached-requires-clause-worker
 reach-reached-requires-clause-worker g c =
