@@ -5,18 +5,18 @@ use Rattle.cache_core.specs.History.{IsLegal, shape_of}
 use Rattle.cache_core.specs.declared.entry.SliceEntry.{SliceEntry}
 use Rattle.cdp_masks.specs.SoFar.{IsCdpSoFar}
 use Rattle.machine.specs.declared.parameters.Parameters.{Parameters}
-use Rattle.pair_ops.specs.Values.{PairScriptValue}
-use Rattle.pair_play.proofs.laws.CommandsSoFar.{replies-AreCommandsSoFar}
+use Rattle.pair_law.specs.Epochs.{replies_to}
+use Rattle.pair_law.specs.State.{opening}
+use Rattle.pair_ops.specs.Values.{PairScriptValue, commands_of}
 use Rattle.pair_play.specs.Histories.{LevelValue}
-use Rattle.pair_play.specs.SoFar.{CommandsValue}
 use Rattle.pair_runs.specs.CdpRuns.{CdpJournalsValue, IsCdpRun}
 use Rattle.pair_runs.specs.Entries.{asked_by, slice_in}
 
 -- the journals of all ops are a run
-pub IsCdpRun-IsCdpSoFar : (script : PairScriptValue) (c : CommandsValue) (l : LevelValue) (j : CdpJournalsValue) → IsCdpSoFar script (length script.ops) c l → All (IsLegal (shape_of l.parameters 0)) l.histories
-    → j.replies ≡ c.replies → j.slices ≡ l.histories → IsCdpRun script j
-IsCdpRun-IsCdpSoFar script c l j so_far legal replies slices = record {
-  replies = replies ∙ replies-AreCommandsSoFar script (length script.ops) c so_far.commands (omega arith);
+pub IsCdpRun-IsCdpSoFar : (script : PairScriptValue) (l : LevelValue) (j : CdpJournalsValue) → j.replies ≡ replies_to script.machines (opening script.machines script.tasks) (commands_of script)
+    → IsCdpSoFar script (length script.ops) l → All (IsLegal (shape_of l.parameters 0)) l.histories → j.slices ≡ l.histories → IsCdpRun script j
+IsCdpRun-IsCdpSoFar script l j replies so_far legal slices = record {
+  replies = replies;
   one_each = ap length slices ∙ so_far.level.one_each;
   entries = λ domain lt. ap (λ (hs : List (List SliceEntry)). map asked_by (slice_in hs domain)) slices ∙ (so_far.level.each domain lt).entries;
   legal = λ domain lt.

@@ -2,8 +2,8 @@
 //! (Intel SDM volume 3, code and data prioritization.) A call that runs out of memory answers NoMemory.
 #![tactic(auto)]
 
+mod caches;
 pub mod journals;
-mod player;
 mod playing;
 mod registers;
 

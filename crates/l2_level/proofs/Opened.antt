@@ -8,17 +8,15 @@ use Rattle.pair_ops.specs.Values.{PairScriptValue, epoch_at, side_machine}
 use Rattle.pair_ops.specs.declared.side.Side.TheVariants.{First, Second}
 use Rattle.pair_play.proofs.laws.LevelsSoFar.{IsLevelSoFar-none}
 use Rattle.pair_play.specs.Histories.{LevelValue}
-use Rattle.pair_play.specs.SoFar.{AreCommandsSoFar, CommandsValue}
 use Rattle.pair_runs.specs.LevelRuns.{asked_at}
 
-pub IsLevelsSoFar-none : (script : PairScriptValue) (p : Parameters) (c : CommandsValue) (first second : LevelValue) → script.machines.l2 ≡ Some p → AreCommandsSoFar script 0 c
+pub IsLevelsSoFar-none : (script : PairScriptValue) (p : Parameters) (first second : LevelValue) → script.machines.l2 ≡ Some p
     → first.parameters ≡ p → length first.histories ≡ p.domains → All (λ (h : List SliceEntry). h ≡ []) first.histories
     → second.parameters ≡ script.machines.machine → length second.histories ≡ script.machines.machine.domains → All (λ (h : List SliceEntry). h ≡ []) second.histories
-    → IsLevelsSoFar script 0 c first second
-IsLevelsSoFar-none script p c first second is commands l2 l2_count l2_empty l3 l3_count l3_empty =
+    → IsLevelsSoFar script 0 first second
+IsLevelsSoFar-none script p first second is l2 l2_count l2_empty l3 l3_count l3_empty =
     let same : p ≡ side_machine script.machines First = sym (ap (λ (o : Option Parameters). unwrap_or o script.machines.machine) is) in
     record {
-      commands = commands;
-      l2 = IsLevelSoFar-none (asked_at script (journals_of c first second) First) (side_machine script.machines First) (epoch_at script 0) first (l2 ∙ same) (l2_count ∙ ap (λ (q : Parameters). q.domains) same) l2_empty;
-      l3 = IsLevelSoFar-none (asked_at script (journals_of c first second) Second) script.machines.machine (epoch_at script 0) second l3 l3_count l3_empty;
+      l2 = IsLevelSoFar-none (asked_at script (journals_of first second) First) (side_machine script.machines First) (epoch_at script 0) first (l2 ∙ same) (l2_count ∙ ap (λ (q : Parameters). q.domains) same) l2_empty;
+      l3 = IsLevelSoFar-none (asked_at script (journals_of first second) Second) script.machines.machine (epoch_at script 0) second l3 l3_count l3_empty;
     }

@@ -3,8 +3,8 @@
 //! runs out of memory answers NoMemory.
 #![tactic(auto)]
 
+mod caches;
 pub mod journals;
-mod player;
 mod playing;
 
 pub use journals::LevelJournals;

@@ -1,6 +1,7 @@
 -- Lemmas that players cite.
 pub mod CommandsSoFar
 pub mod LevelsSoFar
+pub mod NextOps
 pub mod OpKinds
 pub mod SideTags
 pub mod Users

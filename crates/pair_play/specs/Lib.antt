@@ -1,3 +1,4 @@
 pub mod Histories
+pub mod Playing
 pub mod SideTags
 pub mod SoFar

@@ -1,6 +1,9 @@
 -- The tags of accesses on one side.
 -- (For functions and proofs: no promise of the program stands on it.)
 use Rattle.std.specs.Prelude.{ℕ, slice_index}
+use Rattle.pair_law.specs.Epochs.{state_at}
+use Rattle.pair_law.specs.State.{PairState}
+use Rattle.pair_ops.specs.Values.{PairScriptValue, epoch_at}
 use Rattle.pair_ops.specs.declared.side.Side.{Side}
 use Rattle.pair_ops.specs.declared.side.Side.TheVariants.{First, Second}
 use Rattle.pair_play.specs.SoFar.{CommandsValue}
@@ -25,6 +28,14 @@ tag_on tag side owner = record {
   domain = slice_index tag.domains (place_of side);
 }
 
--- the tag that the tree gives to a task on a CPU
+-- the state at an op of a script
+abbrev pub state_now : PairScriptValue → ℕ → PairState
+state_now script i = state_at script (epoch_at script i)
+
+-- the tag that it gives to a task on a CPU
+abbrev pub tag_now : PairScriptValue → ℕ → ℕ → ℕ → PairTag
+tag_now script i task cpu = tag_of script.machines (state_now script i) (epoch_at script i) task cpu
+
+-- the tag that the tree gives to it
 abbrev pub tag_in : CommandsValue → ℕ → ℕ → PairTag
 tag_in c task cpu = tag_of c.tree.machines c.tree.state c.tree.epoch task cpu

@@ -1,16 +1,15 @@
 -- The kinds of ops.
-use Rattle.std.proofs.Common.{◌≡◌, ◌≢◌, ℕ, ◌<◌, Bool, true, List, length, get_or, Option, Some, refl, sym, ap, ◌∙◌, subst}
+use Rattle.std.proofs.Common.{◌≡◌, ℕ, ◌<◌, true, List, [], length, get_or, Some, refl, sym, ap, ◌∙◌, subst}
 use Rattle.std.proofs.lemmas.Option.{slice_get_read}
 use Rattle.pair_ops.specs.Values.{Fits, HasShortName, IsLawful, PairScriptValue, is_command, op_at}
 use Rattle.pair_ops.specs.declared.op.PairOp.{PairOp}
 use Rattle.pair_ops.specs.declared.op.PairOp.TheVariants as ops
+use Rattle.pair_ops.specs.declared.side.Side.{Side}
+use Rattle.pair_play.specs.Playing.{IsOther}
+use Rattle.pair_runs.specs.CdpRuns as cdp
+use Rattle.pair_runs.specs.LevelRuns as levels
 
--- no flush, and no use
-pub record IsOther (op : PairOp) : Type 0 where
-  pub not_flush : op ≢ ops.Flush
-  pub not_use : (task cpu line : ℕ) (code : Bool) → op ≢ ops.Use task cpu line code
-
--- any other op is a command
+-- an op that is no flush and no use is a command
 pub is_command-other : (op : PairOp) → IsOther op → is_command op ≡ true
 is_command-other (ops.Mkdir name) other = refl
 is_command-other (ops.Rmdir name) other = refl
@@ -38,3 +37,23 @@ op_at-read script i all read op same at is within = slice_get_read script.ops (l
 pub Fits-read : (script : PairScriptValue) (i : ℕ) (all : List PairOp) (read op : PairOp) → IsLawful script → all ≡ script.ops → read ≡ get_or all i read → read ≡ op → i < length script.ops → Fits script op
 Fits-read script i all read op lawful same at is within =
     subst (Fits script) (sym (subst (λ (xs : List PairOp). read ≡ get_or xs i read) same at) ∙ is) (lawful.fit i read within)
+
+-- ---- what other ops ask
+
+-- nothing of the caches of a machine with code and data prioritization
+pub asked_of_op-cdp_other : (script : PairScriptValue) (d i : ℕ) (op : PairOp) → IsOther op → cdp.asked_of_op script d i (Some op) ≡ []
+asked_of_op-cdp_other script d i (ops.Mkdir name) other = refl
+asked_of_op-cdp_other script d i (ops.Rmdir name) other = refl
+asked_of_op-cdp_other script d i (ops.Write file text) other = refl
+asked_of_op-cdp_other script d i (ops.Read file) other = refl
+asked_of_op-cdp_other script d i ops.Flush other = absurd (other.not_flush refl)
+asked_of_op-cdp_other script d i (ops.Use task cpu line code) other = absurd (other.not_use task cpu line code refl)
+
+-- and nothing of those of a level
+pub asked_of_op-level_other : (script : PairScriptValue) (j : levels.LevelJournalsValue) (side : Side) (d i : ℕ) (op : PairOp) → IsOther op → levels.asked_of_op script j side d i (Some op) ≡ []
+asked_of_op-level_other script j side d i (ops.Mkdir name) other = refl
+asked_of_op-level_other script j side d i (ops.Rmdir name) other = refl
+asked_of_op-level_other script j side d i (ops.Write file text) other = refl
+asked_of_op-level_other script j side d i (ops.Read file) other = refl
+asked_of_op-level_other script j side d i ops.Flush other = absurd (other.not_flush refl)
+asked_of_op-level_other script j side d i (ops.Use task cpu line code) other = absurd (other.not_use task cpu line code refl)

@@ -6,7 +6,6 @@ use Rattle.machine.specs.Maps.{domain_of}
 use Rattle.machine.specs.declared.parameters.Parameters.{Parameters}
 use Rattle.pair_law.proofs.laws.Machines.{side_machine-range}
 use Rattle.pair_law.specs.Bounds.{tasks_of}
-use Rattle.pair_law.specs.Epochs.{state_at}
 use Rattle.pair_law.specs.Registers.{mask_of_group}
 use Rattle.pair_law.specs.State.{PairState, owner_of}
 use Rattle.pair_ops.specs.Values.{IsLawful, LiesBelow, Machines, PairScriptValue, epoch_at, side_machine}
@@ -15,29 +14,20 @@ use Rattle.pair_ops.specs.declared.side.Side.TheVariants.{First, Second}
 use Rattle.pair_play.proofs.laws.LevelsSoFar.{CanAccess-IsLevelSoFar}
 use Rattle.pair_play.proofs.laws.Users.{some_way-owner, tasks_of-state_at}
 use Rattle.pair_play.specs.Histories.{CanAccess, LevelValue}
-use Rattle.pair_play.specs.SideTags.{tag_in, tag_on}
+use Rattle.pair_play.specs.SideTags.{state_now, tag_in, tag_now, tag_on}
 use Rattle.pair_play.specs.SoFar.{AreCommandsSoFar, CommandsValue, IsLevelSoFar}
 use Rattle.pair_tree.specs.Tags.{tag_of}
-use Rattle.pair_tree.specs.declared.tag.PairTag.{PairTag}
 use Rattle.rc_base.specs.declared.names.Gid.{Gid}
 use Rattle.rc_base.specs.declared.names.Tag.{Tag}
 
 module _ (script : PairScriptValue) (i : ℕ) where
-  -- the state at the op
-  abbrev pub state_now : PairState
-  state_now = state_at script (epoch_at script i)
-
-  -- the tag that it gives
-  abbrev pub tag_now : ℕ → ℕ → PairTag
-  tag_now task cpu = tag_of script.machines state_now (epoch_at script i) task cpu
-
   -- on a side: the domain is the CPU's there
-  pub domain-tag_now : (task cpu : ℕ) (side : Side) (owner : Gid) → (tag_on (tag_now task cpu) side owner).domain ≡ domain_of (side_machine script.machines side) cpu
+  pub domain-tag_now : (task cpu : ℕ) (side : Side) (owner : Gid) → (tag_on (tag_now script i task cpu) side owner).domain ≡ domain_of (side_machine script.machines side) cpu
   domain-tag_now task cpu First owner = refl
   domain-tag_now task cpu Second owner = refl
 
   -- the mask is the group's there
-  pub mask-tag_now : (task cpu : ℕ) (side : Side) (owner : Gid) → (tag_on (tag_now task cpu) side owner).mask ≡ mask_of_group state_now side (domain_of (side_machine script.machines side) cpu) (owner_of state_now task)
+  pub mask-tag_now : (task cpu : ℕ) (side : Side) (owner : Gid) → (tag_on (tag_now script i task cpu) side owner).mask ≡ mask_of_group (state_now script i) side (domain_of (side_machine script.machines side) cpu) (owner_of (state_now script i) task)
   mask-tag_now task cpu First owner = refl
   mask-tag_now task cpu Second owner = refl
 
@@ -55,9 +45,9 @@ module _ (script : PairScriptValue) (i : ℕ) where
 
   -- the caches of the side can make its access
   pub CanAccess-tag_now : (asked : ℕ → ℕ → List SliceEntry) (level : LevelValue) (side : Side) → IsLawful script → IsLevelSoFar asked (side_machine script.machines side) i (epoch_at script i) level → i < 2 ^ 32
-      → (task cpu : ℕ) (owner : Gid) → cpu < script.machines.machine.cpus → CanAccess level (tag_on (tag_now task cpu) side owner)
+      → (task cpu : ℕ) (owner : Gid) → cpu < script.machines.machine.cpus → CanAccess level (tag_on (tag_now script i task cpu) side owner)
   CanAccess-tag_now asked level side lawful so_far few task cpu owner exists =
-      let tag : Tag = tag_on (tag_now task cpu) side owner in
+      let tag : Tag = tag_on (tag_now script i task cpu) side owner in
       let domain : ℕ = domain_of (side_machine script.machines side) cpu in
       let there = domain_of-side lawful cpu side exists in
       CanAccess-IsLevelSoFar asked (side_machine script.machines side) i (epoch_at script i) level so_far few tag (omega (arith, there, domain-tag_now task cpu side owner))
@@ -65,10 +55,10 @@ module _ (script : PairScriptValue) (i : ℕ) where
 
   module _ (c : CommandsValue) (so_far : AreCommandsSoFar script i c) where
     -- it is the one that the tree gives
-    pub tag_in-tag_now : (task cpu : ℕ) → tag_in c task cpu ≡ tag_now task cpu
+    pub tag_in-tag_now : (task cpu : ℕ) → tag_in c task cpu ≡ tag_now script i task cpu
     tag_in-tag_now task cpu =
         ap₂ (λ (m : Machines) (s : PairState). tag_of m s c.tree.epoch task cpu) so_far.machines so_far.state
-        ∙ ap (λ (n : ℕ). tag_of script.machines state_now n task cpu) so_far.epoch
+        ∙ ap (λ (n : ℕ). tag_of script.machines (state_now script i) n task cpu) so_far.epoch
 
     -- a task of the script is one of the tree's
     pub Contains-tasks_of : (task : ℕ) → Contains script.tasks task → Contains (tasks_of c.tree.state) task
