@@ -1,4 +1,4 @@
 pub mod Apart
-pub mod Listings
 pub mod PlayedRuns
 pub mod Promises
+pub mod Refused

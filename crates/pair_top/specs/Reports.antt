@@ -11,35 +11,46 @@ use Rattle.pair_report.specs.LevelReport.{level_report_of}
 use Rattle.pair_runs.specs.CdpRuns.{CdpJournalsValue, IsCdpRun}
 use Rattle.pair_runs.specs.LevelRuns.{IsLevelRun, LevelJournalsValue}
 use Rattle.pair_text.specs.PairReading.{pair_script_of}
+use Rattle.pair_text.specs.declared.kind.PairKind.{PairKind}
 use Rattle.pair_text.specs.declared.kind.PairKind.TheVariants.{Cdp, Levels}
 use Rattle.pair_windows.specs.AllCdpWindows.{AreCdpWindowsOf}
 use Rattle.pair_windows.specs.CdpWindows.{cdp_windows}
 use Rattle.script_ops.specs.declared.limits.TheConstants.{MOST_SCRIPT_BYTES}
 
--- These bytes are a script on data and code masks, the journals are a run of it in which each window isolates its side, and the text
--- is their report; the windows that it lists are all windows of the run in which the side has an access.
-pub record PlaysCdp (quiet : Bool) (bytes : List ℕ) (j : CdpJournalsValue) (text : List ℕ) : Type 0 where
+-- These bytes are a script of the kind, the journals are a run of it in which each window isolates, the windows that are listed are
+-- all of the run with uses, and the text is the report.
+pub record Plays {T : Type 0} (kind : PairKind) (Run Isolated Listed : PairScriptValue → T → Type 0) (report_of : PairScriptValue → T → Bool → List ℕ) (quiet : Bool) (bytes : List ℕ) (j : T) (text : List ℕ) : Type 0 where
   pub script : PairScriptValue
-  pub is_script : pair_script_of Cdp bytes ≡ Ok script
-  pub is_run : IsCdpRun script j
-  pub isolated : cdp.WindowsAreIsolated script j
-  pub listed : AreCdpWindowsOf script j (cdp_windows script j)
-  pub told : text ≡ cdp_report_of script j quiet
+  pub is_script : pair_script_of kind bytes ≡ Ok script
+  pub is_run : Run script j
+  pub isolated : Isolated script j
+  pub listed : Listed script j
+  pub told : text ≡ report_of script j quiet
 
--- These bytes are a script on two levels, the journals are a run of it in which each window isolates its group on both levels, and
--- the text is their report; the windows that it lists are all windows of the run in which the group has a use.
-pub record PlaysLevels (quiet : Bool) (bytes : List ℕ) (j : LevelJournalsValue) (text : List ℕ) : Type 0 where
-  pub script : PairScriptValue
-  pub is_script : pair_script_of Levels bytes ≡ Ok script
-  pub is_run : IsLevelRun script j
-  pub isolated : levels.WindowsAreIsolated script j
-  pub listed : AreJointWindowsOf script j (joint_windows script j)
-  pub told : text ≡ level_report_of script j quiet
+-- the windows that the report on data and code masks lists are all windows of the run in which the side has an access
+abbrev pub ListsCdp : PairScriptValue → CdpJournalsValue → Type 0
+ListsCdp script j = AreCdpWindowsOf script j (cdp_windows script j)
 
--- what is reported on data and code masks: of no more bytes than the most, as they are played
+-- a script on data and code masks is played, and in each window of the run its side is isolated
+abbrev pub PlaysCdp : Bool → List ℕ → CdpJournalsValue → List ℕ → Type 0
+PlaysCdp = Plays Cdp IsCdpRun cdp.WindowsAreIsolated ListsCdp cdp_report_of
+
+-- the windows that the report on two levels lists are all windows of the run in which the group has a use
+abbrev pub ListsLevels : PairScriptValue → LevelJournalsValue → Type 0
+ListsLevels script j = AreJointWindowsOf script j (joint_windows script j)
+
+-- a script on two levels is played, and in each window of the run its group is isolated on both levels
+abbrev pub PlaysLevels : Bool → List ℕ → LevelJournalsValue → List ℕ → Type 0
+PlaysLevels = Plays Levels IsLevelRun levels.WindowsAreIsolated ListsLevels level_report_of
+
+-- what is reported: of no more bytes than the most, as they are played
+abbrev pub reports : {T : Type 0} → (Bool → List ℕ → T → List ℕ → Type 0) → Bool → List ℕ → T → List ℕ → Type 0
+reports plays quiet = ReportsWithin MOST_SCRIPT_BYTES (plays quiet)
+
+-- on data and code masks
 abbrev pub reports_cdp : Bool → List ℕ → CdpJournalsValue → List ℕ → Type 0
-reports_cdp quiet = ReportsWithin MOST_SCRIPT_BYTES (PlaysCdp quiet)
+reports_cdp = reports PlaysCdp
 
--- what is reported on two levels
+-- on two levels
 abbrev pub reports_levels : Bool → List ℕ → LevelJournalsValue → List ℕ → Type 0
-reports_levels quiet = ReportsWithin MOST_SCRIPT_BYTES (PlaysLevels quiet)
+reports_levels = reports PlaysLevels

@@ -4,16 +4,16 @@
 
 mod arguments;
 pub mod calls;
-mod cdp;
 pub mod ended;
 mod input;
-mod levels;
+mod journals;
+mod playing;
 pub mod program;
 mod refusal;
 mod words;
 
 pub use arguments::given_words;
 pub use calls::{top_cdp, top_l2};
-pub use ended::{CdpEnded, LevelEnded};
+pub use ended::{CdpEnded, LevelEnded, PairEnded};
 pub use program::{run_cdp, run_l2};
 pub use words::{CDP_USAGE, Form, L2_USAGE, form_of};
