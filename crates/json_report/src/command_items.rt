@@ -53,12 +53,13 @@ pub(crate) fn push_command(
     ensures text { OnOk result (report.new ≡ report.old ++ compact_text (command_value script.now journals.now (state_before script.now journals.now.tree position) position (entry_value entry.now))) }
     ensures taken { OnOk result (HasTakenBefore script.now journals.now.tree position texts.new.tree) }
 {
+    let op = script.op(entry.thread, entry.op);
     report.push(b"{".as_slice())?;
     push_number(report, false, "at", position as u64)?;
     push_number(report, true, "op", u64::from(entry.op))?;
-    push_result_text(alloc, report, script, journals, entry, hit)?;
+    push_result_text(alloc, report, journals, entry, &op, hit)?;
     push_given_lines(report, texts, script, journals, position, entry)?;
     push_number(report, true, "thread", u64::from(entry.thread))?;
-    push_words_text(alloc, report, script, entry)?;
+    push_words_text(alloc, report, script.names(), &op)?;
     report.push(b"}".as_slice())
 }

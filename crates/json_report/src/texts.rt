@@ -1,19 +1,21 @@
 //! The texts of a command: its words, its result, and the lines that it gave.
-ghost use Rattle.std.specs.Prelude.{◌≡◌, ◌++◌, ◌∷◌, [], OnOk, codes, false, map, true};
+ghost use Rattle.std.specs.Prelude.{◌≡◌, ◌++◌, ◌∷◌, [], IfSome, OnOk, codes, false, length, map, true};
 ghost use Rattle.std.specs.Str.Lines.{lines};
 ghost use Rattle.json_report.specs.Pieces.{items_told, members_told};
 ghost use Rattle.json_report.specs.Values.{array_of};
-ghost use Rattle.report_pieces.specs.Results.{result_of, words_of};
+ghost use Rattle.report_pieces.specs.Results.{result_by, words_by};
 ghost use Rattle.run_counts.specs.Touches.{TellsTouch};
 ghost use Rattle.run_law.specs.Entries.{entry_value};
+ghost use Rattle.script_ops.specs.Canonical.{IsNamed};
 ghost use Rattle.serde_json.specs.Data.{string};
 
 use crate::members::{push_comma, push_key, push_text};
 use crate::strings::push_string;
+use path_names::Names;
 use rc_base::NoMemory;
 use report_pieces::{ReportText, push_result, push_words};
 use run_law::{Journals, TreeEntry};
-use script_ops::{Script, next_line};
+use script_ops::{OpAt, next_line};
 use std::alloc::Global;
 
 // Adds lines.
@@ -41,33 +43,35 @@ pub fn push_text_lines(report: &mut ReportText, text: &[u8]) -> Result<(), NoMem
     report.push(b"]".as_slice())
 }
 
-/// Adds the member that is the result of a command, after others: `ok` or its error, and for an accepted touch whether it hit.
+/// Adds the member that is the result of a command, whose op this is, after others: `ok` or its error, and for an accepted touch
+/// whether it hit.
 pub fn push_result_text(
     alloc: Global,
     report: &mut ReportText,
-    script: &Script,
     journals: &Journals,
     entry: &TreeEntry,
+    op: &Option<OpAt<'_>>,
     hit: Option<bool>,
 ) -> Result<(), NoMemory>
     requires { TellsTouch journals.now (entry_value entry.now) hit }
-    ensures { OnOk result (report.new ≡ report.old ++ members_told true ((codes "result", string (result_of script.now journals.now (entry_value entry.now))) ∷ [])) }
+    ensures { OnOk result (report.new ≡ report.old ++ members_told true ((codes "result", string (result_by journals.now (entry_value entry.now) op.now)) ∷ [])) }
 {
     let mut text = ReportText::create(alloc)?;
-    push_result(&mut text, script, journals, entry, hit)?;
+    push_result(&mut text, journals, entry, op, hit)?;
     push_text(report, "result", &text.into_bytes())
 }
 
-/// Adds the member that is the words of a command, after others.
+/// Adds the member that is the words of an op, after others.
 pub fn push_words_text(
     alloc: Global,
     report: &mut ReportText,
-    script: &Script,
-    entry: &TreeEntry,
+    names: &Names,
+    op: &Option<OpAt<'_>>,
 ) -> Result<(), NoMemory>
-    ensures { OnOk result (report.new ≡ report.old ++ members_told true ((codes "words", string (words_of script.now (entry_value entry.now))) ∷ [])) }
+    requires { IfSome op.now (λ o. IsNamed (length names.now) o) }
+    ensures { OnOk result (report.new ≡ report.old ++ members_told true ((codes "words", string (words_by names.now op.now)) ∷ [])) }
 {
     let mut text = ReportText::create(alloc)?;
-    push_words(&mut text, script, entry)?;
+    push_words(&mut text, names, op)?;
     push_text(report, "words", &text.into_bytes())
 }

@@ -1,14 +1,16 @@
 //! The words and the results of commands.
-ghost use Rattle.std.specs.Prelude.{◌≡◌, ◌++◌, OnOk};
-ghost use Rattle.report_pieces.specs.Results.{hit_text, result_of, result_text, words_of};
+ghost use Rattle.std.specs.Prelude.{◌≡◌, ◌++◌, IfSome, OnOk, length};
+ghost use Rattle.report_pieces.specs.Results.{hit_text, result_by, result_text, words_by};
 ghost use Rattle.run_counts.specs.Touches.{TellsTouch};
 ghost use Rattle.run_law.specs.Entries.{entry_value};
+ghost use Rattle.script_ops.specs.Canonical.{IsNamed};
 
 use crate::buffer::ReportText;
+use path_names::Names;
 use rc_base::NoMemory;
 use run_counts::is_accepted_touch;
 use run_law::{Journals, TreeEntry};
-use script_ops::{Op, Script};
+use script_ops::{Op, OpAt};
 
 // Adds whether an access hit.
 fn push_hit(report: &mut ReportText, hit: Option<bool>) -> Result<(), NoMemory>
@@ -40,33 +42,34 @@ fn push_result_text(
     }
 }
 
-/// Adds the canonical text of the op of an entry.
+/// Adds the canonical text of an op, and nothing where there is none.
 pub fn push_words(
     report: &mut ReportText,
-    script: &Script,
-    entry: &TreeEntry,
+    names: &Names,
+    op: &Option<OpAt<'_>>,
 ) -> Result<(), NoMemory>
-    ensures { OnOk result (report.new ≡ report.old ++ words_of script.now (entry_value entry.now)) }
+    requires { IfSome op.now (λ o. IsNamed (length names.now) o) }
+    ensures { OnOk result (report.new ≡ report.old ++ words_by names.now op.now) }
 {
-    match script.op(entry.thread, entry.op) {
-        Some(op) => report.push_op(op.get(), script.names()),
+    match op {
+        Some(op) => report.push_op(op.get(), names),
         None => Ok(()),
     }
 }
 
-/// Adds the result of the op of an entry: `ok`, or the error's name and the reason's text; for an accepted touch `ok hit` or
-/// `ok miss`, by its access.
+/// Adds the result of an entry, whose op this is: `ok`, or the error's name and the reason's text; for an accepted touch `ok hit`
+/// or `ok miss`, by its access.
 pub fn push_result(
     report: &mut ReportText,
-    script: &Script,
     journals: &Journals,
     entry: &TreeEntry,
+    op: &Option<OpAt<'_>>,
     hit: Option<bool>,
 ) -> Result<(), NoMemory>
     requires { TellsTouch journals.now (entry_value entry.now) hit }
-    ensures { OnOk result (report.new ≡ report.old ++ result_of script.now journals.now (entry_value entry.now)) }
+    ensures { OnOk result (report.new ≡ report.old ++ result_by journals.now (entry_value entry.now) op.now) }
 {
-    match script.op(entry.thread, entry.op) {
+    match op {
         Some(op) => push_result_text(report, journals, entry, op.get(), hit),
         None => report.push_reply(entry.reply),
     }

@@ -63,10 +63,11 @@ fn push_command(
     ensures text { OnOk result (report.new ≡ report.old ++ command_line script.now journals.now (state_before script.now journals.now.tree k) k (entry_value entry.now)) }
     ensures taken { OnOk result (HasTakenBefore script.now journals.now.tree k texts.new.tree) }
 {
+    let op = script.op(entry.thread, entry.op);
     push_place(report, k as u64, entry)?;
-    push_words(report, script, entry)?;
+    push_words(report, script.names(), &op)?;
     report.push(b": ".as_slice())?;
-    push_result(report, script, journals, entry, hit)?;
+    push_result(report, journals, entry, &op, hit)?;
     report.push(b"\n".as_slice())?;
     push_given_lines(report, texts, script, journals, k, entry)
 }
