@@ -4,8 +4,10 @@ ghost use Rattle.machine.specs.Slices.{slice_count};
 
 use crate::attempts::{Attempt, Wait};
 use crate::moments::Moment;
+use crate::played::Played;
 use crate::search::Search;
 use crate::steps::{BlockedStep, StepKind};
+use crate::threads::PhaseThreads;
 use rc_base::NoMemory;
 use run_law::Journals;
 use script_ops::Script;
@@ -43,8 +45,8 @@ fn next_step(search: &Search, thread: u32) -> BlockedStep {
 }
 
 // A thread that has still to read the tag of an access at this epoch.
-fn untagged_thread(search: &Search, epoch: u32, first: u32, end: u32) -> Option<u32> {
-    for thread in first..end {
+fn untagged_thread(search: &Search, epoch: u32, threads: PhaseThreads) -> Option<u32> {
+    for thread in threads.first..threads.end {
         for op in search.next_op(thread)..search.moments.ops(thread) {
             let is_next = op == search.next_op(thread) && search.is_tagged(thread);
             if let Moment::Access { epoch: at, .. } = search.moments.of(thread, op)
@@ -70,18 +72,12 @@ fn thread_at(script: &Script, journals: &Journals, slice: u8, position: u32) -> 
 }
 
 // The thread that another one waits for.
-fn awaited(
-    search: &Search,
-    script: &Script,
-    journals: &Journals,
-    wait: Wait,
-    first: u32,
-    end: u32,
-) -> Option<u32>
-    requires { length journals.now.slices ≡ slice_count script.now.machine }
+fn awaited(search: &Search, played: &Played<'_>, wait: Wait, threads: PhaseThreads) -> Option<u32>
+    requires { length played.now.journals.now.slices ≡ slice_count played.now.script.now.machine }
 {
+    let journals = played.journals;
     match wait {
-        Wait::Entry { slice } => thread_at(script, journals, slice, search.made_in(slice)),
+        Wait::Entry { slice } => thread_at(played.script, journals, slice, search.made_in(slice)),
         Wait::Tree => match search.holder() {
             Some(holder) => Some(holder),
             None => {
@@ -89,14 +85,14 @@ fn awaited(
                 Some(entry.thread)
             }
         },
-        Wait::Tags { epoch } => untagged_thread(search, epoch, first, end),
+        Wait::Tags { epoch } => untagged_thread(search, epoch, threads),
         Wait::Nothing => None,
     }
 }
 
 // The first of these threads that is not at its end.
-fn first_blocked(search: &Search, first: u32, end: u32) -> Option<u32> {
-    for thread in first..end {
+fn first_blocked(search: &Search, threads: PhaseThreads) -> Option<u32> {
+    for thread in threads.first..threads.end {
         if search.next_op(thread) < search.moments.ops(thread) {
             return Some(thread);
         }
@@ -107,19 +103,17 @@ fn first_blocked(search: &Search, first: u32, end: u32) -> Option<u32> {
 // The thread that this one waits for. One of a later phase waits for the end of this phase, and so for the first thread that is blocked.
 fn next_thread(
     search: &mut Search,
-    script: &Script,
-    journals: &Journals,
+    played: &Played<'_>,
     thread: u32,
-    first: u32,
-    end: u32,
+    threads: PhaseThreads,
 ) -> Option<u32>
-    requires { length journals.now.slices ≡ slice_count script.now.machine }
+    requires { length played.now.journals.now.slices ≡ slice_count played.now.script.now.machine }
 {
-    if thread < first || end <= thread {
-        return first_blocked(search, first, end);
+    if !threads.contains(thread) {
+        return first_blocked(search, threads);
     }
     match search.step(thread) {
-        Attempt::Waits(wait) => awaited(search, script, journals, wait, first, end),
+        Attempt::Waits(wait) => awaited(search, played, wait, threads),
         _ => None,
     }
 }
@@ -136,15 +130,13 @@ fn place_of(steps: &[BlockedStep], thread: u32) -> Option<usize>
 pub(crate) fn blocked_steps(
     alloc: Global,
     search: &mut Search,
-    script: &Script,
-    journals: &Journals,
-    first: u32,
-    end: u32,
+    played: &Played<'_>,
+    threads: PhaseThreads,
 ) -> Result<Vec<BlockedStep>, NoMemory>
-    requires { length journals.now.slices ≡ slice_count script.now.machine }
+    requires { length played.now.journals.now.slices ≡ slice_count played.now.script.now.machine }
 {
     let mut steps: Vec<BlockedStep> = Vec::new(alloc);
-    let mut thread = first_blocked(search, first, end);
+    let mut thread = first_blocked(search, threads);
     for _ in 0..=search.threads() {
         let Some(here) = thread else { break };
         if let Some(place) = place_of(&steps, here) {
@@ -152,7 +144,7 @@ pub(crate) fn blocked_steps(
             return Ok(cycle);
         }
         steps.push(next_step(search, here))?;
-        thread = next_thread(search, script, journals, here, first, end);
+        thread = next_thread(search, played, here, threads);
     }
     Ok(steps)
 }

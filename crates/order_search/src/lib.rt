@@ -7,9 +7,11 @@ mod blocked;
 mod jobs;
 mod moments;
 mod orders;
+mod played;
 mod search;
 mod stepping;
 pub mod steps;
+mod threads;
 
 pub use orders::{Found, orders_of};
 pub use steps::{BlockedStep, StepKind};

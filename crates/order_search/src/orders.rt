@@ -4,8 +4,10 @@ ghost use Rattle.machine.specs.Slices.{slice_count};
 
 use crate::attempts::Attempt;
 use crate::blocked::blocked_steps;
+use crate::played::Played;
 use crate::search::Search;
 use crate::steps::BlockedStep;
+use crate::threads::PhaseThreads;
 use rc_base::NoMemory;
 use run_law::Journals;
 use script_ops::Script;
@@ -88,13 +90,12 @@ fn run_on(
 // Each of these threads in turn takes the steps that it can, and the answer is whether there was one.
 fn go_round(
     search: &mut Search,
-    first: u32,
-    end: u32,
+    threads: PhaseThreads,
     most: usize,
     steps: &mut Steps,
 ) -> Result<bool, NoMemory> {
     let mut any = false;
-    for thread in first..end {
+    for thread in threads.first..threads.end {
         if run_on(search, thread, most, steps)? {
             any = true;
         }
@@ -103,8 +104,8 @@ fn go_round(
 }
 
 // Whether all these threads are at their ends.
-fn are_ended(search: &Search, first: u32, end: u32) -> bool {
-    for thread in first..end {
+fn are_ended(search: &Search, threads: PhaseThreads) -> bool {
+    for thread in threads.first..threads.end {
         if search.next_op(thread) < search.moments.ops(thread) {
             return false;
         }
@@ -116,17 +117,16 @@ fn are_ended(search: &Search, first: u32, end: u32) -> bool {
 fn phase_order(
     alloc: Global,
     search: &mut Search,
-    first: u32,
-    end: u32,
+    threads: PhaseThreads,
     most: usize,
 ) -> Result<Option<Vec<u32>>, NoMemory> {
     let mut steps = Steps::create(alloc);
     for _ in 0..most {
-        if !go_round(search, first, end, most, &mut steps)? {
+        if !go_round(search, threads, most, &mut steps)? {
             break;
         }
     }
-    if are_ended(search, first, end) {
+    if are_ended(search, threads) {
         Ok(Some(steps.list()))
     } else {
         Ok(None)
@@ -140,20 +140,15 @@ pub fn orders_of(alloc: Global, script: &Script, journals: &Journals) -> Result<
 {
     let mut search = Search::create(alloc, script, journals)?;
     let most = search.most_steps(script);
+    let played = Played { script, journals };
     let mut orders = Vec::new(alloc);
     for phase in 0..script.phases() {
         let first = script.first_thread(phase);
         let end = first.saturating_add(script.thread_count(phase));
-        match phase_order(alloc, &mut search, first, end, most)? {
+        let threads = PhaseThreads { first, end };
+        match phase_order(alloc, &mut search, threads, most)? {
             Some(order) => orders.push(order)?,
-            None => return Ok(Found::Blocked(blocked_steps(
-                alloc,
-                &mut search,
-                script,
-                journals,
-                first,
-                end,
-            )?)),
+            None => return Ok(Found::Blocked(blocked_steps(alloc, &mut search, &played, threads)?)),
         }
     }
     Ok(Found::Orders(orders))
