@@ -8,6 +8,7 @@ mod curves;
 mod filters;
 mod first_levels;
 mod first_uses;
+mod flushed_lines;
 mod plans;
 mod samples;
 mod share_calls;

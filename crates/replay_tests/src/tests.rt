@@ -1,5 +1,6 @@
 //! Calls with what they write, worked out by hand.
 
+mod report_endings;
 mod reports;
 
 use call_rim::Status;
