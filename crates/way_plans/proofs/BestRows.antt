@@ -21,7 +21,6 @@ at-none way = by (leb_tells (way + 1) 33)
     by (inr past) = get_or-eq_default (replicate 33 None) None {n = way} (omega (arith, past.1))
 
 module _ (free : List Bool) (least : ℕ) (some : 1 ≤ least) where
-
   -- ---- all rows
 
   -- A choice that the rows tell from a way on: its division has its misses, and no other has fewer.

@@ -4,12 +4,13 @@ ghost use Rattle.way_plans.specs.ComparedTexts.{compared_domains, compared_line,
 ghost use Rattle.way_plans.specs.Values.{IsSmall, parts_of};
 ghost use Rattle.tree_core.specs.Named.{AreNamed};
 
+use crate::asked_domain::AskedDomain;
 use crate::divisions::push_misses;
 use crate::domains::push_domain;
 use crate::{Comparison, DomainPlan};
 use group_tree::Group;
 use rc_base::NoMemory;
-use script_ops::{GrowingText, Script};
+use script_ops::GrowingText;
 
 // Adds the line of one thing that a domain's plan is compared with.
 fn push_line(text: &mut GrowingText, domain: u8, what: &[u8], misses: u64) -> Result<(), NoMemory>
@@ -36,17 +37,15 @@ fn push_comparison(
 /// Adds what is told of domains, the first of which has this number, and after the plan of each what it is compared with.
 pub(crate) fn push_compared(
     text: &mut GrowingText,
-    script: &Script,
-    only_used: bool,
+    asked: &AskedDomain<'_>,
     groups: &[Group],
-    domain: u8,
     plans: &[DomainPlan],
     comparisons: &[Comparison],
 ) -> Result<(), NoMemory>
-    requires named { AreNamed script.now.names groups.now }
-    requires few { domain + length plans.now ≤ 8 }
+    requires named { AreNamed asked.now.script.now.names groups.now }
+    requires few { asked.now.domain + length plans.now ≤ 8 }
     requires small { All IsSmall plans.now }
-    ensures { OnOk result (text.new ≡ text.old ++ compared_domains only_used script.now.names script.now.machine.ways groups.now domain (parts_of plans.now) comparisons.now) }
+    ensures { OnOk result (text.new ≡ text.old ++ compared_domains asked.now.only_used asked.now.script.now.names asked.now.script.now.machine.ways groups.now asked.now.domain (parts_of plans.now) comparisons.now) }
 {
     let [plan, later @ ..] = plans else {
         return Ok(());
@@ -54,7 +53,16 @@ pub(crate) fn push_compared(
     let [comparison, others @ ..] = comparisons else {
         return Ok(());
     };
-    push_domain(text, script, only_used, groups, domain, plan)?;
-    push_comparison(text, domain, *comparison)?;
-    push_compared(text, script, only_used, groups, domain + 1, later, others)
+    push_domain(text, asked, groups, plan)?;
+    push_comparison(text, asked.domain, *comparison)?;
+    push_compared(
+        text,
+        &AskedDomain {
+            domain: asked.domain + 1,
+            ..*asked
+        },
+        groups,
+        later,
+        others,
+    )
 }

@@ -7,6 +7,7 @@ ghost use Rattle.way_plans.specs.PlanTexts.{asked_curve, curve_text, curve_texts
 ghost use Rattle.tree_core.specs.Named.{AreNamed, IsNamed};
 
 use crate::MOST_WAYS;
+use crate::asked_domain::AskedDomain;
 use crate::writes::dir_of;
 use group_tree::Group;
 use path_names::{Names, PathRef};
@@ -93,32 +94,28 @@ fn push_curve(
 // Adds the curve of a group in a domain, where it is asked for.
 fn push_asked(
     text: &mut GrowingText,
-    script: &Script,
-    only_used: bool,
-    domain: u8,
+    asked: &AskedDomain<'_>,
     group: &Group,
     row: &[u64; MOST_WAYS + 1],
 ) -> Result<(), NoMemory>
-    requires { IsNamed script.now.names group.now }
-    ensures { OnOk result (text.new ≡ text.old ++ asked_curve only_used script.now.names script.now.machine.ways domain group.now row.now) }
+    requires { IsNamed asked.now.script.now.names group.now }
+    ensures { OnOk result (text.new ≡ text.old ++ asked_curve asked.now.only_used asked.now.script.now.names asked.now.script.now.machine.ways asked.now.domain group.now row.now) }
 {
-    if only_used && row[0] == 0 {
+    if asked.only_used && row[0] == 0 {
         return Ok(());
     }
-    push_curve(text, script, domain, group, row)
+    push_curve(text, asked.script, asked.domain, group, row)
 }
 
-/// Adds the curve of each group in a domain, or where `only_used` is set of each group that has uses there.
+/// Adds the curve of each group in a domain, or where `only_used` of it is set of each group that has uses there.
 pub(crate) fn push_curves(
     text: &mut GrowingText,
-    script: &Script,
-    only_used: bool,
-    domain: u8,
+    asked: &AskedDomain<'_>,
     groups: &[Group],
     rows: &[[u64; MOST_WAYS + 1]],
 ) -> Result<(), NoMemory>
-    requires { AreNamed script.now.names groups.now }
-    ensures { OnOk result (text.new ≡ text.old ++ curve_texts only_used script.now.names script.now.machine.ways domain groups.now rows.now) }
+    requires { AreNamed asked.now.script.now.names groups.now }
+    ensures { OnOk result (text.new ≡ text.old ++ curve_texts asked.now.only_used asked.now.script.now.names asked.now.script.now.machine.ways asked.now.domain groups.now rows.now) }
 {
     let [group, later @ ..] = groups else {
         return Ok(());
@@ -126,6 +123,6 @@ pub(crate) fn push_curves(
     let [row, later_rows @ ..] = rows else {
         return Ok(());
     };
-    push_asked(text, script, only_used, domain, group, row)?;
-    push_curves(text, script, only_used, domain, later, later_rows)
+    push_asked(text, asked, group, row)?;
+    push_curves(text, asked, later, later_rows)
 }

@@ -16,6 +16,7 @@
 
 mod any_order;
 mod applied;
+mod asked_domain;
 mod best;
 mod choice;
 pub mod command_theorems;

@@ -4,6 +4,7 @@ ghost use Rattle.way_plans.specs.ComparedTexts.{compared_text};
 ghost use Rattle.way_plans.specs.PlanTexts.{plan_text, script_lines};
 ghost use Rattle.way_plans.specs.Values.{IsPrintable, parts_of};
 
+use crate::asked_domain::AskedDomain;
 use crate::compared::push_compared;
 use crate::domains::{is_whole, push_domains};
 use crate::plan::Plan;
@@ -47,7 +48,12 @@ pub fn plan_report(
     ensures { IfOk result (λ bytes. bytes.items ≡ plan_text only_used script.now.names script.now.machine.ways plan.now.groups.items (parts_of plan.now.domains.items)) }
 {
     let mut text = GrowingText::create(alloc)?;
-    push_domains(&mut text, script, only_used, &plan.groups, 0, &plan.domains)?;
+    let asked = AskedDomain {
+        script,
+        only_used,
+        domain: 0,
+    };
+    push_domains(&mut text, &asked, &plan.groups, &plan.domains)?;
     push_script_lines(alloc, &mut text, script, &plan.groups, &plan.domains)?;
     Ok(text.into_bytes())
 }
@@ -65,15 +71,12 @@ pub fn compared_report(
     ensures { IfOk result (λ bytes. bytes.items ≡ compared_text only_used script.now.names script.now.machine.ways plan.now.groups.items (parts_of plan.now.domains.items) comparisons.now) }
 {
     let mut text = GrowingText::create(alloc)?;
-    push_compared(
-        &mut text,
+    let asked = AskedDomain {
         script,
         only_used,
-        &plan.groups,
-        0,
-        &plan.domains,
-        comparisons,
-    )?;
+        domain: 0,
+    };
+    push_compared(&mut text, &asked, &plan.groups, &plan.domains, comparisons)?;
     push_script_lines(alloc, &mut text, script, &plan.groups, &plan.domains)?;
     Ok(text.into_bytes())
 }
