@@ -2,27 +2,29 @@
 ghost use Rattle.std.specs.Prelude.{OnOk};
 ghost use Rattle.journal_text.specs.States.{PartsRead, with_command, with_entry, with_slice};
 ghost use Rattle.run_law.specs.Entries.{entry_value};
+ghost use Rattle.script_ops.specs.Values.{ScriptValue};
 
 use cache_core::SliceEntry;
 use rc_base::NoMemory;
 use run_law::TreeEntry;
+use script_ops::Script;
 use std::alloc::Global;
 
-/// Takes journals part by part, as a reader comes upon them, and keeps of them what it likes. Nothing is promised of it after an
-/// error.
+/// Takes the journals of a script part by part, as a reader comes upon them, and keeps of them what it likes. Nothing is promised of
+/// it after an error.
 pub trait Keeper {
-    /// What is kept is what is kept of these parts.
-    ghost keeps: { Self → PartsRead → Type 0 };
+    /// What is kept is what is kept of these parts of journals of the script.
+    ghost keeps: { Self → ScriptValue → PartsRead → Type 0 };
 
     /// Takes the next command of the tree.
-    fn add_command(&mut self, entry: TreeEntry) -> Result<(), NoMemory>
-        ensures { OnOk result ((parts : PartsRead) → keeps self.old parts → keeps self.new (with_command parts (entry_value entry))) };
+    fn add_command(&mut self, script: &Script, entry: TreeEntry) -> Result<(), NoMemory>
+        ensures { OnOk result ((parts : PartsRead) → keeps self.old script.now parts → keeps self.new script.now (with_command parts (entry_value entry))) };
 
     /// Takes the next entry of the slice that is being read.
-    fn add_entry(&mut self, entry: SliceEntry) -> Result<(), NoMemory>
-        ensures { OnOk result ((parts : PartsRead) → keeps self.old parts → keeps self.new (with_entry parts entry)) };
+    fn add_entry(&mut self, script: &Script, entry: SliceEntry) -> Result<(), NoMemory>
+        ensures { OnOk result ((parts : PartsRead) → keeps self.old script.now parts → keeps self.new script.now (with_entry parts entry)) };
 
     /// The slice that was being read is whole.
-    fn end_slice(&mut self, alloc: Global) -> Result<(), NoMemory>
-        ensures { OnOk result ((parts : PartsRead) → keeps self.old parts → keeps self.new (with_slice parts)) };
+    fn end_slice(&mut self, alloc: Global, script: &Script) -> Result<(), NoMemory>
+        ensures { OnOk result ((parts : PartsRead) → keeps self.old script.now parts → keeps self.new script.now (with_slice parts)) };
 }

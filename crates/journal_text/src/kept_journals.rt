@@ -7,6 +7,7 @@ use crate::keeper::Keeper;
 use cache_core::SliceEntry;
 use rc_base::NoMemory;
 use run_law::{Journals, TreeEntry};
+use script_ops::Script;
 use std::alloc::Global;
 use std::mem;
 
@@ -44,19 +45,19 @@ impl KeptJournals {
 }
 
 impl Keeper for KeptJournals {
-    ghost keeps = { λ kept parts. parts ≡ parts_in kept };
+    ghost keeps = { λ kept script parts. parts ≡ parts_in kept };
 
-    fn add_command(&mut self, entry: TreeEntry) -> Result<(), NoMemory> {
+    fn add_command(&mut self, _script: &Script, entry: TreeEntry) -> Result<(), NoMemory> {
         self.tree.push(entry)?;
         Ok(())
     }
 
-    fn add_entry(&mut self, entry: SliceEntry) -> Result<(), NoMemory> {
+    fn add_entry(&mut self, _script: &Script, entry: SliceEntry) -> Result<(), NoMemory> {
         self.entries.push(entry)?;
         Ok(())
     }
 
-    fn end_slice(&mut self, alloc: Global) -> Result<(), NoMemory> {
+    fn end_slice(&mut self, alloc: Global, _script: &Script) -> Result<(), NoMemory> {
         let entries = mem::replace(&mut self.entries, Vec::new(alloc));
         self.slices.push(entries)?;
         Ok(())

@@ -41,8 +41,8 @@ pub fn read_with<K: Keeper + Drop>(
     keeper: K,
 ) -> Result<K, ReadError>
     requires short { length text.now ≤ 2 ^ 31 }
-    requires nothing { K.keeps keeper nothing_read }
-    ensures { ReadsWith K.keeps script.now text.now result }
+    requires nothing { K.keeps keeper script.now nothing_read }
+    ensures { ReadsWith (λ kept. K.keeps kept script.now) script.now text.now result }
 {
     let weight = script_weight(script);
     let mut reader = Reader::create(keeper);

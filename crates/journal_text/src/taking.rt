@@ -18,7 +18,7 @@ impl<K: Keeper + Drop> Reader<K> {
     // Takes a line and says true, if it is the first of every text.
     fn take_first(&mut self, script: &Script, line: &[u8]) -> bool
         requires { self.old.position ≡ Start }
-        ensures { TakesLine script.now line.now self.old.position (K.keeps self.old.keeper) self.new.position (K.keeps self.new.keeper) result }
+        ensures { TakesLine script.now line.now self.old.position (K.keeps self.old.keeper script.now) self.new.position (K.keeps self.new.keeper script.now) result }
     {
         if is_text(line, b"journal 1") {
             self.position = LinePosition::InTree;
@@ -32,7 +32,7 @@ impl<K: Keeper + Drop> Reader<K> {
     fn leave_tree(&mut self, script: &Script, weight: u64, line: &[u8]) -> bool
         requires weight { weight ≡ total_weight script.now }
         requires position { self.old.position ≡ InTree }
-        ensures { LeavesTree script.now line.now self.old.position (K.keeps self.old.keeper) self.new.position (K.keeps self.new.keeper) result }
+        ensures { LeavesTree script.now line.now self.old.position (K.keeps self.old.keeper script.now) self.new.position (K.keeps self.new.keeper script.now) result }
     {
         match after_slices(script, weight, 0, line) {
             Some(next) => {
@@ -53,11 +53,11 @@ impl<K: Keeper + Drop> Reader<K> {
     ) -> Result<bool, NoMemory>
         requires weight { weight ≡ total_weight script.now }
         requires position { self.old.position ≡ InTree }
-        ensures { IfOk result (TakesLine script.now line.now self.old.position (K.keeps self.old.keeper) self.new.position (K.keeps self.new.keeper)) }
+        ensures { IfOk result (TakesLine script.now line.now self.old.position (K.keeps self.old.keeper script.now) self.new.position (K.keeps self.new.keeper script.now)) }
     {
         match command_of_line(alloc, line, weight)? {
             Some(entry) => {
-                self.keeper.add_command(entry)?;
+                self.keeper.add_command(script, entry)?;
                 Ok(true)
             }
             None => Ok(self.leave_tree(script, weight, line)),
@@ -75,11 +75,11 @@ impl<K: Keeper + Drop> Reader<K> {
         requires position { self.old.position ≡ InSlice slice left }
         requires there { slice < slice_count script.now.machine }
         requires more { 0 < left }
-        ensures { IfOk result (TakesLine script.now line.now self.old.position (K.keeps self.old.keeper) self.new.position (K.keeps self.new.keeper)) }
+        ensures { IfOk result (TakesLine script.now line.now self.old.position (K.keeps self.old.keeper script.now) self.new.position (K.keeps self.new.keeper script.now)) }
     {
         match entry_of_line(line, script.machine(), u32::from(slice)) {
             Some(entry) => {
-                self.keeper.add_entry(entry)?;
+                self.keeper.add_entry(script, entry)?;
                 self.position = LinePosition::InSlice {
                     slice,
                     left: left - 1,
@@ -102,11 +102,11 @@ impl<K: Keeper + Drop> Reader<K> {
         requires weight { weight ≡ total_weight script.now }
         requires position { self.old.position ≡ InSlice slice 0 }
         requires there { slice < slice_count script.now.machine }
-        ensures { IfOk result (TakesLine script.now line.now self.old.position (K.keeps self.old.keeper) self.new.position (K.keeps self.new.keeper)) }
+        ensures { IfOk result (TakesLine script.now line.now self.old.position (K.keeps self.old.keeper script.now) self.new.position (K.keeps self.new.keeper script.now)) }
     {
         match after_slices(script, weight, u32::from(slice) + 1, line) {
             Some(next) => {
-                self.keeper.end_slice(alloc)?;
+                self.keeper.end_slice(alloc, script)?;
                 self.position = next;
                 Ok(true)
             }
@@ -125,7 +125,7 @@ impl<K: Keeper + Drop> Reader<K> {
     ) -> Result<bool, NoMemory>
         requires weight { weight ≡ total_weight script.now }
         requires there { IsThere script.now self.old.position }
-        ensures { IfOk result (TakesLine script.now line.now self.old.position (K.keeps self.old.keeper) self.new.position (K.keeps self.new.keeper)) }
+        ensures { IfOk result (TakesLine script.now line.now self.old.position (K.keeps self.old.keeper script.now) self.new.position (K.keeps self.new.keeper script.now)) }
     {
         match self.position {
             LinePosition::Start => Ok(self.take_first(script, line)),

@@ -15,35 +15,35 @@ lines-init g c =
       few = omega arith;
       passed = HasPassed-start c.args.text.now;
       parts = nothing_read;
-      keeps = subst (λ k. g.K.Keeper.keeps k nothing_read) (sym c.create-reader.ensures.keeper) c.requires.nothing;
+      keeps = subst (λ k. g.K.Keeper.keeps k c.args.script.now nothing_read) (sym c.create-reader.ensures.keeper) c.requires.nothing;
       read = subst (λ (p : LinePosition). HasRead c.args.script.now [] (state_at p nothing_read)) (sym c.create-reader.ensures.position) before;
     }
 
 pub take-requires-clause-there : goal.take-requires-clause-there
 take-requires-clause-there g c =
     let reader = c.lines.reader in
-    IsThere-come c.args.script.now c.args.text.now c.lines.number c.lines.left.now reader.position (g.K.Keeper.keeps reader.keeper) c.lines.invariant
+    IsThere-come c.args.script.now c.args.text.now c.lines.number c.lines.left.now reader.position (g.K.Keeper.keeps reader.keeper c.args.script.now) c.lines.invariant
 
 pub lines-preserved : goal.lines-preserved
 lines-preserved g c =
     let reader = c.lines.reader in
     let new = c.take.new.self in
     let line = c.in-Some.ensures in
-    HasComeTo-line c.args.script.now c.args.text.now c.lines.number c.lines.left.now reader.position (g.K.Keeper.keeps reader.keeper) c.lines.invariant
-    c.in-Some.line.now c.in-Some.rest.now new.position (g.K.Keeper.keeps new.keeper) line.0 line.1 line.2 line.3
-    (subst (λ (b : Bool). TakesLine c.args.script.now c.in-Some.line.now reader.position (g.K.Keeper.keeps reader.keeper) new.position (g.K.Keeper.keeps new.keeper) b) c.in-Ok-true.field-0-test c.in-Ok-true.ensures)
+    HasComeTo-line c.args.script.now c.args.text.now c.lines.number c.lines.left.now reader.position (g.K.Keeper.keeps reader.keeper c.args.script.now) c.lines.invariant
+    c.in-Some.line.now c.in-Some.rest.now new.position (g.K.Keeper.keeps new.keeper c.args.script.now) line.0 line.1 line.2 line.3
+    (subst (λ (b : Bool). TakesLine c.args.script.now c.in-Some.line.now reader.position (g.K.Keeper.keeps reader.keeper c.args.script.now) new.position (g.K.Keeper.keeps new.keeper c.args.script.now) b) c.in-Ok-true.field-0-test c.in-Ok-true.ensures)
 
 pub returns-in-Ok-false : goal.returns-in-Ok-false
 returns-in-Ok-false g c =
     let reader = c.lines.reader in
     let new = c.take.new.self in
     let line = c.in-Some.ensures in
-    IsBadLine-not_taken c.args.script.now c.args.text.now c.lines.number c.lines.left.now reader.position (g.K.Keeper.keeps reader.keeper) c.lines.invariant c.script_weight-weight.ensures.lawful
-    c.in-Some.line.now new.position (g.K.Keeper.keeps new.keeper) line.0 line.1
-    (subst (λ (b : Bool). TakesLine c.args.script.now c.in-Some.line.now reader.position (g.K.Keeper.keeps reader.keeper) new.position (g.K.Keeper.keeps new.keeper) b) c.in-Ok-false.field-0-test c.in-Ok-false.ensures)
+    IsBadLine-not_taken c.args.script.now c.args.text.now c.lines.number c.lines.left.now reader.position (g.K.Keeper.keeps reader.keeper c.args.script.now) c.lines.invariant c.script_weight-weight.ensures.lawful
+    c.in-Some.line.now new.position (g.K.Keeper.keeps new.keeper c.args.script.now) line.0 line.1
+    (subst (λ (b : Bool). TakesLine c.args.script.now c.in-Some.line.now reader.position (g.K.Keeper.keeps reader.keeper c.args.script.now) new.position (g.K.Keeper.keeps new.keeper c.args.script.now) b) c.in-Ok-false.field-0-test c.in-Ok-false.ensures)
 
 pub returns : goal.returns
 returns g c =
     let reader = c.lines.reader in
-    ReadsWith-finished g.K.Keeper.keeps c.args.script.now c.args.text.now c.lines.number c.lines.left.now reader.position reader.keeper c.lines.invariant
+    ReadsWith-finished (λ kept. g.K.Keeper.keeps kept c.args.script.now) c.args.script.now c.args.text.now c.lines.number c.lines.left.now reader.position reader.keeper c.lines.invariant
     c.script_weight-weight.ensures.lawful c.finish.result c.in_default.ensures c.finish.ensures

@@ -12,5 +12,5 @@ returns-in_ok-end_slice-in-Some g c =
     let next = c.in-Some.next in
     let count : c.from.result + 1 ≡ c.args.slice + 1 = ap (λ (n : ℕ). n + 1) c.from.ensures in
     let led : LeadsFromSlices script (c.args.slice + 1) line next = subst (λ (n : ℕ). LeadsFromSlices script n line next) count c.in-Some.ensures in
-    TakesLine-step script line from (g.K.Keeper.keeps c.args.self.now.keeper) next (g.K.Keeper.keeps c.end_slice.new.self) with_slice c.in_ok-end_slice-in-Some.ensures
+    TakesLine-step script line from (g.K.Keeper.keeps c.args.self.now.keeper script) next (g.K.Keeper.keeps c.end_slice.new.self script) with_slice c.in_ok-end_slice-in-Some.ensures
     (λ parts. HasTaken-slice_left script line (state_at from parts) (state_at next (with_slice parts)) c.args.slice c.requires.position led refl)

@@ -8,6 +8,6 @@ returns-in-Some g c =
     let script = c.args.script.now in
     let line = c.args.line.now in
     let from = c.args.self.now.position in
-    let keeps = g.K.Keeper.keeps c.args.self.now.keeper in
+    let keeps = g.K.Keeper.keeps c.args.self.now.keeper script in
     TakesLine-step script line from keeps c.in-Some.next keeps (λ parts. parts) (λ parts kept. kept)
     (λ parts. HasTaken-tree_left script line (state_at from parts) (state_at c.in-Some.next parts) c.requires.position c.in-Some.ensures refl)

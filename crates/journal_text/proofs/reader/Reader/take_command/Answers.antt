@@ -15,5 +15,5 @@ returns-in_ok-add_command-in-Some g c =
     let e = entry_value c.in-Some.entry in
     let found : IsWritableCommand c.args.weight e × (command_line e ≡ line) = rw c.in-Some.is at c.in_ok-entry.ensures in
     let writable : IsWritableCommand (total_weight script) e = subst (λ (w : ℕ). IsWritableCommand w e) c.requires.weight found.0 in
-    TakesLine-step script line from (g.K.Keeper.keeps c.args.self.now.keeper) from (g.K.Keeper.keeps c.add_command.new.self) (λ parts. with_command parts e) c.in_ok-add_command-in-Some.ensures
+    TakesLine-step script line from (g.K.Keeper.keeps c.args.self.now.keeper script) from (g.K.Keeper.keeps c.add_command.new.self script) (λ parts. with_command parts e) c.in_ok-add_command-in-Some.ensures
     (λ parts. HasTaken-command script line (state_at from parts) (state_at from (with_command parts e)) e c.requires.position writable found.1 c.requires.position refl)

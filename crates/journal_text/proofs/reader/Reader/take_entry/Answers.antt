@@ -16,5 +16,5 @@ returns-in_ok-add_entry-in-Some g c =
     let writable : IsWritableEntry script.machine c.args.slice e =
     subst (λ (n : ℕ). IsWritableEntry script.machine n e) c.from.ensures
     (subst (λ (m : Parameters). IsWritableEntry m c.from.result e) c.machine.ensures c.in-Some.ensures.0) in
-    TakesLine-step script line from (g.K.Keeper.keeps c.args.self.now.keeper) (InSlice c.args.slice more) (g.K.Keeper.keeps c.add_entry.new.self) (λ parts. with_entry parts e) c.in_ok-add_entry-in-Some.ensures
+    TakesLine-step script line from (g.K.Keeper.keeps c.args.self.now.keeper script) (InSlice c.args.slice more) (g.K.Keeper.keeps c.add_entry.new.self script) (λ parts. with_entry parts e) c.in_ok-add_entry-in-Some.ensures
     (λ parts. HasTaken-entry script line (state_at from parts) (state_at (InSlice c.args.slice more) (with_entry parts e)) c.args.slice c.args.left more e c.requires.position (omega (arith, c.requires.more)) writable c.in-Some.ensures.1 refl refl)

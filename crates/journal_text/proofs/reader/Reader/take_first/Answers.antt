@@ -11,7 +11,7 @@ returns-then-is_text g c =
     let script = c.args.script.now in
     let line = c.args.line.now in
     let from = c.args.self.now.position in
-    let keeps = g.K.Keeper.keeps c.args.self.now.keeper in
+    let keeps = g.K.Keeper.keeps c.args.self.now.keeper script in
     TakesLine-step script line from keeps InTree keeps (λ parts. parts) (λ parts kept. kept)
     (λ parts. HasTaken-first script line (state_at from parts) (state_at InTree parts) c.requires
     (sym (is_text-same line (codes "journal 1") (sym c.is_text.ensures ∙ c.if-is_text.true))) refl refl)
