@@ -1,3 +1,4 @@
 pub mod BadInputs
 pub mod Divisions
+mod KeptParts
 pub mod WholeLines

@@ -3,5 +3,6 @@ pub mod Division
 pub mod Exports
 pub mod Forms
 pub mod Inputs
+pub mod Judging
 pub mod Laws
 pub mod VerdictLines

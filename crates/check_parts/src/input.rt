@@ -55,8 +55,8 @@ pub fn script_in(alloc: Global, bytes: &[u8]) -> Result<Script, InputError>
     script_of_text(alloc, bytes)
 }
 
-// The script of an input of a check, or what is wrong with it.
-fn script_before(
+/// The script of an input of a check, or what is wrong with it.
+pub(crate) fn script_before(
     alloc: Global,
     bytes: &[u8],
     division: Option<Division>,

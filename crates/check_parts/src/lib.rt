@@ -4,9 +4,11 @@
 
 pub mod bad_input;
 pub mod division;
+mod expected_journals;
 pub mod exports;
 pub mod form;
 pub mod input;
+pub mod judging;
 pub mod limits;
 pub mod theorems;
 pub mod verdicts;
@@ -17,6 +19,7 @@ pub use division::{Division, divide};
 pub use exports::export_text;
 pub use form::{Form, Play};
 pub use input::{CheckInput, InputError, held_in, script_in};
+pub use judging::verdict_in;
 pub use limits::MOST_CHECK_BYTES;
 pub use verdicts::verdict_line;
 pub use words::{USAGE, form_of, usage_bytes};

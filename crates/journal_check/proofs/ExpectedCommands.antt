@@ -39,9 +39,6 @@ IsExpected-legal script tree k h lawful there legal once =
     ∙ length-filter_push p (take k tree) h
     ∙ ap (λ (b : Bool). length (filter p (take k tree)) + one_if b) own in
     record {
-      command = its.op;
-      is = its.is;
-      takes = its.command;
-      few = omega (arith, its.looks, needed);
+      can = record { command = its.op; is = its.is; takes = its.command; few = omega (arith, its.looks, needed) };
       first = let none : length (filter p (take k tree)) ≡ 0 = omega (arith, more, all, length-filter_take p tree (k + 1)) in none;
     }

@@ -3,6 +3,7 @@ mod AskLists
 mod BegunOps
 mod ChangedLines
 mod ChosenWays
+mod CountedCommands
 mod Counts
 mod EmptiedLines
 mod ExpectedCommands

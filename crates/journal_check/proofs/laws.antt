@@ -3,3 +3,4 @@ pub mod FewCommands
 pub mod OpKinds
 pub mod TakenPlaces
 pub mod Told
+pub mod UnexpectedCommands

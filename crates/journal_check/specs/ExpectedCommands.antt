@@ -11,12 +11,16 @@ use Rattle.run_law.specs.TreeHistory.{TreeEntryValue}
 use Rattle.script_ops.specs.Values.{IsLawful, ScriptValue, op_at}
 use Rattle.script_ops.specs.declared.op.Op.{Op}
 
--- an entry after these is of a command of the script that does not stand among them, with no more counts than it can need
-pub record IsExpected (script : ScriptValue) (before : List TreeEntryValue) (h : TreeEntryValue) : Type 0 where
+-- an entry is of a command of the script, with no more counts than it can need
+pub record CanTake (script : ScriptValue) (h : TreeEntryValue) : Type 0 where
   pub command : Op
   pub is : op_at script h.thread h.op ≡ Some command
   pub takes : IsTrue (is_command command)
   pub few : length h.looks ≤ most_counts script.machine command
+
+-- an entry after these is of a command that does not stand among them
+pub record IsExpected (script : ScriptValue) (before : List TreeEntryValue) (h : TreeEntryValue) : Type 0 where
+  pub can : CanTake script h
   pub first : length (filter (is_taken_from h.thread h.op) before) ≡ 0
 
 -- Where an entry of the tree's history is not expected, one of the first two clauses is false, whatever the history answered and

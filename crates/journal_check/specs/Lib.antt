@@ -2,6 +2,7 @@ pub mod AfterCommands
 pub mod Asks
 pub mod Begun
 pub mod CheckReplays
+pub mod CommandCounts
 pub mod ExpectedCommands
 pub mod FirstLooks
 pub mod Homes

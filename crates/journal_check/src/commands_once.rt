@@ -47,8 +47,8 @@ fn has_ones(ops: &Ops, counts: &[u64]) -> bool
     true
 }
 
-// Whether each command of the script has.
-fn all_ones(counts: &OpTable, script: &Script) -> bool
+/// Whether each command of the script has the number 1.
+pub(crate) fn all_ones(counts: &OpTable, script: &Script) -> bool
     requires { IsTableOf script.now counts.now }
     ensures { IsTrue result ↔ AllOnes script.now counts.now }
 {
