@@ -2,6 +2,7 @@ mod ChangeLists
 mod ChangedGroups
 mod CountedWindows
 mod Entries
+mod EntryExtents
 mod Epochs
 mod ExclusiveLists
 mod Floors

@@ -1,18 +1,19 @@
 -- Each lock begins a window of the region that it loaded.
-use Rattle.std.proofs.Common.{◌≡◌, ℕ, zero, suc, ◌+◌, ◌-◌, ◌<◌, ◌≤◌, true, false, List, length, Option, None, Some, ◌⊎◌, inl, inr, refl, sym, subst, ap, ◌∙◌, arith}
-use Rattle.std.specs.Prelude.{IfSome, slice_get}
-use Rattle.std.proofs.lemmas.Bool.{cases_Bool, cases_eq, cases_lt}
-use Rattle.std.proofs.lemmas.Option.{same_Some, slice_get_past, slice_get_within}
+use Rattle.std.proofs.Common.{◌≡◌, ℕ, ◌+◌, ◌<◌, true, false, List, length, Option, None, Some, ◌⊎◌, inl, inr, sym, subst, ap, ◌∙◌, arith}
+use Rattle.std.specs.Prelude.{slice_get}
+use Rattle.std.proofs.lemmas.Bool.{cases_Bool, cases_eq, true≢false}
+use Rattle.std.proofs.lemmas.Option.{slice_get_within}
 use Rattle.cache_core.specs.Filled.{empties}
 use Rattle.cache_core.specs.declared.entry.SliceEntry.{SliceEntry}
 use Rattle.cache_core.specs.declared.entry.What.TheVariants.{Lock}
 use Rattle.machine.specs.Slices.{domain_in}
 use Rattle.pseudo_lock.specs.declared.region.Region.{Region}
-use Rattle.run_law.specs.Journals.{At, slice_at}
+use Rattle.run_law.specs.Journals.{slice_at}
 use Rattle.run_windows.specs.Epochs.{state_at}
 use Rattle.run_windows.specs.WindowLaws.{LockWindowsExist}
 use Rattle.run_windows.specs.Regions.{HasRegion}
 use Rattle.run_windows.proofs.Entries.{IsRun-given}
+use Rattle.run_windows.proofs.EntryExtents.{IsExtent-end, IsExtent-entries}
 use Rattle.run_windows.proofs.GivenCommands.{IsGiven}
 use Rattle.run_windows.proofs.StepFollows.{IsRegionOf}
 use Rattle.tree_law.specs.State.{State}
@@ -70,56 +71,10 @@ Over-or_ends state domain r e = elim (cases_Bool (empties e.what)) [
   ]
 ]
 
--- the first entry at or after a position that ends, or the end of the list
-pub record FirstLockEnd (es : List SliceEntry) (P E : SliceEntry → Type 0) (start : ℕ) : Type 0 where
-  pub to : ℕ
-  pub begins : start ≤ to
-  pub within : to ≤ length es
-  pub over : (p : ℕ) (e : SliceEntry) → At es p e → start ≤ p → p < to → P e
-  pub ends : IfSome (slice_get es to) E
-
-FirstLockEnd-some : (es : List SliceEntry) (P E : SliceEntry → Type 0) → ((e : SliceEntry) → P e ⊎ E e) → (fuel start : ℕ) → start + fuel ≡ length es → FirstLockEnd es P E start
-FirstLockEnd-some es P E either zero start is = record {
-  to = start;
-  begins = omega arith;
-  within = omega arith;
-  over = λ p e there low high. absurd (omega arith);
-  ends = subst (λ (o : Option SliceEntry). IfSome o E) (sym (slice_get_past es start (omega arith))) tt;
-}
-FirstLockEnd-some es P E either (suc fuel) start is = at (slice_get es start) refl (FirstLockEnd-some es P E either fuel (start + 1) (omega arith))
-  where
-    at : (o : Option SliceEntry) → slice_get es start ≡ o → FirstLockEnd es P E (start + 1) → FirstLockEnd es P E start
-    at None none rest = record {
-      to = start;
-      begins = omega arith;
-      within = omega arith;
-      over = λ p e there low high. absurd (omega arith);
-      ends = subst (λ (o : Option SliceEntry). IfSome o E) (sym none) tt;
-    }
-    at (Some e) here rest = elim (either e) [
-      | inl over ↦
-          let begins = rest.begins in
-          record {
-            to = rest.to;
-            begins = omega (arith, begins);
-            within = rest.within;
-            over = λ p x there low high. elim (cases_lt start p) [
-              | inl lt ↦ rest.over p x there (omega arith) high
-              | inr le ↦
-                  let same : start ≡ p = omega arith in
-                  let is_e : e ≡ x = same_Some e x (sym here ∙ (ap (slice_get es) same ∙ there)) in
-                  subst P is_e over
-            ];
-            ends = rest.ends;
-          }
-      | inr ends ↦ record {
-        to = start;
-        begins = omega arith;
-        within = omega arith;
-        over = λ p x there low high. absurd (omega arith);
-        ends = subst (λ (o : Option SliceEntry). IfSome o E) (sym here) ends;
-      }
-    ]
+-- what ends a region is not gone over
+EndsLock-not_over : (state : SliceEntry → State) (domain : ℕ) (r : Region) (e : SliceEntry) → EndsLock state domain r e → Over state domain r e → ⊥
+EndsLock-not_over state domain r e (inl empty) over = true≢false (sym empty ∙ over.0)
+EndsLock-not_over state domain r e (inr gone) over = gone over.1
 
 -- a lock begins a window of its region
 pub IsLockWindow-some : LockWindowsExist
@@ -129,11 +84,11 @@ IsLockWindow-some script j i from mask first_line opening lawful run there opens
     let said = IsRun-given script j i from opening lawful run there opens in
     let lock : IsRegionOf (state_at script j opening.epoch) domain mask first_line = subst (IsGiven script.machine domain (state_at script j opening.epoch)) locks said.given in
     let r : Region = lock.region in
-    let inside : from < length (slice_at j i) = slice_get_within (slice_at j i) from opening opens in
-    let f : FirstLockEnd (slice_at j i) (Over state domain r) (EndsLock state domain r) (from + 1) =
-    FirstLockEnd-some (slice_at j i) (Over state domain r) (EndsLock state domain r) (Over-or_ends state domain r) (length (slice_at j i) - (from + 1)) (from + 1) (omega arith) in
-    let begins = f.begins in (
-      f.to,
+    let es : List SliceEntry = slice_at j i in
+    let inside : from < length es = slice_get_within es from opening opens in
+    let x = IsExtent-entries (Over state domain r) (EndsLock state domain r) (Over-or_ends state domain r) (EndsLock-not_over state domain r) es (from + 1) (omega (arith, inside)) in
+    let begins = x.1.begins in (
+      x.0,
       r,
       lock.there,
       record {
@@ -141,8 +96,8 @@ IsLockWindow-some script j i from mask first_line opening lawful run there opens
         opens = opens;
         locks = locks ∙ (ap (λ k. Lock k first_line) (sym lock.mask_is) ∙ ap (λ k. Lock r.mask k) (sym lock.first_line_is));
         after_opening = omega (arith, begins);
-        within = f.within;
-        goes_over = λ p e at low high. f.over p e at (omega arith) high;
-        ends = f.ends;
+        within = x.1.within;
+        goes_over = λ p e at low high. x.1.over p (omega (arith, low)) high e at;
+        ends = IsExtent-end (Over state domain r) (EndsLock state domain r) (Over-or_ends state domain r) (EndsLock-not_over state domain r) es (from + 1) x.0 x.1;
       },
     )

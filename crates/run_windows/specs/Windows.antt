@@ -1,5 +1,5 @@
 -- The windows of a slice in which a group has its ways for itself, read off the journals of a run.
-use Rattle.std.specs.Prelude.{◌≡◌, ℕ, Bool, ◌||◌, nat_lt, ◌+◌, ◌<◌, ◌≤◌, ◌⊎◌, true, false, IfSome, IsSomeAnd, length, slice_get}
+use Rattle.std.specs.Prelude.{◌≡◌, ℕ, Bool, ◌||◌, nat_lt, ◌<◌, ◌≤◌, ◌⊎◌, true, false, IfSome, IsSomeAnd, length, slice_get}
 use Rattle.cache_core.specs.Filled.{empties}
 use Rattle.cache_core.specs.declared.entry.SliceEntry.{SliceEntry}
 use Rattle.group_tree.specs.Records.{has_mode, mask_in}
@@ -9,6 +9,7 @@ use Rattle.rc_base.specs.declared.names.Mode.TheVariants.{Exclusive}
 use Rattle.run_law.specs.Journals.{At, JournalsValue, slice_at}
 use Rattle.run_windows.specs.Epochs.{state_at}
 use Rattle.script_ops.specs.Values.{ScriptValue}
+use Rattle.spans.specs.Spans.{IsSpan}
 use Rattle.tree_law.specs.Existing.{group_of}
 use Rattle.tree_law.specs.State.{State}
 
@@ -18,12 +19,9 @@ use Rattle.tree_law.specs.State.{State}
 abbrev pub IsExclusive : ℕ → Gid → ℕ → State → Type 0
 IsExclusive domain group mask s = IsSomeAnd (group_of s group) (λ g. (has_mode Exclusive g ≡ true) × (mask_in domain g ≡ mask))
 
--- From the first of these epochs to the last the group stays exclusive with this mask in the domain, and no longer.
-pub record StaysExclusive (script : ScriptValue) (j : JournalsValue) (domain : ℕ) (group : Gid) (mask first last : ℕ) : Type 0 where
-  pub from_first : first ≤ last
-  pub to_last : last ≤ length j.tree
-  pub always : (epoch : ℕ) → first ≤ epoch → epoch ≤ last → IsExclusive domain group mask (state_at script j epoch)
-  pub no_longer : last < length j.tree → IsExclusive domain group mask (state_at script j (last + 1)) → ⊥
+-- from the first of these epochs to the last the group stays exclusive with this mask in the domain, and no longer
+abbrev pub StaysExclusive : ScriptValue → JournalsValue → ℕ → Gid → ℕ → ℕ → ℕ → Type 0
+StaysExclusive script j domain group mask first last = IsSpan (λ epoch. IsExclusive domain group mask (state_at script j epoch)) first (length j.tree) last
 
 -- ---- windows
 
