@@ -21,7 +21,6 @@ use Rattle.schemata_text.specs.declared.fault.TextFault.{TextFault}
 use Rattle.tree_law.specs.Existing.{directory_gid, owner_gid}
 use Rattle.tree_law.specs.Places.{controlling, is_closed}
 use Rattle.tree_law.specs.State.{State}
-use Rattle.tree_law.specs.Steps.{accepted}
 use Rattle.tree_law.specs.commands.Cpus as cpus
 use Rattle.tree_law.specs.commands.Mkdir as mkdir
 use Rattle.tree_law.specs.commands.Mode as mode

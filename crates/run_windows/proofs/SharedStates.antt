@@ -10,7 +10,6 @@ use Rattle.path_names.specs.declared.files.FileKind.TheVariants as kinds
 use Rattle.path_names.specs.declared.path_ref.PathRef.{PathRef}
 use Rattle.path_names.specs.declared.path_ref.PathRef.TheVariants.{File}
 use Rattle.rc_base.specs.declared.names.Gid.{Gid}
-use Rattle.rc_base.specs.declared.names.Mode.{Mode}
 use Rattle.rc_base.specs.declared.replies.Reply.{Reply}
 use Rattle.run_windows.specs.Quiet.{asks_exclusive, is_exclusive_text}
 use Rattle.run_windows.proofs.SharedCommands.{IsShared, AreShared, AreShared-mkdir, AreShared-rmdir, AreShared-schemata, AreShared-mode, AreShared-tasks, AreShared-cpus, AreShared-cpus_list}
@@ -30,7 +29,6 @@ use Rattle.tree_law.specs.commands.Tick as tick
 use Rattle.tree_law.specs.commands.Write as write
 
 module _ (m : Parameters) (s : State) (shared : AreShared s) where
-
   AreShared-threshold : (text : List ℕ) → AreShared (threshold.accepted m s text)
   unfolding threshold.accepted
   AreShared-threshold text = at (threshold.threshold_in m text)

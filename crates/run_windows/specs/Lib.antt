@@ -9,6 +9,7 @@ pub mod Regions
 pub mod Sites
 pub mod Stays
 pub mod Sweeps
+pub mod Timelines
 pub mod WindowCounts
 pub mod WindowLaws
 pub mod Windows

@@ -11,10 +11,11 @@ ghost use Rattle.script_ops.specs.Values.{IsLawful};
 
 use crate::edit::{Edit, edit_one};
 use crate::exclusive_group::{ExclusiveGroup, exclusive_group};
+use crate::run::Run;
 use path_names::{FileKind, PathRef};
 use rc_base::{Gid, NoMemory};
-use run_law::{Journals, TreeEntry};
-use script_ops::{Op, Script};
+use run_law::TreeEntry;
+use script_ops::Op;
 use std::alloc::Global;
 use tree_core::Tree;
 
@@ -70,16 +71,16 @@ fn changed_gid(tree: &Tree, op: &Op) -> Option<Gid>
 }
 
 // Takes the next command of a run, and answers the one group that may now be exclusive or not, or on other masks.
-fn take(tree: &mut Tree, script: &Script, journals: &Journals, entry: &TreeEntry) -> Option<Gid>
-    requires lawful { IsLawful script.now }
-    requires run { IsRun script.now journals.now }
-    requires replayed { IsReplayed script.now journals.now tree.old }
-    requires next { At journals.now.tree tree.old.epoch (entry_value entry.now) }
-    ensures replayed { IsReplayed script.now journals.now tree.new }
+fn take(tree: &mut Tree, run: &Run<'_>, entry: &TreeEntry) -> Option<Gid>
+    requires lawful { IsLawful run.now.script.now }
+    requires run { IsRun run.now.script.now run.now.journals.now }
+    requires replayed { IsReplayed run.now.script.now run.now.journals.now tree.old }
+    requires next { At run.now.journals.now.tree tree.old.epoch (entry_value entry.now) }
+    ensures replayed { IsReplayed run.now.script.now run.now.journals.now tree.new }
     ensures epoch { tree.new.epoch ≡ tree.old.epoch + 1 }
     ensures kept { AreKeptBut result tree.old.state tree.new.state }
 {
-    match script.op(entry.thread, entry.op) {
+    match run.script.op(entry.thread, entry.op) {
         Some(op) => {
             let op = op.get();
             let gid = changed_gid(tree, op);
@@ -102,20 +103,14 @@ fn first_log(alloc: Global) -> Log
 }
 
 // Adds what a command did to the one group that it may have changed, where it did.
-fn push_changed(
-    script: &Script,
-    journals: &Journals,
-    tree: &Tree,
-    gid: Gid,
-    log: &mut Log,
-) -> Result<(), NoMemory>
-    requires lawful { IsLawful script.now }
-    requires run { IsRun script.now journals.now }
-    requires replayed { IsReplayed script.now journals.now tree.now }
-    requires changes { AreChanges script.now journals.now tree.now.epoch (logged log.old) }
+fn push_changed(run: &Run<'_>, tree: &Tree, gid: Gid, log: &mut Log) -> Result<(), NoMemory>
+    requires lawful { IsLawful run.now.script.now }
+    requires run { IsRun run.now.script.now run.now.journals.now }
+    requires replayed { IsReplayed run.now.script.now run.now.journals.now tree.now }
+    requires changes { AreChanges run.now.script.now run.now.journals.now tree.now.epoch (logged log.old) }
     requires order { AreInOrder log.old.latest.items }
     requires others { others gid log.old.latest.items ≡ others gid (exclusive_in tree.now.state.groups) }
-    ensures { OnOk result (AreChanges script.now journals.now (tree.now.epoch + 1) (logged log.new)) }
+    ensures { OnOk result (AreChanges run.now.script.now run.now.journals.now (tree.now.epoch + 1) (logged log.new)) }
 {
     match edit_one(&mut log.latest, gid, exclusive_group(tree, gid))? {
         Some(edit) => {
@@ -131,32 +126,26 @@ fn push_changed(
 }
 
 // Takes the next command of a run, and adds what it did to the exclusive groups, where it changed one of them or its masks.
-fn step(
-    script: &Script,
-    journals: &Journals,
-    entry: &TreeEntry,
-    tree: &mut Tree,
-    log: &mut Log,
-) -> Result<(), NoMemory>
-    requires lawful { IsLawful script.now }
-    requires run { IsRun script.now journals.now }
-    requires replayed { IsReplayed script.now journals.now tree.old }
-    requires next { At journals.now.tree tree.old.epoch (entry_value entry.now) }
-    requires changes { AreChanges script.now journals.now (tree.old.epoch + 1) (logged log.old) }
-    ensures replayed { IsReplayed script.now journals.now tree.new }
+fn step(run: &Run<'_>, entry: &TreeEntry, tree: &mut Tree, log: &mut Log) -> Result<(), NoMemory>
+    requires lawful { IsLawful run.now.script.now }
+    requires run { IsRun run.now.script.now run.now.journals.now }
+    requires replayed { IsReplayed run.now.script.now run.now.journals.now tree.old }
+    requires next { At run.now.journals.now.tree tree.old.epoch (entry_value entry.now) }
+    requires changes { AreChanges run.now.script.now run.now.journals.now (tree.old.epoch + 1) (logged log.old) }
+    ensures replayed { IsReplayed run.now.script.now run.now.journals.now tree.new }
     ensures epoch { tree.new.epoch ≡ tree.old.epoch + 1 }
-    ensures changes { OnOk result (AreChanges script.now journals.now (tree.new.epoch + 1) (logged log.new)) }
+    ensures changes { OnOk result (AreChanges run.now.script.now run.now.journals.now (tree.new.epoch + 1) (logged log.new)) }
 {
-    match take(tree, script, journals, entry) {
-        Some(gid) => push_changed(script, journals, tree, gid, log),
+    match take(tree, run, entry) {
+        Some(gid) => push_changed(run, tree, gid, log),
         None => Ok(()),
     }
 }
 
 // All changes of a log, the last of which makes the latest groups of none.
-fn closed(script: &Script, journals: &Journals, log: Log) -> Result<Vec<Past>, NoMemory>
-    requires { AreChanges script.now journals.now (length journals.now.tree + 1) (logged log) }
-    ensures { IfOk result (λ pasts. AreChanges script.now journals.now (length journals.now.tree + 1) (changes_of [] pasts.items)) }
+fn closed(run: &Run<'_>, log: Log) -> Result<Vec<Past>, NoMemory>
+    requires { AreChanges run.now.script.now run.now.journals.now (length run.now.journals.now.tree + 1) (logged log) }
+    ensures { IfOk result (λ pasts. AreChanges run.now.script.now run.now.journals.now (length run.now.journals.now.tree + 1) (changes_of [] pasts.items)) }
 {
     let Log {
         mut pasts,
@@ -172,19 +161,15 @@ fn closed(script: &Script, journals: &Journals, log: Log) -> Result<Vec<Past>, N
 
 /// What makes the groups that are exclusive at first, and after each command that changes them or a mask of theirs, of those of
 /// the next change, and the last of none. The tree is played once more for it.
-pub(crate) fn changes(
-    alloc: Global,
-    script: &Script,
-    journals: &Journals,
-) -> Result<Vec<Past>, NoMemory>
-    requires lawful { IsLawful script.now }
-    requires run { IsRun script.now journals.now }
-    ensures { IfOk result (λ pasts. AreChanges script.now journals.now (length journals.now.tree + 1) (changes_of [] pasts.items)) }
+pub(crate) fn changes(alloc: Global, run: &Run<'_>) -> Result<Vec<Past>, NoMemory>
+    requires lawful { IsLawful run.now.script.now }
+    requires run { IsRun run.now.script.now run.now.journals.now }
+    ensures { IfOk result (λ pasts. AreChanges run.now.script.now run.now.journals.now (length run.now.journals.now.tree + 1) (changes_of [] pasts.items)) }
 {
-    let mut tree = Tree::create(alloc, script.machine(), script.tasks())?;
+    let mut tree = Tree::create(alloc, run.script.machine(), run.script.tasks())?;
     let mut log = first_log(alloc);
-    for entry in journals.tree() {
-        step(script, journals, entry, &mut tree, &mut log)?;
+    for entry in run.journals.tree() {
+        step(run, entry, &mut tree, &mut log)?;
     }
-    closed(script, journals, log)
+    closed(run, log)
 }

@@ -10,6 +10,7 @@ mod opened;
 mod opening;
 mod places;
 mod quiet;
+mod run;
 mod sweep;
 pub mod theorems;
 mod timeline;

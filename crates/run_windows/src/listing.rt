@@ -8,8 +8,7 @@ ghost use Rattle.run_law.specs.Runs.{IsRun};
 ghost use Rattle.run_windows.specs.AllWindows.{AreWindowsBefore, AreWindowsOf};
 ghost use Rattle.run_windows.specs.Changes.{AreChanges};
 ghost use Rattle.run_windows.specs.Edits.{changes_of};
-ghost use Rattle.run_windows.specs.Sweeps.{AreMarks};
-ghost use Rattle.run_windows.specs.declared.timeline.TheConstants.{STEP};
+ghost use Rattle.run_windows.specs.Timelines.{IsTimeline};
 ghost use Rattle.script_ops.specs.Values.{IsLawful};
 
 use crate::changes::{Past, changes};
@@ -17,8 +16,8 @@ use crate::counting::empties;
 use crate::opened::push_opened;
 use crate::opening::Opening;
 use crate::quiet::has_exclusive_write;
-use crate::sweep::Sweep;
-use crate::timeline::{marks, stays_at};
+use crate::run::Run;
+use crate::timeline::{Timeline, stays_at, timeline_of};
 use cache_core::SliceEntry;
 use rc_base::NoMemory;
 use run_law::{Journals, Window};
@@ -28,70 +27,47 @@ use std::alloc::Global;
 // Adds the windows that begin at an entry of a slice, where it is a flush or a lock.
 fn push_entry(
     alloc: Global,
-    script: &Script,
-    journals: &Journals,
+    timeline: &Timeline<'_>,
     opening: Opening,
     entry: &SliceEntry,
-    changes: &[Past],
-    marks: &[Sweep],
     windows: &mut Vec<Window>,
 ) -> Result<(), NoMemory>
-    requires lawful { IsLawful script.now }
-    requires run { IsRun script.now journals.now }
-    requires domain { opening.domain < script.now.machine.domains }
-    requires slice { opening.slice < script.now.machine.slices }
-    requires entry { At (slice_at journals.now (slice_number script.now.machine opening.domain opening.slice)) opening.from entry.now }
-    requires changes { AreChanges script.now journals.now (length journals.now.tree + 1) (changes_of [] changes.now) }
-    requires marks { AreMarks opening.domain (length journals.now.tree) STEP changes.now marks.now }
-    requires before { AreWindowsBefore script.now journals.now (record { domain = opening.domain; slice = opening.slice; from = opening.from; gid = 0 }) windows.old.items }
-    ensures { OnOk result (AreWindowsBefore script.now journals.now (record { domain = opening.domain; slice = opening.slice; from = opening.from + 1; gid = 0 }) windows.new.items) }
+    requires timeline { IsTimeline opening.domain timeline.now }
+    requires slice { opening.slice < timeline.now.run.script.now.machine.slices }
+    requires entry { At (slice_at timeline.now.run.journals.now (slice_number timeline.now.run.script.now.machine opening.domain opening.slice)) opening.from entry.now }
+    requires before { AreWindowsBefore timeline.now.run.script.now timeline.now.run.journals.now (record { domain = opening.domain; slice = opening.slice; from = opening.from; gid = 0 }) windows.old.items }
+    ensures { OnOk result (AreWindowsBefore timeline.now.run.script.now timeline.now.run.journals.now (record { domain = opening.domain; slice = opening.slice; from = opening.from + 1; gid = 0 }) windows.new.items) }
 {
     if !empties(entry.what) {
         return Ok(());
     }
-    let stays = stays_at(
-        alloc,
-        script,
-        journals,
-        opening.domain,
-        changes,
-        marks,
-        entry.epoch,
-    )?;
-    push_opened(alloc, script, journals, opening, &stays, windows)
+    let stays = stays_at(alloc, timeline, opening.domain, entry.epoch)?;
+    push_opened(alloc, &timeline.run, opening, &stays, windows)
 }
 
 // Adds the windows of a slice.
 fn push_slice(
     alloc: Global,
-    script: &Script,
-    journals: &Journals,
+    timeline: &Timeline<'_>,
     domain: u8,
     slice: u8,
-    changes: &[Past],
-    marks: &[Sweep],
     windows: &mut Vec<Window>,
 ) -> Result<(), NoMemory>
-    requires lawful { IsLawful script.now }
-    requires run { IsRun script.now journals.now }
-    requires domain { domain < script.now.machine.domains }
-    requires slice { slice < script.now.machine.slices }
-    requires changes { AreChanges script.now journals.now (length journals.now.tree + 1) (changes_of [] changes.now) }
-    requires marks { AreMarks domain (length journals.now.tree) STEP changes.now marks.now }
-    requires before { AreWindowsBefore script.now journals.now (record { domain = domain; slice = slice; from = 0; gid = 0 }) windows.old.items }
-    ensures { OnOk result (AreWindowsBefore script.now journals.now (record { domain = domain; slice = slice + 1; from = 0; gid = 0 }) windows.new.items) }
+    requires timeline { IsTimeline domain timeline.now }
+    requires slice { slice < timeline.now.run.script.now.machine.slices }
+    requires before { AreWindowsBefore timeline.now.run.script.now timeline.now.run.journals.now (record { domain = domain; slice = slice; from = 0; gid = 0 }) windows.old.items }
+    ensures { OnOk result (AreWindowsBefore timeline.now.run.script.now timeline.now.run.journals.now (record { domain = domain; slice = slice + 1; from = 0; gid = 0 }) windows.new.items) }
 {
-    let number = u32::from(domain) * u32::from(script.machine().slices) + u32::from(slice);
-    let entries = journals.slice(number);
+    let run = &timeline.run;
+    let number = u32::from(domain) * u32::from(run.script.machine().slices) + u32::from(slice);
+    let entries = run.journals.slice(number);
     for (from, entry) in entries.iter().enumerate() {
         let opening = Opening {
             domain,
             slice,
             from: from as u32,
         };
-        push_entry(
-            alloc, script, journals, opening, entry, changes, marks, windows,
-        )?;
+        push_entry(alloc, timeline, opening, entry, windows)?;
     }
     Ok(())
 }
@@ -99,24 +75,21 @@ fn push_slice(
 // Adds the windows of a domain, slice by slice.
 fn push_domain(
     alloc: Global,
-    script: &Script,
-    journals: &Journals,
+    run: &Run<'_>,
     domain: u8,
     changes: &[Past],
     windows: &mut Vec<Window>,
 ) -> Result<(), NoMemory>
-    requires lawful { IsLawful script.now }
-    requires run { IsRun script.now journals.now }
-    requires domain { domain < script.now.machine.domains }
-    requires changes { AreChanges script.now journals.now (length journals.now.tree + 1) (changes_of [] changes.now) }
-    requires before { AreWindowsBefore script.now journals.now (record { domain = domain; slice = 0; from = 0; gid = 0 }) windows.old.items }
-    ensures { OnOk result (AreWindowsBefore script.now journals.now (record { domain = domain + 1; slice = 0; from = 0; gid = 0 }) windows.new.items) }
+    requires lawful { IsLawful run.now.script.now }
+    requires run { IsRun run.now.script.now run.now.journals.now }
+    requires domain { domain < run.now.script.now.machine.domains }
+    requires changes { AreChanges run.now.script.now run.now.journals.now (length run.now.journals.now.tree + 1) (changes_of [] changes.now) }
+    requires before { AreWindowsBefore run.now.script.now run.now.journals.now (record { domain = domain; slice = 0; from = 0; gid = 0 }) windows.old.items }
+    ensures { OnOk result (AreWindowsBefore run.now.script.now run.now.journals.now (record { domain = domain + 1; slice = 0; from = 0; gid = 0 }) windows.new.items) }
 {
-    let marks = marks(alloc, journals, domain, changes)?;
-    for slice in 0..script.machine().slices {
-        push_slice(
-            alloc, script, journals, domain, slice, changes, &marks, windows,
-        )?;
+    let timeline = timeline_of(alloc, run, domain, changes)?;
+    for slice in 0..run.script.machine().slices {
+        push_slice(alloc, &timeline, domain, slice, windows)?;
     }
     Ok(())
 }
@@ -139,9 +112,10 @@ pub fn windows(alloc: Global, script: &Script, journals: &Journals) -> Result<Ve
     if !has_exclusive_write(script, journals) {
         return Ok(windows);
     }
-    let changes = changes(alloc, script, journals)?;
+    let run = Run { script, journals };
+    let changes = changes(alloc, &run)?;
     for domain in 0..script.machine().domains {
-        push_domain(alloc, script, journals, domain, &changes, &mut windows)?;
+        push_domain(alloc, &run, domain, &changes, &mut windows)?;
     }
     Ok(windows)
 }

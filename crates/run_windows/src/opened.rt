@@ -16,11 +16,11 @@ ghost use Rattle.script_ops.specs.Values.{IsLawful};
 
 use crate::counting::{empties, window_of};
 use crate::opening::Opening;
+use crate::run::Run;
 use cache_core::SliceEntry;
 use private_lru::{ExclusiveSpan, WindowCounts, counts_of};
 use rc_base::NoMemory;
-use run_law::{Journals, Window};
-use script_ops::Script;
+use run_law::Window;
 use std::alloc::Global;
 
 // Adds a window in which its group has an access.
@@ -60,19 +60,18 @@ fn front_of(entries: &[SliceEntry], from: usize) -> &[SliceEntry]
 // What is counted of the windows of these groups that begin at a flush or a lock.
 fn counts_at(
     alloc: Global,
-    script: &Script,
-    journals: &Journals,
+    run: &Run<'_>,
     opening: Opening,
     stays: &[ExclusiveSpan],
 ) -> Result<Vec<WindowCounts>, NoMemory>
-    requires within { opening.from < length (slice_at journals.now (slice_number script.now.machine opening.domain opening.slice)) }
-    requires few { length (slice_at journals.now (slice_number script.now.machine opening.domain opening.slice)) < 2 ^ 32 }
+    requires within { opening.from < length (slice_at run.now.journals.now (slice_number run.now.script.now.machine opening.domain opening.slice)) }
+    requires few { length (slice_at run.now.journals.now (slice_number run.now.script.now.machine opening.domain opening.slice)) < 2 ^ 32 }
     requires rising { RiseByGroup stays.now }
-    ensures { IfOk result (λ counts. (d : SliceEntry) → AreCounted script.now.machine.sets (slice_index_or (slice_at journals.now (slice_number script.now.machine opening.domain opening.slice)) opening.from d).what (front_of opening.from (slice_at journals.now (slice_number script.now.machine opening.domain opening.slice))) stays.now counts.items) }
+    ensures { IfOk result (λ counts. (d : SliceEntry) → AreCounted run.now.script.now.machine.sets (slice_index_or (slice_at run.now.journals.now (slice_number run.now.script.now.machine opening.domain opening.slice)) opening.from d).what (front_of opening.from (slice_at run.now.journals.now (slice_number run.now.script.now.machine opening.domain opening.slice))) stays.now counts.items) }
 {
-    let machine = script.machine();
+    let machine = run.script.machine();
     let number = u32::from(opening.domain) * u32::from(machine.slices) + u32::from(opening.slice);
-    let entries = journals.slice(number);
+    let entries = run.journals.slice(number);
     let from = opening.from as usize;
     counts_of(
         alloc,
@@ -85,22 +84,21 @@ fn counts_at(
 
 // Adds the window of an exclusive group that begins at a flush or a lock, where the group has an access in it.
 fn push_window(
-    script: &Script,
-    journals: &Journals,
+    run: &Run<'_>,
     opening: Opening,
     stay: ExclusiveSpan,
     counts: WindowCounts,
     windows: &mut Vec<Window>,
 ) -> Result<(), NoMemory>
-    requires lawful { IsLawful script.now }
-    requires run { IsRun script.now journals.now }
-    requires domain { opening.domain < script.now.machine.domains }
-    requires slice { opening.slice < script.now.machine.slices }
-    requires opens { IsOpening script.now journals.now opening.domain opening.slice opening.from }
-    requires exclusive { (d : SliceEntry) → StaysExclusive script.now journals.now opening.domain stay.gid stay.mask (slice_index_or (slice_at journals.now (slice_number script.now.machine opening.domain opening.slice)) opening.from d).epoch stay.last }
-    requires counted { (d : SliceEntry) → IsCounted script.now.machine.sets (slice_index_or (slice_at journals.now (slice_number script.now.machine opening.domain opening.slice)) opening.from d).what (front_of opening.from (slice_at journals.now (slice_number script.now.machine opening.domain opening.slice))) stay counts }
-    requires before { AreWindowsBefore script.now journals.now (record { domain = opening.domain; slice = opening.slice; from = opening.from; gid = stay.gid.0 }) windows.old.items }
-    ensures { OnOk result (AreWindowsBefore script.now journals.now (record { domain = opening.domain; slice = opening.slice; from = opening.from; gid = stay.gid.0 + 1 }) windows.new.items) }
+    requires lawful { IsLawful run.now.script.now }
+    requires run { IsRun run.now.script.now run.now.journals.now }
+    requires domain { opening.domain < run.now.script.now.machine.domains }
+    requires slice { opening.slice < run.now.script.now.machine.slices }
+    requires opens { IsOpening run.now.script.now run.now.journals.now opening.domain opening.slice opening.from }
+    requires exclusive { (d : SliceEntry) → StaysExclusive run.now.script.now run.now.journals.now opening.domain stay.gid stay.mask (slice_index_or (slice_at run.now.journals.now (slice_number run.now.script.now.machine opening.domain opening.slice)) opening.from d).epoch stay.last }
+    requires counted { (d : SliceEntry) → IsCounted run.now.script.now.machine.sets (slice_index_or (slice_at run.now.journals.now (slice_number run.now.script.now.machine opening.domain opening.slice)) opening.from d).what (front_of opening.from (slice_at run.now.journals.now (slice_number run.now.script.now.machine opening.domain opening.slice))) stay counts }
+    requires before { AreWindowsBefore run.now.script.now run.now.journals.now (record { domain = opening.domain; slice = opening.slice; from = opening.from; gid = stay.gid.0 }) windows.old.items }
+    ensures { OnOk result (AreWindowsBefore run.now.script.now run.now.journals.now (record { domain = opening.domain; slice = opening.slice; from = opening.from; gid = stay.gid.0 + 1 }) windows.new.items) }
 {
     push_used(windows, window_of(opening, stay, counts))
 }
@@ -108,24 +106,23 @@ fn push_window(
 /// Adds the windows that begin at a flush or a lock, of the groups that are exclusive then.
 pub(crate) fn push_opened(
     alloc: Global,
-    script: &Script,
-    journals: &Journals,
+    run: &Run<'_>,
     opening: Opening,
     stays: &[ExclusiveSpan],
     windows: &mut Vec<Window>,
 ) -> Result<(), NoMemory>
-    requires lawful { IsLawful script.now }
-    requires run { IsRun script.now journals.now }
-    requires domain { opening.domain < script.now.machine.domains }
-    requires slice { opening.slice < script.now.machine.slices }
-    requires opens { IsOpening script.now journals.now opening.domain opening.slice opening.from }
-    requires stays { (d : SliceEntry) → AreStays script.now journals.now opening.domain (slice_index_or (slice_at journals.now (slice_number script.now.machine opening.domain opening.slice)) opening.from d).epoch stays.now }
-    requires before { AreWindowsBefore script.now journals.now (record { domain = opening.domain; slice = opening.slice; from = opening.from; gid = 0 }) windows.old.items }
-    ensures { OnOk result (AreWindowsBefore script.now journals.now (record { domain = opening.domain; slice = opening.slice; from = opening.from + 1; gid = 0 }) windows.new.items) }
+    requires lawful { IsLawful run.now.script.now }
+    requires run { IsRun run.now.script.now run.now.journals.now }
+    requires domain { opening.domain < run.now.script.now.machine.domains }
+    requires slice { opening.slice < run.now.script.now.machine.slices }
+    requires opens { IsOpening run.now.script.now run.now.journals.now opening.domain opening.slice opening.from }
+    requires stays { (d : SliceEntry) → AreStays run.now.script.now run.now.journals.now opening.domain (slice_index_or (slice_at run.now.journals.now (slice_number run.now.script.now.machine opening.domain opening.slice)) opening.from d).epoch stays.now }
+    requires before { AreWindowsBefore run.now.script.now run.now.journals.now (record { domain = opening.domain; slice = opening.slice; from = opening.from; gid = 0 }) windows.old.items }
+    ensures { OnOk result (AreWindowsBefore run.now.script.now run.now.journals.now (record { domain = opening.domain; slice = opening.slice; from = opening.from + 1; gid = 0 }) windows.new.items) }
 {
-    let counts = counts_at(alloc, script, journals, opening, stays)?;
+    let counts = counts_at(alloc, run, opening, stays)?;
     for i in 0..stays.len() {
-        push_window(script, journals, opening, stays[i], counts[i], windows)?;
+        push_window(run, opening, stays[i], counts[i], windows)?;
     }
     Ok(())
 }

@@ -4,7 +4,7 @@ use Rattle.run_windows.proofs.changes.changes.Given as goal
 
 abbrev pub invariant-loop-entry : goal.invariant-loop-entry
 invariant-loop-entry l = record {
-  replayed : IsReplayed l.script l.journals l.tree;
+  replayed : IsReplayed l.run.script.now l.run.journals.now l.tree;
   epoch : l.tree.epoch ≡ l.entry-index;
-  changes : AreChanges l.script l.journals (l.tree.epoch + 1) (logged l.log);
+  changes : AreChanges l.run.script.now l.run.journals.now (l.tree.epoch + 1) (logged l.log);
 }

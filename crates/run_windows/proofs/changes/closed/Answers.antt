@@ -8,5 +8,5 @@ use Rattle.run_windows.proofs.changes.closed.Goals as goal
 pub returns : goal.returns
 returns c =
     let log = c.args.log in
-    subst (λ (l : List Change). AreChanges c.args.script.now c.args.journals.now (length c.args.journals.now.tree + 1) l)
+    subst (λ (l : List Change). AreChanges c.args.run.now.script.now c.args.run.now.journals.now (length c.args.run.now.journals.now.tree + 1) l)
     (sym (ap (changes_of []) c.in_ok-push.ensures.items ∙ changes_of-snoc [] log.pasts.items (record { from = log.from; edit = Whole log.latest }))) c.requires

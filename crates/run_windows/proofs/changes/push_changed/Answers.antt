@@ -13,8 +13,8 @@ use Rattle.run_windows.proofs.changes.push_changed.Goals as goal
 
 pub returns-in_ok-push-in-Some : goal.returns-in_ok-push-in-Some
 returns-in_ok-push-in-Some c =
-    let script = c.args.script.now in
-    let j = c.args.journals.now in
+    let script = c.args.run.now.script.now in
+    let j = c.args.run.now.journals.now in
     let tree = c.args.tree.now in
     let log = c.args.log.now in
     let gid = c.args.gid in
@@ -27,8 +27,8 @@ returns-in_ok-push-in-Some c =
 
 pub returns-in-None : goal.returns-in-None
 returns-in-None c =
-    let script = c.args.script.now in
-    let j = c.args.journals.now in
+    let script = c.args.run.now.script.now in
+    let j = c.args.run.now.journals.now in
     let tree = c.args.tree.now in
     let log = c.args.log.now in
     let gid = c.args.gid in

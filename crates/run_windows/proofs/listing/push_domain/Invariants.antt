@@ -3,4 +3,4 @@ use Rattle.run_windows.specs.AllWindows.{AreWindowsBefore}
 use Rattle.run_windows.proofs.listing.push_domain.Given as goal
 
 abbrev pub invariant-loop-slice : goal.invariant-loop-slice
-invariant-loop-slice l = AreWindowsBefore l.script l.journals (site l.domain l.slice 0 0) l.windows.items
+invariant-loop-slice l = AreWindowsBefore l.timeline.run.script.now l.timeline.run.journals.now (site l.domain l.slice 0 0) l.windows.items

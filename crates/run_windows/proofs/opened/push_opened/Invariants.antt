@@ -5,4 +5,4 @@ use Rattle.run_windows.specs.AllWindows.{AreWindowsBefore}
 use Rattle.run_windows.proofs.opened.push_opened.Given as goal
 
 abbrev pub invariant-loop-i : goal.invariant-loop-i
-invariant-loop-i l = AreWindowsBefore l.script l.journals (site l.opening.domain l.opening.slice l.opening.from (first_past (gids l.stays) l.i)) l.windows.items
+invariant-loop-i l = AreWindowsBefore l.run.script.now l.run.journals.now (site l.opening.domain l.opening.slice l.opening.from (first_past (gids l.stays) l.i)) l.windows.items

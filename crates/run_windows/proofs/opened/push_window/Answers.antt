@@ -15,8 +15,8 @@ use Rattle.run_windows.proofs.opened.push_window.Goals as goal
 
 pub returns : goal.returns
 returns c =
-    let script = c.args.script.now in
-    let j = c.args.journals.now in
+    let script = c.args.run.now.script.now in
+    let j = c.args.run.now.journals.now in
     let o = c.args.opening in
     let s = c.args.stay in
     let w = c.window_of.result in

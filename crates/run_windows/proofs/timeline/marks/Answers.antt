@@ -11,7 +11,7 @@ pub loop-back-preserved : goal.loop-back-preserved
 loop-back-preserved c =
     let domain = c.args.domain in
     let pasts = c.args.pasts.now in
-    let end : ℕ = length c.args.journals.now.tree in
+    let end : ℕ = length c.args.run.now.journals.now.tree in
     let back = c.loop-back.back in
     let was = c.loop-back.invariant in
     let old : List Sweep = c.loop-back.marks.items in
