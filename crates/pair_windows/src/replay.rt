@@ -112,4 +112,18 @@ impl Replay {
             self.take_op(script);
         }
     }
+
+    /// Takes the ops before a place, from where the tree is.
+    pub fn reach(&mut self, script: &PairScript, place: usize)
+        requires playable { IsPlayable script.now }
+        requires taken { HasTaken script.now self.old }
+        requires later { self.old.place ≤ place }
+        requires within { place ≤ length script.now.ops }
+        ensures taken { HasTaken script.now self.new }
+        ensures place { self.new.place ≡ place }
+    {
+        while self.place < place {
+            self.take_op(script);
+        }
+    }
 }
