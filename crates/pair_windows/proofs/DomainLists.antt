@@ -21,7 +21,7 @@ use Rattle.private_lru.specs.Ends.{RiseByGroup}
 use Rattle.spans.specs.declared.span.Span.{Span}
 
 -- lists that are each that of a position, one after another
-flat_map-each : {X Y : Type 0} (f : X → List Y) (g : ℕ → List Y) (n : ℕ) (xs : List X) → ((i : ℕ) (d : X) → i < length xs → f (get_or xs i d) ≡ g (n + i))
+pub flat_map-each : {X Y : Type 0} (f : X → List Y) (g : ℕ → List Y) (n : ℕ) (xs : List X) → ((i : ℕ) (d : X) → i < length xs → f (get_or xs i d) ≡ g (n + i))
     → flat_map f xs ≡ flat_map g (range_with_len n (length xs))
 flat_map-each f g n [] same = refl
 flat_map-each {Y = Y} f g n (x ∷ xs) same =

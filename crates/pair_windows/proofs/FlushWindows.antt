@@ -1,6 +1,6 @@
 -- The windows that begin at one flush, as they are counted.
-use Rattle.std.proofs.Common.{◌≡◌, ℕ, ◌+◌, ◌-◌, ◌<◌, ◌≤◌, true, List, length, take_all, map, filter, take, drop, get_or, Some, inl, inr, sym, subst, ap, ◌∙◌, arith}
-use Rattle.std.specs.List.{All, position_or_len, slice_get}
+use Rattle.std.proofs.Common.{◌≡◌, ℕ, ◌+◌, ◌-◌, ◌<◌, ◌≤◌, true, List, length, map, filter, take, drop, get_or, inl, inr, sym, subst, ap, ◌∙◌, arith}
+use Rattle.std.specs.List.{All, position_or_len}
 use Rattle.std.proofs.lemmas.Bool.{cases_lt}
 use Rattle.std.proofs.lemmas.List.{get_or-drop, get_or-map, get_or-take, get_or_default, length-drop, length-map, length-take-le}
 use Rattle.std.proofs.lemmas.Option.{get_or_from_slice_get, slice_get-get_or, slice_get_within}
@@ -22,7 +22,7 @@ use Rattle.pair_windows.proofs.laws.RisingGroups.{RiseByGid-state_at}
 use Rattle.pair_windows.proofs.laws.WindowFronts.{window_front-front, window_of-counted}
 use Rattle.pair_windows.specs.CdpJournals.{IsPlayed}
 use Rattle.pair_windows.specs.CdpWindows.{ends_window, is_used, owner_of_partition, window_from, window_front, windows_from}
-use Rattle.pair_windows.specs.Counted.{ComesBefore, RiseByEpoch, counted_window, counted_windows}
+use Rattle.pair_windows.specs.Counted.{RiseByEpoch, counted_window, counted_windows}
 use Rattle.pair_windows.specs.Fronts.{front_len, front_of}
 use Rattle.pair_windows.specs.PartitionSpans.{kept_from, kept_of, stay_of}
 use Rattle.pair_windows.specs.Partitions.{is_kept, is_kept_at, last_epoch, partitions_in}
@@ -37,7 +37,7 @@ use Rattle.private_lru.specs.GroupCounts.{covered_private_hits, hits_of_group}
 use Rattle.private_lru.specs.Isolation.{IsIsolated, between}
 use Rattle.private_lru.specs.declared.counts.WindowCounts.{WindowCounts}
 use Rattle.run_law.specs.Journals.{At}
-use Rattle.private_lru.proofs.laws.FirstPlaces.{position_or_len-before, position_or_len-le, slice_get-drop}
+use Rattle.private_lru.proofs.laws.FirstPlaces.{position_or_len-le}
 use Rattle.private_lru.specs.Ends.{held_len}
 use Rattle.private_lru.specs.Tallies.{AreCounted, IsCounted}
 use Rattle.private_lru.specs.declared.exclusive_span.ExclusiveSpan.{ExclusiveSpan}
@@ -95,20 +95,6 @@ module _ (script : PairScriptValue) (j : CdpJournalsValue) (domain from : ℕ) (
       let le = epoch-rises (from + 1 + q) (from + len) opening (omega (arith, few)) last-inside in
       omega (arith, is, le)
 
-  -- no flush stands between
-  pub ComesBefore-bound : ComesBefore bound (from + 1) entries
-  ComesBefore-bound = λ p e at low is. elim (cases_lt p (from + 1 + len)) [
-    | inl early ↦ absurd (let place : (from + 1) + (p - (from + 1)) ≡ p = omega (arith, low) in
-        let there : slice_get rest (p - (from + 1)) ≡ Some e = slice_get-drop (from + 1) (p - (from + 1)) entries ∙ (ap (slice_get entries) place ∙ at) in
-        let full = position_or_len-before (λ (x : SliceEntry). empties x.what) rest (p - (from + 1)) e there (omega (arith, early, low)) in
-        let empty : empties e.what ≡ true = ap empties is in
-        let both = sym full ∙ empty in cc)
-    | inr late ↦
-        let here = ap (λ (x : SliceEntry). x.epoch) (get_or_from_slice_get entries p e opening at) in
-        let le = epoch-rises (from + len) p opening (omega (arith, late)) (slice_get_within entries p e at) in
-        omega (arith, here, le)
-  ]
-
   -- ---- one partition
 
   module _ (p : Partition) (kept : is_kept domain p (state_at script opening.epoch) ≡ true) where
@@ -163,26 +149,3 @@ module _ (script : PairScriptValue) (j : CdpJournalsValue) (domain from : ℕ) (
       ap f is ∙ (window_from-counted p kept (get_or counts i c) (subst (λ (s : ExclusiveSpan). IsCounted script.machines.machine.sets Flush front s (get_or counts i c)) stay counted)
       ∙ ap (λ (x : Span Partition). counted_window domain from x.held (get_or counts i c)) (sym is))) in
       ap (filter is_used) (sym (map-after f (kept_of script domain opening.epoch (bound - opening.epoch)) parts) ∙ counted_windows-map domain from f kept_parts counts same each)
-
-  -- ---- as the code reads the entries
-
-  module _ (read : List SliceEntry) (same : read ≡ entries) where
-    -- what is left after the flush
-    rest-read : take (length read - (from + 1)) (drop (from + 1) read) ≡ rest
-    rest-read = take_all (length read - (from + 1)) (drop (from + 1) read) (omega (arith, length-drop (from + 1) read)) ∙ ap (drop (from + 1)) same
-
-    pub first-read : (d : SliceEntry) → (get_or read from d).epoch ≡ opening.epoch
-    first-read d = ap (λ (l : List SliceEntry). (get_or l from d).epoch) same ∙ ap (λ (e : SliceEntry). e.epoch) (get_or_from_slice_get entries from opening d opens)
-
-    module _ (n : ℕ) (count : n ≡ front_len (take (length read - (from + 1)) (drop (from + 1) read))) where
-      len-read : n ≡ len
-      len-read = count ∙ ap front_len rest-read
-
-      pub front-read : take n (take (length read - (from + 1)) (drop (from + 1) read)) ≡ front
-      front-read = let is = len-read in ap (take n) rest-read ∙ ap (λ k. take k rest) is
-
-      pub bound-read : (d : SliceEntry) → (get_or read (from + n) d).epoch ≡ bound
-      bound-read d =
-          let is = len-read in
-          ap (λ (l : List SliceEntry). (get_or l (from + n) d).epoch) same
-          ∙ (ap (λ k. (get_or entries (from + k) d).epoch) is ∙ ap (λ (e : SliceEntry). e.epoch) (get_or_default entries (from + len) d opening last-inside))

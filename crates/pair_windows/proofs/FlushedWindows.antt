@@ -49,7 +49,7 @@ counted_windows-more domain from i hs cs ds h a b lt same too = let one : i + 1 
 -- ---- flush by flush
 
 -- a range of places that give nothing
-flat_map-range_none : {X : Type 0} (f : ℕ → List X) (a n : ℕ) → ((k : ℕ) → a ≤ k → k < a + n → f k ≡ []) → flat_map f (range_with_len a n) ≡ []
+pub flat_map-range_none : {X : Type 0} (f : ℕ → List X) (a n : ℕ) → ((k : ℕ) → a ≤ k → k < a + n → f k ≡ []) → flat_map f (range_with_len a n) ≡ []
 flat_map-range_none f a zero each = refl
 flat_map-range_none f a (suc n) each =
     let here = each a (omega arith) (omega arith) in

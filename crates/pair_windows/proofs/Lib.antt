@@ -1,7 +1,12 @@
+pub mod CdpCloses
+pub mod CdpDomains
+pub mod CdpMeets
+pub mod CdpSteps
 pub mod CountedWindows
 pub mod CoveredUses
 pub mod DomainLists
 pub mod DomainSteps
+pub mod EarlierWindows
 pub mod FittingOps
 pub mod FlushWindows
 pub mod FlushedWindows
@@ -12,6 +17,7 @@ pub mod LineUses
 pub mod ListedWindows
 pub mod LongerLevelSpans
 pub mod MarkedOps
+pub mod NextFlushes
 pub mod NextOps
 pub mod NoEntry
 pub mod QuietScripts

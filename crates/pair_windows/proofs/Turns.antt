@@ -1,7 +1,7 @@
 -- A list whose elements are taken one after another.
-use Rattle.std.proofs.Common.{◌≡◌, ◌≢◌, ℕ, ◌+◌, ◌<◌, ◌≤◌, List, length, get_or, set, inl, inr, sym, subst, arith}
+use Rattle.std.proofs.Common.{◌≡◌, ◌≢◌, ℕ, ◌+◌, ◌<◌, ◌≤◌, List, [], ◌∷◌, ◌++◌, length, get_or, set, inl, inr, sym, subst, arith}
 use Rattle.std.proofs.lemmas.Bool.{cases_lt}
-use Rattle.std.proofs.lemmas.List.{get_or-set_other, get_or-set_same, length-set}
+use Rattle.std.proofs.lemmas.List.{get_or-set_other, get_or-set_same, get_or_append_left, get_or_push, length-append, length-set}
 use Rattle.pair_windows.specs.DomainWalks.{Each}
 
 -- So many were taken, and the others are as they were.
@@ -33,3 +33,12 @@ module _ {X : Type 0} (P Q : ℕ → X → Type 0) where
   -- all were
   pub Each-turned : (n : ℕ) (xs : List X) → Turn P Q n xs → length xs ≤ n → Each Q xs
   Each-turned n xs turn all = λ i d within. turn.done i d (omega (arith, within, all)) within
+
+-- one element more
+pub Each-push : {X : Type 0} (P : ℕ → X → Type 0) (xs : List X) (y : X) → Each P xs → P (length xs) y → Each P (xs ++ y ∷ [])
+Each-push P xs y all here = λ i d lt. elim (cases_lt i (length xs)) [
+  | inl less ↦ subst (P i) (sym (get_or_append_left xs (y ∷ []) d i less)) (all i d less)
+  | inr ge ↦
+      let same : length xs ≡ i = omega (arith, lt, ge, length-append xs (y ∷ [])) in
+      subst (P i) (sym (get_or_push xs y d i same)) (subst (λ n. P n y) same here)
+]

@@ -19,3 +19,7 @@ front_of entries = take (front_len entries) entries
 abbrev pub is_flush : What → Bool
 is_flush Flush = true
 is_flush what = false
+
+-- how many of these entries stand before the first that is a flush
+abbrev pub flush_len : List SliceEntry → ℕ
+flush_len entries = position_or_len (λ (e : SliceEntry). is_flush e.what) entries

@@ -1,6 +1,7 @@
 pub mod AllCdpWindows
 pub mod AllJointWindows
 pub mod CdpJournals
+pub mod CdpWalks
 pub mod CdpWindows
 pub mod Counted
 pub mod DomainWalks

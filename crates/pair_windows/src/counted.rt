@@ -1,96 +1,22 @@
-//! The partitions that are kept after a flush, and what is counted of their windows.
-ghost use Rattle.std.specs.Prelude.{◌≡◌, ◌+◌, ◌-◌, ◌^◌, ◌<◌, ◌≤◌, ◌∷◌, [], ◌++◌, All, IfOk, OnOk, filter, length, map};
+//! What is counted of the windows of partitions that are kept after a flush.
+ghost use Rattle.std.specs.Prelude.{◌≡◌, ◌^◌, ◌<◌, ◌∷◌, [], ◌++◌, All, IfOk, OnOk, filter, length, map};
 ghost use Rattle.cache_core.specs.declared.entry.What.TheVariants.{Flush as TheFlush};
-ghost use Rattle.pair_ops.specs.Values.{commands_of};
-ghost use Rattle.pair_windows.specs.Replays.{HasTaken, IsPlayable};
 ghost use Rattle.pair_windows.specs.CdpWindows.{is_used};
 ghost use Rattle.pair_windows.specs.Counted.{counted_window, counted_windows};
-ghost use Rattle.pair_windows.specs.PartitionSpans.{kept_from, stay_of};
+ghost use Rattle.pair_windows.specs.PartitionSpans.{stay_of};
 ghost use Rattle.pair_windows.specs.declared.partition.Partition.{Partition as PartitionValue};
 ghost use Rattle.private_lru.specs.Ends.{RiseByGroup};
 ghost use Rattle.private_lru.specs.Tallies.{AreCounted};
 ghost use Rattle.spans.specs.declared.span.Span.{Span as SpanValue};
 
-use crate::Replay;
 use crate::cdp_window::CdpWindow;
 use crate::partition::Partition;
-use crate::partition_spans::{DomainState, partitions, stays_of};
+use crate::partition_spans::stays_of;
 use cache_core::{SliceEntry, What};
-use pair_text::PairScript;
 use private_lru::{WindowCounts, counts_of};
 use rc_base::NoMemory;
-use spans::{Span, keep_on};
+use spans::Span;
 use std::alloc::Global;
-
-// Takes the commands up to this epoch.
-fn advance(replay: &mut Replay, script: &PairScript, epoch: u64)
-    requires playable { IsPlayable script.now }
-    requires taken { HasTaken script.now replay.old }
-    requires later { replay.old.tree.epoch ≤ epoch }
-    requires known { epoch ≤ length (commands_of script.now) }
-    ensures taken { HasTaken script.now replay.new }
-    ensures epoch { replay.new.tree.epoch ≡ epoch }
-{
-    while replay.epoch() < epoch {
-        replay.take_command(script);
-    }
-}
-
-// Takes the commands up to the last of these epochs, and the partitions of the first one with them.
-fn keep_until(
-    replay: &mut Replay,
-    script: &PairScript,
-    domain: u8,
-    kept: &mut Vec<Span<Partition>>,
-    first: u64,
-    last: u64,
-)
-    requires playable { IsPlayable script.now }
-    requires domain { domain < 8 }
-    requires taken { HasTaken script.now replay.old }
-    requires first { replay.old.tree.epoch ≡ first }
-    requires later { first ≤ last }
-    requires known { last ≤ length (commands_of script.now) }
-    requires kept { kept.old.items ≡ kept_from script.now domain first 0 }
-    ensures taken { HasTaken script.now replay.new }
-    ensures epoch { replay.new.tree.epoch ≡ last }
-    ensures kept { kept.new.items ≡ kept_from script.now domain first (last - first) }
-{
-    for epoch in first..last {
-        replay.take_command(script);
-        let state = DomainState {
-            tree: replay.tree(),
-            domain,
-        };
-        keep_on(kept, &state, epoch);
-    }
-}
-
-/// The partitions of the first of these epochs, each with the last one up to which it is kept, and the commands up to the last epoch
-/// taken.
-pub(crate) fn kept_between(
-    alloc: Global,
-    replay: &mut Replay,
-    script: &PairScript,
-    domain: u8,
-    first: u64,
-    last: u64,
-) -> Result<Vec<Span<Partition>>, NoMemory>
-    requires playable { IsPlayable script.now }
-    requires domain { domain < 8 }
-    requires taken { HasTaken script.now replay.old }
-    requires before { replay.old.tree.epoch ≤ first }
-    requires later { first ≤ last }
-    requires known { last ≤ length (commands_of script.now) }
-    ensures taken { OnOk result (HasTaken script.now replay.new) }
-    ensures epoch { OnOk result (replay.new.tree.epoch ≡ last) }
-    ensures kept { IfOk result (λ kept. kept.items ≡ kept_from script.now domain first (last - first)) }
-{
-    advance(replay, script, first);
-    let mut kept = partitions(alloc, replay.tree(), domain, first)?;
-    keep_until(replay, script, domain, &mut kept, first, last);
-    Ok(kept)
-}
 
 /// The counts of the windows of these partitions among the entries after a flush.
 pub(crate) fn counts_at(

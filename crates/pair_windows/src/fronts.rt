@@ -3,7 +3,7 @@ ghost use Rattle.std.specs.Prelude.{◌≡◌, ◌≤◌, length};
 ghost use Rattle.std.specs.List.{position, position_or_len};
 ghost use Rattle.cache_core.specs.Filled.{empties};
 ghost use Rattle.cache_core.specs.declared.entry.SliceEntry.{SliceEntry as Entry};
-ghost use Rattle.pair_windows.specs.Fronts.{front_len, is_flush};
+ghost use Rattle.pair_windows.specs.Fronts.{flush_len, front_len, is_flush};
 
 use cache_core::{SliceEntry, What};
 
@@ -14,8 +14,8 @@ fn empties(what: What) -> bool
     matches!(what, What::Flush | What::Lock { .. })
 }
 
-/// Whether this is a flush.
-pub(crate) fn is_flush(what: What) -> bool
+// Whether this is a flush.
+fn is_flush(what: What) -> bool
     ensures { result ≡ is_flush what }
 {
     matches!(what, What::Flush)
@@ -34,4 +34,19 @@ pub(crate) fn front_len(entries: &[SliceEntry]) -> usize
     ensures within { result ≤ length entries.now }
 {
     first_empty(entries).unwrap_or(entries.len())
+}
+
+// The first of these entries that is a flush.
+fn first_flush(entries: &[SliceEntry]) -> Option<usize>
+    ensures { result ≡ position (λ (e : Entry). is_flush e.what) entries.now }
+{
+    entries.iter().position(|e| is_flush(e.what))
+}
+
+/// How many of these entries stand before the first that is a flush.
+pub(crate) fn flush_len(entries: &[SliceEntry]) -> usize
+    ensures len { result ≡ flush_len entries.now }
+    ensures within { result ≤ length entries.now }
+{
+    first_flush(entries).unwrap_or(entries.len())
 }

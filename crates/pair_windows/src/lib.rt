@@ -4,6 +4,9 @@
 //! answers NoMemory.
 #![tactic(auto)]
 
+mod cdp_domains;
+mod cdp_run;
+mod cdp_walks;
 pub mod cdp_window;
 mod commands;
 mod counted;
