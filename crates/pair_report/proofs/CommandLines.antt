@@ -7,11 +7,9 @@ use Rattle.pair_law.specs.State.{PairState, opening}
 use Rattle.pair_law.specs.Steps.{next}
 use Rattle.pair_ops.specs.Values.{Machines, PairScriptValue, epoch_at, is_command, op_at}
 use Rattle.pair_ops.specs.declared.op.PairOp.{PairOp}
-use Rattle.pair_windows.specs.Replays.{HasTaken, ReplayValue}
 use Rattle.pair_report.specs.LinesBefore.{commands_before, lines_before}
 use Rattle.pair_report.specs.PairCommands.{command_line, command_lines}
 use Rattle.pair_runs.proofs.laws.Playing.{filter-take_command, filter-take_use, state_at-epoch}
-use Rattle.pair_tree.specs.Values.{PairTreeValue}
 use Rattle.rc_base.specs.declared.replies.Reply.{Reply}
 
 -- one command more
@@ -49,28 +47,20 @@ module _ (script : PairScriptValue) (replies : List Reply) (i : ℕ) (op : PairO
   pub lines_before-use : is_command op ≡ false → lines_before script replies (i + 1) ≡ lines_before script replies i
   lines_before-use use_of = ap (λ (l : List PairOp). command_lines script.machines (opening script.machines script.tasks) 0 l replies) (filter-take_use script i op at use_of)
 
--- ---- as a tree takes them
+-- ---- as they are added
 
-module _ (script : PairScriptValue) (replies : List Reply) (r : ReplayValue) (taken : HasTaken script r) (op : PairOp) (at : op_at script r.place ≡ Some op) where
-  -- the line of a command, by the tree before it
-  line-taken : (reply : Reply) → command_line r.tree.machines r.tree.state r.tree.epoch op reply ≡ command_line script.machines (state_at script (epoch_at script r.place)) (epoch_at script r.place) op reply
-  line-taken reply =
-      ap (λ m. command_line m r.tree.state r.tree.epoch op reply) taken.machines
-      ∙ (ap (λ s. command_line script.machines s r.tree.epoch op reply) (taken.state ∙ ap (state_at script) taken.epoch)
-      ∙ ap (λ n. command_line script.machines (state_at script (epoch_at script r.place)) n op reply) taken.epoch)
-
+module _ (script : PairScriptValue) (replies : List Reply) (i : ℕ) (op : PairOp) (at : op_at script i ≡ Some op) (before old new : List ℕ) (so_far : old ≡ before ++ lines_before script replies i) where
   -- a text with the line of the next command
-  pub lines-command : (t : PairTreeValue) (k : ℕ) (reply : Reply) (before old new : List ℕ) → t ≡ r.tree → k ≡ r.tree.epoch → is_command op ≡ true → slice_get replies k ≡ Some reply
-      → new ≡ old ++ command_line t.machines t.state k op reply → old ≡ before ++ lines_before script replies r.place → new ≡ before ++ lines_before script replies (r.place + 1)
-  lines-command t k reply before old new tree epoch command told line so_far =
-      let there : slice_get replies (epoch_at script r.place) ≡ Some reply = ap (slice_get replies) (sym (epoch ∙ taken.epoch)) ∙ told in
-      let same : command_line t.machines t.state k op reply ≡ command_line script.machines (state_at script (epoch_at script r.place)) (epoch_at script r.place) op reply =
-      ap (λ (x : PairTreeValue). command_line x.machines x.state k op reply) tree ∙ (ap (λ n. command_line r.tree.machines r.tree.state n op reply) epoch ∙ line-taken reply) in
+  pub lines-command : (k : ℕ) (reply : Reply) → k ≡ epoch_at script i → is_command op ≡ true → slice_get replies k ≡ Some reply
+      → new ≡ old ++ command_line script.machines (state_at script (epoch_at script i)) k op reply → new ≡ before ++ lines_before script replies (i + 1)
+  lines-command k reply epoch command told line =
+      let there : slice_get replies (epoch_at script i) ≡ Some reply = ap (slice_get replies) (sym epoch) ∙ told in
+      let here : List ℕ = command_line script.machines (state_at script (epoch_at script i)) (epoch_at script i) op reply in
       line
-      ∙ (ap (λ (l : List ℕ). l ++ command_line t.machines t.state k op reply) so_far
-      ∙ (append_assoc before (lines_before script replies r.place) (command_line t.machines t.state k op reply)
-      ∙ ap (λ (l : List ℕ). before ++ l) (ap (λ (l : List ℕ). lines_before script replies r.place ++ l) same ∙ sym (lines_before-command script replies r.place op at reply command there))))
+      ∙ (ap (λ n. old ++ command_line script.machines (state_at script (epoch_at script i)) n op reply) epoch
+      ∙ (ap (λ (l : List ℕ). l ++ here) so_far
+      ∙ (append_assoc before (lines_before script replies i) here ∙ ap (λ (l : List ℕ). before ++ l) (sym (lines_before-command script replies i op at reply command there)))))
 
   -- and without one, for a use
-  pub lines-use : (before old : List ℕ) → is_command op ≡ false → old ≡ before ++ lines_before script replies r.place → old ≡ before ++ lines_before script replies (r.place + 1)
-  lines-use before old use_of so_far = so_far ∙ ap (λ (l : List ℕ). before ++ l) (sym (lines_before-use script replies r.place op at use_of))
+  pub lines-use : is_command op ≡ false → old ≡ before ++ lines_before script replies (i + 1)
+  lines-use use_of = so_far ∙ ap (λ (l : List ℕ). before ++ l) (sym (lines_before-use script replies i op at use_of))

@@ -8,6 +8,7 @@ use Rattle.pair_ops.specs.declared.op.PairOp.TheVariants as ops
 use Rattle.pair_report.specs.MadeGroups.{GroupPath, made_from}
 use Rattle.pair_report.specs.PairCommands.{command_lines}
 use Rattle.pair_report.specs.declared.made.MadeGroup.{MadeGroup}
+use Rattle.pair_windows.specs.Replays.{HasTaken, ReplayValue}
 use Rattle.rc_base.specs.declared.replies.Reply.{Reply}
 use Rattle.rc_base.specs.declared.replies.Reply.TheVariants as replies
 
@@ -47,3 +48,8 @@ pub record HasMade (script : PairScriptValue) (answers : List Reply) (i k : ℕ)
   pub groups : map (group_made script) made ≡ made_before script answers i
   pub few : length made ≤ k
   pub small : All (λ (m : MadeGroup). m.gid ≤ k) made
+
+-- The tree was taken no further than the commands before an op.
+pub record IsBehind (script : PairScriptValue) (place : ℕ) (r : ReplayValue) : Type 0 where
+  pub taken : HasTaken script r
+  pub later : r.place ≤ place

@@ -1,16 +1,13 @@
-use Rattle.std.proofs.Common.{◌≡◌, ◌+◌, ◌-◌, ◌≤◌, ◌++◌, length}
-use Rattle.pair_windows.specs.Replays.{HasTaken}
-use Rattle.pair_report.specs.LinesBefore.{lines_before}
+use Rattle.std.proofs.Common.{◌≡◌, ◌+◌, ◌≤◌, ◌++◌, length}
+use Rattle.pair_ops.specs.Values.{epoch_at}
+use Rattle.pair_report.specs.LinesBefore.{IsBehind, lines_before}
 use Rattle.rc_base.specs.declared.text_buf.TheConstants.{TEXT_MAX}
 use Rattle.pair_report.proofs.commands.push_all.Given as goal
 
-abbrev pub invariant-loop-report : goal.invariant-loop-report
-invariant-loop-report l = record {
-  has_taken : HasTaken l.script l.replay;
-  within : l.replay.place ≤ length l.script.ops;
+abbrev pub invariant-loop-place : goal.invariant-loop-place
+invariant-loop-place l = record {
+  behind : IsBehind l.script l.place l.replay;
+  before : l.k ≡ epoch_at l.script l.place;
   room : TEXT_MAX ≤ l.file.spare + length l.file.bytes;
-  so_far : l.report ≡ l.initial.report ++ lines_before l.script l.replies l.replay.place;
+  so_far : l.report ≡ l.initial.report ++ lines_before l.script l.replies l.place;
 }
-
-abbrev pub decreases-loop-report : goal.decreases-loop-report
-decreases-loop-report l = length l.script.ops - l.replay.place
