@@ -1,4 +1,5 @@
 pub mod Apart
+pub mod FoundJournals
 pub mod MadeOf
 pub mod RimEndings
 pub mod SteppedPlays

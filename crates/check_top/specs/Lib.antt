@@ -1,4 +1,5 @@
 pub mod Codes
 pub mod Endings
+pub mod Judgements
 pub mod Performances
 pub mod Statuses

@@ -7,13 +7,16 @@ ghost use Rattle.call_rim.specs.Within.{RefusesWithin, ReportsWithin};
 ghost use Rattle.check_parts.specs.Forms.{form_of as form_in, usage_line};
 ghost use Rattle.check_parts.specs.declared.form.Form.TheVariants.{Check, Export};
 ghost use Rattle.check_parts.specs.declared.form.Play.TheVariants.{Run};
+ghost use Rattle.check_top.specs.Codes.{EndsWith};
 ghost use Rattle.check_top.specs.Endings.{Ends, IsExported, Refuses};
+ghost use Rattle.check_top.specs.Statuses.{code_of};
 ghost use Rattle.script_ops.specs.declared.limits.TheConstants.{MOST_SCRIPT_BYTES};
 
 use crate::checked::Checked;
-use crate::ended::{CheckEnded, checked};
+use crate::ended::{CheckEnded, checked, judged};
 use crate::exporting::run_bytes;
-use crate::programs::{CheckProgram, ExportProgram};
+use crate::programs::{CheckProgram, ExportProgram, JudgeProgram};
+use crate::status::CheckStatus;
 use call_rim::{ReadError, Status, call, read_all, tell, usage, without_outcome};
 use check_parts::{Form, Play, form_of, usage_bytes};
 use rc_stream::{Gate, Sink, Source};
@@ -86,6 +89,21 @@ fn check_source<S: Source, K: Sink>(alloc: Global, source: &mut S, sink: &mut K)
         (writing_of K.taken K.held K.faults sink.old sink.new) result }
 {
     checked(call(alloc, &CheckProgram, source, sink))
+}
+
+/// Does what `check` does with the source, and hands back nothing of the journals: of commands that no run goes on with none is kept.
+pub(crate) fn judge_source<S: Source, K: Sink>(
+    alloc: Global,
+    source: &mut S,
+    sink: &mut K,
+) -> CheckStatus
+    requires source { S.faults source.old < 2 ^ 64 - 1 }
+    requires sink { K.faults sink.old < 2 ^ 64 - 1 }
+    ensures { EndsWith (Some Check)
+        (reading_of S.left S.faults source.old source.new)
+        (writing_of K.taken K.held K.faults sink.old sink.new) (code_of result) }
+{
+    judged(call(alloc, &JudgeProgram, source, sink))
 }
 
 // Writes the usage line, and calls no source.

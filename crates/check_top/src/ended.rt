@@ -1,10 +1,11 @@
 //! How a call ended.
 ghost use Rattle.std.specs.Prelude.{◌≡◌, None, Some};
-ghost use Rattle.check_top.specs.Statuses.{ended_by};
+ghost use Rattle.check_top.specs.Statuses.{ended_by, status_by};
 
 use crate::checked::Checked;
 use crate::status::{CheckStatus, status_of, status_with};
 use call_rim::{Ended, Status};
+use journal_check::Verdict;
 use run_law::Journals;
 
 /// How a call ended, and the journals that were exported or checked.
@@ -46,5 +47,16 @@ pub(crate) fn checked(ended: Ended<Checked>) -> CheckEnded
     match outcome {
         Some(found) => with_verdict(status, found),
         None => without_journals(status),
+    }
+}
+
+/// The status of a call of the rim that hands back a verdict alone.
+pub(crate) fn judged(ended: Ended<Verdict>) -> CheckStatus
+    ensures { result ≡ status_by ended.status ended.outcome }
+{
+    let Ended { status, outcome } = ended;
+    match outcome {
+        Some(verdict) => status_with(status, verdict),
+        None => status_of(status),
     }
 }

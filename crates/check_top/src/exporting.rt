@@ -23,7 +23,7 @@ use std::sync::Wait;
 use std::thread::Threads;
 
 /// The line that says what is wrong with an input.
-pub(crate) fn refuse(alloc: Global, bad: BadInput) -> Performed<Checked>
+pub(crate) fn refuse<T: Drop>(alloc: Global, bad: BadInput) -> Performed<T>
     ensures { TellsBad bad result }
 {
     match bad_line_of(alloc, bad) {

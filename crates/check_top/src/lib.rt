@@ -7,6 +7,7 @@ pub mod checked;
 mod checking;
 pub mod ended;
 mod exporting;
+mod judging;
 pub mod program;
 mod programs;
 pub mod status;

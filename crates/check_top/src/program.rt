@@ -7,14 +7,37 @@ ghost use Rattle.check_top.specs.Codes.{EndsWith};
 ghost use Rattle.check_top.specs.Statuses.{code_of};
 ghost use Rattle.check_top.specs.declared.status.CheckStatus.TheVariants.{NoMemory as OutOfMemory};
 
-use crate::calls::check_top;
+use crate::calls::{check_top, judge_source};
 use crate::status::CheckStatus;
+use check_parts::{Form, form_of};
 use rc_base::NoMemory;
 use rc_stream::{Gate, Sink, Source};
 use std::alloc::Global;
 use std::process::ExitCode;
 use std::sync::Wait;
 use std::thread::Threads;
+
+// The status of what `check_top` does. The journals of a check are not handed back, and so not all of them are kept.
+fn status_of_call<R: Threads + Wait + Sync, S: Source, K: Sink, G: Gate>(
+    rt: &R,
+    alloc: Global,
+    words: &[String],
+    source: &mut S,
+    sink: &mut K,
+    gate: &G,
+) -> CheckStatus
+    requires source { S.faults source.old < 2 ^ 64 - 1 }
+    requires sink { K.faults sink.old < 2 ^ 64 - 1 }
+    ensures ends { EndsWith (form_in words.now)
+        (reading_of S.left S.faults source.old source.new)
+        (writing_of K.taken K.held K.faults sink.old sink.new) (code_of result) }
+    ensures unread { form_in words.now ≡ None → source.new ≡ source.old }
+{
+    match form_of(words) {
+        Some(Form::Check) => judge_source(alloc, source, sink),
+        _ => check_top(rt, alloc, words, source, sink, gate).status,
+    }
+}
 
 /// Does what `check_top` does with the words after the program's name, and ends with the exit status that says how that ended. Where
 /// memory ran out for the words, nothing is read or written, and the exit status is that of NoMemory.
@@ -36,7 +59,7 @@ pub fn run_check<R: Threads + Wait + Sync, S: Source, K: Sink, G: Gate>(
     ensures untouched { OnErr words ((source.new ≡ source.old) × (sink.new ≡ sink.old)) }
 {
     let status = match words {
-        Ok(words) => check_top(rt, alloc, &words, source, sink, gate).status,
+        Ok(words) => status_of_call(rt, alloc, &words, source, sink, gate),
         Err(NoMemory) => CheckStatus::NoMemory,
     };
     ExitCode::from(status.code())

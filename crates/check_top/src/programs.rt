@@ -2,13 +2,16 @@
 ghost use Rattle.check_parts.specs.declared.form.Form.TheVariants.{Check, Export};
 ghost use Rattle.check_parts.specs.declared.limits.TheConstants.{MOST_CHECK_BYTES};
 ghost use Rattle.check_top.specs.Endings.{IsChecked, IsExported, Refuses};
+ghost use Rattle.check_top.specs.Judgements.{IsJudged};
 ghost use Rattle.script_ops.specs.declared.limits.TheConstants.{MOST_SCRIPT_BYTES};
 
 use crate::checked::Checked;
 use crate::checking::check_bytes;
 use crate::exporting::step_bytes;
+use crate::judging::judge_bytes;
 use call_rim::{Performed, Program};
 use check_parts::{MOST_CHECK_BYTES, Play};
+use journal_check::Verdict;
 use script_ops::MOST_SCRIPT_BYTES;
 use std::alloc::Global;
 
@@ -55,5 +58,27 @@ impl Program for CheckProgram {
 
     fn perform(&self, alloc: Global, bytes: Vec<u8>) -> Performed<Checked> {
         check_bytes(alloc, bytes)
+    }
+}
+
+/// Does what `CheckProgram` does, and hands back the verdict alone, so it keeps no more commands of the input than a run has.
+#[derive(Drop)]
+pub(crate) struct JudgeProgram;
+
+impl Program for JudgeProgram {
+    type Outcome = Verdict;
+
+    ghost most = { λ p. MOST_CHECK_BYTES };
+
+    ghost refuses = { λ p. Refuses Check };
+
+    ghost reports = { λ p. IsJudged };
+
+    fn most_bytes(&self) -> usize {
+        MOST_CHECK_BYTES
+    }
+
+    fn perform(&self, alloc: Global, bytes: Vec<u8>) -> Performed<Verdict> {
+        judge_bytes(alloc, bytes)
     }
 }
