@@ -7,10 +7,10 @@ use Rattle.cdp_masks.specs.SoFar.{IsCdpSoFar}
 use Rattle.machine.specs.declared.parameters.Parameters.{Parameters}
 use Rattle.pair_law.specs.Epochs.{replies_to}
 use Rattle.pair_law.specs.State.{opening}
-use Rattle.pair_ops.specs.Values.{PairScriptValue, commands_of}
+use Rattle.pair_text.specs.Values.{PairScriptValue, commands_of}
 use Rattle.pair_play.specs.Histories.{LevelValue}
-use Rattle.pair_runs.specs.CdpRuns.{CdpJournalsValue, IsCdpRun}
-use Rattle.pair_runs.specs.Entries.{asked_by, slice_in}
+use Rattle.pair_law.specs.CdpRuns.{CdpJournalsValue, IsCdpRun}
+use Rattle.pair_law.specs.Entries.{asked_by, slice_in}
 
 -- the journals of all ops are a run
 pub IsCdpRun-IsCdpSoFar : (script : PairScriptValue) (l : LevelValue) (j : CdpJournalsValue) → j.replies ≡ replies_to script.machines (opening script.machines script.tasks) (commands_of script)

@@ -10,18 +10,18 @@ use Rattle.pair_law.proofs.laws.Owners.{IsGroup-owner}
 use Rattle.pair_law.proofs.laws.Registers.{register-mask_of_group}
 use Rattle.pair_law.specs.Registers.{mask_of_group}
 use Rattle.pair_law.specs.State.{owner_of}
-use Rattle.pair_ops.specs.Values.{Machines, PairScriptValue, epoch_at, side_machine}
-use Rattle.pair_ops.specs.declared.op.PairOp.TheVariants as ops
-use Rattle.pair_ops.specs.declared.side.Side.{Side}
-use Rattle.pair_ops.specs.declared.side.Side.TheVariants.{First, Second}
+use Rattle.pair_text.specs.Values.{Machines, PairScriptValue, epoch_at, side_machine}
+use Rattle.pair_text.specs.declared.op.PairOp.TheVariants as ops
+use Rattle.pair_text.specs.declared.side.Side.{Side}
+use Rattle.pair_text.specs.declared.side.Side.TheVariants.{First, Second}
 use Rattle.pair_play.proofs.laws.NextOps.{CanAccess-use, CanFlush-next, IsLevelSoFar-flushed, IsLevelSoFar-used}
 use Rattle.pair_play.proofs.laws.Users.{gid-owner}
 use Rattle.pair_play.specs.Histories.{AddsAccessIn, CanAccess, CanFlush, LevelValue, all_with_flush}
 use Rattle.pair_play.specs.Playing.{IsFlushAt, IsUseAt}
 use Rattle.pair_play.specs.SideTags.{state_now}
 use Rattle.pair_play.specs.SoFar.{IsLevelSoFar}
-use Rattle.pair_runs.specs.CdpRuns.{asked_at, asked_of_op, owner_on, register_mask, side_of}
-use Rattle.pair_runs.specs.Entries.{entry}
+use Rattle.pair_law.specs.CdpRuns.{asked_at, asked_of_op, owner_on, register_mask, side_of}
+use Rattle.pair_law.specs.Entries.{entry}
 use Rattle.pair_tree.specs.declared.tag.PairTag.{PairTag}
 use Rattle.rc_base.specs.declared.names.Gid.{Gid}
 

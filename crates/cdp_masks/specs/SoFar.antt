@@ -1,11 +1,11 @@
 -- What was played so far of a script on data and code masks.
 -- (For functions and proofs: no promise of the program stands on it.)
 use Rattle.std.specs.Prelude.{◌≡◌, ℕ, Bool, None}
-use Rattle.pair_ops.specs.Values.{PairScriptValue, epoch_at}
+use Rattle.pair_text.specs.Values.{PairScriptValue, epoch_at}
 use Rattle.pair_play.specs.Histories.{LevelValue}
 use Rattle.pair_play.specs.SideTags.{tag_on}
 use Rattle.pair_play.specs.SoFar.{IsLevelSoFar}
-use Rattle.pair_runs.specs.CdpRuns.{asked_at, owner_on, side_of}
+use Rattle.pair_law.specs.CdpRuns.{asked_at, owner_on, side_of}
 use Rattle.pair_tree.specs.declared.tag.PairTag.{PairTag}
 use Rattle.rc_base.specs.declared.names.Tag.{Tag}
 

@@ -2,11 +2,11 @@
 use Rattle.std.specs.Prelude.{ℕ, length}
 use Rattle.cache_core.specs.declared.entry.SliceEntry.{SliceEntry}
 use Rattle.cbm.specs.Masks.{ways_of}
-use Rattle.pair_ops.specs.Values.{PairScriptValue}
-use Rattle.pair_ops.specs.declared.side.Side.{Side}
-use Rattle.pair_runs.specs.CdpRuns.{CdpJournalsValue, owner_on}
-use Rattle.pair_runs.specs.CdpWindows.{IsCdpWindow}
-use Rattle.pair_runs.specs.Entries.{slice_in}
+use Rattle.pair_text.specs.Values.{PairScriptValue}
+use Rattle.pair_text.specs.declared.side.Side.{Side}
+use Rattle.pair_law.specs.CdpRuns.{CdpJournalsValue, owner_on}
+use Rattle.pair_law.specs.CdpWindows.{IsCdpWindow}
+use Rattle.pair_law.specs.Entries.{slice_in}
 use Rattle.private_lru.specs.Isolation.{IsIsolated, between}
 use Rattle.rc_base.specs.declared.names.Gid.{Gid}
 

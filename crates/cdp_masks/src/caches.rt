@@ -1,7 +1,7 @@
 //! The caches of a machine with code and data prioritization.
 ghost use Rattle.std.specs.Prelude.{◌≡◌, IfOk, None};
 ghost use Rattle.cdp_masks.specs.SoFar.{IsCdpSoFar};
-ghost use Rattle.pair_ops.specs.Values.{IsLawful};
+ghost use Rattle.pair_text.specs.Values.{IsLawful};
 
 use crate::registers::tag_of_use;
 use pair_play::{Caches, Level};
@@ -32,7 +32,7 @@ impl Caches for CdpCaches {
     ghost use Rattle.std.proofs.Common.{ap, ◌∙◌};
     ghost use Rattle.pair_play.proofs.laws.NextOps.{IsLevelSoFar-other};
     ghost use Rattle.pair_play.proofs.laws.OpKinds.{asked_of_op-cdp_other};
-    ghost use Rattle.pair_runs.specs.CdpRuns.{asked_at, asked_of_op};
+    ghost use Rattle.pair_law.specs.CdpRuns.{asked_at, asked_of_op};
 
     ghost so_far = { λ script i caches. IsCdpSoFar script i caches.level };
 

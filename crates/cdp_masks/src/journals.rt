@@ -1,6 +1,6 @@
 //! What happened in a run on data and code masks.
 ghost use Rattle.std.specs.Prelude.{◌≡◌, ◌<◌, length, map};
-ghost use Rattle.pair_runs.specs.Entries.{slice_in};
+ghost use Rattle.pair_law.specs.Entries.{slice_in};
 ghost use Rattle.run_law.specs.Entries.{entries_of};
 
 use cache_core::SliceEntry;
@@ -16,7 +16,7 @@ pub struct CdpJournals {
 
 impl Model for CdpJournals {
     ghost use Rattle.std.specs.Prelude.{map};
-    ghost use Rattle.pair_runs.specs.CdpRuns.{CdpJournalsValue};
+    ghost use Rattle.pair_law.specs.CdpRuns.{CdpJournalsValue};
     ghost use Rattle.run_law.specs.Entries.{entries_of};
 
     ghost Value = { CdpJournalsValue };

@@ -1,9 +1,9 @@
 //! Plays a script.
 ghost use Rattle.std.specs.Prelude.{◌≡◌, None, IfOk};
 ghost use Rattle.cdp_masks.specs.Windows.{WindowsAreIsolated};
-ghost use Rattle.pair_ops.specs.Values.{IsLawful};
+ghost use Rattle.pair_text.specs.Values.{IsLawful};
 ghost use Rattle.pair_play.specs.SoFar.{IsShort};
-ghost use Rattle.pair_runs.specs.CdpRuns.{IsCdpRun};
+ghost use Rattle.pair_law.specs.CdpRuns.{IsCdpRun};
 
 use crate::caches::CdpCaches;
 use crate::journals::CdpJournals;

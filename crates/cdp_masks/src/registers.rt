@@ -1,10 +1,10 @@
 //! The registers of data and of code.
 ghost use Rattle.std.specs.Prelude.{◌≡◌, ◌*◌, ◌+◌, ◌<◌, ◌^◌, length};
 ghost use Rattle.pair_play.specs.SideTags.{tag_on};
-ghost use Rattle.pair_runs.specs.CdpRuns.{owner_on, side_of};
+ghost use Rattle.pair_law.specs.CdpRuns.{owner_on, side_of};
 
-use pair_ops::Side;
 use pair_play::side_tag;
+use pair_text::Side;
 use pair_tree::PairTag;
 use rc_base::{Gid, Tag};
 

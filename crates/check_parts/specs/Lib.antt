@@ -4,5 +4,6 @@ pub mod Exports
 pub mod Forms
 pub mod Inputs
 pub mod Judging
+pub mod Law
 pub mod Laws
 pub mod VerdictLines

@@ -1,5 +1,7 @@
 //! The parts of the call of `resctrl_check` that play nothing: its words, the division of an input into a script and journals, what
 //! is wrong with an input, and the texts that are written. A call that runs out of memory answers NoMemory.
+//!
+//! The law that journals can be written: each number of the journals of a run is in the range of its field.
 #![tactic(auto)]
 
 pub mod bad_input;
@@ -13,6 +15,7 @@ pub mod limits;
 pub mod theorems;
 pub mod verdicts;
 pub mod words;
+pub mod written_runs;
 
 pub use bad_input::{BadInput, bad_line_of};
 pub use division::{Division, divide};

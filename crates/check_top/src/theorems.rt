@@ -1,8 +1,8 @@
 //! What holds of every run.
 ghost use Rattle.check_top.specs.Performances.{RunsIsolate, RunsReadBack};
 
+use check_parts::written_runs::runs_are_writable;
 use run_windows::theorems::{regions_hold, windows_are_isolated, windows_are_one};
-use writable_runs::theorems::runs_are_writable;
 
 /// Every run of a lawful script isolates groups and holds regions, whoever made its journals.
 pub fn runs_isolate()

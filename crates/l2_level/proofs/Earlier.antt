@@ -8,16 +8,16 @@ use Rattle.cache_core.specs.declared.entry.SliceEntry.{SliceEntry}
 use Rattle.cache_core.specs.declared.entry.What.TheVariants.{Access, Flush}
 use Rattle.pair_law.specs.Epochs.{state_at}
 use Rattle.pair_law.specs.Registers.{mask_of_group}
-use Rattle.pair_ops.specs.Values.{PairScriptValue, epoch_at, op_at}
-use Rattle.pair_ops.specs.declared.op.PairOp.{PairOp}
-use Rattle.pair_ops.specs.declared.op.PairOp.TheVariants as ops
-use Rattle.pair_ops.specs.declared.side.Side.{Side}
-use Rattle.pair_ops.specs.declared.side.Side.TheVariants.{First, Second}
+use Rattle.pair_text.specs.Values.{PairScriptValue, epoch_at, op_at}
+use Rattle.pair_text.specs.declared.op.PairOp.{PairOp}
+use Rattle.pair_text.specs.declared.op.PairOp.TheVariants as ops
+use Rattle.pair_text.specs.declared.side.Side.{Side}
+use Rattle.pair_text.specs.declared.side.Side.TheVariants.{First, Second}
 use Rattle.pair_play.specs.Histories.{AddsAccessIn, access_entry, all_with_flush, with_flush}
-use Rattle.pair_runs.proofs.laws.Cuts.{has_at-cut}
-use Rattle.pair_runs.proofs.laws.Playing.{has_at-more}
-use Rattle.pair_runs.specs.Entries.{entry, slice_in}
-use Rattle.pair_runs.specs.LevelRuns.{LevelJournalsValue, asked_at, asked_of_op, domain_on, has_at, is_miss, user_at}
+use Rattle.pair_law.proofs.laws.Cuts.{has_at-cut}
+use Rattle.pair_law.proofs.laws.Playing.{has_at-more}
+use Rattle.pair_law.specs.Entries.{entry, slice_in}
+use Rattle.pair_law.specs.LevelRuns.{LevelJournalsValue, asked_at, asked_of_op, domain_on, has_at, is_miss, user_at}
 use Rattle.rc_base.specs.declared.names.Tag.{Tag}
 
 -- histories in which each earlier op missed where it did

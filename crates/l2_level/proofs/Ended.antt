@@ -8,15 +8,15 @@ use Rattle.l2_level.specs.Windows.{WindowsAreIsolated}
 use Rattle.machine.specs.declared.parameters.Parameters.{Parameters}
 use Rattle.pair_law.specs.Epochs.{replies_to}
 use Rattle.pair_law.specs.State.{opening}
-use Rattle.pair_ops.specs.Values.{IsLawful, PairScriptValue, commands_of, side_machine}
-use Rattle.pair_ops.specs.declared.side.Side.{Side}
-use Rattle.pair_ops.specs.declared.side.Side.TheVariants.{First, Second}
+use Rattle.pair_text.specs.Values.{IsLawful, PairScriptValue, commands_of, side_machine}
+use Rattle.pair_text.specs.declared.side.Side.{Side}
+use Rattle.pair_text.specs.declared.side.Side.TheVariants.{First, Second}
 use Rattle.pair_play.specs.Histories.{LevelValue}
 use Rattle.pair_play.specs.SoFar.{IsLevelSoFar}
-use Rattle.pair_runs.proofs.laws.LevelWindows.{HitsAsPrivate-joint_window}
-use Rattle.pair_runs.specs.Entries.{asked_by, slice_in}
-use Rattle.pair_runs.specs.Laws.{HitsAsPrivate}
-use Rattle.pair_runs.specs.LevelRuns.{IsLevelRun, LevelJournalsValue, asked, level}
+use Rattle.pair_law.proofs.laws.LevelWindows.{HitsAsPrivate-joint_window}
+use Rattle.pair_law.specs.Entries.{asked_by, slice_in}
+use Rattle.pair_law.specs.RunLaws.{HitsAsPrivate}
+use Rattle.pair_law.specs.LevelRuns.{IsLevelRun, LevelJournalsValue, asked, level}
 
 -- the histories of a level are legal
 legal-level : (asked : ℕ → ℕ → List SliceEntry) (p : Parameters) (n epoch : ℕ) (l : LevelValue) → IsLevelSoFar asked p n epoch l → All (IsLegal (shape_of l.parameters 0)) l.histories

@@ -4,11 +4,11 @@ use Rattle.std.specs.List.{All}
 use Rattle.cache_core.specs.declared.entry.SliceEntry.{SliceEntry}
 use Rattle.l2_level.specs.SoFar.{IsLevelsSoFar, journals_of}
 use Rattle.machine.specs.declared.parameters.Parameters.{Parameters}
-use Rattle.pair_ops.specs.Values.{PairScriptValue, epoch_at, side_machine}
-use Rattle.pair_ops.specs.declared.side.Side.TheVariants.{First, Second}
+use Rattle.pair_text.specs.Values.{PairScriptValue, epoch_at, side_machine}
+use Rattle.pair_text.specs.declared.side.Side.TheVariants.{First, Second}
 use Rattle.pair_play.proofs.laws.LevelsSoFar.{IsLevelSoFar-none}
 use Rattle.pair_play.specs.Histories.{LevelValue}
-use Rattle.pair_runs.specs.LevelRuns.{asked_at}
+use Rattle.pair_law.specs.LevelRuns.{asked_at}
 
 pub IsLevelsSoFar-none : (script : PairScriptValue) (p : Parameters) (first second : LevelValue) → script.machines.l2 ≡ Some p
     → first.parameters ≡ p → length first.histories ≡ p.domains → All (λ (h : List SliceEntry). h ≡ []) first.histories

@@ -7,17 +7,17 @@ use Rattle.cache_core.specs.declared.entry.What.TheVariants.{Access}
 use Rattle.l2_level.proofs.Earlier.{KeepsEarlier, KeepsEarlier-access, KeepsEarlier-flush, asked_at-earlier, has_at-last}
 use Rattle.l2_level.specs.SoFar.{IsLevelsSoFar, journals_of, level_tag}
 use Rattle.pair_law.specs.Registers.{mask_of_group}
-use Rattle.pair_ops.specs.Values.{PairScriptValue, epoch_at, side_machine}
-use Rattle.pair_ops.specs.declared.side.Side.{Side}
-use Rattle.pair_ops.specs.declared.side.Side.TheVariants.{First, Second}
+use Rattle.pair_text.specs.Values.{PairScriptValue, epoch_at, side_machine}
+use Rattle.pair_text.specs.declared.side.Side.{Side}
+use Rattle.pair_text.specs.declared.side.Side.TheVariants.{First, Second}
 use Rattle.pair_play.proofs.laws.LevelsSoFar.{IsLevelSoFar-same}
 use Rattle.pair_play.proofs.laws.NextOps.{CanAccess-use, CanFlush-next, IsLevelSoFar-flushed, IsLevelSoFar-unasked, IsLevelSoFar-used, domain-exists, domain-use}
 use Rattle.pair_play.specs.Histories.{AddsAccessIn, CanAccess, CanFlush, LevelValue, access_entry, all_with_flush}
 use Rattle.pair_play.specs.Playing.{IsFlushAt, IsUseAt}
 use Rattle.pair_play.specs.SideTags.{state_now}
 use Rattle.pair_play.specs.SoFar.{IsLevelSoFar}
-use Rattle.pair_runs.specs.Entries.{entry, slice_in}
-use Rattle.pair_runs.specs.LevelRuns.{LevelJournalsValue, asked_at, asked_of_op, domain_on, has_at, is_miss, reaches, user_at}
+use Rattle.pair_law.specs.Entries.{entry, slice_in}
+use Rattle.pair_law.specs.LevelRuns.{LevelJournalsValue, asked_at, asked_of_op, domain_on, has_at, is_miss, reaches, user_at}
 use Rattle.pair_tree.specs.declared.tag.PairTag.{PairTag}
 use Rattle.rc_base.specs.declared.names.Gid.{Gid}
 

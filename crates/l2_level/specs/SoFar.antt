@@ -1,13 +1,13 @@
 -- What was played so far of a script on two levels.
 -- (For functions and proofs: no promise of the program stands on it.)
 use Rattle.std.specs.Prelude.{ℕ, []}
-use Rattle.pair_ops.specs.Values.{PairScriptValue, epoch_at, side_machine}
-use Rattle.pair_ops.specs.declared.side.Side.{Side}
-use Rattle.pair_ops.specs.declared.side.Side.TheVariants.{First, Second}
+use Rattle.pair_text.specs.Values.{PairScriptValue, epoch_at, side_machine}
+use Rattle.pair_text.specs.declared.side.Side.{Side}
+use Rattle.pair_text.specs.declared.side.Side.TheVariants.{First, Second}
 use Rattle.pair_play.specs.Histories.{LevelValue}
 use Rattle.pair_play.specs.SideTags.{tag_on}
 use Rattle.pair_play.specs.SoFar.{IsLevelSoFar}
-use Rattle.pair_runs.specs.LevelRuns.{LevelJournalsValue, asked_at}
+use Rattle.pair_law.specs.LevelRuns.{LevelJournalsValue, asked_at}
 use Rattle.pair_tree.specs.declared.tag.PairTag.{PairTag}
 use Rattle.rc_base.specs.declared.names.Tag.{Tag}
 

@@ -1,11 +1,11 @@
 -- The windows of journals on two levels.
 use Rattle.std.specs.Prelude.{◌≡◌, ℕ, ◌<◌, Bool, true, Some}
-use Rattle.pair_ops.specs.Values.{PairScriptValue, op_at}
-use Rattle.pair_ops.specs.declared.op.PairOp.TheVariants.{Use}
-use Rattle.pair_ops.specs.declared.side.Side.TheVariants.{Second}
-use Rattle.pair_runs.specs.JointWindows.{IsJointWindow, is_covered}
-use Rattle.pair_runs.specs.Laws.{HitsAsPrivate}
-use Rattle.pair_runs.specs.LevelRuns.{LevelJournalsValue, domain_on, user_at}
+use Rattle.pair_text.specs.Values.{PairScriptValue, op_at}
+use Rattle.pair_text.specs.declared.op.PairOp.TheVariants.{Use}
+use Rattle.pair_text.specs.declared.side.Side.TheVariants.{Second}
+use Rattle.pair_law.specs.JointWindows.{IsJointWindow, is_covered}
+use Rattle.pair_law.specs.RunLaws.{HitsAsPrivate}
+use Rattle.pair_law.specs.LevelRuns.{LevelJournalsValue, domain_on, user_at}
 use Rattle.rc_base.specs.declared.names.Gid.{Gid}
 
 -- in every window each covered use of the group does at both levels what it does in a private hierarchy

@@ -2,12 +2,11 @@
 ghost use Rattle.std.specs.Prelude.{◌≡◌, IfOk, Some};
 ghost use Rattle.l2_level.specs.SoFar.{IsLevelsSoFar};
 ghost use Rattle.machine.specs.Maps.{parameters_of};
-ghost use Rattle.pair_ops.specs.Values.{IsLawful};
+ghost use Rattle.pair_text.specs.Values.{IsLawful};
 
 use machine::Machine;
-use pair_ops::Side;
 use pair_play::{Caches, Level, side_tag};
-use pair_text::PairScript;
+use pair_text::{PairScript, Side};
 use pair_tree::PairTag;
 use rc_base::NoMemory;
 use std::alloc::Global;
@@ -39,11 +38,11 @@ impl LevelCaches {
 impl Caches for LevelCaches {
     ghost use Rattle.std.proofs.Common.{ap, ◌∙◌};
     ghost use Rattle.l2_level.specs.SoFar.{journals_of};
-    ghost use Rattle.pair_ops.specs.Values.{side_machine};
-    ghost use Rattle.pair_ops.specs.declared.side.Side.TheVariants.{First, Second};
+    ghost use Rattle.pair_text.specs.Values.{side_machine};
+    ghost use Rattle.pair_text.specs.declared.side.Side.TheVariants.{First, Second};
     ghost use Rattle.pair_play.proofs.laws.NextOps.{IsLevelSoFar-other};
     ghost use Rattle.pair_play.proofs.laws.OpKinds.{asked_of_op-level_other};
-    ghost use Rattle.pair_runs.specs.LevelRuns.{asked_at, asked_of_op};
+    ghost use Rattle.pair_law.specs.LevelRuns.{asked_at, asked_of_op};
 
     ghost so_far = { λ script i caches. IsLevelsSoFar script i caches.l2 caches.l3 };
 

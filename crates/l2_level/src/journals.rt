@@ -1,6 +1,6 @@
 //! What happened in a run on two levels.
 ghost use Rattle.std.specs.Prelude.{◌≡◌, ◌<◌, length, map};
-ghost use Rattle.pair_runs.specs.Entries.{slice_in};
+ghost use Rattle.pair_law.specs.Entries.{slice_in};
 ghost use Rattle.run_law.specs.Entries.{entries_of};
 
 use cache_core::SliceEntry;
@@ -17,7 +17,7 @@ pub struct LevelJournals {
 
 impl Model for LevelJournals {
     ghost use Rattle.std.specs.Prelude.{map};
-    ghost use Rattle.pair_runs.specs.LevelRuns.{LevelJournalsValue};
+    ghost use Rattle.pair_law.specs.LevelRuns.{LevelJournalsValue};
     ghost use Rattle.run_law.specs.Entries.{entries_of};
 
     ghost Value = { LevelJournalsValue };

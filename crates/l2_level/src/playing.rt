@@ -1,9 +1,9 @@
 //! Plays a script.
 ghost use Rattle.std.specs.Prelude.{IfOk, IsSome};
 ghost use Rattle.l2_level.specs.Windows.{WindowsAreIsolated};
-ghost use Rattle.pair_ops.specs.Values.{IsLawful};
+ghost use Rattle.pair_text.specs.Values.{IsLawful};
 ghost use Rattle.pair_play.specs.SoFar.{IsShort};
-ghost use Rattle.pair_runs.specs.LevelRuns.{IsLevelRun};
+ghost use Rattle.pair_law.specs.LevelRuns.{IsLevelRun};
 
 use crate::caches::LevelCaches;
 use crate::journals::LevelJournals;

@@ -10,7 +10,7 @@ use Rattle.std.proofs.Math.Seq.{take-length}
 use Rattle.std.proofs.lemmas.List.{length-append}
 use Rattle.cache_core.specs.Stands.{entry}
 use Rattle.cache_core.specs.declared.entry.SliceEntry.{SliceEntry}
-use Rattle.cache_steps.specs.Needs.{CanFollow}
+use Rattle.step_world.specs.Needs.{CanFollow}
 use Rattle.live_law.specs.Cells.{AreMade}
 use Rattle.live_law.proofs.laws.FollowStages.{IsFollowing-follow}
 use Rattle.live_law.proofs.laws.OwnRoom.{job-room}

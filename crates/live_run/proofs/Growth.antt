@@ -14,7 +14,7 @@ use Rattle.rc_base.specs.declared.names.Tag.{Tag}
 use Rattle.run_law.specs.Entries.{entry_value}
 use Rattle.run_law.specs.Journals.{JournalsValue, slice_at}
 use Rattle.run_law.specs.declared.journals.TreeEntry.{TreeEntry}
-use Rattle.cache_steps.specs.declared.reached.Reached.{Reached}
+use Rattle.step_world.specs.declared.reached.Reached.{Reached}
 use Rattle.script_ops.specs.Values.{ScriptValue}
 use Rattle.seen_journal.proofs.laws.Prefixes.{IsPrefix-self, IsPrefix-through}
 use Rattle.seen_journal.specs.Passes.{PassValue}

@@ -3,7 +3,7 @@ use Rattle.std.proofs.Common.{◌≡◌, ℕ, ◌+◌, true, [], ◌∷◌, None
 use Rattle.atomic_table.specs.Seated.{TableId}
 use Rattle.cache_core.specs.Stands.{entry}
 use Rattle.cache_core.specs.declared.entry.What.TheVariants as whats
-use Rattle.cache_steps.specs.declared.reached.Reached.{Reached}
+use Rattle.step_world.specs.declared.reached.Reached.{Reached}
 use Rattle.live_run.specs.Names.{SeenValue}
 use Rattle.live_run.specs.Sharing.{HasReached, HasStepped, IsResting, IsTagged}
 use Rattle.live_run.specs.Steps.{HasTaken}

@@ -21,7 +21,7 @@ use Rattle.live_run.specs.Names.{SeenValue, history_of, seen_by}
 use Rattle.live_run.specs.Accesses.{HasAccessed, HasTurned, IsTurning, turns_left}
 use Rattle.live_run.specs.Steps.{HasSeenTree, HasTaken, HasTouched}
 use Rattle.live_run.specs.Visits.{HasRoomIn, MayTouch}
-use Rattle.cache_steps.specs.declared.reached.Reached.{Reached}
+use Rattle.step_world.specs.declared.reached.Reached.{Reached}
 use Rattle.machine.specs.Maps.{domain_of, line_of}
 use Rattle.machine.specs.Slices.{slice_of_line}
 use Rattle.rc_base.specs.declared.names.Tag.{Tag}

@@ -3,7 +3,7 @@
 use Rattle.std.specs.Prelude.{◌≡◌, ℕ, ◌+◌, ◌-◌, ◌<◌, ◌≤◌, length, Result, Ok, Err}
 use Rattle.cache_core.specs.Stands.{entry}
 use Rattle.cache_core.specs.declared.entry.What.TheVariants as whats
-use Rattle.cache_steps.specs.declared.reached.Reached.{Reached}
+use Rattle.step_world.specs.declared.reached.Reached.{Reached}
 use Rattle.live_law.specs.SeenJournals.{AddsEntry, SeesMore}
 use Rattle.live_law.specs.Stages.{HoldsTag, slice_reached}
 use Rattle.live_run.specs.Names.{SeenValue, history_of, seen_by}

@@ -5,7 +5,7 @@ use Rattle.cache_core.specs.Stands.{entry}
 use Rattle.cache_core.specs.declared.entry.SliceEntry.{SliceEntry}
 use Rattle.cache_core.specs.declared.entry.What.{What}
 use Rattle.cache_core.specs.declared.entry.What.TheVariants as whats
-use Rattle.cache_steps.specs.declared.reached.Reached.{Reached}
+use Rattle.step_world.specs.declared.reached.Reached.{Reached}
 use Rattle.live_law.specs.SeenJournals.{AddsEntry, SeesMore}
 use Rattle.live_run.specs.Cells.{pass_in}
 use Rattle.live_run.specs.Names.{SeenValue, pass_at, seen_by}

@@ -1,7 +1,7 @@
 -- What a thread knows when it goes to a slice.
 -- (For functions and proofs: no promise of the program stands on it.)
 use Rattle.std.specs.Prelude.{◌≡◌, ℕ, ◌+◌, ◌-◌, ◌<◌, ◌≤◌, List, length, IsSome}
-use Rattle.cache_steps.specs.Needs.{CanFollow, CanReach}
+use Rattle.step_world.specs.Needs.{CanFollow, CanReach}
 use Rattle.live_law.specs.Cells.{AreMade}
 use Rattle.live_law.specs.Room.{commands_from, entries_by, slice_quota, tree_quota}
 use Rattle.live_run.specs.Names.{SeenValue, history_of, seen_by}

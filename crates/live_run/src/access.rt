@@ -14,9 +14,9 @@ use crate::cached_tag::CachedTag;
 use crate::live::Live;
 use crate::run_names::{NamedTable, RunNames, StepShare};
 use crate::seen::Seen;
-use cache_steps::Reached;
 use rc_stream::{Gate, Point};
 use std::sync::Wait;
+use step_world::Reached;
 
 /// Is called with the lock of a slice held, just before an access touches.
 pub(crate) trait Hold {

@@ -9,11 +9,11 @@ use crate::seen::Seen;
 use crate::slice_slot::SliceSlot;
 use crate::slice_slots::SliceSlots;
 use crate::slot_pair::SlotPair;
-use cache_steps::Reached;
 use rc_base::Tag;
 use run_law::TreeEntry;
 use seen_journal::Journal;
 use std::sync::Wait;
+use step_world::Reached;
 use tree_law::Follow;
 
 /// The slots of four slices. A type of its own, since what stands on a pair of pairs ties the impls of them all.

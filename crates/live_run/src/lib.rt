@@ -29,9 +29,9 @@ mod tree;
 mod whole_run;
 mod worker;
 
-pub use cache_steps::Reached;
 pub use live::Live;
 pub use logs::Logs;
 pub use passes::Passes;
 pub use run_names::RunNames;
+pub use step_world::Reached;
 pub use whole_run::play;

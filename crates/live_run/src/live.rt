@@ -19,13 +19,13 @@ use crate::run_names::{NamedTable, RunNames, StepShare};
 use crate::seen::hand;
 use crate::slices::Slices;
 use crate::tree::TreeCell;
-use cache_steps::Reached;
 use machine::Machine;
 use rc_base::Reply;
 use rc_stream::Gate;
 use script_ops::{Op, Script};
 use std::marker::Model;
 use std::sync::{Mutex, Wait};
+use step_world::Reached;
 
 /// The tree and the slices, each under a lock of its own.
 #[derive(Drop)]

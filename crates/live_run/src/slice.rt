@@ -14,12 +14,12 @@ use crate::parts::Part;
 use crate::run_names::{NamedTable, RunNames, StepShare};
 use crate::seen::{Seen, meet, note};
 use cache_core::{Cache, SliceEntry, What};
-use cache_steps::{Reached, access_of, enact, entry, reach};
 use rc_base::Tag;
 use run_law::TreeEntry;
 use schedule_law::{accesses, commands};
 use seen_journal::{Journal, Pass};
 use std::marker::{Model, PhantomData};
+use step_world::{Reached, access_of, enact, entry, reach};
 use tree_law::Follow;
 
 /// What lies under the lock of slice I: its cache, its journal, a pass of the tree's journal, and the share that has the journal as a

@@ -7,12 +7,12 @@ use crate::run_names::{NamedTable, RunNames, StepShare};
 use crate::seen::Seen;
 use crate::slice::SliceCell;
 use crate::slice_slots::SliceSlots;
-use cache_steps::Reached;
 use rc_base::Tag;
 use run_law::TreeEntry;
 use seen_journal::Journal;
 use std::marker::Model;
 use std::sync::{Mutex, Wait};
+use step_world::Reached;
 use tree_law::Follow;
 
 /// The slot of slice I, whose cell is there where the machine has the slice. Contracts see its number.

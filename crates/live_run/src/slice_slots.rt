@@ -11,11 +11,11 @@ ghost use Rattle.schedule_law.specs.declared.part.Happening.TheVariants as happe
 use crate::access::Hold;
 use crate::run_names::{NamedTable, RunNames, StepShare};
 use crate::seen::Seen;
-use cache_steps::Reached;
 use rc_base::Tag;
 use run_law::TreeEntry;
 use seen_journal::Journal;
 use std::sync::Wait;
+use step_world::Reached;
 use tree_law::Follow;
 
 /// Slots for slices, by their numbers over all domains, each under a lock of its own. Those past the machine's slices are empty.

@@ -18,12 +18,12 @@ use crate::run_names::{NamedTable, RunNames, StepShare};
 use crate::seen::Seen;
 use crate::slice_slots::SliceSlots;
 use crate::slot_pair::SlotPair;
-use cache_steps::Reached;
 use rc_base::Tag;
 use run_law::TreeEntry;
 use seen_journal::Journal;
 use std::marker::Model;
 use std::sync::Wait;
+use step_world::Reached;
 use tree_law::Follow;
 
 // The slots of slices 0 to 15, and of 16 to 31.

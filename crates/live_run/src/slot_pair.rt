@@ -7,11 +7,11 @@ use crate::parts::Part;
 use crate::run_names::{NamedTable, RunNames, StepShare};
 use crate::seen::Seen;
 use crate::slice_slots::SliceSlots;
-use cache_steps::Reached;
 use rc_base::Tag;
 use run_law::TreeEntry;
 use seen_journal::Journal;
 use std::sync::Wait;
+use step_world::Reached;
 use tree_law::Follow;
 
 /// Two slots or rows of slots, the second after the first.

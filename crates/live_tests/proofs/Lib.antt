@@ -1,3 +1,4 @@
+pub mod Merges
 mod Outcomes
 mod Phases
 mod Threads

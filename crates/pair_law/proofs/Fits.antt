@@ -13,8 +13,8 @@ use Rattle.pair_law.proofs.Unions.{AreApart-each, is_mode-counted, is_mode-exclu
 use Rattle.pair_law.specs.Others.{Place, used_in}
 use Rattle.pair_law.specs.Sound.{HasValid, IsSound, KeepApart, OffShareable, is_beside}
 use Rattle.pair_law.specs.State.{PairGroup, PairState, has_gid, mask_in}
-use Rattle.pair_ops.specs.Values.{Machines, side_machine}
-use Rattle.pair_ops.specs.declared.side.Side.{Side}
+use Rattle.pair_text.specs.Values.{Machines, side_machine}
+use Rattle.pair_text.specs.declared.side.Side.{Side}
 use Rattle.rc_base.specs.declared.names.Mode.{Mode}
 use Rattle.rc_base.specs.declared.names.Mode.TheVariants.{Shareable, Exclusive}
 use Rattle.tree_law.proofs.laws.Refusals.{cond-Ok}

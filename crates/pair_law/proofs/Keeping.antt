@@ -5,7 +5,7 @@ use Rattle.machine.specs.declared.parameters.Parameters.{Parameters}
 use Rattle.pair_law.proofs.laws.Sides.{is_beside-turned, side_machine-beside}
 use Rattle.pair_law.specs.Sound.{KeepApart}
 use Rattle.pair_law.specs.State.{PairGroup, mask_in}
-use Rattle.pair_ops.specs.Values.{Machines}
+use Rattle.pair_text.specs.Values.{Machines}
 use Rattle.rc_base.specs.declared.names.Mode.TheVariants.{Exclusive}
 
 -- the number of a group

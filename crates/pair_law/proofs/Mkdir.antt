@@ -17,9 +17,9 @@ use Rattle.pair_law.specs.Others.{Place, class_is_free, free_class, full_place, 
 use Rattle.pair_law.specs.Sound.{HasPlaces, HasValid, IsDefault, IsGroup, IsSound, KeepApart, OffShareable}
 use Rattle.pair_law.specs.State.{PairGroup, PairState, group_named, has_gid, has_name, is_same_name, mask_in}
 use Rattle.pair_law.specs.commands.Mkdir as mkdir
-use Rattle.pair_ops.specs.Values.{AreMachines, Machines, class_count, side_machine}
-use Rattle.pair_ops.specs.declared.side.Side.{Side}
-use Rattle.pair_ops.specs.declared.side.Side.TheVariants.{First, Second}
+use Rattle.pair_text.specs.Values.{AreMachines, Machines, class_count, side_machine}
+use Rattle.pair_text.specs.declared.side.Side.{Side}
+use Rattle.pair_text.specs.declared.side.Side.TheVariants.{First, Second}
 use Rattle.rc_base.specs.declared.names.Gid.{Gid}
 use Rattle.rc_base.specs.Texts.{is_text}
 use Rattle.rc_base.specs.declared.names.Mode.TheVariants.{Exclusive, Shareable}

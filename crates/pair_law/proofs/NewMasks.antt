@@ -20,8 +20,8 @@ use Rattle.pair_law.proofs.Unions.{is_mode-exclusive}
 use Rattle.pair_law.specs.Others.{Place, initial_mask, is_other_in, masks_of, masks_of_others, sides_beside, used_in}
 use Rattle.pair_law.specs.Sound.{IsSound, is_beside}
 use Rattle.pair_law.specs.State.{PairGroup, PairState, mask_in}
-use Rattle.pair_ops.specs.Values.{AreMachines, Machines, side_machine}
-use Rattle.pair_ops.specs.declared.side.Side.{Side}
+use Rattle.pair_text.specs.Values.{AreMachines, Machines, side_machine}
+use Rattle.pair_text.specs.declared.side.Side.{Side}
 use Rattle.rc_base.specs.declared.names.Mode.{Mode}
 use Rattle.rc_base.specs.declared.names.Mode.TheVariants.{Exclusive, Shareable}
 use Rattle.tree_law.proofs.laws.StartMasks.{IsStartMask, IsStartMask-mask_of}

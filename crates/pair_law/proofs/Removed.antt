@@ -13,7 +13,7 @@ use Rattle.pair_law.specs.Sound.{AreBound, HasPlaces, HasValid, IsDefault, IsGro
 use Rattle.pair_law.specs.State.{PairGroup, PairState, group_named, has_gid, has_name, is_same_name}
 use Rattle.pair_law.specs.commands.Rmdir as rmdir
 use Rattle.pair_law.specs.commands.Tasks as tasks
-use Rattle.pair_ops.specs.Values.{Machines, class_count}
+use Rattle.pair_text.specs.Values.{Machines, class_count}
 use Rattle.rc_base.specs.Gids.{default_gid}
 use Rattle.rc_base.specs.declared.names.Gid.{Gid}
 use Rattle.task_binding.specs.Bindings.{has_control, is_of, joined}

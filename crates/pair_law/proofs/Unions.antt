@@ -9,8 +9,8 @@ use Rattle.pair_law.proofs.laws.Sides.{list_any-flat_map, masks_of-each}
 use Rattle.pair_law.specs.Others.{Place, is_other_in, masks_of, masks_of_others, sides_beside}
 use Rattle.pair_law.specs.Sound.{is_beside}
 use Rattle.pair_law.specs.State.{PairGroup, PairState, has_gid, mask_in}
-use Rattle.pair_ops.specs.Values.{Machines}
-use Rattle.pair_ops.specs.declared.side.Side.{Side}
+use Rattle.pair_text.specs.Values.{Machines}
+use Rattle.pair_text.specs.declared.side.Side.{Side}
 use Rattle.rc_base.specs.declared.names.Gid.{Gid}
 use Rattle.rc_base.specs.declared.names.Mode.{Mode}
 use Rattle.rc_base.specs.declared.names.Mode.TheVariants.{Shareable, Exclusive, LockSetup, Locked}

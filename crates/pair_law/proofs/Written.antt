@@ -17,9 +17,9 @@ use Rattle.pair_law.specs.Sound.{HasPlaces, IsSound}
 use Rattle.pair_law.specs.State.{PairGroup, PairState, has_gid, mask_in}
 use Rattle.pair_law.specs.commands.Mode as mode
 use Rattle.pair_law.specs.commands.Schemata as schemata
-use Rattle.pair_ops.specs.Values.{AreMachines, Machines, side_machine}
-use Rattle.pair_ops.specs.declared.side.Side.{Side}
-use Rattle.pair_ops.specs.declared.side.Side.TheVariants.{First, Second}
+use Rattle.pair_text.specs.Values.{AreMachines, Machines, side_machine}
+use Rattle.pair_text.specs.declared.side.Side.{Side}
+use Rattle.pair_text.specs.declared.side.Side.TheVariants.{First, Second}
 use Rattle.rc_base.specs.declared.names.Mode.{Mode}
 use Rattle.rc_base.specs.declared.names.Mode.TheVariants.{Shareable, Exclusive}
 use Rattle.rc_base.specs.declared.replies.Why.TheVariants.{SchemataOverlap}

@@ -1,10 +1,20 @@
 -- Lemmas that crates above cite.
 pub mod Bounds
+pub mod CdpEntries
+pub mod CdpWindows
+pub mod Commands
+pub mod Counts
+pub mod Cuts
+pub mod Domains
 pub mod Epochs
+pub mod LevelWindows
+pub mod Machines
 pub mod Opening
 pub mod Owners
+pub mod Playing
 pub mod Readings
 pub mod Registers
-pub mod Steps
-pub mod Machines
 pub mod Sides
+pub mod Steps
+pub mod Undecided
+pub mod WindowExtents

@@ -5,10 +5,10 @@ use Rattle.pair_law.specs.Others.{initial_mask}
 use Rattle.pair_law.specs.Sound.{IsSound}
 use Rattle.pair_law.specs.State.{PairState}
 use Rattle.pair_law.specs.Steps.{left, next, refusal}
-use Rattle.pair_ops.specs.Values.{Machines, class_count}
-use Rattle.pair_ops.specs.declared.op.PairOp.{PairOp}
-use Rattle.pair_ops.specs.declared.op.PairOp.TheVariants as ops
-use Rattle.pair_ops.specs.declared.side.Side.TheVariants.{First, Second}
+use Rattle.pair_text.specs.Values.{Machines, class_count}
+use Rattle.pair_text.specs.declared.op.PairOp.{PairOp}
+use Rattle.pair_text.specs.declared.op.PairOp.TheVariants as ops
+use Rattle.pair_text.specs.declared.side.Side.TheVariants.{First, Second}
 use Rattle.path_names.specs.declared.files.FileKind.{FileKind}
 use Rattle.path_names.specs.declared.files.FileKind.TheVariants.{Tasks}
 use Rattle.task_binding.specs.declared.binding.Binding.{Binding}

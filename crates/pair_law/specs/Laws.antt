@@ -7,9 +7,9 @@ use Rattle.pair_law.specs.Registers.{class_of, mask_of_group, register, register
 use Rattle.pair_law.specs.Sound.{IsGroup, IsSound}
 use Rattle.pair_law.specs.State.{PairState, opening}
 use Rattle.pair_law.specs.Steps.{next}
-use Rattle.pair_ops.specs.Values.{AreMachines, IsLawful, Machines, PairScriptValue}
-use Rattle.pair_ops.specs.declared.op.PairOp.{PairOp}
-use Rattle.pair_ops.specs.declared.side.Side.{Side}
+use Rattle.pair_text.specs.Values.{AreMachines, IsLawful, Machines, PairScriptValue}
+use Rattle.pair_text.specs.declared.op.PairOp.{PairOp}
+use Rattle.pair_text.specs.declared.side.Side.{Side}
 use Rattle.rc_base.specs.declared.names.Gid.{Gid}
 
 -- the opening state is sound

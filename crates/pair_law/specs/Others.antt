@@ -8,9 +8,9 @@ use Rattle.machine.specs.declared.parameters.Parameters.{Parameters}
 use Rattle.mode_rules.specs.StartingWays.{initial_ways}
 use Rattle.mode_rules.specs.declared.domain_use.DomainUse.{DomainUse}
 use Rattle.pair_law.specs.State.{PairGroup, PairState, has_gid, mask_in}
-use Rattle.pair_ops.specs.Values.{Machines, class_count, side_machine}
-use Rattle.pair_ops.specs.declared.side.Side.{Side}
-use Rattle.pair_ops.specs.declared.side.Side.TheVariants.{First, Second}
+use Rattle.pair_text.specs.Values.{Machines, class_count, side_machine}
+use Rattle.pair_text.specs.declared.side.Side.{Side}
+use Rattle.pair_text.specs.declared.side.Side.TheVariants.{First, Second}
 use Rattle.rc_base.specs.declared.names.Gid.{Gid}
 use Rattle.rc_base.specs.declared.names.Mode.{Mode}
 use Rattle.rc_base.specs.declared.names.Mode.TheVariants.{Exclusive, Shareable}

@@ -4,10 +4,10 @@ use Rattle.std.specs.Prelude.{ℕ, Bool, true, false, not, ◌==◌, List, [], �
 use Rattle.std.specs.List.{list_any, before_first, after_first}
 use Rattle.num_text.specs.Blanks.{trim}
 use Rattle.machine.specs.declared.parameters.Parameters.{Parameters}
-use Rattle.pair_ops.specs.Values.{Machines, side_machine}
-use Rattle.pair_ops.specs.declared.side.Side.{Side}
-use Rattle.pair_ops.specs.declared.side.Side.TheVariants.{First, Second}
-pub use Rattle.pair_ops.specs.declared.side_mask.SideMask.{SideMask}
+use Rattle.pair_text.specs.Values.{Machines, side_machine}
+use Rattle.pair_text.specs.declared.side.Side.{Side}
+use Rattle.pair_text.specs.declared.side.Side.TheVariants.{First, Second}
+pub use Rattle.pair_text.specs.declared.side_mask.SideMask.{SideMask}
 use Rattle.rc_base.specs.Faults.{◌>>=◌, fault_if}
 use Rattle.rc_base.specs.Texts.{is_text}
 use Rattle.schemata_text.specs.Items.{Item, Line, Entry, colon, items_of}

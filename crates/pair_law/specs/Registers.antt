@@ -4,8 +4,8 @@
 use Rattle.std.specs.Prelude.{ℕ, ◌+◌, ◌*◌, ◌/◌, ◌%◌, Bool, ◌==◌, find, Option, if◌then◌else◌}
 use Rattle.std.specs.Option.{option_map, option_map_or}
 use Rattle.pair_law.specs.State.{PairGroup, PairState, group_of, mask_in}
-use Rattle.pair_ops.specs.declared.side.Side.{Side}
-use Rattle.pair_ops.specs.declared.side.Side.TheVariants.{First, Second}
+use Rattle.pair_text.specs.declared.side.Side.{Side}
+use Rattle.pair_text.specs.declared.side.Side.TheVariants.{First, Second}
 use Rattle.rc_base.specs.declared.names.Gid.{Gid}
 
 -- the side of a register, by its number

@@ -5,8 +5,8 @@ use Rattle.std.specs.List.{list_any}
 use Rattle.machine.specs.declared.parameters.Parameters.{Parameters}
 use Rattle.pair_law.specs.Reading.{is_same_side}
 use Rattle.pair_law.specs.State.{PairGroup, PairState, has_gid, mask_in, masks_on}
-use Rattle.pair_ops.specs.Values.{Machines, class_count, side_machine}
-use Rattle.pair_ops.specs.declared.side.Side.{Side}
+use Rattle.pair_text.specs.Values.{Machines, class_count, side_machine}
+use Rattle.pair_text.specs.declared.side.Side.{Side}
 use Rattle.rc_base.specs.declared.names.Gid.{Gid}
 use Rattle.rc_base.specs.declared.names.Mode.TheVariants.{Exclusive}
 use Rattle.task_binding.specs.Bindings.{AreRising}

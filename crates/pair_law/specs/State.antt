@@ -3,10 +3,10 @@
 use Rattle.std.specs.Prelude.{ℕ, Bool, true, false, ◌==◌, find, List, [], ◌∷◌, map, Option, Some, None, slice_index}
 use Rattle.std.specs.Option.{option_map_or}
 use Rattle.group_tree.specs.Opening.{full_mask, in_each_domain}
-use Rattle.pair_ops.specs.Values.{Machines, side_machine}
-pub use Rattle.pair_ops.specs.declared.group.PairGroup.{PairGroup}
-use Rattle.pair_ops.specs.declared.side.Side.{Side}
-use Rattle.pair_ops.specs.declared.side.Side.TheVariants.{First, Second}
+use Rattle.pair_text.specs.Values.{Machines, side_machine}
+pub use Rattle.pair_text.specs.declared.group.PairGroup.{PairGroup}
+use Rattle.pair_text.specs.declared.side.Side.{Side}
+use Rattle.pair_text.specs.declared.side.Side.TheVariants.{First, Second}
 use Rattle.rc_base.specs.Gids.{default_gid}
 use Rattle.rc_base.specs.Texts.{is_text}
 use Rattle.rc_base.specs.declared.names.Gid.{Gid}

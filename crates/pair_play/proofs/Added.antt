@@ -8,7 +8,7 @@ use Rattle.std.proofs.lemmas.Result.{IfOk-weaker}
 use Rattle.cache_core.specs.History.{IsLegal, Shape}
 use Rattle.cache_core.specs.declared.entry.SliceEntry.{SliceEntry}
 use Rattle.pair_play.specs.Histories.{AddsAccess, AddsAccessIn, AreTaken, HasShape, RecordedValue, access_entry, histories_of}
-use Rattle.pair_runs.specs.Entries.{slice_in}
+use Rattle.pair_law.specs.Entries.{slice_in}
 use Rattle.rc_base.specs.declared.names.Tag.{Tag}
 
 -- the history of a cache

@@ -5,7 +5,7 @@ use Rattle.cache_core.specs.History.{IsLegal, Shape, floor_of, shape_of}
 use Rattle.cache_core.specs.declared.entry.SliceEntry.{SliceEntry}
 use Rattle.cache_core.specs.declared.entry.What.TheVariants.{Access, Flush}
 use Rattle.machine.specs.declared.parameters.Parameters.{Parameters}
-use Rattle.pair_runs.specs.Entries.{entry, slice_in}
+use Rattle.pair_law.specs.Entries.{entry, slice_in}
 use Rattle.rc_base.specs.declared.names.Tag.{Tag}
 
 -- a cache, and all that was entered in it

@@ -1,9 +1,9 @@
 -- What was played of a pair script so far, and what its next op asks of the caches.
 -- (For functions and proofs: no promise of the program stands on it.)
 use Rattle.std.specs.Prelude.{◌≡◌, ◌≢◌, ℕ, ◌+◌, Bool, Some}
-use Rattle.pair_ops.specs.Values.{IsLawful, PairScriptValue, epoch_at, op_at}
-use Rattle.pair_ops.specs.declared.op.PairOp.{PairOp}
-use Rattle.pair_ops.specs.declared.op.PairOp.TheVariants as ops
+use Rattle.pair_text.specs.Values.{IsLawful, PairScriptValue, epoch_at, op_at}
+use Rattle.pair_text.specs.declared.op.PairOp.{PairOp}
+use Rattle.pair_text.specs.declared.op.PairOp.TheVariants as ops
 use Rattle.pair_play.specs.SideTags.{tag_now}
 use Rattle.pair_play.specs.SoFar.{AreCommandsSoFar, CommandsValue, IsShort}
 use Rattle.pair_tree.specs.declared.tag.PairTag.{PairTag}

@@ -3,9 +3,9 @@
 use Rattle.std.specs.Prelude.{ℕ, slice_index}
 use Rattle.pair_law.specs.Epochs.{state_at}
 use Rattle.pair_law.specs.State.{PairState}
-use Rattle.pair_ops.specs.Values.{PairScriptValue, epoch_at}
-use Rattle.pair_ops.specs.declared.side.Side.{Side}
-use Rattle.pair_ops.specs.declared.side.Side.TheVariants.{First, Second}
+use Rattle.pair_text.specs.Values.{PairScriptValue, epoch_at}
+use Rattle.pair_text.specs.declared.side.Side.{Side}
+use Rattle.pair_text.specs.declared.side.Side.TheVariants.{First, Second}
 use Rattle.pair_play.specs.SoFar.{CommandsValue}
 use Rattle.pair_tree.specs.Tags.{tag_of}
 use Rattle.pair_tree.specs.declared.tag.PairTag.{PairTag}

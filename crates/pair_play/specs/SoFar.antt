@@ -7,10 +7,10 @@ use Rattle.machine.specs.declared.parameters.Parameters.{Parameters}
 use Rattle.pair_law.specs.Epochs.{replies_to, state_at}
 use Rattle.pair_law.specs.State.{opening}
 use Rattle.pair_law.specs.Steps.{next}
-use Rattle.pair_ops.specs.Values.{PairScriptValue, commands_of, epoch_at, is_command}
-use Rattle.pair_ops.specs.declared.op.PairOp.{PairOp}
+use Rattle.pair_text.specs.Values.{PairScriptValue, commands_of, epoch_at, is_command}
+use Rattle.pair_text.specs.declared.op.PairOp.{PairOp}
 use Rattle.pair_play.specs.Histories.{IsNotAfter, LevelValue}
-use Rattle.pair_runs.specs.Entries.{asked_by, slice_in}
+use Rattle.pair_law.specs.Entries.{asked_by, slice_in}
 use Rattle.pair_text.specs.declared.limits.TheConstants.{MOST_COMMANDS}
 use Rattle.pair_tree.specs.Values.{PairTreeValue}
 use Rattle.rc_base.specs.declared.replies.Reply.{Reply}

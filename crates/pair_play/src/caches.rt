@@ -1,7 +1,7 @@
 //! The caches that a kind of pair scripts is played on.
 ghost use Rattle.std.specs.Prelude.{◌≡◌, ℕ, ◌+◌, OnOk, Some};
-ghost use Rattle.pair_ops.specs.Values.{PairScriptValue, op_at};
-ghost use Rattle.pair_ops.specs.declared.op.PairOp.{PairOp as OpValue};
+ghost use Rattle.pair_text.specs.Values.{PairScriptValue, op_at};
+ghost use Rattle.pair_text.specs.declared.op.PairOp.{PairOp as OpValue};
 ghost use Rattle.pair_play.specs.Playing.{IsFlushAt, IsNextFlush, IsNextUse, IsOther, IsUseAt};
 
 use pair_tree::PairTag;

@@ -1,13 +1,12 @@
 //! The commands that were taken.
 ghost use Rattle.std.specs.Prelude.{◌≡◌, ◌<◌, Contains, IfOk, OnErr, OnOk, true};
 ghost use Rattle.pair_law.specs.Bounds.{tasks_of};
-ghost use Rattle.pair_ops.specs.Values.{HasShortName, IsLawful, is_command};
+ghost use Rattle.pair_text.specs.Values.{HasShortName, IsLawful, is_command};
 ghost use Rattle.pair_play.specs.SoFar.{AreCommandsSoFar, taken};
 ghost use Rattle.pair_text.specs.declared.limits.TheConstants.{MOST_COMMANDS};
 ghost use Rattle.pair_tree.specs.Tags.{tag_of};
 
-use pair_ops::PairOp;
-use pair_text::PairScript;
+use pair_text::{PairOp, PairScript};
 use pair_tree::{PairTag, PairTree};
 use rc_base::{NoMemory, Reply};
 use std::alloc::Global;

@@ -2,14 +2,13 @@
 ghost use Rattle.std.specs.Prelude.{◌≡◌, ◌+◌, ◌<◌, IfOk, OnOk, length};
 ghost use Rattle.pair_law.specs.Epochs.{replies_to};
 ghost use Rattle.pair_law.specs.State.{opening};
-ghost use Rattle.pair_ops.specs.Values.{IsLawful, commands_of};
+ghost use Rattle.pair_text.specs.Values.{IsLawful, commands_of};
 ghost use Rattle.pair_play.specs.Playing.{IsPlayedSoFar};
 ghost use Rattle.pair_play.specs.SoFar.{IsShort};
 
 use crate::caches::Caches;
 use crate::commands::Commands;
-use pair_ops::PairOp;
-use pair_text::PairScript;
+use pair_text::{PairOp, PairScript};
 use rc_base::{NoMemory, Reply};
 use std::alloc::Global;
 

@@ -2,7 +2,7 @@
 ghost use Rattle.std.specs.Prelude.{◌≡◌, length};
 ghost use Rattle.pair_play.specs.SideTags.{tag_on};
 
-use pair_ops::Side;
+use pair_text::Side;
 use pair_tree::PairTag;
 use rc_base::{Gid, Tag};
 

@@ -5,11 +5,11 @@ use Rattle.std.specs.List.{slice_get}
 use Rattle.pair_law.specs.Epochs.{state_after, state_at}
 use Rattle.pair_law.specs.State.{PairState, opening}
 use Rattle.pair_law.specs.Steps.{next}
-use Rattle.pair_ops.specs.Values.{Machines, PairScriptValue, epoch_at, is_command, op_at}
-use Rattle.pair_ops.specs.declared.op.PairOp.{PairOp}
+use Rattle.pair_text.specs.Values.{Machines, PairScriptValue, epoch_at, is_command, op_at}
+use Rattle.pair_text.specs.declared.op.PairOp.{PairOp}
 use Rattle.pair_report.specs.LinesBefore.{commands_before, lines_before}
 use Rattle.pair_report.specs.PairCommands.{command_line, command_lines}
-use Rattle.pair_runs.proofs.laws.Playing.{filter-take_command, filter-take_use, state_at-epoch}
+use Rattle.pair_law.proofs.laws.Playing.{filter-take_command, filter-take_use, state_at-epoch}
 use Rattle.rc_base.specs.declared.replies.Reply.{Reply}
 
 -- one command more

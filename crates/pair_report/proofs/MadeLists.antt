@@ -5,13 +5,13 @@ use Rattle.std.proofs.lemmas.Bool.{cases_Bool}
 use Rattle.std.proofs.lemmas.List.{append-nil, length-append, length-map, map-append}
 use Rattle.std.proofs.lemmas.List.Elements.{All-append}
 use Rattle.lists.proofs.Tests.{All-one}
-use Rattle.pair_ops.specs.Values.{PairScriptValue, epoch_at, is_command, op_at}
-use Rattle.pair_ops.specs.declared.op.PairOp.{PairOp}
-use Rattle.pair_ops.specs.declared.op.PairOp.TheVariants as ops
+use Rattle.pair_text.specs.Values.{PairScriptValue, epoch_at, is_command, op_at}
+use Rattle.pair_text.specs.declared.op.PairOp.{PairOp}
+use Rattle.pair_text.specs.declared.op.PairOp.TheVariants as ops
 use Rattle.pair_report.specs.LinesBefore.{HasMade, commands_before, group_made, made_before, made_by, makes, path_made}
 use Rattle.pair_report.specs.MadeGroups.{GroupPath, made_from}
 use Rattle.pair_report.specs.declared.made.MadeGroup.{MadeGroup}
-use Rattle.pair_runs.proofs.laws.Playing.{epoch_at-command, epoch_at-use, filter-take_command, filter-take_use}
+use Rattle.pair_law.proofs.laws.Playing.{epoch_at-command, epoch_at-use, filter-take_command, filter-take_use}
 use Rattle.rc_base.specs.declared.replies.Reply.{Reply}
 use Rattle.rc_base.specs.declared.replies.Reply.TheVariants as replies
 

@@ -7,10 +7,10 @@ use Rattle.pair_law.proofs.laws.Machines.{domains-few, side_machine-slices}
 use Rattle.pair_law.specs.Epochs.{replies_to}
 use Rattle.pair_law.specs.State.{PairState, opening}
 use Rattle.pair_law.specs.Steps.{next}
-use Rattle.pair_ops.specs.Values.{Machines, PairScriptValue, commands_of, side_machine}
-use Rattle.pair_ops.specs.declared.op.PairOp.{PairOp}
-use Rattle.pair_ops.specs.declared.side.Side.{Side}
-use Rattle.pair_ops.specs.declared.side.Side.TheVariants.{First, Second}
+use Rattle.pair_text.specs.Values.{Machines, PairScriptValue, commands_of, side_machine}
+use Rattle.pair_text.specs.declared.op.PairOp.{PairOp}
+use Rattle.pair_text.specs.declared.side.Side.{Side}
+use Rattle.pair_text.specs.declared.side.Side.TheVariants.{First, Second}
 use Rattle.pair_windows.specs.CdpJournals.{IsPlayed, cdp_journals}
 use Rattle.pair_windows.specs.LevelJournals.{IsPlayedOnLevels, level_journals}
 use Rattle.rc_base.specs.declared.replies.Reply.{Reply}

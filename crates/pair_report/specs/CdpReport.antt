@@ -3,13 +3,13 @@ use Rattle.std.specs.Prelude.{ℕ, Bool, List, ◌++◌, codes, decimal}
 use Rattle.std.specs.List.{flat_map, range_with_len}
 use Rattle.cache_core.specs.declared.entry.SliceEntry.{SliceEntry}
 use Rattle.pair_law.specs.Registers.{register_of}
-use Rattle.pair_ops.specs.Values.{PairScriptValue}
-use Rattle.pair_ops.specs.declared.side.Side.{Side}
-use Rattle.pair_ops.specs.declared.side.Side.TheVariants.{First, Second}
+use Rattle.pair_text.specs.Values.{PairScriptValue}
+use Rattle.pair_text.specs.declared.side.Side.{Side}
+use Rattle.pair_text.specs.declared.side.Side.TheVariants.{First, Second}
 use Rattle.pair_report.specs.MadeGroups.{GroupPath, groups_of}
 use Rattle.pair_report.specs.PairCommands.{commands_part}
 use Rattle.pair_report.specs.PairCounts.{domain_line, owner_counts, total_line}
-use Rattle.pair_runs.specs.CdpRuns.{CdpJournalsValue}
+use Rattle.pair_law.specs.CdpRuns.{CdpJournalsValue}
 use Rattle.pair_windows.specs.CdpWindows.{cdp_windows}
 use Rattle.pair_windows.specs.declared.cdp_window.CdpWindow.{CdpWindow}
 

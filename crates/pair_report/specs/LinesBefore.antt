@@ -2,9 +2,9 @@
 -- (For functions and proofs: no promise of the program stands on it.)
 use Rattle.std.specs.Prelude.{◌≡◌, ◌≤◌, All, length, map, ℕ, Bool, true, false, if◌then◌else◌, List, [], ◌∷◌, ◌++◌, codes, filter, take, Option, Some}
 use Rattle.pair_law.specs.State.{opening}
-use Rattle.pair_ops.specs.Values.{PairScriptValue, epoch_at, is_command, op_at}
-use Rattle.pair_ops.specs.declared.op.PairOp.{PairOp}
-use Rattle.pair_ops.specs.declared.op.PairOp.TheVariants as ops
+use Rattle.pair_text.specs.Values.{PairScriptValue, epoch_at, is_command, op_at}
+use Rattle.pair_text.specs.declared.op.PairOp.{PairOp}
+use Rattle.pair_text.specs.declared.op.PairOp.TheVariants as ops
 use Rattle.pair_report.specs.MadeGroups.{GroupPath, made_from}
 use Rattle.pair_report.specs.PairCommands.{command_lines}
 use Rattle.pair_report.specs.declared.made.MadeGroup.{MadeGroup}

@@ -1,8 +1,8 @@
 -- The canonical texts of the commands of a pair script: the words with one space between.
 use Rattle.std.specs.Prelude.{ℕ, List, [], ◌++◌, codes, Option, Some, None}
-use Rattle.pair_ops.specs.declared.file.PairFile.{PairFile}
-use Rattle.pair_ops.specs.declared.op.PairOp.{PairOp}
-use Rattle.pair_ops.specs.declared.op.PairOp.TheVariants as ops
+use Rattle.pair_text.specs.declared.file.PairFile.{PairFile}
+use Rattle.pair_text.specs.declared.op.PairOp.{PairOp}
+use Rattle.pair_text.specs.declared.op.PairOp.TheVariants as ops
 use Rattle.path_names.specs.PathTable.{file_name}
 use Rattle.script_ops.specs.Canonical.{text_after}
 

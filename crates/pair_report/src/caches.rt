@@ -1,13 +1,12 @@
 //! The caches of a level of a script, and what is counted in them.
 ghost use Rattle.std.specs.Prelude.{◌≡◌, ◌≤◌, IfOk, length, map};
-ghost use Rattle.pair_ops.specs.Values.{side_machine};
+ghost use Rattle.pair_text.specs.Values.{side_machine};
 ghost use Rattle.run_counts.specs.CacheCounts.{slices_alone, valid_in};
 ghost use Rattle.run_counts.specs.Tallies.{IsTallyOf};
 ghost use Rattle.run_law.specs.Entries.{entries_of};
 
 use cache_core::SliceEntry;
-use pair_ops::Side;
-use pair_text::PairScript;
+use pair_text::{PairScript, Side};
 use pair_windows::machine_on;
 use rc_base::NoMemory;
 use run_counts::CacheCounts;

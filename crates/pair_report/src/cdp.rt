@@ -1,7 +1,7 @@
 //! The report of a run with code and data prioritization.
 ghost use Rattle.std.specs.Prelude.{◌≡◌, ◌<◌, ◌^◌, ◌∷◌, ◌++◌, All, IfOk, OnOk, length, map};
 ghost use Rattle.std.specs.List.{flat_map, range_with_len};
-ghost use Rattle.pair_ops.specs.declared.side.Side.TheVariants.{Second};
+ghost use Rattle.pair_text.specs.declared.side.Side.TheVariants.{Second};
 ghost use Rattle.pair_report.specs.CdpReport.{cdp_report_of, group_line, window_line};
 ghost use Rattle.pair_report.specs.LinesBefore.{group_made};
 ghost use Rattle.pair_report.specs.MadeGroups.{default_path, groups_of};
@@ -21,8 +21,7 @@ use crate::counts::push_total;
 use crate::domains::push_domain;
 use crate::made::{MadeGroup, made_groups};
 use cache_core::SliceEntry;
-use pair_ops::Side;
-use pair_text::PairScript;
+use pair_text::{PairScript, Side};
 use pair_windows::cdp_windows;
 use rc_base::{NoMemory, Reply};
 use report_pieces::ReportText;

@@ -2,7 +2,7 @@
 ghost use Rattle.std.specs.Prelude.{◌≡◌, ◌<◌, ◌^◌, ◌∷◌, ◌++◌, All, OnOk, codes, length, map};
 ghost use Rattle.std.specs.List.{flat_map};
 ghost use Rattle.pair_law.specs.Registers.{register_of};
-ghost use Rattle.pair_ops.specs.declared.side.Side.TheVariants.{First, Second};
+ghost use Rattle.pair_text.specs.declared.side.Side.TheVariants.{First, Second};
 ghost use Rattle.pair_report.specs.CdpReport.{group_line};
 ghost use Rattle.pair_report.specs.LinesBefore.{group_made};
 ghost use Rattle.pair_report.specs.MadeGroups.{default_path};

@@ -3,7 +3,7 @@ ghost use Rattle.std.specs.Prelude.{◌≡◌, ◌++◌, OnOk};
 ghost use Rattle.std.specs.List.{flat_map};
 ghost use Rattle.pair_report.specs.CdpReport.{side_word, window_counts, window_line, window_place};
 
-use pair_ops::Side;
+use pair_text::Side;
 use pair_windows::CdpWindow;
 use rc_base::NoMemory;
 use report_pieces::ReportText;

@@ -3,7 +3,7 @@ ghost use Rattle.std.specs.Prelude.{◌≡◌, ◌++◌, OnOk, codes};
 ghost use Rattle.pair_report.specs.PairOpTexts.{command_text, file_path, group_prefix};
 ghost use Rattle.script_ops.specs.Canonical.{text_after};
 
-use pair_ops::{PairFile, PairOp};
+use pair_text::{PairFile, PairOp};
 use rc_base::NoMemory;
 use report_pieces::ReportText;
 use script_ops::Bytes;

@@ -1,7 +1,7 @@
 //! The lines of commands.
 ghost use Rattle.std.specs.Prelude.{◌≡◌, ◌+◌, ◌<◌, ◌≤◌, ◌++◌, List, ℕ, IfOk, OnOk, length};
 ghost use Rattle.pair_law.specs.Epochs.{state_at};
-ghost use Rattle.pair_ops.specs.Values.{commands_of, epoch_at};
+ghost use Rattle.pair_text.specs.Values.{commands_of, epoch_at};
 ghost use Rattle.pair_windows.specs.Replays.{IsPlayable};
 ghost use Rattle.pair_report.specs.LinesBefore.{IsBehind, lines_before};
 ghost use Rattle.pair_report.specs.PairCommands.{command_line, commands_part, given_lines};
@@ -11,8 +11,7 @@ ghost use Rattle.report_pieces.specs.Pieces.{barred};
 
 use crate::command_text::push_command;
 use crate::counts::reply_at;
-use pair_ops::PairOp;
-use pair_text::PairScript;
+use pair_text::{PairOp, PairScript};
 use pair_tree::PairTree;
 use pair_windows::{Replay, is_command};
 use rc_base::{NoMemory, Reply, TEXT_MAX, TextBuf};

@@ -1,10 +1,9 @@
 //! The lines of the groups that ever were.
 ghost use Rattle.std.specs.Prelude.{◌≡◌, ◌++◌, OnOk, Some, codes, decimal};
-ghost use Rattle.pair_ops.specs.Values.{op_at};
+ghost use Rattle.pair_text.specs.Values.{op_at};
 ghost use Rattle.pair_report.specs.LinesBefore.{path_made};
 
-use pair_ops::PairOp;
-use pair_text::PairScript;
+use pair_text::{PairOp, PairScript};
 use rc_base::NoMemory;
 use report_pieces::ReportText;
 

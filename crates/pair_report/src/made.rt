@@ -1,14 +1,13 @@
 //! The groups that were made.
 ghost use Rattle.std.specs.Prelude.{◌≡◌, ◌+◌, ◌<◌, ◌^◌, ◌++◌, All, IfOk, OnOk, length, map};
-ghost use Rattle.pair_ops.specs.Values.{commands_of};
+ghost use Rattle.pair_text.specs.Values.{commands_of};
 ghost use Rattle.pair_windows.specs.Replays.{IsPlayable};
 ghost use Rattle.pair_report.specs.LinesBefore.{HasMade, group_made, made_by, makes};
 ghost use Rattle.pair_report.specs.MadeGroups.{made_from};
 ghost use Rattle.pair_report.specs.declared.made.MadeGroup.{MadeGroup as MadeGroupValue};
 
 use crate::counts::reply_at;
-use pair_ops::PairOp;
-use pair_text::PairScript;
+use pair_text::{PairOp, PairScript};
 use pair_windows::is_command;
 use rc_base::{NoMemory, Reply};
 use std::alloc::Global;

@@ -2,7 +2,7 @@
 use Rattle.std.proofs.Common.{◌≡◌, ℕ, ◌+◌, ◌≤◌, List, [], ◌∷◌, ◌++◌, length, Result, Ok, Err, refl, sym, ◌∙◌, arith, inl, inr, lt-ltb, le-ltb}
 use Rattle.std.proofs.lemmas.Bool.{cases_lt}
 use Rattle.std.proofs.lemmas.List.{append_assoc, append-nil, length-append}
-use Rattle.pair_ops.specs.declared.op.PairOp.{PairOp}
+use Rattle.pair_text.specs.declared.op.PairOp.{PairOp}
 use Rattle.pair_text.specs.PairLines.{PairState, with_uses}
 use Rattle.pair_text.specs.Readers.{Fails}
 use Rattle.pair_text.specs.declared.fault.PairFault.{PairFault}

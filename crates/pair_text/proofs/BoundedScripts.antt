@@ -1,7 +1,7 @@
 -- A script has no more commands and uses than the most, and machines of its kind.
 use Rattle.std.proofs.Common.{◌≡◌, ℕ, ◌+◌, false, List, [], ◌∷◌, Result, Ok, Err, IfOk, refl, ap, subst, arith}
 use Rattle.std.specs.Str.Lines.{lines}
-use Rattle.pair_ops.specs.Values.{PairScriptValue}
+use Rattle.pair_text.specs.Values.{PairScriptValue}
 use Rattle.pair_text.specs.Kinds.{is_start}
 use Rattle.pair_text.specs.PairLaws.{HasKind, IsWithinLimits}
 use Rattle.pair_text.specs.PairLines.{PairState, line_meaning}

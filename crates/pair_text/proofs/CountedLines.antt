@@ -7,7 +7,7 @@ use Rattle.std.proofs.lemmas.List.FromFn.{length-range_with_len}
 use Rattle.lackey_text.specs.Lines.{line_of}
 use Rattle.lackey_text.specs.declared.uses.LineUse.{LineUse}
 use Rattle.line_words.specs.Lines.{behind_word, is_bad, is_comment, words}
-use Rattle.pair_ops.specs.declared.op.PairOp.TheVariants as ops
+use Rattle.pair_text.specs.declared.op.PairOp.TheVariants as ops
 use Rattle.pair_text.proofs.Readiness.{IfOk-bind, IfOk-fault_if, IfOk-or_fault}
 use Rattle.pair_text.specs.Kinds.{is_start, may_stand, pair_kind_of}
 use Rattle.pair_text.specs.PairKeys.{machines_of}

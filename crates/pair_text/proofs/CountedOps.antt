@@ -3,8 +3,8 @@ use Rattle.std.proofs.Common.{◌≡◌, ℕ, ◌+◌, ◌≤◌, ◌%◌, Bool,
 use Rattle.std.proofs.lemmas.List.{length-append}
 use Rattle.std.proofs.lemmas.List.Elements.{filter-append}
 use Rattle.machine.specs.Ranges.{is_machine}
-use Rattle.pair_ops.specs.Values.{Machines, is_command}
-use Rattle.pair_ops.specs.declared.op.PairOp.{PairOp}
+use Rattle.pair_text.specs.Values.{Machines, is_command}
+use Rattle.pair_text.specs.declared.op.PairOp.{PairOp}
 use Rattle.pair_text.specs.Kinds.{is_start, may_stand}
 use Rattle.pair_text.specs.PairKeys.{l2_from, machine_from, machines_from, machines_of, no_pair_keys, pair_keys_from}
 use Rattle.pair_text.specs.PairLines.{PairState, with_command, with_uses}

@@ -3,9 +3,9 @@ use Rattle.std.proofs.Common.{◌≡◌, ℕ, ◌+◌, true, List, [], ◌∷◌
 use Rattle.std.proofs.lemmas.List.Elements.{All-nil}
 use Rattle.machine.proofs.laws.Ranges.{is_machine-true}
 use Rattle.machine.specs.Ranges.{is_machine, usual}
-use Rattle.pair_ops.specs.Values.{Fits, IsLawful, PairScriptValue}
-use Rattle.pair_ops.specs.declared.op.PairOp.{PairOp}
-use Rattle.pair_ops.specs.declared.op.PairOp.TheVariants as ops
+use Rattle.pair_text.specs.Values.{Fits, IsLawful, PairScriptValue}
+use Rattle.pair_text.specs.declared.op.PairOp.{PairOp}
+use Rattle.pair_text.specs.declared.op.PairOp.TheVariants as ops
 use Rattle.pair_text.specs.PairLines.{PairState, line_meaning, traced}
 use Rattle.pair_text.specs.declared.fault.PairFault.{PairFault}
 use Rattle.pair_text.specs.declared.kind.PairKind.{PairKind}

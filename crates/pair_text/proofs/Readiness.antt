@@ -4,9 +4,9 @@ use Rattle.std.specs.List.{list_any}
 use Rattle.std.proofs.lemmas.Bool.{and_parts, eqb-true}
 use Rattle.machine.proofs.laws.Ranges.{is_machine-true}
 use Rattle.machine.specs.Ranges.{is_machine}
-use Rattle.pair_ops.specs.Values.{AreMachines, HasShortName, Machines}
-use Rattle.pair_ops.specs.declared.op.PairOp.{PairOp}
-use Rattle.pair_ops.specs.declared.op.PairOp.TheVariants as ops
+use Rattle.pair_text.specs.Values.{AreMachines, HasShortName, Machines}
+use Rattle.pair_text.specs.declared.op.PairOp.{PairOp}
+use Rattle.pair_text.specs.declared.op.PairOp.TheVariants as ops
 use Rattle.pair_text.specs.declared.pair_keys.PairKeys.{PairKeys}
 use Rattle.pair_text.specs.PairKeys.{l2_from, machine_from, machines_from, machines_of, no_pair_keys, pair_keys_from}
 use Rattle.pair_text.specs.PairLines.{PairState, fault_if, or_fault}

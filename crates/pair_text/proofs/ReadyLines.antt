@@ -6,8 +6,8 @@ use Rattle.std.proofs.lemmas.List.Elements.{All-append, All-map, All-nil, All-pu
 use Rattle.lackey_text.specs.Lines.{line_of}
 use Rattle.lackey_text.specs.declared.uses.LineUse.{LineUse}
 use Rattle.line_words.specs.Lines.{behind_word, is_bad, is_comment, words}
-use Rattle.pair_ops.specs.declared.op.PairOp.{PairOp}
-use Rattle.pair_ops.specs.declared.op.PairOp.TheVariants as ops
+use Rattle.pair_text.specs.declared.op.PairOp.{PairOp}
+use Rattle.pair_text.specs.declared.op.PairOp.TheVariants as ops
 use Rattle.script_lines.proofs.laws.Uses.{access_of-fits, sweep_of-fits, task_of-declared, trace_of-fits}
 use Rattle.pair_text.specs.PairKeys.{machines_of}
 use Rattle.pair_text.specs.PairLines.{PairState, file_alone, group_alone, in_body, is_end, line_meaning, means, placed_line, plain_line, said_by, trace_line, traced, use_at, use_in, with_command, with_uses, word_means}

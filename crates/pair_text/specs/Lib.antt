@@ -5,3 +5,4 @@ pub mod PairLines
 pub mod PairPaths
 pub mod PairReading
 pub mod Readers
+pub mod Values

@@ -8,7 +8,7 @@ use Rattle.machine.specs.declared.parameters.Parameters.{Parameters}
 use Rattle.machine.specs.Maps.{parameters_of}
 use Rattle.machine.specs.Ranges.{is_machine}
 use Rattle.machine.specs.declared.machine.Machine.{Machine}
-use Rattle.pair_ops.specs.Values.{Machines}
+use Rattle.pair_text.specs.Values.{Machines}
 use Rattle.pair_text.specs.declared.kind.PairKind.{PairKind}
 use Rattle.pair_text.specs.declared.kind.PairKind.TheVariants.{Cdp, Levels}
 use Rattle.pair_text.specs.declared.pair_keys.PairKeys.{PairKeys}

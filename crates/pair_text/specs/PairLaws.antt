@@ -1,7 +1,7 @@
 -- Laws of the reading.
 -- (For functions and proofs: no promise of the program stands on it.)
 use Rattle.std.specs.Prelude.{◌≡◌, ℕ, ◌+◌, ◌≤◌, List, IsSome, None, Ok, length}
-use Rattle.pair_ops.specs.Values.{IsLawful, PairScriptValue, commands_of}
+use Rattle.pair_text.specs.Values.{IsLawful, PairScriptValue, commands_of}
 use Rattle.pair_text.specs.PairReading.{pair_script_of}
 use Rattle.pair_text.specs.declared.kind.PairKind.{PairKind}
 use Rattle.pair_text.specs.declared.kind.PairKind.TheVariants.{Cdp, Levels}

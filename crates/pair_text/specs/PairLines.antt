@@ -6,10 +6,10 @@ use Rattle.lackey_text.specs.Uses.{uses_of}
 use Rattle.lackey_text.specs.declared.uses.LineUse.{LineUse}
 use Rattle.lackey_text.specs.declared.line.LackeyLine.{LackeyLine}
 use Rattle.line_words.specs.Lines.{behind_word, is_bad, is_comment, words}
-use Rattle.pair_ops.specs.Values.{Machines}
-use Rattle.pair_ops.specs.declared.file.PairFile.{PairFile}
-use Rattle.pair_ops.specs.declared.op.PairOp.{PairOp}
-use Rattle.pair_ops.specs.declared.op.PairOp.TheVariants as ops
+use Rattle.pair_text.specs.Values.{Machines}
+use Rattle.pair_text.specs.declared.file.PairFile.{PairFile}
+use Rattle.pair_text.specs.declared.op.PairOp.{PairOp}
+use Rattle.pair_text.specs.declared.op.PairOp.TheVariants as ops
 use Rattle.pair_text.specs.PairKeys.{machines_of}
 use Rattle.pair_text.specs.PairPaths.{file_at, group_at, or_long}
 use Rattle.pair_text.specs.declared.fault.PairFault.{PairFault}

@@ -3,7 +3,7 @@ use Rattle.std.specs.Prelude.{◌≡◌, ℕ, nat_lt, List, [], ◌∷◌, lengt
 use Rattle.std.specs.Borrow.{Bor}
 use Rattle.std.specs.Option.{option_and_then, option_map}
 use Rattle.rc_base.specs.Texts.{is_text}
-use Rattle.pair_ops.specs.declared.file.PairFile.{PairFile}
+use Rattle.pair_text.specs.declared.file.PairFile.{PairFile}
 use Rattle.path_names.specs.Components.{components_of}
 use Rattle.path_names.specs.PathTable.{entry_among, fixed_in}
 use Rattle.path_names.specs.declared.dirs.DirRef.TheVariants.{Root}

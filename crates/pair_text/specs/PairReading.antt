@@ -3,7 +3,7 @@ use Rattle.std.specs.Prelude.{◌≡◌, ℕ, ◌+◌, ◌<◌, List, [], ◌∷
 use Rattle.std.specs.Borrow.{Bor}
 use Rattle.std.specs.Str.Lines.{lines}
 use Rattle.machine.specs.Ranges.{usual}
-use Rattle.pair_ops.specs.Values.{PairScriptValue}
+use Rattle.pair_text.specs.Values.{PairScriptValue}
 use Rattle.pair_text.specs.PairLines.{PairState, line_meaning}
 use Rattle.pair_text.specs.Readers.{Fails}
 use Rattle.pair_text.specs.declared.fault.PairError.{PairError}

@@ -5,12 +5,12 @@ ghost use Rattle.pair_text.specs.PairLines.{means, use_at, use_in, with_uses};
 ghost use Rattle.pair_text.specs.Readers.{IsSound, Means, state_of};
 ghost use Rattle.pair_text.specs.declared.kind.Kind.TheVariants as kinds;
 
+use crate::PairOp;
 use crate::kind::{PairKind, Place};
 use crate::limits::MOST_USES;
 use crate::reader::PairReader;
 use crate::stop::{Stop, bad};
 use lackey_text::LineUse;
-use pair_ops::PairOp;
 use script_lines::LineFault;
 use script_lines::arguments::{Sweep, access_args, sweep_args};
 use script_lines::tasks::declared_task;

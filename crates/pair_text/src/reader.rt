@@ -4,11 +4,11 @@ ghost use Rattle.pair_text.specs.PairLines.{with_command};
 ghost use Rattle.pair_text.specs.PairReading.{nothing_read};
 ghost use Rattle.pair_text.specs.Readers.{IsSound, Means, state_of};
 
+use crate::PairOp;
 use crate::kind::Place;
 use crate::limits::MOST_COMMANDS;
 use crate::stop::{Stop, bad};
 use machine::Machine;
-use pair_ops::PairOp;
 use script_lines::LineFault;
 use script_lines::tasks::TaskRange;
 use std::alloc::Global;

@@ -1,6 +1,6 @@
 //! Reading a pair script, line by line.
 ghost use Rattle.std.specs.Prelude.{◌≡◌, ◌+◌, ◌<◌, ◌≤◌, ◌^◌, IfOk, Ok, length};
-ghost use Rattle.pair_ops.specs.Values.{IsLawful};
+ghost use Rattle.pair_text.specs.Values.{IsLawful};
 ghost use Rattle.std.specs.Str.Lines.{lines};
 ghost use Rattle.pair_text.specs.PairReading.{Reads, finished, located, pair_script_of, reading_from, script_in};
 ghost use Rattle.pair_text.specs.Readers.{IsSound, state_of};

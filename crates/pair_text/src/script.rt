@@ -3,8 +3,8 @@ ghost use Rattle.std.specs.Prelude.{◌≡◌, MatchOption, None, Some};
 ghost use Rattle.machine.specs.Maps.{parameters_of};
 ghost use Rattle.pair_text.specs.PairKeys.{machines_seen};
 
+use crate::PairOp;
 use machine::Machine;
-use pair_ops::PairOp;
 use std::marker::Model;
 
 /// A pair script: its machines, its declared tasks in rising order, and its ops.
@@ -17,7 +17,7 @@ pub struct PairScript {
 }
 
 impl Model for PairScript {
-    ghost use Rattle.pair_ops.specs.Values.{PairScriptValue};
+    ghost use Rattle.pair_text.specs.Values.{PairScriptValue};
     ghost use Rattle.pair_text.specs.PairKeys.{machines_seen};
 
     ghost Value = { PairScriptValue };

@@ -1,6 +1,6 @@
 -- An input is not both refused and reported on.
 use Rattle.std.proofs.Common.{ℕ, Bool, List, inl, inr, arith}
-use Rattle.pair_ops.specs.Values.{PairScriptValue}
+use Rattle.pair_text.specs.Values.{PairScriptValue}
 use Rattle.pair_text.specs.declared.kind.PairKind.{PairKind}
 use Rattle.pair_top.specs.Refusals.{refuses}
 use Rattle.pair_top.specs.Reports.{Plays, reports}

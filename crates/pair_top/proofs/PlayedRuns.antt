@@ -5,12 +5,12 @@ use Rattle.std.proofs.lemmas.List.{get_or_past}
 use Rattle.std.specs.declared.alloc.Global.{Global}
 use Rattle.cache_core.specs.declared.entry.SliceEntry.{SliceEntry}
 use Rattle.machine.specs.declared.parameters.Parameters.{Parameters}
-use Rattle.pair_ops.specs.Values.{PairScriptValue}
+use Rattle.pair_text.specs.Values.{PairScriptValue}
 use Rattle.pair_play.specs.SoFar.{IsShort}
 use Rattle.pair_windows.specs.Replays.{IsPlayable}
-use Rattle.pair_runs.specs.CdpRuns.{CdpJournalsValue, IsCdpRun}
-use Rattle.pair_runs.specs.Entries.{slice_in}
-use Rattle.pair_runs.specs.LevelRuns.{IsLevelRun, LevelJournalsValue}
+use Rattle.pair_law.specs.CdpRuns.{CdpJournalsValue, IsCdpRun}
+use Rattle.pair_law.specs.Entries.{slice_in}
+use Rattle.pair_law.specs.LevelRuns.{IsLevelRun, LevelJournalsValue}
 use Rattle.pair_text.specs.declared.kind.PairKind.{PairKind}
 use Rattle.pair_text.specs.declared.kind.PairKind.TheVariants.{Cdp, Levels}
 use Rattle.pair_top.specs.Ready.{IsReady}

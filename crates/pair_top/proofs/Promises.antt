@@ -4,7 +4,7 @@ use Rattle.call_rim.proofs.laws.Ends.{IsComplete-ends}
 use Rattle.call_rim.specs.Endings.{Call, Ends, IsComplete, call_of}
 use Rattle.call_rim.specs.Outside.{Reading, Writing}
 use Rattle.call_rim.specs.declared.status.Status.{Status}
-use Rattle.pair_ops.specs.Values.{PairScriptValue}
+use Rattle.pair_text.specs.Values.{PairScriptValue}
 use Rattle.pair_text.specs.declared.kind.PairKind.{PairKind}
 use Rattle.pair_top.proofs.Apart.{apart}
 use Rattle.pair_top.specs.Forms.{is_quiet, is_valid, usage_line}

@@ -3,7 +3,7 @@
 use Rattle.std.specs.Prelude.{◌≡◌, ℕ, List}
 use Rattle.call_rim.specs.declared.performed.Performed.{Performed}
 use Rattle.call_rim.specs.declared.performed.Performed.TheVariants.{NoMemory, Refused, Reported}
-use Rattle.pair_ops.specs.Values.{IsLawful, PairScriptValue}
+use Rattle.pair_text.specs.Values.{IsLawful, PairScriptValue}
 use Rattle.pair_text.specs.PairLaws.{HasKind, IsWithinLimits}
 use Rattle.pair_text.specs.declared.kind.PairKind.{PairKind}
 

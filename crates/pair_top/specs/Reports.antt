@@ -5,11 +5,11 @@ use Rattle.cdp_masks.specs.Windows as cdp
 use Rattle.pair_windows.specs.AllJointWindows.{AreJointWindowsOf}
 use Rattle.pair_windows.specs.JointWindows.{joint_windows}
 use Rattle.l2_level.specs.Windows as levels
-use Rattle.pair_ops.specs.Values.{PairScriptValue}
+use Rattle.pair_text.specs.Values.{PairScriptValue}
 use Rattle.pair_report.specs.CdpReport.{cdp_report_of}
 use Rattle.pair_report.specs.LevelReport.{level_report_of}
-use Rattle.pair_runs.specs.CdpRuns.{CdpJournalsValue, IsCdpRun}
-use Rattle.pair_runs.specs.LevelRuns.{IsLevelRun, LevelJournalsValue}
+use Rattle.pair_law.specs.CdpRuns.{CdpJournalsValue, IsCdpRun}
+use Rattle.pair_law.specs.LevelRuns.{IsLevelRun, LevelJournalsValue}
 use Rattle.pair_text.specs.PairReading.{pair_script_of}
 use Rattle.pair_text.specs.declared.kind.PairKind.{PairKind}
 use Rattle.pair_text.specs.declared.kind.PairKind.TheVariants.{Cdp, Levels}

@@ -1,6 +1,6 @@
 //! How a kind of pair scripts is played, and reported on.
 ghost use Rattle.std.specs.Prelude.{◌≡◌, ℕ, Bool, List, IfOk};
-ghost use Rattle.pair_ops.specs.Values.{PairScriptValue};
+ghost use Rattle.pair_text.specs.Values.{PairScriptValue};
 ghost use Rattle.pair_text.specs.declared.kind.PairKind.{PairKind as KindValue};
 ghost use Rattle.pair_top.specs.Ready.{IsReady};
 
@@ -52,7 +52,7 @@ pub(crate) trait PairJournals: Drop {
 impl PairJournals for CdpJournals {
     ghost use Rattle.cdp_masks.specs.Windows.{WindowsAreIsolated};
     ghost use Rattle.pair_report.specs.CdpReport.{cdp_report_of};
-    ghost use Rattle.pair_runs.specs.CdpRuns.{IsCdpRun};
+    ghost use Rattle.pair_law.specs.CdpRuns.{IsCdpRun};
     ghost use Rattle.pair_text.specs.declared.kind.PairKind.TheVariants.{Cdp};
     ghost use Rattle.pair_top.specs.Reports.{ListsCdp};
     ghost use Rattle.pair_windows.proofs.laws.UsedWindows.{AreCdpWindowsOf-listed};
@@ -85,7 +85,7 @@ impl PairJournals for CdpJournals {
 impl PairJournals for LevelJournals {
     ghost use Rattle.l2_level.specs.Windows.{WindowsAreIsolated};
     ghost use Rattle.pair_report.specs.LevelReport.{level_report_of};
-    ghost use Rattle.pair_runs.specs.LevelRuns.{IsLevelRun};
+    ghost use Rattle.pair_law.specs.LevelRuns.{IsLevelRun};
     ghost use Rattle.pair_text.specs.declared.kind.PairKind.TheVariants.{Levels};
     ghost use Rattle.pair_top.specs.Reports.{ListsLevels};
     ghost use Rattle.pair_windows.proofs.laws.JointUsedWindows.{AreJointWindowsOf-listed};

@@ -9,8 +9,8 @@ use Rattle.pair_law.specs.Sound.{GidsDiffer}
 use Rattle.pair_law.specs.Reading.{SideMask}
 use Rattle.pair_law.specs.State.{PairGroup, PairState, has_gid}
 use Rattle.pair_law.specs.commands.Schemata.{exchanged, with_mask, with_masks, with_record}
-use Rattle.pair_ops.specs.declared.side.Side.{Side}
-use Rattle.pair_ops.specs.declared.side.Side.TheVariants.{First, Second}
+use Rattle.pair_text.specs.declared.side.Side.{Side}
+use Rattle.pair_text.specs.declared.side.Side.TheVariants.{First, Second}
 
 module _ (new x : PairGroup) (gs : List PairGroup) (place : ℕ) (differ : GidsDiffer gs) (there : slice_get gs place ≡ Some x) (own : new.gid.0 ≡ x.gid.0) where
   -- one that is written at a place takes the place of the one with its serial number

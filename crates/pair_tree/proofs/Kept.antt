@@ -11,8 +11,8 @@ use Rattle.pair_law.proofs.laws.Steps.{next-sound}
 use Rattle.pair_law.specs.Bounds.{tasks_of}
 use Rattle.pair_law.specs.State.{PairState, opening}
 use Rattle.pair_law.specs.Steps.{next}
-use Rattle.pair_ops.specs.Values.{IsLawful, Machines, PairScriptValue}
-use Rattle.pair_ops.specs.declared.op.PairOp.{PairOp}
+use Rattle.pair_text.specs.Values.{IsLawful, Machines, PairScriptValue}
+use Rattle.pair_text.specs.declared.op.PairOp.{PairOp}
 use Rattle.pair_tree.specs.Changes.{Takes}
 use Rattle.pair_tree.specs.Kept.{IsKept}
 use Rattle.rc_base.specs.declared.replies.Reply.{Reply}

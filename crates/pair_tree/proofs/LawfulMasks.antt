@@ -6,9 +6,9 @@ use Rattle.std.proofs.lemmas.List.{length-append, length-map}
 use Rattle.cbm.specs.declared.geometry.Geometry.{Geometry}
 use Rattle.pair_law.proofs.laws.Machines.{domains-few}
 use Rattle.pair_law.specs.Reading.{SideMask, on_side, reading_from, side_mask}
-use Rattle.pair_ops.specs.Values.{AreMachines, Machines, side_machine}
-use Rattle.pair_ops.specs.declared.side.Side.{Side}
-use Rattle.pair_ops.specs.declared.side.Side.TheVariants.{First, Second}
+use Rattle.pair_text.specs.Values.{AreMachines, Machines, side_machine}
+use Rattle.pair_text.specs.declared.side.Side.{Side}
+use Rattle.pair_text.specs.declared.side.Side.TheVariants.{First, Second}
 use Rattle.pair_tree.proofs.LineEntries.{Adds, Adds-rest, AreRead-added, drop-added}
 use Rattle.pair_tree.proofs.SideMasks.{length-sides}
 use Rattle.pair_tree.specs.Reading.{AreRead}

@@ -3,8 +3,8 @@ use Rattle.std.proofs.Common.{◌≡◌, ℕ, Bool, true, false, List, [], ◌�
 use Rattle.pair_law.proofs.laws.Sides.{is_same_side-true}
 use Rattle.pair_law.specs.Reading as pairs
 use Rattle.pair_law.specs.Reading.{SideMask, is_same_side, on_side, side_mask, side_of_line}
-use Rattle.pair_ops.specs.Values.{Machines, side_machine}
-use Rattle.pair_ops.specs.declared.side.Side.{Side}
+use Rattle.pair_text.specs.Values.{Machines, side_machine}
+use Rattle.pair_text.specs.declared.side.Side.{Side}
 use Rattle.pair_tree.proofs.SideMasks.{on_side-append, on_side-made, on_side-made_other}
 use Rattle.pair_tree.specs.Reading.{AreRead}
 use Rattle.schemata_text.proofs.laws.Items.{reading_from-nil}

@@ -2,9 +2,9 @@
 use Rattle.std.proofs.Common.{◌≡◌, ℕ, true, false, List, [], ◌∷◌, ◌++◌, Ok, Err, refl, ◌∙◌}
 use Rattle.std.specs.List.{after_first, before_first, list_any}
 use Rattle.pair_law.specs.Reading.{SideMask, reading_from, side_of_line}
-use Rattle.pair_ops.specs.Values.{Machines}
-use Rattle.pair_ops.specs.declared.side.Side.{Side}
-use Rattle.pair_ops.specs.declared.side.Side.TheVariants.{First}
+use Rattle.pair_text.specs.Values.{Machines}
+use Rattle.pair_text.specs.declared.side.Side.{Side}
+use Rattle.pair_text.specs.declared.side.Side.TheVariants.{First}
 use Rattle.schemata_text.proofs.laws.Items.{items_of-first_line, items_of-last_line, items_of-more_lines}
 use Rattle.schemata_text.specs.Items.{Item, Line, colon, items_of, items_of_rest, newline}
 use Rattle.schemata_text.specs.declared.fault.TextFault.{TextFault}

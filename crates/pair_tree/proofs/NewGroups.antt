@@ -16,10 +16,10 @@ use Rattle.pair_law.specs.State.{PairState, group_named}
 use Rattle.pair_law.specs.Steps.{next, refusal}
 use Rattle.pair_law.specs.commands.Mkdir as mkdir
 use Rattle.pair_law.specs.commands.Mkdir.{new_group}
-use Rattle.pair_ops.specs.Values.{AreMachines, Machines, class_count, classes_of, side_machine}
-use Rattle.pair_ops.specs.declared.op.PairOp.TheVariants as ops
-use Rattle.pair_ops.specs.declared.side.Side.{Side}
-use Rattle.pair_ops.specs.declared.side.Side.TheVariants.{First, Second}
+use Rattle.pair_text.specs.Values.{AreMachines, Machines, class_count, classes_of, side_machine}
+use Rattle.pair_text.specs.declared.op.PairOp.TheVariants as ops
+use Rattle.pair_text.specs.declared.side.Side.{Side}
+use Rattle.pair_text.specs.declared.side.Side.TheVariants.{First, Second}
 use Rattle.lists.proofs.RangeTests.{find-least, find-none}
 use Rattle.pair_tree.proofs.Ranges.{find-append, find-mapped}
 use Rattle.rc_base.specs.declared.replies.Why.TheVariants.{Exists, NoSpace, OutOfClosids}

@@ -8,10 +8,10 @@ use Rattle.pair_law.specs.Reading.{side_name}
 use Rattle.machine.specs.declared.parameters.Parameters.{Parameters}
 use Rattle.pair_law.specs.State.{PairGroup, PairState, group_named}
 use Rattle.pair_law.specs.Texts.{file_text, side_line, text_of}
-use Rattle.pair_ops.specs.Values.{Machines, side_machine}
-use Rattle.pair_ops.specs.declared.file.PairFile.{PairFile}
-use Rattle.pair_ops.specs.declared.side.Side.{Side}
-use Rattle.pair_ops.specs.declared.side.Side.TheVariants.{First, Second}
+use Rattle.pair_text.specs.Values.{Machines, side_machine}
+use Rattle.pair_text.specs.declared.file.PairFile.{PairFile}
+use Rattle.pair_text.specs.declared.side.Side.{Side}
+use Rattle.pair_text.specs.declared.side.Side.TheVariants.{First, Second}
 use Rattle.pair_tree.specs.Printed.{entry_at, others_text, task_line}
 use Rattle.rc_base.specs.declared.names.Gid.{Gid}
 use Rattle.task_binding.specs.Bindings.{control_members, has_control}

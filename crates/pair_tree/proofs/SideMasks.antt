@@ -2,8 +2,8 @@
 use Rattle.std.proofs.Common.{◌≡◌, ◌+◌, Bool, true, false, cond, List, [], ◌∷◌, ◌++◌, length, map, filter, refl, ap, ◌∙◌, arith}
 use Rattle.pair_law.proofs.laws.Sides.{is_same_side-own}
 use Rattle.pair_law.specs.Reading.{SideMask, is_same_side, on_side, side_mask}
-use Rattle.pair_ops.specs.declared.side.Side.{Side}
-use Rattle.pair_ops.specs.declared.side.Side.TheVariants.{First, Second}
+use Rattle.pair_text.specs.declared.side.Side.{Side}
+use Rattle.pair_text.specs.declared.side.Side.TheVariants.{First, Second}
 use Rattle.schemata_text.specs.declared.assignment.Assignment.{Assignment}
 
 -- a mask without its side

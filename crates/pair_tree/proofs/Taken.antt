@@ -4,10 +4,10 @@ use Rattle.pair_law.specs.State.{PairGroup, PairState, group_named}
 use Rattle.pair_law.specs.Steps.{accepted, kept_tasks, left, next, next_if, read_refusal, refusal}
 use Rattle.pair_law.specs.commands.Mkdir as mkdir
 use Rattle.pair_law.specs.commands.Rmdir as rmdir
-use Rattle.pair_ops.specs.Values.{Machines}
-use Rattle.pair_ops.specs.declared.file.PairFile.{PairFile}
-use Rattle.pair_ops.specs.declared.op.PairOp.{PairOp}
-use Rattle.pair_ops.specs.declared.op.PairOp.TheVariants as ops
+use Rattle.pair_text.specs.Values.{Machines}
+use Rattle.pair_text.specs.declared.file.PairFile.{PairFile}
+use Rattle.pair_text.specs.declared.op.PairOp.{PairOp}
+use Rattle.pair_text.specs.declared.op.PairOp.TheVariants as ops
 use Rattle.pair_tree.specs.Changes.{MakesUnless, Takes, WritesFile, unless}
 use Rattle.rc_base.specs.declared.replies.Reply.{Reply}
 use Rattle.rc_base.specs.declared.replies.Reply.TheVariants as replies

@@ -6,7 +6,7 @@ use Rattle.num_text.specs.Blanks.{trim}
 use Rattle.pair_law.specs.State.{PairGroup, PairState, group_named}
 use Rattle.pair_law.specs.commands.Mode as mode
 use Rattle.pair_law.specs.commands.Rmdir as rmdir
-use Rattle.pair_ops.specs.Values.{Machines}
+use Rattle.pair_text.specs.Values.{Machines}
 use Rattle.pair_tree.specs.Changes.{MakesUnless, unless}
 use Rattle.rc_base.specs.declared.replies.Reply.{Reply}
 use Rattle.rc_base.specs.declared.replies.Reply.TheVariants as replies

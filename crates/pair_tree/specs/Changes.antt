@@ -7,9 +7,9 @@ use Rattle.pair_law.specs.Steps.{kept_tasks, next, text_refusal, written}
 use Rattle.pair_law.specs.commands.Mkdir as mkdir
 use Rattle.pair_law.specs.commands.Mkdir.{initial_masks, new_group}
 use Rattle.pair_law.specs.commands.Mode as mode
-use Rattle.pair_ops.specs.Values.{Machines}
-use Rattle.pair_ops.specs.declared.op.PairOp.{PairOp}
-use Rattle.pair_ops.specs.declared.side.Side.{Side}
+use Rattle.pair_text.specs.Values.{Machines}
+use Rattle.pair_text.specs.declared.op.PairOp.{PairOp}
+use Rattle.pair_text.specs.declared.side.Side.{Side}
 use Rattle.path_names.specs.declared.files.FileKind.{FileKind}
 use Rattle.rc_base.specs.declared.names.Mode.{Mode}
 use Rattle.rc_base.specs.declared.replies.Reply.{Reply}

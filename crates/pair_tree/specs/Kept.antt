@@ -3,7 +3,7 @@
 use Rattle.std.specs.Prelude.{ℕ, ◌+◌, ◌≤◌, length}
 use Rattle.pair_law.specs.Sound.{IsSound}
 use Rattle.pair_law.specs.State.{PairState}
-use Rattle.pair_ops.specs.Values.{AreMachines, Machines}
+use Rattle.pair_text.specs.Values.{AreMachines, Machines}
 use Rattle.script_ops.specs.declared.limits.TheConstants.{MOST_TASKS}
 
 -- the machines are in range, the state is sound, each command so far made one group at most, and the tasks are as few as a script

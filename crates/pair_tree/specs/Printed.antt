@@ -3,8 +3,8 @@
 use Rattle.std.specs.Prelude.{ℕ, ◌-◌, List, [], ◌∷◌, ◌++◌, decimal, if◌then◌else◌}
 use Rattle.std.specs.List.{flat_map, range_with_len}
 use Rattle.pair_law.specs.State.{PairGroup, mask_in}
-use Rattle.pair_ops.specs.Values.{Machines, side_machine}
-use Rattle.pair_ops.specs.declared.side.Side.{Side}
+use Rattle.pair_text.specs.Values.{Machines, side_machine}
+use Rattle.pair_text.specs.declared.side.Side.{Side}
 use Rattle.rc_base.specs.declared.names.Gid.{Gid}
 use Rattle.rc_base.specs.declared.names.Mode.{Mode}
 use Rattle.schemata_text.specs.Printed.{entry_text}

@@ -2,8 +2,8 @@
 -- (For functions and proofs: no promise of the program stands on it.)
 use Rattle.std.specs.Prelude.{◌≡◌, List, ◌++◌, Result, Ok, Err}
 use Rattle.pair_law.specs.Reading.{SideMask, on_side, reading_from}
-use Rattle.pair_ops.specs.Values.{Machines, side_machine}
-use Rattle.pair_ops.specs.declared.side.Side.{Side}
+use Rattle.pair_text.specs.Values.{Machines, side_machine}
+use Rattle.pair_text.specs.declared.side.Side.{Side}
 use Rattle.schemata_text.specs.Items.{Item}
 use Rattle.schemata_text.specs.Reading.{AreLawful}
 use Rattle.schemata_text.specs.declared.fault.TextFault.{TextFault}

@@ -3,9 +3,9 @@
 use Rattle.std.specs.Prelude.{ℕ, List, []}
 use Rattle.pair_law.specs.State.{PairState}
 use Rattle.pair_law.specs.Texts.{text_of}
-use Rattle.pair_ops.specs.Values.{Machines}
-use Rattle.pair_ops.specs.declared.op.PairOp.{PairOp}
-use Rattle.pair_ops.specs.declared.op.PairOp.TheVariants as ops
+use Rattle.pair_text.specs.Values.{Machines}
+use Rattle.pair_text.specs.declared.op.PairOp.{PairOp}
+use Rattle.pair_text.specs.declared.op.PairOp.TheVariants as ops
 
 -- the text of a read's file; no other op reads one
 abbrev pub text_read : Machines → PairState → PairOp → List ℕ

@@ -4,9 +4,9 @@ use Rattle.std.specs.Prelude.{ℕ, [], ◌∷◌}
 use Rattle.machine.specs.Maps.{domain_of}
 use Rattle.pair_law.specs.Registers.{class_of, mask_of_group}
 use Rattle.pair_law.specs.State.{PairState, owner_of}
-use Rattle.pair_ops.specs.Values.{Machines, side_machine}
-use Rattle.pair_ops.specs.declared.side.Side.{Side}
-use Rattle.pair_ops.specs.declared.side.Side.TheVariants.{First, Second}
+use Rattle.pair_text.specs.Values.{Machines, side_machine}
+use Rattle.pair_text.specs.declared.side.Side.{Side}
+use Rattle.pair_text.specs.declared.side.Side.TheVariants.{First, Second}
 use Rattle.pair_tree.specs.declared.tag.PairTag.{PairTag}
 
 -- the domain of a CPU on a side

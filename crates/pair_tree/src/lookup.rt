@@ -4,10 +4,10 @@ ghost use Rattle.std.specs.List.{list_any};
 ghost use Rattle.std.specs.Option.{option_copied};
 ghost use Rattle.pair_law.specs.Registers.{has_class as has_own_class};
 ghost use Rattle.pair_law.specs.State.{has_gid, has_name};
-ghost use Rattle.pair_ops.specs.declared.group.PairGroup.{PairGroup};
+ghost use Rattle.pair_text.specs.declared.group.PairGroup.{PairGroup};
 ghost use Rattle.pair_tree.specs.Places.{FindsPlace};
 
-use pair_ops::PairGroup;
+use pair_text::PairGroup;
 use rc_base::{Gid, is_text};
 use script_ops::Bytes;
 

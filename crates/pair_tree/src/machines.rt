@@ -1,12 +1,11 @@
 //! The caches of the two sides.
 ghost use Rattle.std.specs.Prelude.{◌≡◌};
 ghost use Rattle.machine.specs.Maps.{parameters_of};
-ghost use Rattle.pair_ops.specs.Values.{side_machine};
+ghost use Rattle.pair_text.specs.Values.{side_machine};
 
 use cbm::Geometry;
 use machine::Machine;
-use pair_ops::Side;
-use pair_text::PairScript;
+use pair_text::{PairScript, Side};
 use std::marker::Model;
 
 /// The machine, and the L2 caches where the masks are those of two levels. Without an L2 both sides have the machine's caches.
@@ -17,7 +16,7 @@ pub(crate) struct Machines {
 }
 
 impl Model for Machines {
-    ghost use Rattle.pair_ops.specs.Values.{Machines as Seen};
+    ghost use Rattle.pair_text.specs.Values.{Machines as Seen};
     ghost use Rattle.pair_text.specs.PairKeys.{machines_seen};
 
     ghost Value = { Seen };
@@ -28,7 +27,7 @@ impl Model for Machines {
 impl Machines {
     ghost use Rattle.std.specs.Prelude.{◌≡◌, ◌<◌, ◌≤◌, is_some};
     ghost use Rattle.machine.specs.Maps.{parameters_of};
-    ghost use Rattle.pair_ops.specs.Values.{AreMachines, class_count, side_machine};
+    ghost use Rattle.pair_text.specs.Values.{AreMachines, class_count, side_machine};
     ghost use Rattle.pair_tree.specs.Tags.{domain_on};
     ghost use Rattle.tree_law.specs.Space.{geometry_of};
 

@@ -3,9 +3,9 @@ ghost use Rattle.std.specs.Prelude.{◌≡◌, ◌<◌};
 ghost use Rattle.std.specs.List.{All};
 ghost use Rattle.pair_law.specs.State.{mask_in};
 ghost use Rattle.pair_law.specs.commands.Schemata.{with_mask, with_masks};
-ghost use Rattle.pair_ops.specs.declared.side_mask.SideMask.{SideMask};
+ghost use Rattle.pair_text.specs.declared.side_mask.SideMask.{SideMask};
 
-use pair_ops::{PairGroup, Side, SideMask};
+use pair_text::{PairGroup, Side, SideMask};
 
 /// The mask of a group on a side in a domain.
 pub(crate) fn mask_in(g: &PairGroup, side: Side, domain: u8) -> u32

@@ -4,7 +4,7 @@ ghost use Rattle.pair_law.specs.Others.{class_is_free, free_class, initial_mask,
 ghost use Rattle.pair_law.specs.Sound.{IsSound};
 ghost use Rattle.pair_law.specs.commands.Mkdir as mkdir;
 ghost use Rattle.pair_law.specs.commands.Mkdir.{initial_masks, new_group};
-ghost use Rattle.pair_ops.specs.Values.{AreMachines, class_count};
+ghost use Rattle.pair_text.specs.Values.{AreMachines, class_count};
 ghost use Rattle.pair_tree.specs.Changes.{GivesGroup, GivesMasks, MakesUnless};
 ghost use Rattle.pair_tree.specs.Tables.{state_of};
 ghost use Rattle.path_names.specs.declared.components.TheConstants.{MOST_NAME_BYTES};
@@ -13,7 +13,7 @@ use crate::lookup::{has_class, place_named};
 use crate::machines::Machines;
 use crate::tables::Tables;
 use mode_rules::initial_mask;
-use pair_ops::{GroupName, PairGroup, Side};
+use pair_text::{GroupName, PairGroup, Side};
 use rc_base::{Gid, Mode, Reply, Why};
 
 impl Tables {

@@ -12,7 +12,7 @@ ghost use Rattle.pair_tree.specs.Tables.{state_of};
 use crate::machines::Machines;
 use crate::tables::Tables;
 use command_parts::is_named;
-use pair_ops::PairGroup;
+use pair_text::PairGroup;
 use rc_base::{Mode, Reply, Why};
 
 // The mode that a text asks for, and None where it is the name of none that may be written.

@@ -3,12 +3,12 @@ ghost use Rattle.std.specs.Prelude.{◌≡◌, ◌≤◌, ◌-◌, ◌++◌, IfO
 ghost use Rattle.std.specs.List.Sorted.{IsStrictlyIncreasing};
 ghost use Rattle.group_tree.specs.Opening.{full_mask, in_each_domain};
 ghost use Rattle.pair_law.specs.State.{default_group, opening};
-ghost use Rattle.pair_ops.specs.Values.{side_machine};
+ghost use Rattle.pair_text.specs.Values.{side_machine};
 ghost use Rattle.pair_tree.specs.Tables.{state_of};
 
 use crate::machines::Machines;
 use crate::tables::{MOST_GROUPS, Tables};
-use pair_ops::{PairGroup, Side};
+use pair_text::{PairGroup, Side};
 use rc_base::{Gid, Mode, NoMemory};
 use std::alloc::Global;
 use task_binding::Tasks;

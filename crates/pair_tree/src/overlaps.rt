@@ -6,8 +6,8 @@ ghost use Rattle.command_parts.specs.Replies.{reply_to};
 ghost use Rattle.pair_law.specs.Others.{places_of, places_on};
 ghost use Rattle.pair_law.specs.commands.Mode.{overlaps_some};
 ghost use Rattle.pair_law.specs.commands.Schemata.{against_mask, against_masks};
-ghost use Rattle.pair_ops.specs.Values.{side_machine};
-ghost use Rattle.pair_ops.specs.declared.side_mask.SideMask.{SideMask};
+ghost use Rattle.pair_text.specs.Values.{side_machine};
+ghost use Rattle.pair_text.specs.declared.side_mask.SideMask.{SideMask};
 ghost use Rattle.pair_tree.specs.Tables.{state_of};
 ghost use Rattle.rc_base.specs.declared.names.Mode.TheVariants as modes;
 
@@ -16,7 +16,7 @@ use crate::masks::mask_in;
 use crate::tables::Tables;
 use command_parts::overlap_refusal;
 use mode_rules::{may_turn_exclusive, may_write_mask};
-use pair_ops::{PairGroup, Side, SideMask};
+use pair_text::{PairGroup, Side, SideMask};
 use rc_base::Reply;
 
 impl Tables {

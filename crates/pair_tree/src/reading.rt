@@ -2,7 +2,7 @@
 ghost use Rattle.std.specs.Prelude.{◌≡◌, ◌+◌, ◌≤◌, ◌++◌, drop, length, map};
 ghost use Rattle.pair_law.specs.Reading.{is_same_side, on_side, reading, side_mask};
 ghost use Rattle.pair_law.specs.commands.Schemata.{schemata_read};
-ghost use Rattle.pair_ops.specs.Values.{AreMachines};
+ghost use Rattle.pair_text.specs.Values.{AreMachines};
 ghost use Rattle.pair_tree.specs.Reading.{AreRead, Continues};
 ghost use Rattle.schemata_text.specs.Items.{items_of_rest};
 ghost use Rattle.schemata_text.specs.Reading.{Gives};
@@ -11,7 +11,7 @@ use crate::machines::Machines;
 use crate::sides::side_of_line;
 use arrayvec::ArrayVec;
 use num_text::{cut, trim};
-use pair_ops::{Side, SideMask};
+use pair_text::{Side, SideMask};
 use schemata_text::{Assignment, Assignments, TextFault, entries};
 
 /// How many masks a text names at most: one for each of eight domains on each side.

@@ -8,7 +8,7 @@ ghost use Rattle.task_binding.specs.Bindings.{binding_of};
 use crate::lookup::{find_class, find_gid};
 use crate::masks::mask_in;
 use crate::tables::Tables;
-use pair_ops::Side;
+use pair_text::Side;
 use rc_base::Gid;
 
 impl Tables {

@@ -4,8 +4,8 @@ ghost use Rattle.std.specs.List.{All};
 ghost use Rattle.pair_law.specs.Sound.{IsSound};
 ghost use Rattle.pair_law.specs.commands.Schemata as schemata;
 ghost use Rattle.pair_law.specs.commands.Schemata.{schemata_read};
-ghost use Rattle.pair_ops.specs.Values.{AreMachines};
-ghost use Rattle.pair_ops.specs.declared.side_mask.SideMask.{SideMask};
+ghost use Rattle.pair_text.specs.Values.{AreMachines};
+ghost use Rattle.pair_text.specs.declared.side_mask.SideMask.{SideMask};
 ghost use Rattle.pair_tree.specs.Changes.{MakesUnless};
 ghost use Rattle.pair_tree.specs.Places.{At};
 ghost use Rattle.pair_tree.specs.Tables.{state_of};
@@ -15,7 +15,7 @@ use crate::masks::set_all;
 use crate::reading::read_masks;
 use crate::tables::Tables;
 use command_parts::text_refusal;
-use pair_ops::SideMask;
+use pair_text::SideMask;
 use rc_base::Reply;
 
 impl Tables {

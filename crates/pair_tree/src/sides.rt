@@ -6,7 +6,7 @@ ghost use Rattle.schemata_text.specs.Items.{colon};
 
 use crate::machines::Machines;
 use num_text::{cut, trim};
-use pair_ops::Side;
+use pair_text::Side;
 use rc_base::is_text;
 use schemata_text::TextFault;
 

@@ -1,13 +1,13 @@
 //! Taking a command.
 ghost use Rattle.std.specs.Prelude.{◌≡◌, ◌+◌, ◌<◌, ◌^◌};
 ghost use Rattle.pair_law.specs.Sound.{IsSound};
-ghost use Rattle.pair_ops.specs.Values.{AreMachines, HasShortName};
+ghost use Rattle.pair_text.specs.Values.{AreMachines, HasShortName};
 ghost use Rattle.pair_tree.specs.Changes.{Takes};
 ghost use Rattle.pair_tree.specs.Tables.{state_of};
 
 use crate::machines::Machines;
 use crate::tables::Tables;
-use pair_ops::PairOp;
+use pair_text::PairOp;
 use rc_base::Reply;
 
 impl Tables {

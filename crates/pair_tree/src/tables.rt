@@ -2,7 +2,7 @@
 ghost use Rattle.std.specs.Prelude.{◌≤◌, vec_capacity};
 ghost use Rattle.pair_tree.specs.declared.tables.TheConstants.{MOST_GROUPS};
 
-use pair_ops::PairGroup;
+use pair_text::PairGroup;
 use task_binding::Tasks;
 
 /// How many groups there are at most: as many as classes.

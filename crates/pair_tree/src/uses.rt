@@ -8,7 +8,7 @@ use crate::machines::Machines;
 use crate::masks::mask_in;
 use crate::tables::Tables;
 use mode_rules::DomainUse;
-use pair_ops::{PairGroup, Side};
+use pair_text::{PairGroup, Side};
 use rc_base::{Gid, Mode};
 
 // Whether a group is another than this one, and in this mode.

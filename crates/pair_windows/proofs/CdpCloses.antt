@@ -5,8 +5,8 @@ use Rattle.std.proofs.lemmas.List.{length-drop}
 use Rattle.std.proofs.lemmas.Option.{slice_get-get_or}
 use Rattle.cache_core.specs.declared.entry.SliceEntry.{SliceEntry}
 use Rattle.cache_core.specs.declared.entry.What.TheVariants.{Flush}
-use Rattle.pair_ops.specs.Values.{PairScriptValue}
-use Rattle.pair_runs.specs.CdpRuns.{CdpJournalsValue}
+use Rattle.pair_text.specs.Values.{PairScriptValue}
+use Rattle.pair_law.specs.CdpRuns.{CdpJournalsValue}
 use Rattle.pair_text.specs.declared.limits.TheConstants.{MOST_COMMANDS}
 use Rattle.pair_windows.proofs.EarlierWindows.{windows_before-next}
 use Rattle.pair_windows.proofs.FlushWindows.{bound, bound-known, opening-bound, windows_from-counted}
@@ -27,7 +27,7 @@ use Rattle.private_lru.specs.Ends.{RiseByGroup}
 use Rattle.private_lru.specs.Tallies.{AreCounted}
 use Rattle.private_lru.specs.declared.counts.WindowCounts.{WindowCounts}
 use Rattle.run_law.specs.Journals.{At}
-use Rattle.spans.specs.declared.span.Span.{Span}
+use Rattle.private_lru.specs.declared.span.Span.{Span}
 
 -- what stands after a place in entries, as the code reads them
 pub rest-read : (read entries : List SliceEntry) (a : ℕ) → read ≡ entries → take (length read - a) (drop a read) ≡ drop a entries

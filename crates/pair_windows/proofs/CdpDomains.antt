@@ -3,8 +3,8 @@ use Rattle.std.proofs.Common.{◌≡◌, ℕ, ◌+◌, ◌<◌, ◌≤◌, true,
 use Rattle.std.specs.List.{flat_map, range_with_len, slice_get}
 use Rattle.std.proofs.lemmas.Option.{slice_get-get_or}
 use Rattle.cache_core.specs.declared.entry.SliceEntry.{SliceEntry}
-use Rattle.pair_ops.specs.Values.{commands_of}
-use Rattle.pair_runs.proofs.laws.CdpEntries.{IsCdpRun-given}
+use Rattle.pair_text.specs.Values.{commands_of}
+use Rattle.pair_law.proofs.laws.CdpEntries.{IsCdpRun-given}
 use Rattle.pair_windows.proofs.CdpSteps.{IsComplete-reached, last-entry, last-next}
 use Rattle.pair_windows.proofs.DomainLists.{flat_map-each}
 use Rattle.pair_windows.proofs.NextFlushes.{due-epoch, due-within}

@@ -10,7 +10,7 @@ use Rattle.cache_core.specs.Filled.{empties}
 use Rattle.cache_core.specs.declared.entry.SliceEntry.{SliceEntry}
 use Rattle.pair_law.specs.Epochs.{state_at}
 use Rattle.pair_law.specs.State.{PairState}
-use Rattle.pair_ops.specs.Values.{PairScriptValue}
+use Rattle.pair_text.specs.Values.{PairScriptValue}
 use Rattle.pair_windows.proofs.NextFlushes.{due-epoch, due-within, next-flush, next-within, not_due, rises-at}
 use Rattle.pair_windows.proofs.NoEntry.{no_entry}
 use Rattle.pair_windows.specs.CdpWalks.{IsWalked, is_of, windows_before}
@@ -22,9 +22,9 @@ use Rattle.pair_windows.specs.declared.cdp_walks.CdpWalk.{CdpWalk}
 use Rattle.pair_windows.specs.declared.partition.Partition.{Partition}
 use Rattle.private_lru.proofs.laws.FirstPlaces.{position_or_len-le}
 use Rattle.run_law.specs.Journals.{At}
-use Rattle.spans.proofs.laws.LongerSpans.{spans-none}
-use Rattle.spans.specs.Keeping.{span_to}
-use Rattle.spans.specs.declared.span.Span.{Span}
+use Rattle.private_lru.proofs.laws.LongerSpans.{spans-none}
+use Rattle.private_lru.specs.Keeping.{span_to}
+use Rattle.private_lru.specs.declared.span.Span.{Span}
 
 module _ (script : PairScriptValue) (domain : ℕ) (entries : List SliceEntry) (epoch : ℕ) (w : CdpWalk) (walked : IsWalked script entries epoch epoch domain w) (rise : RiseByEpoch entries) where
   -- all flushes of an epoch are met

@@ -8,7 +8,7 @@ use Rattle.std.proofs.lemmas.Option.{slice_get-get_or}
 use Rattle.cache_core.specs.declared.entry.SliceEntry.{SliceEntry}
 use Rattle.pair_law.specs.Epochs.{state_at}
 use Rattle.pair_law.specs.State.{PairState}
-use Rattle.pair_ops.specs.Values.{PairScriptValue}
+use Rattle.pair_text.specs.Values.{PairScriptValue}
 use Rattle.pair_windows.proofs.CountedWindows.{what-flush}
 use Rattle.pair_windows.proofs.EarlierWindows.{windows_before-first}
 use Rattle.pair_windows.proofs.NextFlushes.{front_len-flush_len, rises-at}
@@ -22,9 +22,9 @@ use Rattle.pair_windows.specs.declared.cdp_window.CdpWindow.{CdpWindow}
 use Rattle.pair_windows.specs.declared.partition.Partition.{Partition}
 use Rattle.private_lru.proofs.laws.FirstPlaces.{position_or_len-at, position_or_len-le}
 use Rattle.run_law.specs.Journals.{At}
-use Rattle.spans.proofs.laws.LongerSpans.{spans-more}
-use Rattle.spans.specs.Keeping.{span_on}
-use Rattle.spans.specs.declared.span.Span.{Span}
+use Rattle.private_lru.proofs.laws.LongerSpans.{spans-more}
+use Rattle.private_lru.specs.Keeping.{span_on}
+use Rattle.private_lru.specs.declared.span.Span.{Span}
 
 -- ---- what is kept
 

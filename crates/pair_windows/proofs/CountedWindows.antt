@@ -3,13 +3,13 @@ use Rattle.std.proofs.Common.{◌≡◌, ℕ, zero, suc, ◌+◌, ◌<◌, true,
 use Rattle.cache_core.specs.declared.entry.SliceEntry.{SliceEntry}
 use Rattle.cache_core.specs.declared.entry.What.{What}
 use Rattle.cache_core.specs.declared.entry.What.TheVariants.{Access, Drop, Flush, Lock, Look, Raise}
-use Rattle.pair_ops.specs.Values.{PairScriptValue}
+use Rattle.pair_text.specs.Values.{PairScriptValue}
 use Rattle.pair_windows.specs.CdpWindows.{windows_by}
 use Rattle.pair_windows.specs.Counted.{counted_window, counted_windows}
 use Rattle.pair_windows.specs.Fronts.{is_flush}
 use Rattle.pair_windows.specs.declared.cdp_window.CdpWindow.{CdpWindow}
 use Rattle.pair_windows.specs.declared.partition.Partition.{Partition}
-use Rattle.spans.specs.declared.span.Span.{Span}
+use Rattle.private_lru.specs.declared.span.Span.{Span}
 use Rattle.private_lru.specs.declared.counts.WindowCounts.{WindowCounts}
 
 -- one partition more

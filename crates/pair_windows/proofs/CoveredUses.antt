@@ -8,16 +8,16 @@ use Rattle.pair_windows.specs.JointWindows.{hits_l2, hits_l3, reaches_l3}
 use Rattle.pair_windows.specs.Segments.{hit_l2, hit_l3}
 use Rattle.lists.proofs.Filters.{filter-same}
 use Rattle.machine.specs.declared.parameters.Parameters.{Parameters}
-use Rattle.pair_ops.specs.Values.{IsLawful, PairScriptValue, op_at}
-use Rattle.pair_ops.specs.declared.op.PairOp.{PairOp}
-use Rattle.pair_ops.specs.declared.op.PairOp.TheVariants as ops
-use Rattle.pair_ops.specs.declared.side.Side.TheVariants.{First, Second}
-use Rattle.pair_runs.proofs.laws.LevelWindows.{HitsAsPrivate-joint_window}
-use Rattle.pair_runs.specs.Entries.{slice_in}
-use Rattle.pair_runs.specs.JointWindows.{IsJointWindow, is_covered}
-use Rattle.pair_runs.specs.Laws.{HitsAsPrivate}
-use Rattle.pair_runs.specs.LevelRuns.{IsLevelRun, LevelJournalsValue, domain_on, has_at, is_hit, user_at}
-use Rattle.pair_runs.specs.WindowLaws.{count_uses, counts_use}
+use Rattle.pair_text.specs.Values.{IsLawful, PairScriptValue, op_at}
+use Rattle.pair_text.specs.declared.op.PairOp.{PairOp}
+use Rattle.pair_text.specs.declared.op.PairOp.TheVariants as ops
+use Rattle.pair_text.specs.declared.side.Side.TheVariants.{First, Second}
+use Rattle.pair_law.proofs.laws.LevelWindows.{HitsAsPrivate-joint_window}
+use Rattle.pair_law.specs.Entries.{slice_in}
+use Rattle.pair_law.specs.JointWindows.{IsJointWindow, is_covered}
+use Rattle.pair_law.specs.RunLaws.{HitsAsPrivate}
+use Rattle.pair_law.specs.LevelRuns.{IsLevelRun, LevelJournalsValue, domain_on, has_at, is_hit, user_at}
+use Rattle.pair_law.specs.WindowLaws.{count_uses, counts_use}
 use Rattle.rc_base.specs.declared.names.Gid.{Gid}
 
 -- ---- tests of uses

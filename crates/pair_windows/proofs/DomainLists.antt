@@ -2,9 +2,9 @@
 use Rattle.std.proofs.Common.{◌≡◌, ℕ, suc, ◌+◌, ◌-◌, ◌<◌, ◌≤◌, List, [], ◌∷◌, ◌++◌, length, map, get_or, refl, sym, subst, ap, ap₂, ◌∙◌, arith}
 use Rattle.std.specs.List.{All, flat_map, range_with_len}
 use Rattle.cache_core.specs.declared.entry.SliceEntry.{SliceEntry}
-use Rattle.pair_ops.specs.Values.{PairScriptValue, epoch_at}
-use Rattle.pair_ops.specs.declared.side.Side.TheVariants.{First, Second}
-use Rattle.pair_runs.specs.LevelRuns.{LevelJournalsValue}
+use Rattle.pair_text.specs.Values.{PairScriptValue, epoch_at}
+use Rattle.pair_text.specs.declared.side.Side.TheVariants.{First, Second}
+use Rattle.pair_law.specs.LevelRuns.{LevelJournalsValue}
 use Rattle.pair_windows.proofs.FlushedWindows.{windows_before-first}
 use Rattle.pair_windows.proofs.RisingLevelSpans.{RiseByGroup-held}
 use Rattle.pair_windows.proofs.SegmentSteps.{length-joined}
@@ -18,7 +18,7 @@ use Rattle.pair_windows.specs.declared.domain_walks.DomainWalk.{DomainWalk}
 use Rattle.pair_windows.specs.declared.level_masks.LevelMasks.{LevelMasks}
 use Rattle.pair_windows.specs.declared.segments.Hits.{Hits}
 use Rattle.private_lru.specs.Ends.{RiseByGroup}
-use Rattle.spans.specs.declared.span.Span.{Span}
+use Rattle.private_lru.specs.declared.span.Span.{Span}
 
 -- lists that are each that of a position, one after another
 pub flat_map-each : {X Y : Type 0} (f : X → List Y) (g : ℕ → List Y) (n : ℕ) (xs : List X) → ((i : ℕ) (d : X) → i < length xs → f (get_or xs i d) ≡ g (n + i))

@@ -4,9 +4,9 @@ use Rattle.std.proofs.lemmas.List.{append-nil}
 use Rattle.cache_core.specs.declared.entry.SliceEntry.{SliceEntry}
 use Rattle.pair_law.specs.Epochs.{state_at}
 use Rattle.pair_law.specs.State.{PairState}
-use Rattle.pair_ops.specs.Values.{PairScriptValue, epoch_at}
-use Rattle.pair_ops.specs.declared.side.Side.TheVariants.{First, Second}
-use Rattle.pair_runs.specs.LevelRuns.{LevelJournalsValue}
+use Rattle.pair_text.specs.Values.{PairScriptValue, epoch_at}
+use Rattle.pair_text.specs.declared.side.Side.TheVariants.{First, Second}
+use Rattle.pair_law.specs.LevelRuns.{LevelJournalsValue}
 use Rattle.pair_windows.proofs.FlushedWindows.{windows_before-more, windows_from-none}
 use Rattle.pair_windows.proofs.LongerLevelSpans.{held_from-kept}
 use Rattle.pair_windows.proofs.SegmentSteps.{joined-more}
@@ -21,8 +21,8 @@ use Rattle.pair_windows.specs.Segments.{hit_l2, hit_l3}
 use Rattle.pair_windows.specs.declared.domain_walks.DomainWalk.{DomainWalk}
 use Rattle.pair_windows.specs.declared.joint_window.JointWindow.{JointWindow}
 use Rattle.pair_windows.specs.declared.segments.Hits.{Hits}
-use Rattle.spans.proofs.laws.LongerSpans.{spans-none}
-use Rattle.spans.specs.Keeping.{span_on, span_to}
+use Rattle.private_lru.proofs.laws.LongerSpans.{spans-none}
+use Rattle.private_lru.specs.Keeping.{span_on, span_to}
 
 module _ (script : PairScriptValue) (hits : Hits) (from domain : ℕ) (w new : DomainWalk) (own : new.domain ≡ w.domain) where
   module _ (kept : new.windows.items ≡ w.windows.items) where

@@ -3,8 +3,8 @@ use Rattle.std.proofs.Common.{◌≡◌, ℕ, ◌+◌, false, List, [], ◌++◌
 use Rattle.std.specs.List.{flat_map, range_with_len, slice_get}
 use Rattle.std.proofs.lemmas.List.{append-nil}
 use Rattle.cache_core.specs.declared.entry.SliceEntry.{SliceEntry}
-use Rattle.pair_ops.specs.Values.{PairScriptValue}
-use Rattle.pair_runs.proofs.laws.Cuts.{flat_map-range_at}
+use Rattle.pair_text.specs.Values.{PairScriptValue}
+use Rattle.pair_law.proofs.laws.Cuts.{flat_map-range_at}
 use Rattle.pair_windows.proofs.CountedWindows.{windows_by-other}
 use Rattle.pair_windows.proofs.FlushedWindows.{flat_map-range_none}
 use Rattle.pair_windows.proofs.NextFlushes.{next-quiet}

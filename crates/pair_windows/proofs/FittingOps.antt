@@ -1,9 +1,9 @@
 -- The ops of a script, as a tree takes them.
 use Rattle.std.proofs.Common.{◌≡◌, ℕ, zero, suc, ◌<◌, ◌≤◌, Bool, true, List, [], ◌∷◌, length, take, filter, inl, inr, arith}
 use Rattle.std.proofs.lemmas.Bool.{cases_Bool, cases_lt}
-use Rattle.pair_ops.specs.Values.{Fits, HasShortName, PairScriptValue, commands_of, epoch_at, is_command}
-use Rattle.pair_ops.specs.declared.op.PairOp.{PairOp}
-use Rattle.pair_ops.specs.declared.op.PairOp.TheVariants as ops
+use Rattle.pair_text.specs.Values.{Fits, HasShortName, PairScriptValue, commands_of, epoch_at, is_command}
+use Rattle.pair_text.specs.declared.op.PairOp.{PairOp}
+use Rattle.pair_text.specs.declared.op.PairOp.TheVariants as ops
 
 -- the name that a fitting command gives is short
 pub HasShortName-fits : (script : PairScriptValue) (op : PairOp) → Fits script op → is_command op ≡ true → HasShortName op

@@ -10,11 +10,11 @@ use Rattle.cache_core.specs.declared.entry.What.{What}
 use Rattle.cache_core.specs.declared.entry.What.TheVariants.{Flush}
 use Rattle.cbm.specs.Masks.{ways_of}
 use Rattle.pair_law.specs.Epochs.{state_at}
-use Rattle.pair_ops.specs.Values.{PairScriptValue, commands_of}
-use Rattle.pair_runs.proofs.laws.CdpEntries.{IsCdpRun-given}
-use Rattle.pair_runs.proofs.laws.CdpWindows.{IsIsolated-cdp_window}
-use Rattle.pair_runs.specs.CdpRuns.{CdpJournalsValue}
-use Rattle.pair_runs.specs.Entries.{slice_in}
+use Rattle.pair_text.specs.Values.{PairScriptValue, commands_of}
+use Rattle.pair_law.proofs.laws.CdpEntries.{IsCdpRun-given}
+use Rattle.pair_law.proofs.laws.CdpWindows.{IsIsolated-cdp_window}
+use Rattle.pair_law.specs.CdpRuns.{CdpJournalsValue}
+use Rattle.pair_law.specs.Entries.{slice_in}
 use Rattle.pair_windows.proofs.CountedWindows.{counted_windows-map}
 use Rattle.pair_windows.proofs.ListedWindows.{IsCdpWindow-listed, is_kept-partitions, window_to}
 use Rattle.pair_windows.proofs.laws.RisingEpochs.{RiseByEpoch-run}
@@ -27,9 +27,9 @@ use Rattle.pair_windows.specs.Fronts.{front_len, front_of}
 use Rattle.pair_windows.specs.PartitionSpans.{kept_from, kept_of, stay_of}
 use Rattle.pair_windows.specs.Partitions.{is_kept, is_kept_at, last_epoch, partitions_in}
 use Rattle.pair_windows.specs.declared.cdp_window.CdpWindow.{CdpWindow}
-use Rattle.spans.proofs.laws.LastEpochs.{last_within-fewer}
-use Rattle.spans.proofs.laws.LongerSpans.{map-after}
-use Rattle.spans.specs.declared.span.Span.{Span}
+use Rattle.private_lru.proofs.laws.LastEpochs.{last_within-fewer}
+use Rattle.private_lru.proofs.laws.LongerSpans.{map-after}
+use Rattle.private_lru.specs.declared.span.Span.{Span}
 use Rattle.pair_windows.specs.declared.partition.Partition.{Partition}
 use Rattle.private_lru.proofs.laws.CoveredHits.{hits_of_group-covered}
 use Rattle.private_lru.specs.Covered.{covered}

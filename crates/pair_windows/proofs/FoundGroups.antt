@@ -6,7 +6,7 @@ use Rattle.std.proofs.lemmas.List.Elements.{All-cons, All-nil}
 use Rattle.group_tree.specs.Records.{is_mode}
 use Rattle.lists.proofs.Pairs.{AllPairs-head, AllPairs-tail}
 use Rattle.pair_law.specs.State.{has_gid}
-use Rattle.pair_ops.specs.declared.group.PairGroup.{PairGroup}
+use Rattle.pair_text.specs.declared.group.PairGroup.{PairGroup}
 use Rattle.rc_base.specs.declared.names.Mode.TheVariants.{Shareable, Exclusive, LockSetup, Locked}
 use Rattle.rc_base.specs.declared.names.Mode.{Mode}
 

@@ -11,10 +11,10 @@ use Rattle.pair_windows.specs.JointWindows.{has_masks_of, keeps_masks}
 use Rattle.lists.proofs.Tests.{All-kept}
 use Rattle.pair_law.specs.Epochs.{state_at}
 use Rattle.pair_law.specs.State.{PairState, group_of, mask_in}
-use Rattle.pair_ops.specs.Values.{Machines, PairScriptValue, side_machine}
-use Rattle.pair_ops.specs.declared.group.PairGroup.{PairGroup}
-use Rattle.pair_ops.specs.declared.side.Side.TheVariants.{First, Second}
-use Rattle.pair_runs.specs.JointWindows.{HasLevels, domain_above}
+use Rattle.pair_text.specs.Values.{Machines, PairScriptValue, side_machine}
+use Rattle.pair_text.specs.declared.group.PairGroup.{PairGroup}
+use Rattle.pair_text.specs.declared.side.Side.TheVariants.{First, Second}
+use Rattle.pair_law.specs.JointWindows.{HasLevels, domain_above}
 use Rattle.pair_windows.proofs.laws.RisingGroups.{RiseByGid-state_at}
 use Rattle.rc_base.specs.declared.names.Mode.TheVariants.{Exclusive}
 

@@ -10,14 +10,14 @@ use Rattle.pair_windows.proofs.HeldLevels.{HasLevels-keeps, HasOwn, keeps_masks-
 use Rattle.pair_windows.specs.JointWindows.{ends_window, keeps_at, last_epoch, window_end}
 use Rattle.pair_law.specs.Epochs.{state_at}
 use Rattle.pair_law.specs.State.{mask_in}
-use Rattle.pair_ops.specs.Values.{PairScriptValue, commands_of, epoch_at, op_at}
-use Rattle.pair_ops.specs.declared.group.PairGroup.{PairGroup}
-use Rattle.pair_ops.specs.declared.op.PairOp.TheVariants as ops
-use Rattle.pair_ops.specs.declared.side.Side.TheVariants.{First, Second}
-use Rattle.pair_runs.proofs.laws.Commands.{epoch_at-lt}
-use Rattle.pair_runs.specs.JointWindows.{IsJointWindow, StaysJoint, is_flush}
+use Rattle.pair_text.specs.Values.{PairScriptValue, commands_of, epoch_at, op_at}
+use Rattle.pair_text.specs.declared.group.PairGroup.{PairGroup}
+use Rattle.pair_text.specs.declared.op.PairOp.TheVariants as ops
+use Rattle.pair_text.specs.declared.side.Side.TheVariants.{First, Second}
+use Rattle.pair_law.proofs.laws.Commands.{epoch_at-lt}
+use Rattle.pair_law.specs.JointWindows.{IsJointWindow, StaysJoint, is_flush}
 use Rattle.private_lru.proofs.laws.FirstPlaces.{position_or_len-le}
-use Rattle.spans.proofs.laws.LastEpochs.{IsSpan-as, IsSpan-last_within}
+use Rattle.private_lru.proofs.laws.LastEpochs.{IsSpan-as, IsSpan-last_within}
 
 -- ---- how long
 

@@ -12,14 +12,14 @@ use Rattle.pair_law.specs.Bounds.{tasks_of}
 use Rattle.pair_law.specs.Epochs.{state_after, state_at}
 use Rattle.pair_law.specs.State.{PairState, opening, owner_of}
 use Rattle.pair_law.specs.Steps.{next}
-use Rattle.pair_ops.specs.Values.{Fits, IsLawful, Machines, PairScriptValue, commands_of, epoch_at, op_at}
-use Rattle.pair_ops.specs.declared.op.PairOp.{PairOp}
-use Rattle.pair_ops.specs.declared.op.PairOp.TheVariants as ops
-use Rattle.pair_ops.specs.declared.side.Side.TheVariants.{Second}
+use Rattle.pair_text.specs.Values.{Fits, IsLawful, Machines, PairScriptValue, commands_of, epoch_at, op_at}
+use Rattle.pair_text.specs.declared.op.PairOp.{PairOp}
+use Rattle.pair_text.specs.declared.op.PairOp.TheVariants as ops
+use Rattle.pair_text.specs.declared.side.Side.TheVariants.{Second}
 use Rattle.pair_windows.specs.Replays.{HasTaken, ReplayValue}
-use Rattle.pair_runs.specs.Entries.{entry}
-use Rattle.pair_runs.specs.JointWindows.{is_flush}
-use Rattle.pair_runs.specs.LevelRuns.{domain_on}
+use Rattle.pair_law.specs.Entries.{entry}
+use Rattle.pair_law.specs.JointWindows.{is_flush}
+use Rattle.pair_law.specs.LevelRuns.{domain_on}
 use Rattle.rc_base.specs.declared.names.Gid.{Gid}
 
 -- ---- tasks

@@ -16,20 +16,20 @@ use Rattle.lists.proofs.Pairs.{All-flat_map}
 use Rattle.lists.proofs.Tests.{All-kept}
 use Rattle.pair_law.specs.Epochs.{state_at}
 use Rattle.pair_law.specs.State.{PairState, group_of, has_gid, mask_in}
-use Rattle.pair_ops.specs.Values.{PairScriptValue, commands_of}
-use Rattle.pair_ops.specs.declared.group.PairGroup.{PairGroup}
-use Rattle.pair_ops.specs.declared.side.Side.{Side}
-use Rattle.pair_ops.specs.declared.side.Side.TheVariants.{First, Second}
-use Rattle.pair_runs.proofs.laws.CdpEntries.{IsCdpRun-given}
-use Rattle.pair_runs.specs.CdpRuns.{CdpJournalsValue, IsCdpRun}
-use Rattle.pair_runs.specs.CdpWindows.{IsAlone, IsCdpWindow, StaysAlone, other_side}
-use Rattle.pair_runs.specs.Entries.{slice_in}
+use Rattle.pair_text.specs.Values.{PairScriptValue, commands_of}
+use Rattle.pair_text.specs.declared.group.PairGroup.{PairGroup}
+use Rattle.pair_text.specs.declared.side.Side.{Side}
+use Rattle.pair_text.specs.declared.side.Side.TheVariants.{First, Second}
+use Rattle.pair_law.proofs.laws.CdpEntries.{IsCdpRun-given}
+use Rattle.pair_law.specs.CdpRuns.{CdpJournalsValue, IsCdpRun}
+use Rattle.pair_law.specs.CdpWindows.{IsAlone, IsCdpWindow, StaysAlone, other_side}
+use Rattle.pair_law.specs.Entries.{slice_in}
 use Rattle.pair_windows.proofs.FoundGroups.{find-rising, is_mode-exclusive}
 use Rattle.pair_windows.specs.CdpWindows.{ends_window}
 use Rattle.pair_windows.specs.Partitions.{has_partition, is_alone_on, is_kept, is_kept_at, last_epoch, partition_of, partitions_in, partitions_of}
 use Rattle.pair_windows.specs.declared.partition.Partition.{Partition}
 use Rattle.rc_base.specs.declared.names.Mode.TheVariants.{Exclusive}
-use Rattle.spans.proofs.laws.LastEpochs.{IsSpan-as, IsSpan-last_within}
+use Rattle.private_lru.proofs.laws.LastEpochs.{IsSpan-as, IsSpan-last_within}
 use Rattle.run_law.specs.Journals.{At}
 use Rattle.private_lru.proofs.laws.FirstPlaces.{position_or_len-at, position_or_len-before, position_or_len-le, slice_get-drop}
 

@@ -1,12 +1,12 @@
 -- The masks of groups, as a tree takes a command.
 use Rattle.std.proofs.Common.{◌≡◌, ℕ, ◌+◌, ◌-◌, ◌≤◌, List, map, sym, ap, ◌∙◌, arith}
 use Rattle.pair_law.specs.Epochs.{state_at}
-use Rattle.pair_ops.specs.Values.{PairScriptValue}
+use Rattle.pair_text.specs.Values.{PairScriptValue}
 use Rattle.pair_windows.specs.LevelSpans.{exclusive_in, goes_on, goes_on_at, held_from, masks_of}
 use Rattle.pair_windows.specs.declared.level_masks.LevelMasks.{LevelMasks}
-use Rattle.spans.proofs.laws.LongerSpans.{spans-more}
-use Rattle.spans.specs.Keeping.{span_on}
-use Rattle.spans.specs.declared.span.Span.{Span}
+use Rattle.private_lru.proofs.laws.LongerSpans.{spans-more}
+use Rattle.private_lru.specs.Keeping.{span_on}
+use Rattle.private_lru.specs.declared.span.Span.{Span}
 
 module _ (script : PairScriptValue) (domain first : ℕ) where
   -- from an epoch to the next one

@@ -7,14 +7,14 @@ use Rattle.std.proofs.lemmas.Option.{slice_get_past}
 use Rattle.cache_core.specs.declared.entry.SliceEntry.{SliceEntry}
 use Rattle.pair_windows.specs.Hits.{AreHits, AreMarked, is_use_in}
 use Rattle.machine.specs.declared.parameters.Parameters.{Parameters}
-use Rattle.pair_ops.specs.Values.{AreMachines, Fits, IsLawful, LiesBelow, Machines, PairScriptValue, op_at, side_machine}
-use Rattle.pair_ops.specs.declared.op.PairOp.{PairOp}
-use Rattle.pair_ops.specs.declared.op.PairOp.TheVariants as ops
-use Rattle.pair_ops.specs.declared.side.Side.{Side}
-use Rattle.pair_ops.specs.declared.side.Side.TheVariants.{First, Second}
-use Rattle.pair_runs.proofs.laws.Domains.{domain_of-lt}
-use Rattle.pair_runs.specs.Entries.{slice_in}
-use Rattle.pair_runs.specs.LevelRuns.{domain_on, has_at, is_hit}
+use Rattle.pair_text.specs.Values.{AreMachines, Fits, IsLawful, LiesBelow, Machines, PairScriptValue, op_at, side_machine}
+use Rattle.pair_text.specs.declared.op.PairOp.{PairOp}
+use Rattle.pair_text.specs.declared.op.PairOp.TheVariants as ops
+use Rattle.pair_text.specs.declared.side.Side.{Side}
+use Rattle.pair_text.specs.declared.side.Side.TheVariants.{First, Second}
+use Rattle.pair_law.proofs.laws.Domains.{domain_of-lt}
+use Rattle.pair_law.specs.Entries.{slice_in}
+use Rattle.pair_law.specs.LevelRuns.{domain_on, has_at, is_hit}
 use Rattle.run_law.proofs.laws.SoundHistories.{All-at}
 
 -- ---- the CPUs of a level

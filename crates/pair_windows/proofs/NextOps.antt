@@ -2,10 +2,10 @@
 use Rattle.std.proofs.Common.{◌≡◌, ℕ, ◌+◌, true, false, Some, sym, ap, ◌∙◌}
 use Rattle.pair_law.specs.Epochs.{state_at}
 use Rattle.pair_law.specs.Steps.{next}
-use Rattle.pair_ops.specs.Values.{PairScriptValue, epoch_at, is_command, op_at}
-use Rattle.pair_ops.specs.declared.op.PairOp.{PairOp}
+use Rattle.pair_text.specs.Values.{PairScriptValue, epoch_at, is_command, op_at}
+use Rattle.pair_text.specs.declared.op.PairOp.{PairOp}
 use Rattle.pair_windows.specs.Replays.{HasTaken}
-use Rattle.pair_runs.proofs.laws.Playing.{epoch_at-command, epoch_at-use, state_at-command}
+use Rattle.pair_law.proofs.laws.Playing.{epoch_at-command, epoch_at-use, state_at-command}
 use Rattle.pair_tree.specs.Values.{PairTreeValue}
 
 module _ (script : PairScriptValue) (i : ℕ) (op : PairOp) (at : op_at script i ≡ Some op) where

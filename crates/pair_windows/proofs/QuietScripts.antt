@@ -18,16 +18,16 @@ use Rattle.pair_law.specs.commands.Mode as mode
 use Rattle.pair_law.specs.commands.Rmdir as rmdir
 use Rattle.pair_law.specs.commands.Schemata as schemata
 use Rattle.pair_law.specs.commands.Tasks as tasks
-use Rattle.pair_ops.specs.Values.{Machines, PairScriptValue, commands_of, epoch_at, is_command, op_at}
-use Rattle.pair_ops.specs.declared.group.PairGroup.{PairGroup}
-use Rattle.pair_ops.specs.declared.op.PairOp.{PairOp}
-use Rattle.pair_ops.specs.declared.op.PairOp.TheVariants as ops
-use Rattle.pair_ops.specs.declared.side.Side.{Side}
-use Rattle.pair_ops.specs.declared.side.Side.TheVariants.{First, Second}
-use Rattle.pair_ops.specs.declared.side_mask.SideMask.{SideMask}
-use Rattle.pair_runs.specs.CdpRuns.{CdpJournalsValue}
-use Rattle.pair_runs.specs.Entries.{slice_in}
-use Rattle.pair_runs.specs.LevelRuns.{LevelJournalsValue}
+use Rattle.pair_text.specs.Values.{Machines, PairScriptValue, commands_of, epoch_at, is_command, op_at}
+use Rattle.pair_text.specs.declared.group.PairGroup.{PairGroup}
+use Rattle.pair_text.specs.declared.op.PairOp.{PairOp}
+use Rattle.pair_text.specs.declared.op.PairOp.TheVariants as ops
+use Rattle.pair_text.specs.declared.side.Side.{Side}
+use Rattle.pair_text.specs.declared.side.Side.TheVariants.{First, Second}
+use Rattle.pair_text.specs.declared.side_mask.SideMask.{SideMask}
+use Rattle.pair_law.specs.CdpRuns.{CdpJournalsValue}
+use Rattle.pair_law.specs.Entries.{slice_in}
+use Rattle.pair_law.specs.LevelRuns.{LevelJournalsValue}
 use Rattle.pair_windows.specs.CdpWindows as cdp
 use Rattle.pair_windows.specs.LevelSpans.{exclusive_in, is_exclusive}
 use Rattle.pair_windows.specs.JointWindows as joint

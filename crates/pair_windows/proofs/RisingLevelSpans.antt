@@ -3,11 +3,11 @@ use Rattle.std.proofs.Common.{ℕ, ◌<◌, map}
 use Rattle.std.proofs.lemmas.List.Kept.{AllPairs-filter}
 use Rattle.pair_windows.specs.LevelSpans.{exclusive_in, held_from, held_of, is_exclusive, stay_of}
 use Rattle.pair_windows.specs.declared.level_masks.LevelMasks.{LevelMasks}
-use Rattle.spans.specs.declared.span.Span.{Span}
+use Rattle.private_lru.specs.declared.span.Span.{Span}
 use Rattle.lists.proofs.Pairs.{AllPairs-map}
 use Rattle.pair_law.specs.Epochs.{state_at}
-use Rattle.pair_ops.specs.Values.{PairScriptValue}
-use Rattle.pair_ops.specs.declared.group.PairGroup.{PairGroup}
+use Rattle.pair_text.specs.Values.{PairScriptValue}
+use Rattle.pair_text.specs.declared.group.PairGroup.{PairGroup}
 use Rattle.pair_windows.proofs.laws.RisingGroups.{RiseByGid-state_at}
 use Rattle.private_lru.specs.Ends.{RiseByGroup}
 use Rattle.private_lru.specs.declared.exclusive_span.ExclusiveSpan.{ExclusiveSpan}

@@ -5,15 +5,15 @@ use Rattle.std.proofs.lemmas.List.Elements.{All-map}
 use Rattle.std.proofs.lemmas.List.Kept.{AllPairs-filter}
 use Rattle.lists.proofs.Pairs.{All-flat_map, AllPairs-flat_map, AllPairs-map}
 use Rattle.pair_law.specs.Epochs.{state_at}
-use Rattle.pair_ops.specs.Values.{PairScriptValue}
-use Rattle.pair_ops.specs.declared.group.PairGroup.{PairGroup}
-use Rattle.pair_ops.specs.declared.side.Side.{Side}
-use Rattle.pair_ops.specs.declared.side.Side.TheVariants.{First, Second}
+use Rattle.pair_text.specs.Values.{PairScriptValue}
+use Rattle.pair_text.specs.declared.group.PairGroup.{PairGroup}
+use Rattle.pair_text.specs.declared.side.Side.{Side}
+use Rattle.pair_text.specs.declared.side.Side.TheVariants.{First, Second}
 use Rattle.pair_windows.proofs.laws.RisingGroups.{RiseByGid-state_at, gid-state_at}
 use Rattle.pair_windows.specs.CdpWindows.{owner_of_partition}
 use Rattle.pair_windows.specs.PartitionSpans.{kept_from, kept_of, stay_of}
 use Rattle.pair_windows.specs.Partitions.{has_partition, partition_of, partitions_in, partitions_of}
-use Rattle.spans.specs.declared.span.Span.{Span}
+use Rattle.private_lru.specs.declared.span.Span.{Span}
 use Rattle.pair_windows.specs.declared.partition.Partition.{Partition}
 use Rattle.private_lru.specs.Ends.{RiseByGroup}
 use Rattle.private_lru.specs.declared.exclusive_span.ExclusiveSpan.{ExclusiveSpan}

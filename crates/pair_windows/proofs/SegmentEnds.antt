@@ -7,19 +7,19 @@ use Rattle.cache_core.specs.declared.entry.SliceEntry.{SliceEntry}
 use Rattle.pair_windows.specs.Joined.{joined, joined_of_op}
 use Rattle.pair_windows.specs.JointWindows.{ends_window, keeps_at, last_epoch, window_end}
 use Rattle.pair_windows.specs.Segments.{IsSegment}
-use Rattle.pair_ops.specs.Values.{PairScriptValue, commands_of, epoch_at, op_at}
-use Rattle.pair_ops.specs.declared.group.PairGroup.{PairGroup}
-use Rattle.pair_ops.specs.declared.op.PairOp.{PairOp}
-use Rattle.pair_ops.specs.declared.op.PairOp.TheVariants as ops
-use Rattle.pair_ops.specs.declared.side.Side.TheVariants.{Second}
-use Rattle.pair_runs.proofs.laws.Commands.{epoch_at-le}
-use Rattle.pair_runs.specs.JointWindows.{is_flush}
-use Rattle.pair_runs.specs.LevelRuns.{domain_on}
+use Rattle.pair_text.specs.Values.{PairScriptValue, commands_of, epoch_at, op_at}
+use Rattle.pair_text.specs.declared.group.PairGroup.{PairGroup}
+use Rattle.pair_text.specs.declared.op.PairOp.{PairOp}
+use Rattle.pair_text.specs.declared.op.PairOp.TheVariants as ops
+use Rattle.pair_text.specs.declared.side.Side.TheVariants.{Second}
+use Rattle.pair_law.proofs.laws.Commands.{epoch_at-le}
+use Rattle.pair_law.specs.JointWindows.{is_flush}
+use Rattle.pair_law.specs.LevelRuns.{domain_on}
 use Rattle.pair_windows.proofs.laws.RisingEpochs.{epoch_at-rises}
 use Rattle.pair_windows.proofs.laws.WindowFronts.{firsts-more, firsts-stop}
 use Rattle.private_lru.specs.Ends.{held_len}
-use Rattle.spans.proofs.laws.LastEpochs.{last_within-fewer}
-use Rattle.spans.specs.Spans.{last_within}
+use Rattle.private_lru.proofs.laws.LastEpochs.{last_within-fewer}
+use Rattle.private_lru.specs.Spans.{last_within}
 
 -- ---- the first number of a range that passes
 

@@ -10,13 +10,13 @@ use Rattle.cache_core.specs.declared.entry.SliceEntry.{SliceEntry}
 use Rattle.pair_windows.specs.DomainWalks.{IsQuiet}
 use Rattle.pair_windows.specs.Joined.{joined, joined_at, joined_of_op}
 use Rattle.pair_windows.specs.Segments.{IsSegment, is_end}
-use Rattle.pair_ops.specs.Values.{PairScriptValue, op_at}
-use Rattle.pair_ops.specs.declared.op.PairOp.{PairOp}
-use Rattle.pair_ops.specs.declared.op.PairOp.TheVariants as ops
-use Rattle.pair_ops.specs.declared.side.Side.TheVariants.{Second}
-use Rattle.pair_runs.proofs.laws.Cuts.{range_with_len-append}
-use Rattle.pair_runs.specs.JointWindows.{is_flush}
-use Rattle.pair_runs.specs.LevelRuns.{domain_on}
+use Rattle.pair_text.specs.Values.{PairScriptValue, op_at}
+use Rattle.pair_text.specs.declared.op.PairOp.{PairOp}
+use Rattle.pair_text.specs.declared.op.PairOp.TheVariants as ops
+use Rattle.pair_text.specs.declared.side.Side.TheVariants.{Second}
+use Rattle.pair_law.proofs.laws.Cuts.{range_with_len-append}
+use Rattle.pair_law.specs.JointWindows.{is_flush}
+use Rattle.pair_law.specs.LevelRuns.{domain_on}
 
 -- ---- where a segment ends
 

@@ -17,18 +17,18 @@ use Rattle.pair_windows.specs.JointWindows.{exclusive_after, last_epoch, uses_of
 use Rattle.pair_windows.specs.LevelJournals.{IsPlayedOnLevels}
 use Rattle.pair_windows.specs.Segments.{IsSegment, hit_l2, hit_l3}
 use Rattle.pair_windows.specs.declared.level_masks.LevelMasks.{LevelMasks}
-use Rattle.spans.specs.declared.span.Span.{Span}
+use Rattle.private_lru.specs.declared.span.Span.{Span}
 use Rattle.pair_windows.specs.declared.joint_window.JointWindow.{JointWindow}
 use Rattle.pair_law.specs.Epochs.{state_at}
 use Rattle.pair_law.specs.State.{mask_in}
-use Rattle.pair_ops.specs.Values.{PairScriptValue, epoch_at, op_at}
-use Rattle.pair_ops.specs.declared.group.PairGroup.{PairGroup}
-use Rattle.pair_ops.specs.declared.op.PairOp.TheVariants as ops
-use Rattle.pair_ops.specs.declared.side.Side.TheVariants.{First, Second}
-use Rattle.pair_runs.proofs.laws.Counts.{CountsAgree-joint_window}
-use Rattle.pair_runs.proofs.laws.Playing.{epoch_at-command}
-use Rattle.pair_runs.specs.LevelRuns.{LevelJournalsValue}
-use Rattle.pair_runs.specs.WindowLaws.{count_uses}
+use Rattle.pair_text.specs.Values.{PairScriptValue, epoch_at, op_at}
+use Rattle.pair_text.specs.declared.group.PairGroup.{PairGroup}
+use Rattle.pair_text.specs.declared.op.PairOp.TheVariants as ops
+use Rattle.pair_text.specs.declared.side.Side.TheVariants.{First, Second}
+use Rattle.pair_law.proofs.laws.Counts.{CountsAgree-joint_window}
+use Rattle.pair_law.proofs.laws.Playing.{epoch_at-command}
+use Rattle.pair_law.specs.LevelRuns.{LevelJournalsValue}
+use Rattle.pair_law.specs.WindowLaws.{count_uses}
 use Rattle.private_lru.specs.Covered as lru
 use Rattle.private_lru.specs.GroupCounts.{accesses_of, hits_of_group, is_own_hit}
 use Rattle.private_lru.specs.declared.counts.WindowCounts.{WindowCounts}

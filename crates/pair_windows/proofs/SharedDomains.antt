@@ -6,9 +6,9 @@ use Rattle.std.proofs.lemmas.List.Folds.{list_all-append}
 use Rattle.std.proofs.lemmas.Nat.{div-mul-add}
 use Rattle.machine.specs.Ranges.{InRange}
 use Rattle.machine.specs.declared.parameters.Parameters.{Parameters}
-use Rattle.pair_ops.specs.Values.{AreMachines, LiesBelow, Machines, side_machine}
-use Rattle.pair_ops.specs.declared.side.Side.TheVariants.{First}
-use Rattle.pair_runs.proofs.laws.Cuts.{range_with_len-append}
+use Rattle.pair_text.specs.Values.{AreMachines, LiesBelow, Machines, side_machine}
+use Rattle.pair_text.specs.declared.side.Side.TheVariants.{First}
+use Rattle.pair_law.proofs.laws.Cuts.{range_with_len-append}
 use native.Mathlib.Nat as nat
 
 -- a whole number of times, and not none

@@ -3,10 +3,10 @@ use Rattle.std.specs.Prelude.{◌≡◌, ℕ, ◌<◌, ◌⊎◌, All, AllPairs,
 use Rattle.cache_core.specs.declared.entry.SliceEntry.{SliceEntry}
 use Rattle.cache_core.specs.declared.entry.What.TheVariants.{Flush}
 use Rattle.cbm.specs.Masks.{ways_of}
-use Rattle.pair_ops.specs.Values.{IsLawful, PairScriptValue}
-use Rattle.pair_runs.specs.CdpRuns.{CdpJournalsValue, IsCdpRun, owner_on}
-use Rattle.pair_runs.specs.CdpWindows.{IsCdpWindow}
-use Rattle.pair_runs.specs.Entries.{slice_in}
+use Rattle.pair_text.specs.Values.{IsLawful, PairScriptValue}
+use Rattle.pair_law.specs.CdpRuns.{CdpJournalsValue, IsCdpRun, owner_on}
+use Rattle.pair_law.specs.CdpWindows.{IsCdpWindow}
+use Rattle.pair_law.specs.Entries.{slice_in}
 use Rattle.pair_windows.specs.CdpWindows.{cdp_windows}
 use Rattle.pair_windows.specs.declared.cdp_window.CdpWindow.{CdpWindow}
 use Rattle.private_lru.specs.Covered.{covered}

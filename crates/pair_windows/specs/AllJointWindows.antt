@@ -2,12 +2,12 @@
 use Rattle.std.specs.Prelude.{◌≡◌, ℕ, ◌<◌, ◌⊎◌, true, not, ◌&&◌, All, AllPairs, Contains, IsSome, List}
 use Rattle.pair_windows.specs.JointWindows.{hits_l2, hits_l3, joint_windows, reaches_l3, uses_of}
 use Rattle.pair_windows.specs.declared.joint_window.JointWindow.{JointWindow}
-use Rattle.pair_ops.specs.Values.{IsLawful, PairScriptValue, epoch_at}
-use Rattle.pair_ops.specs.declared.side.Side.TheVariants.{First}
-use Rattle.pair_runs.specs.JointWindows.{IsJointWindow}
-use Rattle.pair_runs.specs.LevelRuns.{IsLevelRun, LevelJournalsValue, domain_on}
-use Rattle.pair_runs.specs.PrivateLevels.{l2_hits, l3_hits}
-use Rattle.pair_runs.specs.WindowLaws.{count_uses}
+use Rattle.pair_text.specs.Values.{IsLawful, PairScriptValue, epoch_at}
+use Rattle.pair_text.specs.declared.side.Side.TheVariants.{First}
+use Rattle.pair_law.specs.JointWindows.{IsJointWindow}
+use Rattle.pair_law.specs.LevelRuns.{IsLevelRun, LevelJournalsValue, domain_on}
+use Rattle.pair_law.specs.PrivateLevels.{l2_hits, l3_hits}
+use Rattle.pair_law.specs.WindowLaws.{count_uses}
 
 -- The counts of a window of a group with these masks, from the flush at a place of the script up to the op at another: the uses of the
 -- group, and of the covered ones how many there are, how many hit the L2 and would hit a private one, how many are asked of the L3,

@@ -3,10 +3,10 @@
 use Rattle.std.specs.Prelude.{◌≡◌, ℕ, ◌^◌, ◌<◌, List, None, Vec, length, map}
 use Rattle.std.specs.declared.alloc.Global.{Global}
 use Rattle.cache_core.specs.declared.entry.SliceEntry.{SliceEntry}
-use Rattle.pair_ops.specs.Values.{PairScriptValue}
+use Rattle.pair_text.specs.Values.{PairScriptValue}
 use Rattle.pair_windows.specs.Replays.{IsPlayable}
-use Rattle.pair_runs.specs.CdpRuns.{CdpJournalsValue, IsCdpRun}
-use Rattle.pair_runs.specs.Entries.{slice_in}
+use Rattle.pair_law.specs.CdpRuns.{CdpJournalsValue, IsCdpRun}
+use Rattle.pair_law.specs.Entries.{slice_in}
 use Rattle.rc_base.specs.declared.replies.Reply.{Reply}
 use Rattle.run_law.specs.Entries.{entries_of}
 

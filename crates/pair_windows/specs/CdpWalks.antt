@@ -4,9 +4,9 @@ use Rattle.std.specs.Prelude.{◌≡◌, ℕ, ◌+◌, ◌-◌, ◌<◌, ◌≤�
 use Rattle.std.specs.List.{flat_map, range_with_len}
 use Rattle.cache_core.specs.declared.entry.SliceEntry.{SliceEntry}
 use Rattle.cache_core.specs.declared.entry.What.TheVariants.{Flush}
-use Rattle.pair_ops.specs.Values.{PairScriptValue}
-use Rattle.pair_runs.specs.CdpRuns.{CdpJournalsValue}
-use Rattle.pair_runs.specs.Entries.{slice_in}
+use Rattle.pair_text.specs.Values.{PairScriptValue}
+use Rattle.pair_law.specs.CdpRuns.{CdpJournalsValue}
+use Rattle.pair_law.specs.Entries.{slice_in}
 use Rattle.pair_windows.specs.CdpJournals.{cdp_journals}
 use Rattle.pair_windows.specs.CdpWindows.{windows_at, windows_in}
 use Rattle.pair_windows.specs.Counted.{ComesBefore}

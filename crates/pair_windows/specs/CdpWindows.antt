@@ -7,9 +7,9 @@ use Rattle.cache_core.specs.declared.entry.What.{What}
 use Rattle.cache_core.specs.declared.entry.What.TheVariants.{Flush}
 use Rattle.cbm.specs.Masks.{ways_of}
 use Rattle.pair_law.specs.Epochs.{state_at}
-use Rattle.pair_ops.specs.Values.{PairScriptValue}
-use Rattle.pair_runs.specs.CdpRuns.{CdpJournalsValue, owner_on}
-use Rattle.pair_runs.specs.Entries.{slice_in}
+use Rattle.pair_text.specs.Values.{PairScriptValue}
+use Rattle.pair_law.specs.CdpRuns.{CdpJournalsValue, owner_on}
+use Rattle.pair_law.specs.Entries.{slice_in}
 use Rattle.pair_windows.specs.Partitions.{last_epoch, partitions_in}
 use Rattle.pair_windows.specs.declared.cdp_window.CdpWindow.{CdpWindow}
 use Rattle.pair_windows.specs.declared.partition.Partition.{Partition}

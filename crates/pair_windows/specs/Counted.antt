@@ -5,7 +5,7 @@ use Rattle.cache_core.specs.declared.entry.SliceEntry.{SliceEntry}
 use Rattle.cache_core.specs.declared.entry.What.TheVariants.{Flush}
 use Rattle.cbm.specs.Masks.{ways_of}
 use Rattle.pair_windows.specs.declared.cdp_window.CdpWindow.{CdpWindow}
-use Rattle.spans.specs.declared.span.Span.{Span}
+use Rattle.private_lru.specs.declared.span.Span.{Span}
 use Rattle.pair_windows.specs.declared.partition.Partition.{Partition}
 use Rattle.private_lru.specs.declared.counts.WindowCounts.{WindowCounts}
 use Rattle.run_law.specs.Journals.{At}

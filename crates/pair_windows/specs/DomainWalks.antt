@@ -2,10 +2,10 @@
 -- (For functions and proofs: no promise of the program stands on it.)
 use Rattle.std.specs.Prelude.{◌≡◌, ℕ, ◌+◌, ◌-◌, ◌^◌, ◌<◌, ◌≤◌, List, [], false, true, get_or, length, map}
 use Rattle.std.specs.List.{flat_map, range_with_len}
-use Rattle.pair_ops.specs.Values.{PairScriptValue, epoch_at, op_at}
-use Rattle.pair_ops.specs.declared.side.Side.TheVariants.{First, Second}
-use Rattle.pair_runs.specs.JointWindows.{is_flush}
-use Rattle.pair_runs.specs.LevelRuns.{LevelJournalsValue}
+use Rattle.pair_text.specs.Values.{PairScriptValue, epoch_at, op_at}
+use Rattle.pair_text.specs.declared.side.Side.TheVariants.{First, Second}
+use Rattle.pair_law.specs.JointWindows.{is_flush}
+use Rattle.pair_law.specs.LevelRuns.{LevelJournalsValue}
 use Rattle.pair_windows.specs.Hits.{AreHits}
 use Rattle.pair_windows.specs.Joined.{joined}
 use Rattle.pair_windows.specs.JointWindows.{windows_at}

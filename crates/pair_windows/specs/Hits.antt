@@ -2,12 +2,12 @@
 -- (For functions and proofs: no promise of the program stands on it.)
 use Rattle.std.specs.Prelude.{◌≡◌, ℕ, Bool, false, ◌==◌, ◌&&◌, ◌||◌, List, Option, Some, length, slice_index_or}
 use Rattle.cache_core.specs.declared.entry.SliceEntry.{SliceEntry}
-use Rattle.pair_ops.specs.Values.{PairScriptValue, op_at}
-use Rattle.pair_ops.specs.declared.op.PairOp.{PairOp}
-use Rattle.pair_ops.specs.declared.op.PairOp.TheVariants as ops
-use Rattle.pair_ops.specs.declared.side.Side.{Side}
-use Rattle.pair_runs.specs.Entries.{slice_in}
-use Rattle.pair_runs.specs.LevelRuns.{domain_on, has_at, is_hit}
+use Rattle.pair_text.specs.Values.{PairScriptValue, op_at}
+use Rattle.pair_text.specs.declared.op.PairOp.{PairOp}
+use Rattle.pair_text.specs.declared.op.PairOp.TheVariants as ops
+use Rattle.pair_text.specs.declared.side.Side.{Side}
+use Rattle.pair_law.specs.Entries.{slice_in}
+use Rattle.pair_law.specs.LevelRuns.{domain_on, has_at, is_hit}
 
 -- For each op, whether it is a use whose entry at the level is a hit.
 pub record AreHits (script : PairScriptValue) (side : Side) (slices : List (List SliceEntry)) (hits : List Bool) : Type 0 where

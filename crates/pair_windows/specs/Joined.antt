@@ -4,12 +4,12 @@ use Rattle.std.specs.Prelude.{ℕ, ◌+◌, Bool, ◌==◌, if◌then◌else◌,
 use Rattle.std.specs.List.{flat_map, range_with_len}
 use Rattle.cache_core.specs.declared.entry.SliceEntry.{SliceEntry}
 use Rattle.cache_core.specs.declared.entry.What.TheVariants.{Access, Flush}
-use Rattle.pair_ops.specs.Values.{PairScriptValue, epoch_at, op_at}
-use Rattle.pair_ops.specs.declared.op.PairOp.{PairOp}
-use Rattle.pair_ops.specs.declared.op.PairOp.TheVariants as ops
-use Rattle.pair_ops.specs.declared.side.Side.TheVariants.{Second}
-use Rattle.pair_runs.specs.Entries.{entry}
-use Rattle.pair_runs.specs.LevelRuns.{domain_on, user_at}
+use Rattle.pair_text.specs.Values.{PairScriptValue, epoch_at, op_at}
+use Rattle.pair_text.specs.declared.op.PairOp.{PairOp}
+use Rattle.pair_text.specs.declared.op.PairOp.TheVariants as ops
+use Rattle.pair_text.specs.declared.side.Side.TheVariants.{Second}
+use Rattle.pair_law.specs.Entries.{entry}
+use Rattle.pair_law.specs.LevelRuns.{domain_on, user_at}
 
 module _ (script : PairScriptValue) (domain : ℕ) (hits : ℕ → ℕ → ℕ → Bool) where
   -- an op as an entry: a use on a CPU of the domain is an access of its user, which hits where the test says so, and a flush a flush

@@ -4,7 +4,7 @@ use Rattle.std.specs.Prelude.{ℕ, ◌-◌, Bool, nat_lt, List, [], ◌∷◌}
 use Rattle.pair_windows.specs.declared.joint_window.JointWindow.{JointWindow}
 use Rattle.pair_windows.specs.declared.level_masks.LevelMasks.{LevelMasks}
 use Rattle.private_lru.specs.declared.counts.WindowCounts.{WindowCounts}
-use Rattle.spans.specs.declared.span.Span.{Span}
+use Rattle.private_lru.specs.declared.span.Span.{Span}
 
 -- The window of a group with its masks, from its counts where a use hits by its L2 entry, and where it hits by its L3 entry. As many uses hit in
 -- private caches as covered ones hit, and what does not hit the L2 is asked of the L3.

@@ -5,19 +5,19 @@ use Rattle.std.specs.Option.{option_map_or}
 use Rattle.group_tree.specs.Records.{is_mode}
 use Rattle.pair_law.specs.Epochs.{state_at}
 use Rattle.pair_law.specs.State.{PairState, group_of, mask_in}
-use Rattle.pair_ops.specs.Values.{Machines, PairScriptValue, commands_of, epoch_at, op_at, side_machine}
-use Rattle.pair_ops.specs.declared.group.PairGroup.{PairGroup}
-use Rattle.pair_ops.specs.declared.op.PairOp.{PairOp}
-use Rattle.pair_ops.specs.declared.op.PairOp.TheVariants as ops
-use Rattle.pair_ops.specs.declared.side.Side.TheVariants.{First, Second}
-use Rattle.pair_runs.specs.Entries.{slice_in}
-use Rattle.pair_runs.specs.JointWindows.{domain_above, is_flush}
-use Rattle.pair_runs.specs.LevelRuns.{LevelJournalsValue, domain_on, has_at, is_hit, is_miss, user_at}
-use Rattle.pair_runs.specs.PrivateLevels.{l2_hits, l3_hits}
-use Rattle.pair_runs.specs.WindowLaws.{count_uses}
+use Rattle.pair_text.specs.Values.{Machines, PairScriptValue, commands_of, epoch_at, op_at, side_machine}
+use Rattle.pair_text.specs.declared.group.PairGroup.{PairGroup}
+use Rattle.pair_text.specs.declared.op.PairOp.{PairOp}
+use Rattle.pair_text.specs.declared.op.PairOp.TheVariants as ops
+use Rattle.pair_text.specs.declared.side.Side.TheVariants.{First, Second}
+use Rattle.pair_law.specs.Entries.{slice_in}
+use Rattle.pair_law.specs.JointWindows.{domain_above, is_flush}
+use Rattle.pair_law.specs.LevelRuns.{LevelJournalsValue, domain_on, has_at, is_hit, is_miss, user_at}
+use Rattle.pair_law.specs.PrivateLevels.{l2_hits, l3_hits}
+use Rattle.pair_law.specs.WindowLaws.{count_uses}
 use Rattle.pair_windows.specs.declared.joint_window.JointWindow.{JointWindow}
 use Rattle.rc_base.specs.declared.names.Mode.TheVariants.{Exclusive}
-use Rattle.spans.specs.Spans.{last_within}
+use Rattle.private_lru.specs.Spans.{last_within}
 
 -- ---- how long a group keeps its masks
 

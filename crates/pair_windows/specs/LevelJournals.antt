@@ -4,9 +4,9 @@ use Rattle.std.specs.Prelude.{◌≡◌, ◌^◌, ◌<◌, List, Some, Vec, leng
 use Rattle.std.specs.declared.alloc.Global.{Global}
 use Rattle.cache_core.specs.declared.entry.SliceEntry.{SliceEntry}
 use Rattle.machine.specs.declared.parameters.Parameters.{Parameters}
-use Rattle.pair_ops.specs.Values.{PairScriptValue}
+use Rattle.pair_text.specs.Values.{PairScriptValue}
 use Rattle.pair_windows.specs.Replays.{IsPlayable}
-use Rattle.pair_runs.specs.LevelRuns.{IsLevelRun, LevelJournalsValue}
+use Rattle.pair_law.specs.LevelRuns.{IsLevelRun, LevelJournalsValue}
 use Rattle.rc_base.specs.declared.replies.Reply.{Reply}
 use Rattle.run_law.specs.Entries.{entries_of}
 

@@ -6,15 +6,15 @@ use Rattle.std.specs.Option.{option_map_or}
 use Rattle.group_tree.specs.Records.{is_mode}
 use Rattle.pair_law.specs.Epochs.{state_at}
 use Rattle.pair_law.specs.State.{PairState, group_of, mask_in}
-use Rattle.pair_ops.specs.Values.{Machines, PairScriptValue, side_machine}
-use Rattle.pair_ops.specs.declared.group.PairGroup.{PairGroup}
-use Rattle.pair_ops.specs.declared.side.Side.TheVariants.{First, Second}
-use Rattle.pair_runs.specs.JointWindows.{domain_above}
+use Rattle.pair_text.specs.Values.{Machines, PairScriptValue, side_machine}
+use Rattle.pair_text.specs.declared.group.PairGroup.{PairGroup}
+use Rattle.pair_text.specs.declared.side.Side.TheVariants.{First, Second}
+use Rattle.pair_law.specs.JointWindows.{domain_above}
 use Rattle.pair_windows.specs.declared.level_masks.LevelMasks.{LevelMasks}
 use Rattle.private_lru.specs.declared.exclusive_span.ExclusiveSpan.{ExclusiveSpan}
 use Rattle.rc_base.specs.declared.names.Mode.TheVariants.{Exclusive}
-use Rattle.spans.specs.Keeping.{span_of}
-use Rattle.spans.specs.declared.span.Span.{Span}
+use Rattle.private_lru.specs.Keeping.{span_of}
+use Rattle.private_lru.specs.declared.span.Span.{Span}
 
 -- whether a group is exclusive
 abbrev pub is_exclusive : PairGroup → Bool

@@ -3,14 +3,14 @@
 use Rattle.std.specs.Prelude.{ℕ, ◌<◌, AllPairs, All, List, map}
 use Rattle.pair_law.specs.Epochs.{state_at}
 use Rattle.pair_law.specs.State.{PairState}
-use Rattle.pair_ops.specs.Values.{PairScriptValue}
-use Rattle.pair_ops.specs.declared.group.PairGroup.{PairGroup}
-use Rattle.pair_runs.specs.CdpRuns.{owner_on}
+use Rattle.pair_text.specs.Values.{PairScriptValue}
+use Rattle.pair_text.specs.declared.group.PairGroup.{PairGroup}
+use Rattle.pair_law.specs.CdpRuns.{owner_on}
 use Rattle.pair_windows.specs.Partitions.{is_kept_at, partitions_in}
 use Rattle.pair_windows.specs.declared.partition.Partition.{Partition}
 use Rattle.private_lru.specs.declared.exclusive_span.ExclusiveSpan.{ExclusiveSpan}
-use Rattle.spans.specs.Keeping.{span_of}
-use Rattle.spans.specs.declared.span.Span.{Span}
+use Rattle.private_lru.specs.Keeping.{span_of}
+use Rattle.private_lru.specs.declared.span.Span.{Span}
 
 -- a partition of an epoch, with the last epoch, of so many more, up to which it is kept
 abbrev pub kept_of : PairScriptValue → ℕ → ℕ → ℕ → Partition → Span Partition

@@ -6,15 +6,15 @@ use Rattle.cbm.specs.Masks.{overlaps}
 use Rattle.group_tree.specs.Records.{is_mode}
 use Rattle.pair_law.specs.Epochs.{state_at}
 use Rattle.pair_law.specs.State.{PairState, group_of, mask_in}
-use Rattle.pair_ops.specs.Values.{PairScriptValue, commands_of}
-use Rattle.pair_ops.specs.declared.group.PairGroup.{PairGroup}
-use Rattle.pair_ops.specs.declared.side.Side.{Side}
-use Rattle.pair_ops.specs.declared.side.Side.TheVariants.{First, Second}
-use Rattle.pair_runs.specs.CdpWindows.{other_side}
+use Rattle.pair_text.specs.Values.{PairScriptValue, commands_of}
+use Rattle.pair_text.specs.declared.group.PairGroup.{PairGroup}
+use Rattle.pair_text.specs.declared.side.Side.{Side}
+use Rattle.pair_text.specs.declared.side.Side.TheVariants.{First, Second}
+use Rattle.pair_law.specs.CdpWindows.{other_side}
 use Rattle.pair_windows.specs.declared.partition.Partition.{Partition}
 use Rattle.rc_base.specs.declared.names.Gid.{Gid}
 use Rattle.rc_base.specs.declared.names.Mode.TheVariants.{Exclusive}
-use Rattle.spans.specs.Spans.{last_within}
+use Rattle.private_lru.specs.Spans.{last_within}
 
 -- whether a group is exclusive, with this mask on a side of a domain, and its mask on the other side there does not meet it
 abbrev pub is_alone_on : ℕ → Side → ℕ → PairGroup → Bool

@@ -2,7 +2,7 @@
 -- (For functions and proofs: no promise of the program stands on it.)
 use Rattle.std.specs.Prelude.{◌≡◌, ℕ, ◌≤◌, length}
 use Rattle.pair_law.specs.Epochs.{state_at}
-use Rattle.pair_ops.specs.Values.{IsLawful, PairScriptValue, commands_of, epoch_at}
+use Rattle.pair_text.specs.Values.{IsLawful, PairScriptValue, commands_of, epoch_at}
 use Rattle.pair_text.specs.declared.limits.TheConstants.{MOST_COMMANDS}
 use Rattle.pair_tree.specs.Values.{PairTreeValue}
 

@@ -4,13 +4,13 @@ use Rattle.std.specs.Prelude.{◌≡◌, ℕ, ◌^◌, ◌<◌, ◌≤◌, Bool,
 use Rattle.pair_windows.specs.declared.segments.Hits.{Hits}
 use Rattle.pair_windows.specs.declared.line_uses.LineUse.{LineUse}
 use Rattle.pair_law.specs.State.{PairState, owner_of}
-use Rattle.pair_ops.specs.Values.{PairScriptValue, op_at}
-use Rattle.pair_ops.specs.declared.op.PairOp.{PairOp}
-use Rattle.pair_ops.specs.declared.op.PairOp.TheVariants as ops
-use Rattle.pair_ops.specs.declared.side.Side.TheVariants.{Second}
+use Rattle.pair_text.specs.Values.{PairScriptValue, op_at}
+use Rattle.pair_text.specs.declared.op.PairOp.{PairOp}
+use Rattle.pair_text.specs.declared.op.PairOp.TheVariants as ops
+use Rattle.pair_text.specs.declared.side.Side.TheVariants.{Second}
 use Rattle.pair_windows.specs.Replays.{IsPlayable}
-use Rattle.pair_runs.specs.JointWindows.{is_flush}
-use Rattle.pair_runs.specs.LevelRuns.{domain_on}
+use Rattle.pair_law.specs.JointWindows.{is_flush}
+use Rattle.pair_law.specs.LevelRuns.{domain_on}
 
 -- whether an op's use hit the L2, by the table of that level
 abbrev pub hit_l2 : List Bool → ℕ → ℕ → ℕ → Bool

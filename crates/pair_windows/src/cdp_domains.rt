@@ -1,7 +1,7 @@
 //! All domains of a run with code and data prioritization, while the commands of a script are taken once.
 ghost use Rattle.std.specs.Prelude.{◌≡◌, ℕ, ◌+◌, ◌^◌, ◌<◌, ◌≢◌, ◌⊎◌, All, IfOk, OnOk, false, length, true};
 ghost use Rattle.pair_law.specs.Epochs.{state_at};
-ghost use Rattle.pair_ops.specs.Values.{commands_of};
+ghost use Rattle.pair_text.specs.Values.{commands_of};
 ghost use Rattle.pair_windows.specs.CdpJournals.{IsPlayed};
 ghost use Rattle.pair_windows.specs.CdpWalks.{HasFoundAll, IsDone, IsDoneAt, IsSmall, IsWalkedIn, entries_of_domain, journals_of};
 ghost use Rattle.pair_windows.specs.DomainWalks.{Each};

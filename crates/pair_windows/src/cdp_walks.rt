@@ -2,8 +2,8 @@
 ghost use Rattle.std.specs.Prelude.{◌≡◌, ℕ, ◌+◌, ◌^◌, ◌<◌, List, OnOk, length, map, slice_get, true};
 ghost use Rattle.cache_core.specs.declared.entry.SliceEntry.{SliceEntry as Entry};
 ghost use Rattle.pair_law.specs.Epochs.{state_at};
-ghost use Rattle.pair_ops.specs.Values.{PairScriptValue};
-ghost use Rattle.pair_runs.specs.Entries.{slice_in};
+ghost use Rattle.pair_text.specs.Values.{PairScriptValue};
+ghost use Rattle.pair_law.specs.Entries.{slice_in};
 ghost use Rattle.pair_windows.specs.CdpJournals.{IsPlayed};
 ghost use Rattle.pair_windows.specs.CdpWalks.{IsClosable, IsSmall, IsWalked, IsWalkedIn, is_of, journals_of};
 ghost use Rattle.pair_windows.specs.Counted.{RiseByEpoch};
@@ -19,8 +19,8 @@ use crate::partition::Partition;
 use crate::partition_spans::{DomainState, partitions};
 use cache_core::SliceEntry;
 use pair_tree::PairTree;
+use private_lru::{Span, keep_on};
 use rc_base::NoMemory;
-use spans::{Span, keep_on};
 use std::alloc::Global;
 
 /// A flush, and the partitions of its epoch as they are kept.

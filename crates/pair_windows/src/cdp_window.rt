@@ -1,6 +1,6 @@
 //! What is counted of a window of a run with code and data prioritization.
 
-use pair_ops::Side;
+use pair_text::Side;
 use rc_base::Gid;
 
 /// A window in which a side of a group has the ways of its mask for itself, after a flush (this project's profile). It counts the

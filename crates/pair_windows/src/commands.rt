@@ -1,8 +1,8 @@
 //! Commands and uses.
 ghost use Rattle.std.specs.Prelude.{◌≡◌};
-ghost use Rattle.pair_ops.specs.Values.{is_command};
+ghost use Rattle.pair_text.specs.Values.{is_command};
 
-use pair_ops::PairOp;
+use pair_text::PairOp;
 
 /// Whether an op is a command, and not the use of a line.
 pub fn is_command(op: &PairOp) -> bool

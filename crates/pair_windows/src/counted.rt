@@ -7,15 +7,14 @@ ghost use Rattle.pair_windows.specs.PartitionSpans.{stay_of};
 ghost use Rattle.pair_windows.specs.declared.partition.Partition.{Partition as PartitionValue};
 ghost use Rattle.private_lru.specs.Ends.{RiseByGroup};
 ghost use Rattle.private_lru.specs.Tallies.{AreCounted};
-ghost use Rattle.spans.specs.declared.span.Span.{Span as SpanValue};
+ghost use Rattle.private_lru.specs.declared.span.Span.{Span as SpanValue};
 
 use crate::cdp_window::CdpWindow;
 use crate::partition::Partition;
 use crate::partition_spans::stays_of;
 use cache_core::{SliceEntry, What};
-use private_lru::{WindowCounts, counts_of};
+use private_lru::{Span, WindowCounts, counts_of};
 use rc_base::NoMemory;
-use spans::Span;
 use std::alloc::Global;
 
 /// The counts of the windows of these partitions among the entries after a flush.

@@ -1,8 +1,8 @@
 //! One L3 domain, while the ops of a script are taken.
 ghost use Rattle.std.specs.Prelude.{◌≡◌, ℕ, ◌+◌, ◌^◌, ◌<◌, ◌≤◌, IfOk, OnOk, false, length};
 ghost use Rattle.pair_law.specs.Epochs.{state_at};
-ghost use Rattle.pair_ops.specs.Values.{PairScriptValue, epoch_at, op_at};
-ghost use Rattle.pair_runs.specs.JointWindows.{is_flush};
+ghost use Rattle.pair_text.specs.Values.{PairScriptValue, epoch_at, op_at};
+ghost use Rattle.pair_law.specs.JointWindows.{is_flush};
 ghost use Rattle.pair_windows.specs.DomainWalks.{Each, HasFound, HasWalked, IsFresh, IsSmall};
 ghost use Rattle.pair_windows.specs.Replays.{HasTaken, IsPlayable};
 ghost use Rattle.pair_windows.specs.Segments.{CanWalk};
@@ -14,8 +14,8 @@ use crate::level_spans::{LevelState, level_spans};
 use crate::segments::{Hits, Segment, push_op};
 use pair_text::PairScript;
 use pair_tree::PairTree;
+use private_lru::keep_on;
 use rc_base::NoMemory;
-use spans::keep_on;
 use std::alloc::Global;
 
 /// An L3 domain: its windows that begin before a flush, and what stands after the flush.

@@ -1,13 +1,12 @@
 //! The caches of each level, and the L3 domains that L2 domains lie in.
 ghost use Rattle.std.specs.Prelude.{◌≡◌};
 ghost use Rattle.machine.specs.Maps.{parameters_of};
-ghost use Rattle.pair_ops.specs.Values.{AreMachines, side_machine};
-ghost use Rattle.pair_ops.specs.declared.side.Side.TheVariants.{First};
-ghost use Rattle.pair_runs.specs.JointWindows.{domain_above};
+ghost use Rattle.pair_text.specs.Values.{AreMachines, side_machine};
+ghost use Rattle.pair_text.specs.declared.side.Side.TheVariants.{First};
+ghost use Rattle.pair_law.specs.JointWindows.{domain_above};
 
 use machine::Machine;
-use pair_ops::Side;
-use pair_text::PairScript;
+use pair_text::{PairScript, Side};
 
 /// The machine whose caches are those of a level: the L2 caches are the first side, where there are some.
 pub fn machine_on(script: &PairScript, side: Side) -> &Machine

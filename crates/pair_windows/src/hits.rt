@@ -1,14 +1,13 @@
 //! Which uses of a script hit at a level.
 ghost use Rattle.std.specs.Prelude.{◌≡◌, ◌<◌, [], ◌∷◌, IfOk, length, map};
 ghost use Rattle.pair_windows.specs.Hits.{AreHits, AreMarked, is_use_in};
-ghost use Rattle.pair_ops.specs.Values.{IsLawful, op_at, side_machine};
-ghost use Rattle.pair_runs.specs.LevelRuns.{is_hit};
+ghost use Rattle.pair_text.specs.Values.{IsLawful, op_at, side_machine};
+ghost use Rattle.pair_law.specs.LevelRuns.{is_hit};
 ghost use Rattle.run_law.specs.Entries.{entries_of};
 
 use crate::domains::machine_on;
 use cache_core::{SliceEntry, What};
-use pair_ops::{PairOp, Side};
-use pair_text::PairScript;
+use pair_text::{PairOp, PairScript, Side};
 use rc_base::NoMemory;
 use std::alloc::Global;
 

@@ -1,7 +1,7 @@
 //! Windows with the counts that were made for them.
 ghost use Rattle.std.specs.Prelude.{◌≡◌, ℕ, ◌^◌, ◌<◌, ◌≤◌, ◌∷◌, [], ◌++◌, All, IfOk, OnOk, filter, length, map};
 ghost use Rattle.cache_core.specs.declared.entry.What.TheVariants.{Flush as TheFlush};
-ghost use Rattle.pair_ops.specs.Values.{epoch_at};
+ghost use Rattle.pair_text.specs.Values.{epoch_at};
 ghost use Rattle.pair_windows.specs.DomainWalks.{CanClose, Each, HasFound, HasWalked, IsCountable};
 ghost use Rattle.pair_windows.specs.JointCounted.{counted_window, counted_windows, is_used};
 ghost use Rattle.pair_windows.specs.LevelSpans.{stay_of};
@@ -15,9 +15,8 @@ use crate::level_masks::LevelMasks;
 use crate::level_spans::stays_of;
 use cache_core::{SliceEntry, What};
 use pair_text::PairScript;
-use private_lru::{WindowCounts, counts_of};
+use private_lru::{Span, WindowCounts, counts_of};
 use rc_base::NoMemory;
-use spans::Span;
 use std::alloc::Global;
 
 // The window of a group with its masks, by its counts at both levels. The hits of private caches are not counted anew: they are as

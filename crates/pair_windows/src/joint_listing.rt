@@ -1,10 +1,10 @@
 //! The windows of a run with two levels.
 ghost use Rattle.std.specs.Prelude.{◌≡◌, ◌+◌, ◌<◌, ◌≤◌, ◌++◌, IfOk, OnOk, length, true};
 ghost use Rattle.std.specs.List.{flat_map};
-ghost use Rattle.pair_ops.specs.Values.{op_at};
-ghost use Rattle.pair_ops.specs.declared.side.Side.TheVariants.{First, Second};
-ghost use Rattle.pair_runs.specs.JointWindows.{is_flush};
-ghost use Rattle.pair_runs.specs.LevelRuns.{LevelJournalsValue};
+ghost use Rattle.pair_text.specs.Values.{op_at};
+ghost use Rattle.pair_text.specs.declared.side.Side.TheVariants.{First, Second};
+ghost use Rattle.pair_law.specs.JointWindows.{is_flush};
+ghost use Rattle.pair_law.specs.LevelRuns.{LevelJournalsValue};
 ghost use Rattle.pair_windows.specs.DomainWalks.{Each, HasFound, HasFoundAfter, IsFresh};
 ghost use Rattle.pair_windows.specs.Hits.{AreHits};
 ghost use Rattle.pair_windows.specs.JointWindows.{joint_windows};
@@ -23,8 +23,7 @@ use crate::level_walks::take_segment;
 use crate::quiet::has_exclusive_write;
 use crate::segments::{Hits, is_end};
 use cache_core::SliceEntry;
-use pair_ops::Side;
-use pair_text::PairScript;
+use pair_text::{PairScript, Side};
 use rc_base::{NoMemory, Reply};
 use std::alloc::Global;
 

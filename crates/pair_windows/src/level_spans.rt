@@ -4,19 +4,17 @@ ghost use Rattle.std.specs.List.{list_all, range_with_len};
 ghost use Rattle.std.specs.Option.{option_copied};
 ghost use Rattle.pair_windows.specs.LevelSpans.{exclusive_in, goes_on, has_same, is_exclusive, masks_of, stay_of};
 ghost use Rattle.pair_law.specs.State.{has_gid};
-ghost use Rattle.pair_ops.specs.Values.{AreMachines, side_machine};
-ghost use Rattle.pair_ops.specs.declared.side.Side.TheVariants.{First};
-ghost use Rattle.pair_runs.specs.JointWindows.{domain_above};
-ghost use Rattle.spans.specs.Keeping.{span_to};
+ghost use Rattle.pair_text.specs.Values.{AreMachines, side_machine};
+ghost use Rattle.pair_text.specs.declared.side.Side.TheVariants.{First};
+ghost use Rattle.pair_law.specs.JointWindows.{domain_above};
+ghost use Rattle.private_lru.specs.Keeping.{span_to};
 
 use crate::domains::{domain_above, l2_domains};
 use crate::level_masks::LevelMasks;
-use pair_ops::PairGroup;
-use pair_text::PairScript;
+use pair_text::{PairGroup, PairScript};
 use pair_tree::PairTree;
-use private_lru::ExclusiveSpan;
+use private_lru::{ExclusiveSpan, HoldsAt, Span};
 use rc_base::{Gid, Mode, NoMemory};
-use spans::{HoldsAt, Span};
 use std::alloc::Global;
 
 /// The groups of an epoch, as the masks of a group in an L3 domain, and in the L2 domains that lie in it, are kept or not.

@@ -1,8 +1,8 @@
 //! All L3 domains, while the ops of a script are taken once.
 ghost use Rattle.std.specs.Prelude.{◌≡◌, ℕ, ◌+◌, ◌^◌, ◌<◌, ◌≤◌, All, OnOk, false, length};
 ghost use Rattle.pair_law.specs.Epochs.{state_at};
-ghost use Rattle.pair_ops.specs.Values.{PairScriptValue, epoch_at, op_at};
-ghost use Rattle.pair_runs.specs.JointWindows.{is_flush};
+ghost use Rattle.pair_text.specs.Values.{PairScriptValue, epoch_at, op_at};
+ghost use Rattle.pair_law.specs.JointWindows.{is_flush};
 ghost use Rattle.pair_windows.specs.DomainWalks.{Each, HasFound, HasWalked, IsSmall};
 ghost use Rattle.pair_windows.specs.Replays.{HasTaken, IsPlayable};
 ghost use Rattle.pair_windows.specs.Segments.{CanWalk, IsSegment};

@@ -3,15 +3,14 @@ ghost use Rattle.std.specs.Prelude.{◌≡◌, Bool, ◌<◌, ◌∷◌, [], ◌
 ghost use Rattle.cache_core.specs.declared.entry.What.TheVariants.{Access as AnAccess};
 ghost use Rattle.pair_windows.specs.Segments.{use_in};
 ghost use Rattle.pair_law.specs.Bounds.{tasks_of};
-ghost use Rattle.pair_ops.specs.Values.{op_at};
-ghost use Rattle.pair_ops.specs.declared.op.PairOp.TheVariants as ops;
+ghost use Rattle.pair_text.specs.Values.{op_at};
+ghost use Rattle.pair_text.specs.declared.op.PairOp.TheVariants as ops;
 ghost use Rattle.pair_windows.specs.Replays.{HasTaken, IsPlayable};
-ghost use Rattle.pair_runs.specs.Entries.{entry};
+ghost use Rattle.pair_law.specs.Entries.{entry};
 
 use crate::Replay;
 use cache_core::{SliceEntry, What};
-use pair_ops::PairOp;
-use pair_text::PairScript;
+use pair_text::{PairOp, PairScript};
 use pair_tree::PairTree;
 use rc_base::{Gid, NoMemory};
 

@@ -1,6 +1,6 @@
 //! The ways of a domain that one side of a group has for itself.
 
-use pair_ops::Side;
+use pair_text::Side;
 use rc_base::Gid;
 
 /// The ways of one domain that one side of an exclusive group has for itself: those of its mask, which does not meet the group's

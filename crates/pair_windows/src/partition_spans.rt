@@ -2,20 +2,19 @@
 ghost use Rattle.std.specs.Prelude.{◌≡◌, ◌+◌, ◌*◌, ◌<◌, ◌^◌, ◌∷◌, [], ◌++◌, All, IfOk, OnOk, false, filter, find, map};
 ghost use Rattle.std.specs.Option.{option_copied, option_map_or};
 ghost use Rattle.pair_law.specs.State.{has_gid, mask_in};
-ghost use Rattle.pair_runs.specs.CdpRuns.{owner_on};
-ghost use Rattle.pair_runs.specs.CdpWindows.{other_side};
+ghost use Rattle.pair_law.specs.CdpRuns.{owner_on};
+ghost use Rattle.pair_law.specs.CdpWindows.{other_side};
 ghost use Rattle.pair_windows.specs.PartitionSpans.{stay_of};
 ghost use Rattle.pair_windows.specs.Partitions.{has_partition, is_alone_on, is_kept, partition_of, partitions_in, partitions_of};
 ghost use Rattle.pair_windows.specs.declared.partition.Partition.{Partition as PartitionValue};
-ghost use Rattle.spans.specs.Keeping.{span_to};
-ghost use Rattle.spans.specs.declared.span.Span.{Span as SpanValue};
+ghost use Rattle.private_lru.specs.Keeping.{span_to};
+ghost use Rattle.private_lru.specs.declared.span.Span.{Span as SpanValue};
 
 use crate::partition::Partition;
-use pair_ops::{PairGroup, Side};
+use pair_text::{PairGroup, Side};
 use pair_tree::PairTree;
-use private_lru::ExclusiveSpan;
+use private_lru::{ExclusiveSpan, HoldsAt, Span};
 use rc_base::{Gid, Mode, NoMemory};
-use spans::{HoldsAt, Span};
 use std::alloc::Global;
 
 /// The groups of an epoch, as partitions of a domain are kept in it or not.

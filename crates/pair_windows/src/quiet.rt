@@ -4,8 +4,7 @@ ghost use Rattle.std.specs.List.{list_any};
 ghost use Rattle.pair_windows.specs.Quiet.{asks_exclusive, is_exclusive_text};
 
 use command_parts::is_named;
-use pair_ops::PairOp;
-use pair_text::PairScript;
+use pair_text::{PairOp, PairScript};
 use path_names::FileKind;
 use rc_base::Mode;
 

@@ -1,7 +1,7 @@
 //! The tree of groups before an op of a script.
 ghost use Rattle.std.specs.Prelude.{◌≡◌, ◌+◌, ◌^◌, ◌<◌, ◌≤◌, IfOk, length};
 ghost use Rattle.lists.specs.Sums.{one_if};
-ghost use Rattle.pair_ops.specs.Values.{commands_of};
+ghost use Rattle.pair_text.specs.Values.{commands_of};
 ghost use Rattle.pair_windows.specs.Replays.{HasTaken, IsPlayable};
 
 use crate::commands::is_command;

@@ -3,19 +3,18 @@ ghost use Rattle.std.specs.Prelude.{◌≡◌, ◌<◌, ◌∷◌, [], ◌++◌,
 ghost use Rattle.cache_core.specs.declared.entry.What.TheVariants.{Access as AnAccess};
 ghost use Rattle.pair_windows.specs.Joined.{joined_at};
 ghost use Rattle.pair_windows.specs.Segments.{CanWalk, hit_l2, hit_l3, is_end};
-ghost use Rattle.pair_ops.specs.Values.{op_at};
+ghost use Rattle.pair_text.specs.Values.{op_at};
 ghost use Rattle.pair_windows.specs.Replays.{HasTaken};
-ghost use Rattle.pair_runs.specs.Entries.{entry};
-ghost use Rattle.pair_runs.specs.JointWindows.{is_flush};
+ghost use Rattle.pair_law.specs.Entries.{entry};
+ghost use Rattle.pair_law.specs.JointWindows.{is_flush};
 
 use crate::Replay;
 use crate::level_masks::LevelMasks;
 use crate::line_uses::{LineUse, next_use, push_entry};
 use cache_core::SliceEntry;
-use pair_ops::PairOp;
-use pair_text::PairScript;
+use pair_text::{PairOp, PairScript};
+use private_lru::Span;
 use rc_base::NoMemory;
-use spans::Span;
 
 /// For each op whether it is a use that hit, at each level.
 #[derive(Drop)]

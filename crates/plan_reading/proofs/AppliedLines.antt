@@ -5,7 +5,7 @@ use Rattle.group_tree.specs.declared.group.Group.{Group}
 use Rattle.way_plans.specs.AppliedTexts.{applied_text, line_end}
 use Rattle.way_plans.specs.PlanCommands.{LinesAreCommands, plan_ops}
 use Rattle.way_plans.specs.PlanTexts.{DomainPart, is_whole}
-use Rattle.write_lines.specs.ReadBack.{phase_text, whole_lines}
+use Rattle.plan_reading.specs.ReadBack.{phase_text, whole_lines}
 
 -- where each domain has a division, a phase with the commands of the plan follows
 pub applied_text-phase : LinesAreCommands → (bytes : List ℕ) (names : List (List ℕ)) (ways : ℕ) (groups : List Group) (parts : List DomainPart) → is_whole parts ≡ true

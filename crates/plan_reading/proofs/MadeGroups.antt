@@ -17,7 +17,7 @@ use Rattle.tree_law.specs.commands.Tick as tick
 use Rattle.tree_law.specs.commands.Write as write
 use Rattle.run_law.specs.TreeHistory.{TreeEntryValue, state_after, tree_after, tree_from}
 use Rattle.script_ops.specs.Values.{ScriptValue, op_at}
-use Rattle.write_lines.specs.GroupWrites.{IsMadeDir}
+use Rattle.plan_reading.specs.GroupWrites.{IsMadeDir}
 use Rattle.plan_reading.proofs.MadeByCommands.{AreMade, Makes, AreMade-opening, AreMade-mkdir, AreMade-rmdir, AreMade-tasks, AreMade-option_map_or, AreMade-write}
 
 module _ (P : NameId → Type 0) where

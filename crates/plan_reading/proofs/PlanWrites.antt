@@ -25,7 +25,7 @@ use Rattle.way_plans.specs.PlanCommands.{exclusive_op, schemata_ops, shareable_o
 use Rattle.way_plans.specs.PlanTexts.{DomainPart, dir_of, is_exclusive, is_whole, masks_at, named_dir}
 use Rattle.way_plans.specs.Planned.{AreParts}
 use Rattle.way_plans.specs.Plans.{planned}
-use Rattle.write_lines.specs.GroupWrites.{IsGroupWrite, IsMadeDir, is_group_file, is_text_byte}
+use Rattle.plan_reading.specs.GroupWrites.{IsGroupWrite, IsMadeDir, is_group_file, is_text_byte}
 
 -- ---- the groups
 

@@ -29,7 +29,7 @@ use Rattle.way_plans.specs.Plans.{free_ways, is_free, misses_in, planned}
 use Rattle.way_plans.specs.declared.order.Order.{Order}
 use Rattle.way_plans.specs.declared.order.Order.TheVariants.{Any, Creation}
 use Rattle.way_plans.specs.declared.span.Span.{Span}
-use Rattle.write_lines.specs.GroupWrites.{is_text_byte}
+use Rattle.plan_reading.specs.GroupWrites.{is_text_byte}
 
 -- ---- the masks
 

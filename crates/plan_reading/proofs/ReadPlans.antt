@@ -4,7 +4,7 @@ use Rattle.run_law.specs.TreeHistory.{tree_after}
 use Rattle.script_text.specs.Reading.{script_of}
 use Rattle.way_plans.specs.PlanCommands.{LinesAreCommands}
 use Rattle.way_plans.specs.Plans.{planned}
-use Rattle.write_lines.specs.ReadBack.{PhasesReadBack}
+use Rattle.plan_reading.specs.ReadBack.{PhasesReadBack}
 use Rattle.plan_reading.proofs.AppliedLines.{applied_text-phase}
 use Rattle.plan_reading.proofs.PlanWrites.{AllWritten-plan}
 use Rattle.plan_reading.specs.PlanReading.{PlansReadBack, commands_of}

@@ -1,1 +1,3 @@
+pub mod GroupWrites
 pub mod PlanReading
+pub mod ReadBack

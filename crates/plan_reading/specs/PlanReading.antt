@@ -12,7 +12,7 @@ use Rattle.way_plans.specs.PlanCommands.{plan_ops}
 use Rattle.way_plans.specs.PlanTexts.{DomainPart, is_whole}
 use Rattle.way_plans.specs.Planned.{AreParts}
 use Rattle.way_plans.specs.Plans.{planned}
-use Rattle.write_lines.specs.ReadBack.{HasRoom, with_phase}
+use Rattle.plan_reading.specs.ReadBack.{HasRoom, with_phase}
 
 -- the commands of a plan of a script that was played
 abbrev pub commands_of : ScriptValue → JournalsValue → List DomainPart → List Op

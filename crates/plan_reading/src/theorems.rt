@@ -1,14 +1,15 @@
-//! The law of what is read of a plan.
-ghost use Rattle.plan_reading.specs.PlanReading.{PlansReadBack};
+//! Laws of the lines of writes.
+ghost use Rattle.plan_reading.specs.ReadBack.{PhasesReadBack, WritesReadBack};
 
-use way_plans::command_theorems::lines_are_commands;
-use write_lines::theorems::phases_read_back;
+/// The canonical line of a write to a file of a known control group is read as that write, and adds no name.
+#[tactic(auto, using(crate::proofs::laws::WriteLines::writes_back))]
+pub fn writes_read_back()
+    ensures { WritesReadBack }
+{}
 
-/// The text of a script with its plan is read as the script with one more phase, whose one thread has the commands of the plan and
-/// nothing else; the names, and so their numbers, are those of the script.
-pub fn lines_read_back()
-    ensures { PlansReadBack }
-{
-    lines_are_commands();
-    phases_read_back();
-}
+/// A script, and then the text of a phase whose one thread has writes to groups that the script makes, is read as the script with that
+/// phase.
+#[tactic(auto, using(crate::proofs::Phases::phases_back))]
+pub fn phases_read_back()
+    ensures { PhasesReadBack }
+{}

@@ -1,7 +1,22 @@
 mod Ages
+mod Fills
 mod Generators
+mod Groups
 mod Isolated
+mod ItemEntries
+mod LastAccess
+mod Loads
+mod Openings
+mod OwnLines
+mod Owned
 mod Play
+mod PrivateSets
 mod Resets
+mod SetEntries
+mod SetPlaces
+mod SliceLaw
+mod Steps
 mod Subtrees
+mod Victims
+mod Windows
 pub mod laws

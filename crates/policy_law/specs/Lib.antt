@@ -4,3 +4,6 @@ pub mod KnownLaws
 pub mod KnownPolicies
 pub mod Laws
 pub mod Policies
+pub mod PrivateCaches
+pub mod SliceIsolation
+pub mod SliceSets

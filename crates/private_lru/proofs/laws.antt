@@ -2,6 +2,9 @@
 pub mod AloneEntries
 pub mod CoveredAccesses
 pub mod CoveredHits
+pub mod Extents
 pub mod FirstPlaces
+pub mod LastEpochs
 pub mod LoadedWays
+pub mod LongerSpans
 pub mod SliceWindows

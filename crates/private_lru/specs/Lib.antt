@@ -3,8 +3,10 @@ pub mod Cuts
 pub mod Ends
 pub mod GroupCounts
 pub mod Isolation
+pub mod Keeping
 pub mod Locked
 pub mod Private
 pub mod SliceLaws
+pub mod Spans
 pub mod Tallies
 pub mod Uses

@@ -7,7 +7,7 @@ use Rattle.cache_core.specs.Filled.{empties}
 use Rattle.cache_core.specs.declared.entry.SliceEntry.{SliceEntry}
 use Rattle.run_law.specs.Journals.{At}
 use Rattle.run_windows.specs.Windows.{Ends, GoesOver}
-use Rattle.spans.proofs.laws.Extents.{IsExtent, IsExtent-some}
+use Rattle.private_lru.proofs.laws.Extents.{IsExtent, IsExtent-some}
 
 -- the entry at a place is gone over
 abbrev pub IsOverAt : (SliceEntry → Type 0) → List SliceEntry → ℕ → Type 0

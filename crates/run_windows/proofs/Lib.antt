@@ -23,12 +23,14 @@ mod Owners
 mod Pasts
 mod PlaceEdits
 mod QuietRuns
+mod Regions
 mod Replays
 mod Restored
 mod RisingGids
 mod SharedCommands
 mod SharedStates
 mod SiteOrder
+mod Slices
 mod StepFollows
 mod Sweeps
 mod SweptChanges

@@ -9,8 +9,8 @@ use Rattle.rc_base.specs.declared.names.Gid.{Gid}
 use Rattle.rc_base.specs.declared.names.Mode.TheVariants.{Exclusive}
 use Rattle.run_law.specs.Journals.{slice_at}
 use Rattle.machine.specs.Slices.{domain_in}
-use Rattle.spans.proofs.laws.Extents.{IsExtent-same}
-use Rattle.spans.proofs.laws.LastEpochs.{IsSpan-same}
+use Rattle.private_lru.proofs.laws.Extents.{IsExtent-same}
+use Rattle.private_lru.proofs.laws.LastEpochs.{IsSpan-same}
 use Rattle.tree_law.specs.Existing.{group_of}
 use Rattle.tree_law.specs.State.{State}
 use Rattle.run_windows.specs.Epochs.{state_at}

@@ -15,7 +15,7 @@ use Rattle.run_windows.specs.WindowLaws.{WindowsExist}
 use Rattle.run_windows.specs.Windows.{Ends, GoesOver, IsExclusive}
 use Rattle.run_windows.proofs.Entries.{IsRun-given}
 use Rattle.run_windows.proofs.EntryExtents.{Ends-not_over, GoesOver-or_ends, IsExtent-end, IsExtent-entries}
-use Rattle.spans.proofs.laws.LastEpochs.{IsSpan-some}
+use Rattle.private_lru.proofs.laws.LastEpochs.{IsSpan-some}
 use Rattle.tree_law.specs.Existing.{group_of}
 use Rattle.tree_law.specs.State.{State}
 

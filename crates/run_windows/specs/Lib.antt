@@ -3,10 +3,12 @@ pub mod Changes
 pub mod Edits
 pub mod Epochs
 pub mod Fronts
+pub mod LockRows
 pub mod OneGroup
 pub mod Quiet
 pub mod Regions
 pub mod Sites
+pub mod SliceRows
 pub mod Stays
 pub mod Sweeps
 pub mod Timelines

@@ -9,7 +9,7 @@ use Rattle.rc_base.specs.declared.names.Mode.TheVariants.{Exclusive}
 use Rattle.run_law.specs.Journals.{At, JournalsValue, slice_at}
 use Rattle.run_windows.specs.Epochs.{state_at}
 use Rattle.script_ops.specs.Values.{ScriptValue}
-use Rattle.spans.specs.Spans.{IsSpan}
+use Rattle.private_lru.specs.Spans.{IsSpan}
 use Rattle.tree_law.specs.Existing.{group_of}
 use Rattle.tree_law.specs.State.{State}
 

@@ -1,4 +1,6 @@
 //! The windows of a run in which a group has its ways for itself. A call that runs out of memory answers NoMemory.
+//!
+//! Worked rows of isolation: what its definitions say of a few entries, by computing.
 #![tactic(auto)]
 
 mod changes;
@@ -14,5 +16,6 @@ mod run;
 mod sweep;
 pub mod theorems;
 mod timeline;
+pub mod worked_rows;
 
 pub use listing::windows;

@@ -7,8 +7,8 @@ use Rattle.std.proofs.lemmas.List.Sums.{sum_by-le, sum_by-take-le}
 use Rattle.std.proofs.lemmas.Nat.{mul-le}
 use Rattle.std.proofs.lemmas.Option.{get_or_from_slice_get, slice_get-get_or}
 use Rattle.cache_core.specs.History.{floor_of}
-use Rattle.cache_steps.proofs.laws.FollowNeeds.{CanFollow-ready}
-use Rattle.cache_steps.specs.Needs.{CanFollow}
+use Rattle.step_world.proofs.laws.FollowNeeds.{CanFollow-ready}
+use Rattle.step_world.specs.Needs.{CanFollow}
 use Rattle.machine.specs.declared.parameters.Parameters.{Parameters}
 use Rattle.run_law.proofs.laws.FollowCounts.{follow-at, follow_job, follows-are, job_behind, length-follows}
 use Rattle.run_law.specs.Jobs.{Job, follow_jobs, follows_of, jobs_of, looks_of}

@@ -1,6 +1,7 @@
 -- Lemmas that crates above cite.
 pub mod AccessSteps
 pub mod EntryRooms
+pub mod FollowNeeds
 pub mod LookedCounts
 pub mod MachineStates
 pub mod Plays

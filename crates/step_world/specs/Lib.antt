@@ -4,6 +4,7 @@ pub mod Listed
 pub mod Looked
 pub mod Machine
 pub mod Moments
+pub mod Needs
 pub mod Openings
 pub mod Passing
 pub mod Play

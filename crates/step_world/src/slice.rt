@@ -5,12 +5,12 @@ ghost use Rattle.cache_core.specs.Stands.{entry as entry_of};
 ghost use Rattle.cache_core.specs.declared.entry.What.TheVariants as whats;
 ghost use Rattle.machine.specs.Maps.{parameters_of};
 ghost use Rattle.machine.specs.Slices.{slice_number};
-ghost use Rattle.cache_steps.specs.Needs.{CanFollow};
+ghost use Rattle.step_world.specs.Needs.{CanFollow};
 ghost use Rattle.step_world.specs.Slices.{FollowsUp, CountsLines, TouchesLine, IsFresh};
 
 use crate::turn::Turn;
+use crate::{Reached, access_of, enact, entry};
 use cache_core::{Cache, SliceEntry, Touched, What};
-use cache_steps::{Reached, access_of, enact, entry};
 use machine::Machine;
 use rc_base::{NoMemory, Tag};
 use std::alloc::Global;

@@ -108,7 +108,7 @@ LAWS = (
         "policies", "Replacement policies", "Which policies isolate ([POLICIES](POLICIES.md)).",
         (
             "policy_law: policies_isolate victims_decide known_policies_isolate neighbours_are_heard known_policies_keep_masks",
-            "slice_sets: slices_isolate sets_are_lru private_caches_are_lru",
+            "policy_law: slices_isolate sets_are_lru private_caches_are_lru",
         ),
     ),
 )
@@ -153,8 +153,8 @@ BULLETS = (
     ),
     Layer(
         "written", "The checker: what can be written",
-        "That the journals of every run have a text (`writable_runs::theorems`), so that what is exported reads back.",
-        ("writable_runs",), is_reached=False,
+        "That the journals of every run have a text (`check_parts::written_runs`), so that what is exported reads back.",
+        ("check_parts: runs_are_writable",), is_reached=False,
     ),
 )
 LAYERS = SIMULATOR + PROGRAMS + LAWS + BULLETS

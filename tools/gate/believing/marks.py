@@ -8,7 +8,7 @@ MARK = "(For proofs.)"
 STALE = {
     "path_names": "owner_ids holder_ids dir_ids path_ids AreKnown component_ids IsShortName AreShort",
     "script_ops": "op_ids op_component_ids IsShort AreAllShort IsNamed AreNamed Fits AreFit AreFew IsLawful",
-    "pair_runs": "counts_use count_uses",
+    "pair_law": "counts_use count_uses",
     "way_curve": "BeginsWith IsOpen",
 }
 

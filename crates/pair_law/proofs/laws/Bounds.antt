@@ -17,10 +17,10 @@ use Rattle.pair_law.specs.commands.Mode as mode
 use Rattle.pair_law.specs.commands.Rmdir as rmdir
 use Rattle.pair_law.specs.commands.Schemata as schemata
 use Rattle.pair_law.specs.commands.Tasks as tasks
-use Rattle.pair_ops.specs.Values.{Machines, class_count}
-use Rattle.pair_ops.specs.declared.op.PairOp.{PairOp}
-use Rattle.pair_ops.specs.declared.op.PairOp.TheVariants as ops
-use Rattle.pair_ops.specs.declared.side.Side.TheVariants.{First, Second}
+use Rattle.pair_text.specs.Values.{Machines, class_count}
+use Rattle.pair_text.specs.declared.op.PairOp.{PairOp}
+use Rattle.pair_text.specs.declared.op.PairOp.TheVariants as ops
+use Rattle.pair_text.specs.declared.side.Side.TheVariants.{First, Second}
 use Rattle.path_names.specs.declared.files.FileKind.{FileKind}
 use Rattle.path_names.specs.declared.files.FileKind.TheVariants.{Tasks, Schemata, Mode}
 use Rattle.rc_base.specs.declared.names.Mode.{Mode as AMode}

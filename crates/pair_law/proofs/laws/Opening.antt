@@ -12,8 +12,8 @@ use Rattle.pair_law.proofs.laws.Machines.{side_machine-range}
 use Rattle.pair_law.specs.Laws.{OpeningIsSound}
 use Rattle.pair_law.specs.Sound.{HasPlaces, HasValid, IsGroup, KeepApart, OffShareable}
 use Rattle.pair_law.specs.State.{PairGroup, default_group}
-use Rattle.pair_ops.specs.Values.{class_count, side_machine}
-use Rattle.pair_ops.specs.declared.side.Side.TheVariants.{First, Second}
+use Rattle.pair_text.specs.Values.{class_count, side_machine}
+use Rattle.pair_text.specs.declared.side.Side.TheVariants.{First, Second}
 use Rattle.rc_base.specs.Gids.{default_gid}
 use Rattle.rc_base.specs.declared.names.Mode.TheVariants.{Exclusive, Shareable}
 use Rattle.task_binding.specs.Bindings.{opening_binding}

@@ -7,9 +7,9 @@ use Rattle.num_text.specs.Blanks.{trim}
 use Rattle.pair_law.proofs.laws.Machines.{domains-few}
 use Rattle.pair_law.specs.Reading.{SideMask, on_side, reading_from, side_mask, side_of_line}
 use Rattle.pair_law.specs.commands.Schemata.{schemata_read}
-use Rattle.pair_ops.specs.Values.{AreMachines, Machines, side_machine}
-use Rattle.pair_ops.specs.declared.side.Side.{Side}
-use Rattle.pair_ops.specs.declared.side.Side.TheVariants.{First}
+use Rattle.pair_text.specs.Values.{AreMachines, Machines, side_machine}
+use Rattle.pair_text.specs.declared.side.Side.{Side}
+use Rattle.pair_text.specs.declared.side.Side.TheVariants.{First}
 use Rattle.schemata_text.specs.Items.{Entry, Item, Line, items_of}
 use Rattle.schemata_text.specs.Reading.{entry_of}
 use Rattle.schemata_text.specs.declared.assignment.Assignment.{Assignment}

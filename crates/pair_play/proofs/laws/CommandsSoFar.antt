@@ -4,11 +4,11 @@ use Rattle.std.proofs.lemmas.List.{take_all}
 use Rattle.pair_law.specs.Epochs.{replies_to, state_at}
 use Rattle.pair_law.specs.State.{PairState, opening}
 use Rattle.pair_law.specs.Steps.{next}
-use Rattle.pair_ops.specs.Values.{Machines, PairScriptValue, commands_of, epoch_at, is_command, op_at}
-use Rattle.pair_ops.specs.declared.op.PairOp.{PairOp}
+use Rattle.pair_text.specs.Values.{Machines, PairScriptValue, commands_of, epoch_at, is_command, op_at}
+use Rattle.pair_text.specs.declared.op.PairOp.{PairOp}
 use Rattle.pair_play.specs.SoFar.{AreCommandsSoFar, CommandsValue, IsShort, taken}
-use Rattle.pair_runs.proofs.laws.Commands.{epoch_at-lt}
-use Rattle.pair_runs.proofs.laws.Playing.{epoch_at-command, epoch_at-use, filter-take_command, filter-take_use, replies_to-push, state_at-command, state_at-epoch}
+use Rattle.pair_law.proofs.laws.Commands.{epoch_at-lt}
+use Rattle.pair_law.proofs.laws.Playing.{epoch_at-command, epoch_at-use, filter-take_command, filter-take_use, replies_to-push, state_at-command, state_at-epoch}
 use Rattle.pair_text.specs.declared.limits.TheConstants.{MOST_COMMANDS}
 use Rattle.rc_base.specs.declared.replies.Reply.{Reply}
 

@@ -11,9 +11,9 @@ use Rattle.cache_core.specs.declared.entry.What.TheVariants.{Access, Flush}
 use Rattle.machine.specs.declared.parameters.Parameters.{Parameters}
 use Rattle.pair_play.specs.Histories.{AddsAccessIn, CanAccess, CanFlush, HasRoom, IsNotAfter, LevelValue, access_entry, all_with_flush, with_flush}
 use Rattle.pair_play.specs.SoFar.{IsHistorySoFar, IsLevelSoFar}
-use Rattle.pair_runs.proofs.laws.Cuts.{flat_map-range_same}
-use Rattle.pair_runs.proofs.laws.Playing.{asked-more}
-use Rattle.pair_runs.specs.Entries.{asked_by, entry, slice_in}
+use Rattle.pair_law.proofs.laws.Cuts.{flat_map-range_same}
+use Rattle.pair_law.proofs.laws.Playing.{asked-more}
+use Rattle.pair_law.specs.Entries.{asked_by, entry, slice_in}
 use Rattle.rc_base.specs.declared.names.Tag.{Tag}
 
 -- ---- one history

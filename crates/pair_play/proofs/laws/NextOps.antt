@@ -7,10 +7,10 @@ use Rattle.machine.specs.Maps.{domain_of}
 use Rattle.machine.specs.declared.parameters.Parameters.{Parameters}
 use Rattle.pair_law.specs.Registers.{mask_of_group}
 use Rattle.pair_law.specs.State.{PairState, owner_of}
-use Rattle.pair_ops.specs.Values.{Fits, IsLawful, PairScriptValue, epoch_at, is_command, op_at, side_machine}
-use Rattle.pair_ops.specs.declared.op.PairOp.{PairOp}
-use Rattle.pair_ops.specs.declared.op.PairOp.TheVariants as ops
-use Rattle.pair_ops.specs.declared.side.Side.{Side}
+use Rattle.pair_text.specs.Values.{Fits, IsLawful, PairScriptValue, epoch_at, is_command, op_at, side_machine}
+use Rattle.pair_text.specs.declared.op.PairOp.{PairOp}
+use Rattle.pair_text.specs.declared.op.PairOp.TheVariants as ops
+use Rattle.pair_text.specs.declared.side.Side.{Side}
 use Rattle.pair_play.proofs.laws.CommandsSoFar.{AreCommandsSoFar-command}
 use Rattle.pair_play.proofs.laws.LevelsSoFar.{CanFlush-IsLevelSoFar, IsLevelSoFar-access, IsLevelSoFar-flush, IsLevelSoFar-idle}
 use Rattle.pair_play.proofs.laws.OpKinds.{is_command-other}
@@ -19,8 +19,8 @@ use Rattle.pair_play.specs.Histories.{AddsAccessIn, CanAccess, CanFlush, LevelVa
 use Rattle.pair_play.specs.Playing.{IsFlushAt, IsOther, IsPlayedSoFar, IsUseAt}
 use Rattle.pair_play.specs.SideTags.{state_now, tag_in, tag_now, tag_on}
 use Rattle.pair_play.specs.SoFar.{AreCommandsSoFar, CommandsValue, IsLevelSoFar, IsShort, taken}
-use Rattle.pair_runs.proofs.laws.Playing.{epoch_at-command, epoch_at-use}
-use Rattle.pair_runs.specs.Entries.{entry}
+use Rattle.pair_law.proofs.laws.Playing.{epoch_at-command, epoch_at-use}
+use Rattle.pair_law.specs.Entries.{entry}
 use Rattle.pair_tree.specs.declared.tag.PairTag.{PairTag}
 use Rattle.rc_base.specs.declared.names.Gid.{Gid}
 use Rattle.rc_base.specs.declared.names.Tag.{Tag}

@@ -1,13 +1,13 @@
 -- The kinds of ops.
 use Rattle.std.proofs.Common.{◌≡◌, ℕ, ◌<◌, true, List, [], length, get_or, Some, refl, sym, ap, ◌∙◌, subst}
 use Rattle.std.proofs.lemmas.Option.{slice_get_read}
-use Rattle.pair_ops.specs.Values.{Fits, HasShortName, IsLawful, PairScriptValue, is_command, op_at}
-use Rattle.pair_ops.specs.declared.op.PairOp.{PairOp}
-use Rattle.pair_ops.specs.declared.op.PairOp.TheVariants as ops
-use Rattle.pair_ops.specs.declared.side.Side.{Side}
+use Rattle.pair_text.specs.Values.{Fits, HasShortName, IsLawful, PairScriptValue, is_command, op_at}
+use Rattle.pair_text.specs.declared.op.PairOp.{PairOp}
+use Rattle.pair_text.specs.declared.op.PairOp.TheVariants as ops
+use Rattle.pair_text.specs.declared.side.Side.{Side}
 use Rattle.pair_play.specs.Playing.{IsOther}
-use Rattle.pair_runs.specs.CdpRuns as cdp
-use Rattle.pair_runs.specs.LevelRuns as levels
+use Rattle.pair_law.specs.CdpRuns as cdp
+use Rattle.pair_law.specs.LevelRuns as levels
 
 -- an op that is no flush and no use is a command
 pub is_command-other : (op : PairOp) → IsOther op → is_command op ≡ true

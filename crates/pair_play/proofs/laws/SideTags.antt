@@ -8,9 +8,9 @@ use Rattle.pair_law.proofs.laws.Machines.{side_machine-range}
 use Rattle.pair_law.specs.Bounds.{tasks_of}
 use Rattle.pair_law.specs.Registers.{mask_of_group}
 use Rattle.pair_law.specs.State.{PairState, owner_of}
-use Rattle.pair_ops.specs.Values.{IsLawful, LiesBelow, Machines, PairScriptValue, epoch_at, side_machine}
-use Rattle.pair_ops.specs.declared.side.Side.{Side}
-use Rattle.pair_ops.specs.declared.side.Side.TheVariants.{First, Second}
+use Rattle.pair_text.specs.Values.{IsLawful, LiesBelow, Machines, PairScriptValue, epoch_at, side_machine}
+use Rattle.pair_text.specs.declared.side.Side.{Side}
+use Rattle.pair_text.specs.declared.side.Side.TheVariants.{First, Second}
 use Rattle.pair_play.proofs.laws.LevelsSoFar.{CanAccess-IsLevelSoFar}
 use Rattle.pair_play.proofs.laws.Users.{some_way-owner, tasks_of-state_at}
 use Rattle.pair_play.specs.Histories.{CanAccess, LevelValue}

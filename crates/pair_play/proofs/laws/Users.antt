@@ -14,9 +14,9 @@ use Rattle.pair_law.specs.Epochs.{state_after, state_at}
 use Rattle.pair_law.specs.Registers.{mask_of_group}
 use Rattle.pair_law.specs.State.{PairGroup, PairState, has_gid, opening, owner_of}
 use Rattle.pair_law.specs.Steps.{next}
-use Rattle.pair_ops.specs.Values.{IsLawful, Machines, PairScriptValue, commands_of, side_machine}
-use Rattle.pair_ops.specs.declared.op.PairOp.{PairOp}
-use Rattle.pair_ops.specs.declared.side.Side.{Side}
+use Rattle.pair_text.specs.Values.{IsLawful, Machines, PairScriptValue, commands_of, side_machine}
+use Rattle.pair_text.specs.declared.op.PairOp.{PairOp}
+use Rattle.pair_text.specs.declared.side.Side.{Side}
 use Rattle.run_law.proofs.laws.OwnLines.{mod-some_way}
 use Rattle.tree_law.specs.Masks.{IsValid}
 use Rattle.tree_law.specs.Space.{geometry_of}

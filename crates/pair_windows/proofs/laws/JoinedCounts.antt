@@ -10,16 +10,16 @@ use Rattle.std.proofs.lemmas.List.Sums.{length-filter}
 use Rattle.cache_core.specs.declared.entry.SliceEntry.{SliceEntry}
 use Rattle.cache_core.specs.declared.entry.What.TheVariants.{Access, Flush}
 use Rattle.lists.specs.Sums.{one_if}
-use Rattle.pair_ops.specs.Values.{PairScriptValue, epoch_at, op_at}
-use Rattle.pair_ops.specs.declared.op.PairOp.{PairOp}
-use Rattle.pair_ops.specs.declared.op.PairOp.TheVariants as ops
-use Rattle.pair_ops.specs.declared.side.Side.TheVariants.{Second}
-use Rattle.pair_runs.proofs.laws.Cuts.{range_with_len-append}
-use Rattle.pair_runs.proofs.laws.Undecided.{is_loaded_use-flush}
-use Rattle.pair_runs.specs.Entries.{entry}
-use Rattle.pair_runs.specs.JointWindows as joint
-use Rattle.pair_runs.specs.LevelRuns.{domain_on, user_at}
-use Rattle.pair_runs.specs.WindowLaws.{count_uses, counts_use}
+use Rattle.pair_text.specs.Values.{PairScriptValue, epoch_at, op_at}
+use Rattle.pair_text.specs.declared.op.PairOp.{PairOp}
+use Rattle.pair_text.specs.declared.op.PairOp.TheVariants as ops
+use Rattle.pair_text.specs.declared.side.Side.TheVariants.{Second}
+use Rattle.pair_law.proofs.laws.Cuts.{range_with_len-append}
+use Rattle.pair_law.proofs.laws.Undecided.{is_loaded_use-flush}
+use Rattle.pair_law.specs.Entries.{entry}
+use Rattle.pair_law.specs.JointWindows as joint
+use Rattle.pair_law.specs.LevelRuns.{domain_on, user_at}
+use Rattle.pair_law.specs.WindowLaws.{count_uses, counts_use}
 use Rattle.pair_windows.specs.Joined.{joined, joined_at, joined_of_op}
 use Rattle.pair_windows.specs.JointWindows.{is_use_of}
 use Rattle.private_lru.specs.Covered as lru

@@ -19,18 +19,18 @@ use Rattle.lists.proofs.Tests.{All-kept, find-found}
 use Rattle.machine.specs.declared.parameters.Parameters.{Parameters}
 use Rattle.pair_law.specs.Epochs.{state_at}
 use Rattle.pair_law.specs.State.{PairState, group_of, has_gid, mask_in}
-use Rattle.pair_ops.specs.Values.{IsLawful, PairScriptValue, epoch_at, op_at, side_machine}
-use Rattle.pair_ops.specs.declared.group.PairGroup.{PairGroup}
-use Rattle.pair_ops.specs.declared.op.PairOp.{PairOp}
-use Rattle.pair_ops.specs.declared.op.PairOp.TheVariants as ops
-use Rattle.pair_ops.specs.declared.side.Side.TheVariants.{First, Second}
-use Rattle.pair_runs.proofs.laws.Counts.{CountsAgree-joint_window}
-use Rattle.pair_runs.proofs.laws.Playing.{epoch_at-command}
-use Rattle.pair_runs.proofs.laws.WindowExtents.{IsJointWindow-same}
-use Rattle.pair_runs.specs.JointWindows.{HasLevels, IsJointWindow, domain_above}
-use Rattle.pair_runs.specs.LevelRuns.{IsLevelRun, LevelJournalsValue}
-use Rattle.pair_runs.specs.PrivateLevels.{l2_hits, l3_hits}
-use Rattle.pair_runs.specs.WindowLaws.{count_uses}
+use Rattle.pair_text.specs.Values.{IsLawful, PairScriptValue, epoch_at, op_at, side_machine}
+use Rattle.pair_text.specs.declared.group.PairGroup.{PairGroup}
+use Rattle.pair_text.specs.declared.op.PairOp.{PairOp}
+use Rattle.pair_text.specs.declared.op.PairOp.TheVariants as ops
+use Rattle.pair_text.specs.declared.side.Side.TheVariants.{First, Second}
+use Rattle.pair_law.proofs.laws.Counts.{CountsAgree-joint_window}
+use Rattle.pair_law.proofs.laws.Playing.{epoch_at-command}
+use Rattle.pair_law.proofs.laws.WindowExtents.{IsJointWindow-same}
+use Rattle.pair_law.specs.JointWindows.{HasLevels, IsJointWindow, domain_above}
+use Rattle.pair_law.specs.LevelRuns.{IsLevelRun, LevelJournalsValue}
+use Rattle.pair_law.specs.PrivateLevels.{l2_hits, l3_hits}
+use Rattle.pair_law.specs.WindowLaws.{count_uses}
 use Rattle.pair_windows.proofs.laws.Listings.{All-numbers, AllPairs-numbers, Contains-filtered, Contains-flat_mapped, Contains-found, Contains-mapped, Contains-range}
 use Rattle.pair_windows.proofs.laws.RisingEpochs.{epoch_at-rises}
 use Rattle.pair_windows.proofs.laws.RisingGroups.{RiseByGid-state_at}

@@ -9,13 +9,13 @@ use Rattle.cache_core.specs.declared.entry.SliceEntry.{SliceEntry}
 use Rattle.lists.proofs.Pairs.{AllPairs-flat_map, AllPairs-one}
 use Rattle.lists.proofs.Tests.{All-one}
 use Rattle.machine.specs.Maps.{domain_of}
-use Rattle.pair_ops.specs.Values.{PairScriptValue, epoch_at, is_command, op_at}
-use Rattle.pair_ops.specs.declared.op.PairOp.{PairOp}
-use Rattle.pair_ops.specs.declared.op.PairOp.TheVariants as ops
-use Rattle.pair_runs.proofs.laws.Commands.{length-filter_take}
-use Rattle.pair_runs.proofs.laws.Playing.{epoch_at-command}
-use Rattle.pair_runs.specs.CdpRuns.{CdpJournalsValue, IsCdpRun, asked, asked_at, asked_of_op}
-use Rattle.pair_runs.specs.Entries.{asked_by, slice_in}
+use Rattle.pair_text.specs.Values.{PairScriptValue, epoch_at, is_command, op_at}
+use Rattle.pair_text.specs.declared.op.PairOp.{PairOp}
+use Rattle.pair_text.specs.declared.op.PairOp.TheVariants as ops
+use Rattle.pair_law.proofs.laws.Commands.{length-filter_take}
+use Rattle.pair_law.proofs.laws.Playing.{epoch_at-command}
+use Rattle.pair_law.specs.CdpRuns.{CdpJournalsValue, IsCdpRun, asked, asked_at, asked_of_op}
+use Rattle.pair_law.specs.Entries.{asked_by, slice_in}
 use Rattle.pair_windows.specs.Counted.{RiseByEpoch}
 
 -- an entry that is not after another

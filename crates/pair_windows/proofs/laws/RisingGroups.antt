@@ -16,11 +16,11 @@ use Rattle.pair_law.specs.commands.Rmdir as rmdir
 use Rattle.pair_law.specs.commands.Schemata as schemata
 use Rattle.pair_law.specs.commands.Tasks as tasks
 use Rattle.pair_law.proofs.laws.Bounds.{next_gid-next}
-use Rattle.pair_ops.specs.Values.{Machines, PairScriptValue, commands_of}
-use Rattle.pair_ops.specs.declared.group.PairGroup.{PairGroup}
-use Rattle.pair_ops.specs.declared.op.PairOp.{PairOp}
-use Rattle.pair_ops.specs.declared.op.PairOp.TheVariants as ops
-use Rattle.pair_ops.specs.declared.side_mask.SideMask.{SideMask}
+use Rattle.pair_text.specs.Values.{Machines, PairScriptValue, commands_of}
+use Rattle.pair_text.specs.declared.group.PairGroup.{PairGroup}
+use Rattle.pair_text.specs.declared.op.PairOp.{PairOp}
+use Rattle.pair_text.specs.declared.op.PairOp.TheVariants as ops
+use Rattle.pair_text.specs.declared.side_mask.SideMask.{SideMask}
 use Rattle.path_names.specs.declared.files.FileKind.{FileKind}
 use Rattle.path_names.specs.declared.files.FileKind.TheVariants.{Mode, Schemata, Tasks}
 use Rattle.pair_windows.specs.PartitionSpans.{RiseByGid}

@@ -7,11 +7,11 @@ use Rattle.std.proofs.lemmas.List.{length-append, length-map}
 use Rattle.std.proofs.lemmas.List.FromFn.{length-range_with_len}
 use Rattle.cache_core.specs.declared.entry.SliceEntry.{SliceEntry}
 use Rattle.machine.specs.Maps.{domain_of}
-use Rattle.pair_ops.specs.Values.{PairScriptValue, op_at}
-use Rattle.pair_ops.specs.declared.op.PairOp.{PairOp}
-use Rattle.pair_ops.specs.declared.op.PairOp.TheVariants as ops
-use Rattle.pair_runs.specs.CdpRuns.{CdpJournalsValue, IsCdpRun, asked, asked_at, asked_of_op}
-use Rattle.pair_runs.specs.Entries.{asked_by, slice_in}
+use Rattle.pair_text.specs.Values.{PairScriptValue, op_at}
+use Rattle.pair_text.specs.declared.op.PairOp.{PairOp}
+use Rattle.pair_text.specs.declared.op.PairOp.TheVariants as ops
+use Rattle.pair_law.specs.CdpRuns.{CdpJournalsValue, IsCdpRun, asked, asked_at, asked_of_op}
+use Rattle.pair_law.specs.Entries.{asked_by, slice_in}
 
 length-flat_map : {X Y : Type 0} (f : X → List Y) → ((x : X) → length (f x) ≤ 1) → (xs : List X) → length (flat_map f xs) ≤ length xs
 length-flat_map f each [] = omega arith

@@ -15,15 +15,15 @@ use Rattle.lists.proofs.Pairs.{All-flat_map, AllPairs-map}
 use Rattle.lists.proofs.Tests.{All-kept, find-found}
 use Rattle.pair_law.specs.Epochs.{state_at}
 use Rattle.pair_law.specs.State.{PairState, group_of, has_gid, mask_in}
-use Rattle.pair_ops.specs.Values.{PairScriptValue}
-use Rattle.pair_ops.specs.declared.group.PairGroup.{PairGroup}
-use Rattle.pair_ops.specs.declared.side.Side.{Side}
-use Rattle.pair_ops.specs.declared.side.Side.TheVariants.{First, Second}
-use Rattle.pair_runs.proofs.laws.CdpWindows.{IsIsolated-cdp_window}
-use Rattle.pair_runs.proofs.laws.WindowExtents.{IsCdpWindow-same}
-use Rattle.pair_runs.specs.CdpRuns.{CdpJournalsValue, IsCdpRun, owner_on}
-use Rattle.pair_runs.specs.CdpWindows.{IsAlone, other_side}
-use Rattle.pair_runs.specs.Entries.{slice_in}
+use Rattle.pair_text.specs.Values.{PairScriptValue}
+use Rattle.pair_text.specs.declared.group.PairGroup.{PairGroup}
+use Rattle.pair_text.specs.declared.side.Side.{Side}
+use Rattle.pair_text.specs.declared.side.Side.TheVariants.{First, Second}
+use Rattle.pair_law.proofs.laws.CdpWindows.{IsIsolated-cdp_window}
+use Rattle.pair_law.proofs.laws.WindowExtents.{IsCdpWindow-same}
+use Rattle.pair_law.specs.CdpRuns.{CdpJournalsValue, IsCdpRun, owner_on}
+use Rattle.pair_law.specs.CdpWindows.{IsAlone, other_side}
+use Rattle.pair_law.specs.Entries.{slice_in}
 use Rattle.pair_windows.proofs.ListedWindows.{IsCdpWindow-listed, is_kept-alone, is_kept-partitions, window_to}
 use Rattle.pair_windows.proofs.RisingStays.{Before-partitions}
 use Rattle.pair_windows.proofs.laws.Listings.{All-numbers, AllPairs-numbers, Contains-filtered, Contains-flat_mapped, Contains-found, Contains-mapped, Contains-range}

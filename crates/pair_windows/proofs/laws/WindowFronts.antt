@@ -13,7 +13,7 @@ use Rattle.pair_windows.specs.Counted.{counted_window}
 use Rattle.pair_windows.specs.Fronts.{front_of}
 use Rattle.pair_windows.specs.PartitionSpans.{stay_of}
 use Rattle.pair_windows.specs.declared.partition.Partition.{Partition}
-use Rattle.spans.specs.declared.span.Span.{Span}
+use Rattle.private_lru.specs.declared.span.Span.{Span}
 use Rattle.private_lru.specs.Covered.{covered}
 use Rattle.private_lru.specs.GroupCounts.{accesses_of, covered_private_hits, hits_of_group}
 use Rattle.private_lru.specs.declared.counts.WindowCounts.{WindowCounts}

@@ -1,7 +1,7 @@
 use Rattle.std.proofs.Common.{◌∙◌}
 use Rattle.cdp_masks.proofs.Ended.{IsCdpRun-IsCdpSoFar}
 use Rattle.cdp_masks.proofs.playing.play.Goals as goal
-use Rattle.pair_runs.proofs.laws.CdpWindows.{IsIsolated-cdp_window}
+use Rattle.pair_law.proofs.laws.CdpWindows.{IsIsolated-cdp_window}
 
 pub returns-clause-run : goal.returns-clause-run
 returns-clause-run c =

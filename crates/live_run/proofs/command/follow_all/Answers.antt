@@ -3,7 +3,7 @@ use Rattle.std.specs.Prelude.{◌==◌, ◌&&◌, ◌≢◌, nat_lt, not}
 use Rattle.std.proofs.lemmas.Bool.{and_left, eq-eqb, ne_eqb}
 use Rattle.std.proofs.lemmas.List.Sums.{sum_by_more}
 use Rattle.std.proofs.lemmas.Option.{slice_get-get_or}
-use Rattle.cache_steps.proofs.laws.FollowNeeds.{CanFollow-ready}
+use Rattle.step_world.proofs.laws.FollowNeeds.{CanFollow-ready}
 use Rattle.live_law.proofs.laws.SeenJournals.{HasGrown-self, HasGrown-through}
 use Rattle.live_run.proofs.Growth.{HasGrown-added}
 use Rattle.live_run.proofs.Followed.{has_followed, job_at, last_made, made_all, may_follow, next_follow}

@@ -1,5 +1,5 @@
 use Rattle.pair_law.proofs.laws.Machines.{side_machine-slices}
-use Rattle.pair_ops.specs.declared.side.Side.TheVariants.{Second}
+use Rattle.pair_text.specs.declared.side.Side.TheVariants.{Second}
 use Rattle.pair_report.proofs.PlayedRuns.{few-slices, length-replies, length-slices}
 use Rattle.pair_report.proofs.cdp.push_counted.Goals as goal
 

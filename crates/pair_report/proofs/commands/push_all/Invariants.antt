@@ -1,5 +1,5 @@
 use Rattle.std.proofs.Common.{◌≡◌, ◌+◌, ◌≤◌, ◌++◌, length}
-use Rattle.pair_ops.specs.Values.{epoch_at}
+use Rattle.pair_text.specs.Values.{epoch_at}
 use Rattle.pair_report.specs.LinesBefore.{IsBehind, lines_before}
 use Rattle.rc_base.specs.declared.text_buf.TheConstants.{TEXT_MAX}
 use Rattle.pair_report.proofs.commands.push_all.Given as goal

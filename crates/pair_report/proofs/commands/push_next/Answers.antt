@@ -1,10 +1,10 @@
 use Rattle.std.proofs.Common.{◌≡◌, ℕ, ◌+◌, ◌<◌, List, length, get_or, Some, refl, sym, ap, ◌∙◌, arith}
 use Rattle.std.proofs.lemmas.Option.{slice_get-get_or}
-use Rattle.pair_ops.specs.Values.{op_at}
-use Rattle.pair_ops.specs.declared.op.PairOp.{PairOp}
+use Rattle.pair_text.specs.Values.{op_at}
+use Rattle.pair_text.specs.declared.op.PairOp.{PairOp}
 use Rattle.pair_report.proofs.CommandLines.{lines-command, lines-use}
-use Rattle.pair_runs.proofs.laws.Commands.{epoch_at-lt}
-use Rattle.pair_runs.proofs.laws.Playing.{epoch_at-command, epoch_at-use}
+use Rattle.pair_law.proofs.laws.Commands.{epoch_at-lt}
+use Rattle.pair_law.proofs.laws.Playing.{epoch_at-command, epoch_at-use}
 use Rattle.pair_text.specs.declared.limits.TheConstants.{MOST_COMMANDS}
 use Rattle.pair_report.proofs.commands.push_next.Goals as goal
 

@@ -1,7 +1,7 @@
 use Rattle.std.proofs.Common.{◌++◌, ap, ap₂, ◌∙◌, arith}
 use Rattle.pair_law.specs.Epochs.{state_at}
 use Rattle.pair_law.specs.State.{PairState}
-use Rattle.pair_ops.specs.Values.{Machines, epoch_at}
+use Rattle.pair_text.specs.Values.{Machines, epoch_at}
 use Rattle.pair_tree.specs.Reads.{text_read}
 use Rattle.report_pieces.specs.Pieces.{barred}
 use Rattle.pair_report.proofs.commands.push_text_at.Goals as goal

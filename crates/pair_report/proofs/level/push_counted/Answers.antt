@@ -1,4 +1,4 @@
-use Rattle.pair_ops.specs.declared.side.Side.TheVariants.{First, Second}
+use Rattle.pair_text.specs.declared.side.Side.TheVariants.{First, Second}
 use Rattle.pair_report.proofs.PlayedRuns.{few-l2, few-l3, length-l2, length-l3, length-level_replies, one-slice}
 use Rattle.pair_report.proofs.level.push_counted.Goals as goal
 

@@ -1,7 +1,7 @@
 use Rattle.std.proofs.Common.{◌++◌, map, sym, ap, ◌∙◌, arith}
 use Rattle.lists.proofs.Ranges.{flat_map-range_suc}
 use Rattle.machine.specs.declared.parameters.Parameters.{Parameters}
-use Rattle.pair_ops.specs.Values.{side_machine}
+use Rattle.pair_text.specs.Values.{side_machine}
 use Rattle.pair_report.specs.LevelReport.{level_domain_line}
 use Rattle.run_counts.specs.CacheCounts.{valid_in}
 use Rattle.run_law.specs.Entries.{entries_of}

@@ -1,6 +1,6 @@
 use Rattle.std.proofs.Common.{◌≡◌, ◌++◌, map}
 use Rattle.std.specs.List.{flat_map, range_with_len}
-use Rattle.pair_ops.specs.Values.{side_machine}
+use Rattle.pair_text.specs.Values.{side_machine}
 use Rattle.pair_report.specs.LevelReport.{level_domain_line}
 use Rattle.run_law.specs.Entries.{entries_of}
 use Rattle.pair_report.proofs.level.push_domains.Given as goal

@@ -1,6 +1,6 @@
 use Rattle.std.proofs.Common.{Result, IfOk, subst}
 use Rattle.std.specs.Str.Lines.{lines}
-use Rattle.pair_ops.specs.Values.{IsLawful, PairScriptValue}
+use Rattle.pair_text.specs.Values.{IsLawful, PairScriptValue}
 use Rattle.pair_text.proofs.LawfulScripts.{IsLawful-reading_from, IsReady-nothing_read}
 use Rattle.pair_text.specs.PairReading.{PairFaultAt, nothing_read}
 use Rattle.pair_text.proofs.theorems.scripts_are_lawful.Goals as goal

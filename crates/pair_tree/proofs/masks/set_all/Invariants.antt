@@ -1,7 +1,7 @@
 use Rattle.std.proofs.Common.{◌≡◌, ◌<◌, drop}
 use Rattle.std.specs.List.{All}
 use Rattle.pair_law.specs.commands.Schemata.{with_masks}
-use Rattle.pair_ops.specs.declared.side_mask.SideMask.{SideMask}
+use Rattle.pair_text.specs.declared.side_mask.SideMask.{SideMask}
 use Rattle.pair_tree.proofs.masks.set_all.Given as goal
 
 abbrev pub invariant-loop-a : goal.invariant-loop-a

@@ -1,6 +1,6 @@
 use Rattle.std.proofs.Common.{Err, ap, ◌∙◌}
 use Rattle.pair_law.specs.Reading.{on_side}
-use Rattle.pair_ops.specs.Values.{side_machine}
+use Rattle.pair_text.specs.Values.{side_machine}
 use Rattle.pair_tree.proofs.LawfulMasks.{ReadsLine-entries, length-on_side}
 use Rattle.pair_tree.proofs.LineEntries.{reading_from-rest_fault}
 use Rattle.schemata_text.specs.Items.{items_of_rest}

@@ -1,8 +1,8 @@
 use Rattle.std.proofs.Common.{◌≡◌, ◌<◌, true, false, length, ap, ◌∙◌, refl, sym}
 use Rattle.std.specs.List.{after_first, list_any}
 use Rattle.pair_law.specs.Reading.{reading_from}
-use Rattle.pair_ops.specs.Values.{side_machine}
-use Rattle.pair_ops.specs.declared.side.Side.TheVariants.{First}
+use Rattle.pair_text.specs.Values.{side_machine}
+use Rattle.pair_text.specs.declared.side.Side.TheVariants.{First}
 use Rattle.pair_tree.proofs.Lines.{reading-bad_entry, reading-bad_line, reading-last, reading-more}
 use Rattle.schemata_text.proofs.laws.Lawful.{AreLawful-none}
 use Rattle.schemata_text.specs.Items.{items_of, newline}

@@ -1,6 +1,6 @@
 use Rattle.std.proofs.Common.{◌≡◌, length}
 use Rattle.pair_law.specs.Reading.{reading, reading_from}
-use Rattle.pair_ops.specs.declared.side.Side.TheVariants.{First}
+use Rattle.pair_text.specs.declared.side.Side.TheVariants.{First}
 use Rattle.pair_tree.specs.Reading.{AreRead}
 use Rattle.schemata_text.specs.Items.{items_of}
 use Rattle.pair_tree.proofs.reading.read_lines.Given as goal

@@ -1,5 +1,5 @@
 use Rattle.std.proofs.Common.{◌+◌, ◌-◌, length}
-use Rattle.pair_ops.specs.Values.{commands_of}
+use Rattle.pair_text.specs.Values.{commands_of}
 use Rattle.pair_windows.specs.CdpWalks.{IsWalkedIn}
 use Rattle.pair_windows.specs.DomainWalks.{Each}
 use Rattle.pair_windows.specs.Replays.{HasTaken}

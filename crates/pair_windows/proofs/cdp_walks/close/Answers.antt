@@ -12,7 +12,7 @@ use Rattle.pair_windows.specs.declared.partition.Partition.{Partition}
 use Rattle.private_lru.specs.Ends.{RiseByGroup}
 use Rattle.private_lru.specs.Tallies.{AreCounted}
 use Rattle.private_lru.specs.declared.counts.WindowCounts.{WindowCounts}
-use Rattle.spans.specs.declared.span.Span.{Span}
+use Rattle.private_lru.specs.declared.span.Span.{Span}
 use Rattle.pair_windows.proofs.cdp_walks.close.Goals as goal
 
 pub counts_at-requires-clause-few_groups : goal.counts_at-requires-clause-few_groups

@@ -3,7 +3,7 @@ use Rattle.pair_law.specs.State.{PairState}
 use Rattle.pair_windows.proofs.DomainSteps.{HasWalked-begun}
 use Rattle.pair_windows.specs.LevelSpans.{exclusive_in, masks_of}
 use Rattle.pair_windows.specs.declared.domain_walks.DomainWalk.{DomainWalk}
-use Rattle.spans.specs.Keeping.{span_to}
+use Rattle.private_lru.specs.Keeping.{span_to}
 use Rattle.pair_windows.proofs.domain_walks.begin.Goals as goal
 
 pub returns-clause-begun : goal.returns-clause-begun

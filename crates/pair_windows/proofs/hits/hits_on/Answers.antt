@@ -5,7 +5,7 @@ use Rattle.cache_core.specs.declared.entry.SliceEntry.{SliceEntry}
 use Rattle.pair_windows.proofs.MarkedOps.{AreHits-below, MarkedBelow, MarkedBelow-more}
 use Rattle.pair_windows.proofs.hits.hits_on.Goals as goal
 use Rattle.pair_windows.specs.Hits.{AreMarked}
-use Rattle.pair_runs.specs.Entries.{slice_in}
+use Rattle.pair_law.specs.Entries.{slice_in}
 use Rattle.run_law.specs.Entries.{entries_of}
 
 pub loop-domain-preserved : goal.loop-domain-preserved

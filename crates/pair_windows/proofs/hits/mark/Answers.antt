@@ -3,8 +3,8 @@ use Rattle.pair_windows.proofs.MarkedOps.{AreMarked-other, and-fails, is_use_in-
 use Rattle.pair_windows.proofs.hits.mark.Goals as goal
 use Rattle.pair_windows.proofs.hits.mark.Goals.{else-is_hit-via-then-is_hit+then-place-hits+else-is_use_in, else-is_hit-via-then-is_hit+else-place-hits, else-is_hit-via-else-is_hit}
 use Rattle.pair_windows.specs.Hits.{is_use_in}
-use Rattle.pair_ops.specs.Values.{op_at}
-use Rattle.pair_runs.specs.LevelRuns.{is_hit}
+use Rattle.pair_text.specs.Values.{op_at}
+use Rattle.pair_law.specs.LevelRuns.{is_hit}
 
 -- an entry that is no hit of a use on a CPU of the domain
 pub returns-else-is_hit : goal.returns-else-is_hit

@@ -1,7 +1,7 @@
 use Rattle.std.proofs.Common.{ℕ, ◌++◌, List, map, filter, refl, subst, ap, ap₂, ◌∙◌}
 use Rattle.cache_core.specs.declared.entry.SliceEntry.{SliceEntry}
 use Rattle.cache_core.specs.declared.entry.What.TheVariants as whats
-use Rattle.pair_ops.specs.Values.{epoch_at}
+use Rattle.pair_text.specs.Values.{epoch_at}
 use Rattle.pair_windows.proofs.DomainSteps.{HasFound-closed}
 use Rattle.pair_windows.proofs.FlushedWindows.{windows_from-counted}
 use Rattle.pair_windows.specs.JointCounted.{counted_windows, is_used}
@@ -11,7 +11,7 @@ use Rattle.pair_windows.specs.declared.joint_window.JointWindow.{JointWindow}
 use Rattle.pair_windows.specs.declared.level_masks.LevelMasks.{LevelMasks}
 use Rattle.private_lru.specs.Tallies.{AreCounted}
 use Rattle.private_lru.specs.declared.counts.WindowCounts.{WindowCounts}
-use Rattle.spans.specs.declared.span.Span.{Span}
+use Rattle.private_lru.specs.declared.span.Span.{Span}
 use Rattle.pair_windows.proofs.joint_counted.close.Goals as goal
 
 pub returns : goal.returns

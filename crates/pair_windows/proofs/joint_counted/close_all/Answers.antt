@@ -1,6 +1,6 @@
 use Rattle.std.proofs.Common.{◌≢◌, sym, subst, arith}
 use Rattle.std.proofs.lemmas.List.{get_or-set_other, length-set}
-use Rattle.pair_ops.specs.Values.{epoch_at}
+use Rattle.pair_text.specs.Values.{epoch_at}
 use Rattle.pair_windows.proofs.Turns.{Each-turned, Turn-more}
 use Rattle.pair_windows.specs.DomainWalks.{HasFound, HasWalked, IsCountable}
 use Rattle.pair_windows.proofs.joint_counted.close_all.Goals as goal

@@ -1,5 +1,5 @@
 use Rattle.std.proofs.Common.{◌≡◌, ℕ, ◌<◌, ◌≤◌, length, get_or}
-use Rattle.pair_ops.specs.Values.{epoch_at}
+use Rattle.pair_text.specs.Values.{epoch_at}
 use Rattle.pair_windows.proofs.Turns.{Turn}
 use Rattle.pair_windows.specs.DomainWalks.{CanClose, Each, HasFound, HasWalked, IsCountable}
 use Rattle.pair_windows.specs.declared.domain_walks.DomainWalk.{DomainWalk}

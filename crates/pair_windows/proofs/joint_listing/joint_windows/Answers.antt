@@ -1,6 +1,6 @@
 use Rattle.std.proofs.Common.{List, length, sym, subst, ap, ◌∙◌}
 use Rattle.std.proofs.lemmas.List.{length-map}
-use Rattle.pair_ops.specs.declared.side.Side.TheVariants.{First, Second}
+use Rattle.pair_text.specs.declared.side.Side.TheVariants.{First, Second}
 use Rattle.pair_windows.proofs.QuietScripts.{joint_windows-none}
 use Rattle.pair_windows.specs.DomainWalks.{Each, IsFresh}
 use Rattle.pair_windows.specs.LevelJournals.{level_journals}

@@ -1,7 +1,7 @@
 use Rattle.std.proofs.Common.{◌≡◌, ℕ, ◌+◌, [], get_or, refl, sym, subst, ap, ◌∙◌, arith}
 use Rattle.pair_law.specs.Epochs.{state_at}
-use Rattle.pair_ops.specs.Values.{epoch_at}
-use Rattle.pair_runs.proofs.laws.Commands.{epoch_at-le}
+use Rattle.pair_text.specs.Values.{epoch_at}
+use Rattle.pair_law.proofs.laws.Commands.{epoch_at-le}
 use Rattle.pair_text.specs.declared.limits.TheConstants.{MOST_COMMANDS}
 use Rattle.pair_windows.proofs.DomainSteps.{HasFound-quiet}
 use Rattle.pair_windows.specs.DomainWalks.{CanClose}

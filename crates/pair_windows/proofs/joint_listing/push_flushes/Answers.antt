@@ -1,5 +1,5 @@
 use Rattle.std.proofs.Common.{◌≡◌, ℕ, List, length, subst, ap, arith}
-use Rattle.pair_ops.specs.declared.op.PairOp.{PairOp}
+use Rattle.pair_text.specs.declared.op.PairOp.{PairOp}
 use Rattle.pair_windows.specs.DomainWalks.{Each, HasFound}
 use Rattle.pair_windows.proofs.joint_listing.push_flushes.Goals as goal
 

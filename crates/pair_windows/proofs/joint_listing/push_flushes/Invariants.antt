@@ -1,6 +1,6 @@
 use Rattle.std.proofs.Common.{◌≡◌, ◌-◌, ◌<◌, ◌≤◌, true, length}
-use Rattle.pair_ops.specs.Values.{op_at}
-use Rattle.pair_runs.specs.JointWindows.{is_flush}
+use Rattle.pair_text.specs.Values.{op_at}
+use Rattle.pair_law.specs.JointWindows.{is_flush}
 use Rattle.pair_windows.specs.DomainWalks.{Each, HasFound}
 use Rattle.pair_windows.specs.Replays.{HasTaken}
 use Rattle.pair_windows.proofs.joint_listing.push_flushes.Given as goal

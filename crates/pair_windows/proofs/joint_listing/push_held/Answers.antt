@@ -1,5 +1,5 @@
 use Rattle.std.proofs.Common.{ℕ, ◌+◌, subst, arith}
-use Rattle.pair_ops.specs.Values.{epoch_at}
+use Rattle.pair_text.specs.Values.{epoch_at}
 use Rattle.pair_windows.proofs.DomainLists.{IsCountable-walked, IsSmall-found}
 use Rattle.pair_windows.specs.DomainWalks.{CanClose, Each, HasWalked}
 use Rattle.pair_windows.specs.Segments.{IsSegment}

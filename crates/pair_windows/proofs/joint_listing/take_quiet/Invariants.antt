@@ -1,7 +1,7 @@
 use Rattle.std.proofs.Common.{◌≡◌, ℕ, ◌-◌, ◌<◌, ◌≤◌, false, length}
-use Rattle.pair_ops.specs.Values.{op_at}
+use Rattle.pair_text.specs.Values.{op_at}
 use Rattle.pair_windows.specs.Replays.{HasTaken}
-use Rattle.pair_runs.specs.JointWindows.{is_flush}
+use Rattle.pair_law.specs.JointWindows.{is_flush}
 use Rattle.pair_windows.proofs.joint_listing.take_quiet.Given as goal
 
 abbrev pub invariant-loop-replay : goal.invariant-loop-replay

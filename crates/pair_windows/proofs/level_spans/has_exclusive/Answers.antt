@@ -1,6 +1,6 @@
 use Rattle.std.proofs.Common.{List, sym, subst, ◌≡◌, None}
 use Rattle.std.specs.Prelude.{find}
-use Rattle.pair_ops.specs.declared.group.PairGroup.{PairGroup}
+use Rattle.pair_text.specs.declared.group.PairGroup.{PairGroup}
 use Rattle.pair_windows.proofs.FoundGroups.{filter-found_none}
 use Rattle.pair_windows.specs.LevelSpans.{is_exclusive}
 use Rattle.pair_windows.proofs.level_spans.has_exclusive.Goals as goal

@@ -1,7 +1,7 @@
 use Rattle.std.proofs.Common.{◌≡◌, ℕ, Bool, true, false, not, ◌&&◌, ◌||◌, slice_index, sym, ap, ◌∙◌}
 use Rattle.std.specs.Prelude.{◌==◌}
 use Rattle.pair_windows.proofs.SharedDomains.{list_all-more}
-use Rattle.pair_runs.specs.JointWindows.{domain_above}
+use Rattle.pair_law.specs.JointWindows.{domain_above}
 use Rattle.pair_windows.proofs.level_spans.is_same_below.Goals.{then-same, else-same}
 use Rattle.pair_windows.proofs.level_spans.is_same_below.Goals as goal
 

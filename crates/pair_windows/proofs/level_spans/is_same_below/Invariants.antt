@@ -1,7 +1,7 @@
 use Rattle.std.proofs.Common.{◌≡◌, ◌||◌, not, slice_index}
 use Rattle.std.specs.Prelude.{◌==◌}
 use Rattle.std.specs.List.{list_all, range_with_len}
-use Rattle.pair_runs.specs.JointWindows.{domain_above}
+use Rattle.pair_law.specs.JointWindows.{domain_above}
 use Rattle.pair_windows.proofs.level_spans.is_same_below.Given as goal
 
 abbrev pub invariant-loop-x : goal.invariant-loop-x

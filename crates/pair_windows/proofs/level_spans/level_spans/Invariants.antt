@@ -1,6 +1,6 @@
 use Rattle.std.proofs.Common.{◌≡◌, filter, map, take}
 use Rattle.pair_windows.specs.LevelSpans.{is_exclusive, masks_of}
-use Rattle.spans.specs.Keeping.{span_to}
+use Rattle.private_lru.specs.Keeping.{span_to}
 use Rattle.pair_windows.proofs.level_spans.level_spans.Given as goal
 
 abbrev pub invariant-loop-group : goal.invariant-loop-group

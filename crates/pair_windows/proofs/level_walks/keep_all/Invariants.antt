@@ -1,6 +1,6 @@
 use Rattle.std.proofs.Common.{ℕ, ◌+◌, ◌≤◌}
 use Rattle.std.specs.List.{All}
-use Rattle.pair_ops.specs.Values.{epoch_at}
+use Rattle.pair_text.specs.Values.{epoch_at}
 use Rattle.pair_windows.proofs.Turns.{Turn}
 use Rattle.pair_windows.specs.DomainWalks.{Each, HasWalked, IsSmall}
 use Rattle.pair_windows.specs.declared.segments.Hits.{Hits}

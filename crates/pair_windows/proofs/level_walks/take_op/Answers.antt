@@ -1,6 +1,6 @@
 use Rattle.std.proofs.Common.{◌≡◌, ◌+◌, refl, sym, subst, ap, ◌∙◌, arith}
 use Rattle.pair_law.specs.Epochs.{state_at}
-use Rattle.pair_runs.proofs.laws.Commands.{epoch_at-le}
+use Rattle.pair_law.proofs.laws.Commands.{epoch_at-le}
 use Rattle.pair_text.specs.declared.limits.TheConstants.{MOST_COMMANDS}
 use Rattle.pair_windows.specs.DomainWalks.{Each, HasWalked}
 use Rattle.pair_windows.proofs.level_walks.take_op.Goals as goal

@@ -1,5 +1,5 @@
 use Rattle.std.proofs.Common.{◌≡◌, ◌+◌, false, sym, subst, ap, ◌∙◌, arith}
-use Rattle.pair_ops.specs.Values.{op_at}
+use Rattle.pair_text.specs.Values.{op_at}
 use Rattle.pair_windows.proofs.SegmentSteps.{IsQuiet-more, IsQuiet-none, IsSegment-quiet, is_end-within, is_flush-more}
 use Rattle.pair_windows.proofs.laws.RisingEpochs.{epoch_at-rises}
 use Rattle.pair_windows.specs.DomainWalks.{Each, HasWalked}

@@ -1,9 +1,9 @@
 use Rattle.std.proofs.Common.{◌≡◌, ℕ, ◌<◌, length, Some, sym, ap, ◌∙◌, arith}
 use Rattle.pair_windows.proofs.LineUses.{Contains-tasks_of, Fits-read, op_at-read, use_in-none}
 use Rattle.pair_windows.specs.Segments.{use_in}
-use Rattle.pair_ops.specs.Values.{op_at}
-use Rattle.pair_ops.specs.declared.op.PairOp.{PairOp}
-use Rattle.pair_ops.specs.declared.op.PairOp.TheVariants as ops
+use Rattle.pair_text.specs.Values.{op_at}
+use Rattle.pair_text.specs.declared.op.PairOp.{PairOp}
+use Rattle.pair_text.specs.declared.op.PairOp.TheVariants as ops
 use Rattle.pair_windows.proofs.line_uses.next_use.Goals as goal
 
 pub use_of-requires-clause-task : goal.use_of-requires-clause-task

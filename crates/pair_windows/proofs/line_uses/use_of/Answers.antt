@@ -1,8 +1,8 @@
 use Rattle.std.proofs.Common.{◌≡◌, ℕ, ap, ◌∙◌}
 use Rattle.pair_windows.proofs.LineUses.{use_in-other, use_in-own}
 use Rattle.machine.specs.Maps.{domain_of}
-use Rattle.pair_ops.specs.declared.side.Side.TheVariants.{Second}
-use Rattle.pair_runs.specs.LevelRuns.{domain_on}
+use Rattle.pair_text.specs.declared.side.Side.TheVariants.{Second}
+use Rattle.pair_law.specs.LevelRuns.{domain_on}
 use Rattle.pair_windows.proofs.line_uses.use_of.Goals as goal
 
 pub returns-then-own-domain : goal.returns-then-own-domain

@@ -1,9 +1,9 @@
 use Rattle.std.proofs.Common.{◌≡◌, ◌+◌, Some, get_or, List, sym, ap, ◌∙◌, arith}
 use Rattle.std.proofs.lemmas.Option.{slice_get-get_or}
-use Rattle.pair_ops.specs.Values.{op_at}
-use Rattle.pair_ops.specs.declared.op.PairOp.{PairOp}
+use Rattle.pair_text.specs.Values.{op_at}
+use Rattle.pair_text.specs.declared.op.PairOp.{PairOp}
 use Rattle.pair_windows.proofs.NextOps.{HasTaken-command}
-use Rattle.pair_runs.proofs.laws.Commands.{epoch_at-le, epoch_at-lt}
+use Rattle.pair_law.proofs.laws.Commands.{epoch_at-le, epoch_at-lt}
 use Rattle.pair_windows.proofs.replay.take_at.Goals as goal
 
 pub returns-clause-known : goal.returns-clause-known

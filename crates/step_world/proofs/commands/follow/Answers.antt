@@ -9,7 +9,7 @@ use Rattle.step_world.proofs.FollowingWorlds.{can, domain-there, floor-below, fo
 use Rattle.step_world.proofs.RoomLeft.{has-time, op-few}
 use Rattle.step_world.proofs.commands.follow.Goals as goal
 use Rattle.step_world.specs.Machine.{thread_at}
-use Rattle.cache_steps.specs.Needs.{CanFollow}
+use Rattle.step_world.specs.Needs.{CanFollow}
 use Rattle.step_world.specs.Slices.{SliceValue}
 use Rattle.step_world.specs.Worlds.{machine_of}
 use Rattle.tree_law.specs.declared.follow.Follow.{Follow}

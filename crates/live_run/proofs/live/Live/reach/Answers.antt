@@ -3,7 +3,7 @@ use Rattle.live_run.proofs.Turns.{room_after, turning_first, turning_more}
 use Rattle.live_run.proofs.live.Live.reach.Goals as goal
 use Rattle.live_run.specs.Accesses.{IsTurning, turns_left}
 use Rattle.live_run.specs.Sharing.{IsResting, op_after}
-use Rattle.cache_steps.specs.declared.reached.Reached.{Reached}
+use Rattle.step_world.specs.declared.reached.Reached.{Reached}
 use Rattle.machine.specs.Maps.{domain_of, line_of}
 use Rattle.machine.specs.Slices.{slice_of_line}
 use Rattle.script_ops.specs.Values.{op_at}

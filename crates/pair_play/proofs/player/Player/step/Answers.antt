@@ -1,6 +1,6 @@
 use Rattle.std.proofs.Common.{◌+◌, refl, ap, ◌∙◌}
 use Rattle.std.proofs.lemmas.Result.{IfOk-weaker}
-use Rattle.pair_ops.specs.declared.op.PairOp.TheVariants as ops
+use Rattle.pair_text.specs.declared.op.PairOp.TheVariants as ops
 use Rattle.pair_play.proofs.laws.NextOps.{IsFlushAt-taken, IsPlayedSoFar-command, IsUseAt-resolved}
 use Rattle.pair_play.proofs.laws.CommandsSoFar.{AreCommandsSoFar-use, epoch-AreCommandsSoFar}
 use Rattle.pair_play.proofs.laws.OpKinds.{Fits-read, HasShortName-Fits, is_command-other, op_at-read}

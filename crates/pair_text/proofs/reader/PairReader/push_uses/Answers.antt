@@ -2,7 +2,7 @@ use Rattle.std.proofs.Common.{◌≡◌, ◌+◌, ◌≤◌, List, ◌∷◌, []
 use Rattle.std.proofs.lemmas.List.{append_assoc, append-nil, length-append, length-map, map-append}
 use Rattle.lackey_text.specs.Uses.{uses_left}
 use Rattle.lackey_text.specs.declared.uses.LineUse.{LineUse}
-use Rattle.pair_ops.specs.declared.op.PairOp.{PairOp}
+use Rattle.pair_text.specs.declared.op.PairOp.{PairOp}
 use Rattle.pair_text.proofs.AddedUses.{Fails-with_uses, added, added-more, added-none, with_uses-added}
 use Rattle.pair_text.specs.PairLines.{PairState, use_in, with_uses}
 use Rattle.pair_text.specs.Readers.{state_of}

@@ -1,7 +1,7 @@
 use Rattle.std.proofs.Common.{◌≡◌, ◌<◌, drop}
 use Rattle.std.specs.List.{All}
 use Rattle.pair_law.specs.commands.Schemata.{against_masks}
-use Rattle.pair_ops.specs.declared.side_mask.SideMask.{SideMask}
+use Rattle.pair_text.specs.declared.side_mask.SideMask.{SideMask}
 use Rattle.pair_tree.specs.Tables.{state_of}
 use Rattle.pair_tree.proofs.tables.Tables.against_masks.Given as goal
 

@@ -1,6 +1,6 @@
 use Rattle.std.proofs.Common.{sym, ◌∙◌, arith}
 use Rattle.pair_law.specs.Others.{class_is_free}
-use Rattle.pair_ops.specs.Values.{class_count}
+use Rattle.pair_text.specs.Values.{class_count}
 use Rattle.lists.proofs.RangeTests.{find-least, find-none}
 use Rattle.pair_tree.specs.Tables.{state_of}
 use Rattle.pair_tree.proofs.tables.Tables.free_class.Goals as goal

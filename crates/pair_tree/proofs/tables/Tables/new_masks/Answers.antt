@@ -1,6 +1,6 @@
 use Rattle.std.proofs.Common.{is_none, sym, unwrap_or, ap, arith}
 use Rattle.pair_law.specs.Others.{initial_mask}
-use Rattle.pair_ops.specs.Values.{side_machine}
+use Rattle.pair_text.specs.Values.{side_machine}
 use Rattle.pair_tree.proofs.NewGroups.{find-full, find-full_none}
 use Rattle.lists.proofs.RangeTests.{append-filled}
 use Rattle.pair_tree.specs.Tables.{state_of}

@@ -1,7 +1,7 @@
 use Rattle.std.proofs.Common.{sym, ◌∙◌, arith}
 use Rattle.std.specs.List.{range_with_len}
 use Rattle.pair_law.specs.commands.Mode.{overlaps_some}
-use Rattle.pair_ops.specs.Values.{side_machine}
+use Rattle.pair_text.specs.Values.{side_machine}
 use Rattle.lists.proofs.RangeTests.{list_any-at, list_any-none}
 use Rattle.pair_tree.proofs.Ranges.{list_any-mapped}
 use Rattle.pair_tree.specs.Tables.{state_of}

@@ -1,2 +1,0 @@
-mod Regions
-mod Slices

@@ -1,2 +1,0 @@
-pub mod LockRows
-pub mod SliceRows

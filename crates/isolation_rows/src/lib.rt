@@ -1,4 +1,0 @@
-//! Worked rows of isolation: what its definitions say of a few entries, by computing.
-#![tactic(auto)]
-
-pub mod theorems;

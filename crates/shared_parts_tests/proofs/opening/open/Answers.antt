@@ -1,5 +1,0 @@
-use Rattle.shared_parts_tests.proofs.Merges.{opening_is_merged}
-use Rattle.shared_parts_tests.proofs.opening.open.Goals as goal
-
-pub create-requires : goal.create-requires
-create-requires c = record { starts = opening_is_merged }

@@ -1,4 +1,0 @@
-use Rattle.shared_parts_tests.proofs.racing.race.Given as goal
-
-abbrev pub ghosts-run : goal.ghosts-run
-ghosts-run g a = record { table = a.shares.first.table }

@@ -1,3 +1,0 @@
-pub mod PrivateCaches
-pub mod SliceIsolation
-pub mod SliceSets

@@ -1,5 +1,0 @@
-//! That a set of a slice, and the private cache of the law of one slice, are sets under the policy of the least recently used line: so
-//! that law is an instance of the law of policies.
-#![tactic(auto)]
-
-pub mod theorems;

@@ -1,4 +1,0 @@
--- Lemmas that crates above cite.
-pub mod Extents
-pub mod LastEpochs
-pub mod LongerSpans

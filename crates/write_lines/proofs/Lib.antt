@@ -1,9 +1,0 @@
-pub mod Guards
-pub mod Meanings
-pub mod Phases
-pub mod Places
-pub mod ReadScripts
-pub mod Tallies
-pub mod Told
-pub mod ToldOps
-pub mod laws

@@ -1,2 +1,0 @@
-pub mod GroupWrites
-pub mod ReadBack
