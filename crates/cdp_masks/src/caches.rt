@@ -31,14 +31,14 @@ impl CdpCaches {
 impl Caches for CdpCaches {
     ghost use Rattle.std.proofs.Common.{ap, ◌∙◌};
     ghost use Rattle.pair_play.proofs.laws.NextOps.{IsLevelSoFar-other};
-    ghost use Rattle.pair_play.proofs.laws.OpKinds.{asked_of_op-cdp_other};
-    ghost use Rattle.pair_law.specs.CdpRuns.{asked_at, asked_of_op};
+    ghost use Rattle.pair_play.proofs.laws.OpKinds.{op_asks-other};
+    ghost use Rattle.pair_law.specs.CdpRuns.{asked_at, asked_of_op, asked_of_use};
 
     ghost so_far = { λ script i caches. IsCdpSoFar script i caches.level };
 
     ghost goes_on = { λ script i op caches so_far is other. record {
       code_masks = so_far.code_masks;
-      level = IsLevelSoFar-other script i (asked_at script) script.machines.machine caches.level so_far.level op is other (λ d. ap (asked_of_op script d i) is ∙ asked_of_op-cdp_other script d i op other);
+      level = IsLevelSoFar-other script i (asked_at script) script.machines.machine caches.level so_far.level op is other (λ d. ap (asked_of_op script d i) is ∙ op_asks-other script (asked_of_use script d i) i op other);
     } };
 
     // The access is under the register of the group's class and of the side.

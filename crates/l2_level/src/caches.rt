@@ -41,16 +41,16 @@ impl Caches for LevelCaches {
     ghost use Rattle.pair_text.specs.Values.{side_machine};
     ghost use Rattle.pair_text.specs.declared.side.Side.TheVariants.{First, Second};
     ghost use Rattle.pair_play.proofs.laws.NextOps.{IsLevelSoFar-other};
-    ghost use Rattle.pair_play.proofs.laws.OpKinds.{asked_of_op-level_other};
-    ghost use Rattle.pair_law.specs.LevelRuns.{asked_at, asked_of_op};
+    ghost use Rattle.pair_play.proofs.laws.OpKinds.{op_asks-other};
+    ghost use Rattle.pair_law.specs.LevelRuns.{asked_at, asked_of_op, asked_of_use};
 
     ghost so_far = { λ script i caches. IsLevelsSoFar script i caches.l2 caches.l3 };
 
     ghost goes_on = { λ script i op caches so_far is other. record {
       l2 = IsLevelSoFar-other script i (asked_at script (journals_of caches.l2 caches.l3) First) (side_machine script.machines First) caches.l2 so_far.l2 op is other
-          (λ d. ap (asked_of_op script (journals_of caches.l2 caches.l3) First d i) is ∙ asked_of_op-level_other script (journals_of caches.l2 caches.l3) First d i op other);
+          (λ d. ap (asked_of_op script (journals_of caches.l2 caches.l3) First d i) is ∙ op_asks-other script (asked_of_use script (journals_of caches.l2 caches.l3) First d i) i op other);
       l3 = IsLevelSoFar-other script i (asked_at script (journals_of caches.l2 caches.l3) Second) (side_machine script.machines Second) caches.l3 so_far.l3 op is other
-          (λ d. ap (asked_of_op script (journals_of caches.l2 caches.l3) Second d i) is ∙ asked_of_op-level_other script (journals_of caches.l2 caches.l3) Second d i op other);
+          (λ d. ap (asked_of_op script (journals_of caches.l2 caches.l3) Second d i) is ∙ op_asks-other script (asked_of_use script (journals_of caches.l2 caches.l3) Second d i) i op other);
     } };
 
     // The L3 is asked exactly where the L2 misses.

@@ -120,7 +120,7 @@ module _ (script : PairScriptValue) (j : LevelJournalsValue) (lawful : IsLawful 
     -- the entries before it, it, and those after it
     pub cut : Cut asked_by entries (flat_map f (range_with_len 0 i)) wanted (flat_map f (range_with_len (i + 1) (length script.ops - (i + 1))))
     cut = map-cut asked_by entries (flat_map f (range_with_len 0 i)) wanted (flat_map f (range_with_len (i + 1) (length script.ops - (i + 1))))
-        (run.entries side x exists
+        ((run side).entries x exists
         ∙ (flat_map-range_at f 0 i (length script.ops - (i + 1)) (length script.ops) i (omega arith) (omega arith)
         ∙ ap (λ (l : List SliceEntry). flat_map f (range_with_len 0 i) ++ (l ++ flat_map f (range_with_len (i + 1) (length script.ops - (i + 1))))) f-own))
 
@@ -220,7 +220,7 @@ module _ (script : PairScriptValue) (j : LevelJournalsValue) (lawful : IsLawful 
         let limit = range.way_limit in
         let shape : Shape = shape_of (side_machine script.machines side) 0 in
         let all : List SliceEntry = before ++ opening ∷ (window ++ after) in
-        let legal : IsLegal shape all = subst (IsLegal shape) whole (run.legal side x exists) in
+        let legal : IsLegal shape all = subst (IsLegal shape) whole ((run side).legal x exists) in
         let to' : ℕ = length before + (length window + 1) in
         let is_window : between all (length before) to' ≡ window = between-parts before opening window after in
         let long : length all ≡ length before + length (opening ∷ (window ++ after)) = length-append before (opening ∷ (window ++ after)) in

@@ -3,5 +3,6 @@ pub mod CommandsSoFar
 pub mod LevelsSoFar
 pub mod NextOps
 pub mod OpKinds
+pub mod Runs
 pub mod SideTags
 pub mod Users

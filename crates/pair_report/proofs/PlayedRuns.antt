@@ -33,13 +33,13 @@ module _ (script : PairScriptValue) (replies : List Reply) (slices : List (Vec S
 
 module _ (script : PairScriptValue) (replies : List Reply) (l2 l3 : List (Vec SliceEntry Global)) (played : IsPlayedOnLevels script (level_journals replies l2 l3)) where
   pub length-level_replies : length replies ≡ length (commands_of script)
-  length-level_replies = ap (λ (l : List Reply). length l) played.run.replies ∙ length-replies_to script.machines (opening script.machines script.tasks) (commands_of script)
+  length-level_replies = ap (λ (l : List Reply). length l) (played.run First).replies ∙ length-replies_to script.machines (opening script.machines script.tasks) (commands_of script)
 
   pub length-l2 : length l2 ≡ (side_machine script.machines First).domains
-  length-l2 = sym (length-map l2 entries_of) ∙ played.run.one_each First
+  length-l2 = sym (length-map l2 entries_of) ∙ (played.run First).one_each
 
   pub length-l3 : length l3 ≡ script.machines.machine.domains
-  length-l3 = sym (length-map l3 entries_of) ∙ played.run.one_each Second
+  length-l3 = sym (length-map l3 entries_of) ∙ (played.run Second).one_each
 
   pub few-l2 : length l2 ≤ 8
   few-l2 = let is = length-l2 in let few = domains-few script.machines played.playable.lawful.machines First in omega (arith, is, few)

@@ -22,7 +22,7 @@ use Rattle.run_law.proofs.laws.SoundHistories.{All-at}
 use Rattle.pair_law.proofs.Sides.{HasSide}
 use Rattle.pair_law.specs.Entries.{slice_in}
 use Rattle.pair_law.specs.JointWindows as joint
-use Rattle.pair_law.specs.JointWindows.{HasLevels, IsJointWindow, domain_above, is_covered}
+use Rattle.pair_law.specs.JointWindows.{HasLevels, IsJointWindow, domain_above}
 use Rattle.pair_law.specs.RunLaws.{HitsAsPrivate, LevelWindowsAreIsolated}
 use Rattle.pair_law.specs.LevelRuns.{IsLevelRun, LevelJournalsValue, domain_on, has_at, is_hit, is_miss, reaches, user_at}
 use Rattle.pair_law.specs.PrivateLevels.{l2_hits, l3_hits}

@@ -1,13 +1,12 @@
 -- The kinds of ops.
-use Rattle.std.proofs.Common.{◌≡◌, ℕ, ◌<◌, true, List, [], length, get_or, Some, refl, sym, ap, ◌∙◌, subst}
+use Rattle.std.proofs.Common.{◌≡◌, ℕ, ◌<◌, Bool, true, List, [], length, get_or, Some, refl, sym, ap, ◌∙◌, subst}
 use Rattle.std.proofs.lemmas.Option.{slice_get_read}
+use Rattle.cache_core.specs.declared.entry.SliceEntry.{SliceEntry}
 use Rattle.pair_text.specs.Values.{Fits, HasShortName, IsLawful, PairScriptValue, is_command, op_at}
 use Rattle.pair_text.specs.declared.op.PairOp.{PairOp}
 use Rattle.pair_text.specs.declared.op.PairOp.TheVariants as ops
-use Rattle.pair_text.specs.declared.side.Side.{Side}
 use Rattle.pair_play.specs.Playing.{IsOther}
-use Rattle.pair_law.specs.CdpRuns as cdp
-use Rattle.pair_law.specs.LevelRuns as levels
+use Rattle.pair_law.specs.PairRuns.{op_asks}
 
 -- an op that is no flush and no use is a command
 pub is_command-other : (op : PairOp) → IsOther op → is_command op ≡ true
@@ -40,20 +39,11 @@ Fits-read script i all read op lawful same at is within =
 
 -- ---- what other ops ask
 
--- nothing of the caches of a machine with code and data prioritization
-pub asked_of_op-cdp_other : (script : PairScriptValue) (d i : ℕ) (op : PairOp) → IsOther op → cdp.asked_of_op script d i (Some op) ≡ []
-asked_of_op-cdp_other script d i (ops.Mkdir name) other = refl
-asked_of_op-cdp_other script d i (ops.Rmdir name) other = refl
-asked_of_op-cdp_other script d i (ops.Write file text) other = refl
-asked_of_op-cdp_other script d i (ops.Read file) other = refl
-asked_of_op-cdp_other script d i ops.Flush other = absurd (other.not_flush refl)
-asked_of_op-cdp_other script d i (ops.Use task cpu line code) other = absurd (other.not_use task cpu line code refl)
-
--- and nothing of those of a level
-pub asked_of_op-level_other : (script : PairScriptValue) (j : levels.LevelJournalsValue) (side : Side) (d i : ℕ) (op : PairOp) → IsOther op → levels.asked_of_op script j side d i (Some op) ≡ []
-asked_of_op-level_other script j side d i (ops.Mkdir name) other = refl
-asked_of_op-level_other script j side d i (ops.Rmdir name) other = refl
-asked_of_op-level_other script j side d i (ops.Write file text) other = refl
-asked_of_op-level_other script j side d i (ops.Read file) other = refl
-asked_of_op-level_other script j side d i ops.Flush other = absurd (other.not_flush refl)
-asked_of_op-level_other script j side d i (ops.Use task cpu line code) other = absurd (other.not_use task cpu line code refl)
+-- nothing of any cache
+pub op_asks-other : (script : PairScriptValue) (use_asks : ℕ → ℕ → ℕ → Bool → List SliceEntry) (i : ℕ) (op : PairOp) → IsOther op → op_asks script use_asks i (Some op) ≡ []
+op_asks-other script use_asks i (ops.Mkdir name) other = refl
+op_asks-other script use_asks i (ops.Rmdir name) other = refl
+op_asks-other script use_asks i (ops.Write file text) other = refl
+op_asks-other script use_asks i (ops.Read file) other = refl
+op_asks-other script use_asks i ops.Flush other = absurd (other.not_flush refl)
+op_asks-other script use_asks i (ops.Use task cpu line code) other = absurd (other.not_use task cpu line code refl)

@@ -63,7 +63,3 @@ module _ (script : PairScriptValue) (i : ℕ) where
     -- a task of the script is one of the tree's
     pub Contains-tasks_of : (task : ℕ) → Contains script.tasks task → Contains (tasks_of c.tree.state) task
     Contains-tasks_of task declared = subst (λ (ts : List ℕ). Contains ts task) (sym (ap tasks_of so_far.state ∙ tasks_of-state_at script (epoch_at script i))) declared
-
-    -- a CPU of the script is one of the tree's
-    pub cpu-machines : (cpu : ℕ) → cpu < script.machines.machine.cpus → cpu < c.tree.machines.machine.cpus
-    cpu-machines cpu exists = subst (λ (m : Machines). cpu < m.machine.cpus) (sym so_far.machines) exists

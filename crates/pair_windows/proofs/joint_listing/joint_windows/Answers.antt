@@ -13,10 +13,10 @@ returns-then-not-has_exclusive_write c =
     c.new.ensures.items ∙ sym (joint_windows-none c.args.script.now (sym c.has_exclusive_write.ensures ∙ c.if-not-has_exclusive_write.true) (level_journals c.args.replies.now c.args.l2.now c.args.l3.now))
 
 pub hits_on-requires-clause-one_each : goal.hits_on-requires-clause-one_each
-hits_on-requires-clause-one_each c = sym (length-map c.args.l2.now entries_of) ∙ c.requires.run.one_each First
+hits_on-requires-clause-one_each c = sym (length-map c.args.l2.now entries_of) ∙ (c.requires.run First).one_each
 
 pub hits_on-requires-2-clause-one_each : goal.hits_on-requires-2-clause-one_each
-hits_on-requires-2-clause-one_each c = sym (length-map c.args.l3.now entries_of) ∙ c.requires.run.one_each Second
+hits_on-requires-2-clause-one_each c = sym (length-map c.args.l3.now entries_of) ∙ (c.requires.run Second).one_each
 
 pub find_windows-requires-clause-one_each : goal.find_windows-requires-clause-one_each
 find_windows-requires-clause-one_each c = ap (λ (ws : List DomainWalk). length ws) c.deref_mut.ensures.value ∙ (c.in_ok-walks.ensures.count ∙ ap (λ p. p.domains) c.machine.ensures)

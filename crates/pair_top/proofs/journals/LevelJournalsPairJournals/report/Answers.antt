@@ -8,3 +8,9 @@ joint_windows-requires c =
     let j = c.args.self.now in
     let same = level_journals-same j c.replies-replies.result.now c.l2_histories-l2.result.now c.l3_histories-l3.result.now c.replies-replies.ensures c.l2_histories-l2.ensures c.l3_histories-l3.ensures in
     subst (IsPlayedOnLevels c.args.script.now) (sym same) (IsPlayedOnLevels-ready c.args.script.now j c.requires.ready c.requires.run)
+
+pub level_report-requires-clause-played : goal.level_report-requires-clause-played
+level_report-requires-clause-played c =
+    let j = c.args.self.now in
+    let same = level_journals-same j c.replies-replies.result.now c.l2_histories-l2.result.now c.l3_histories-l3.result.now c.replies-replies.ensures c.l2_histories-l2.ensures c.l3_histories-l3.ensures in
+    subst (IsPlayedOnLevels c.args.script.now) (sym same) (IsPlayedOnLevels-ready c.args.script.now j c.requires.ready c.requires.run)
