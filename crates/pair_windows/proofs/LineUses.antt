@@ -1,5 +1,5 @@
 -- The use that an op is, and its entry.
-use Rattle.std.proofs.Common.{◌≡◌, ◌≢◌, ℕ, ◌<◌, Bool, true, false, List, [], ◌∷◌, length, take, get_or, Option, None, Some, Contains, inl, inr, refl, sym, subst, ap, ap₂, ◌∙◌}
+use Rattle.std.proofs.Common.{◌≡◌, ◌≢◌, ℕ, ◌<◌, Bool, true, false, List, [], ◌∷◌, length, get_or, Option, None, Some, inl, inr, refl, sym, subst, ap, ap₂, ◌∙◌}
 use Rattle.std.specs.Prelude.{◌==◌}
 use Rattle.std.proofs.lemmas.Bool.{cases_Bool, eq-eqb, ne_eqb}
 use Rattle.std.proofs.lemmas.Option.{slice_get-get_or}
@@ -7,12 +7,9 @@ use Rattle.cache_core.specs.declared.entry.What.TheVariants.{Access}
 use Rattle.pair_windows.specs.Joined.{joined_of_op}
 use Rattle.pair_windows.specs.Segments.{use_in}
 use Rattle.pair_windows.specs.declared.line_uses.LineUse.{LineUse}
-use Rattle.pair_law.proofs.laws.Bounds.{tasks_of-next}
-use Rattle.pair_law.specs.Bounds.{tasks_of}
-use Rattle.pair_law.specs.Epochs.{state_after, state_at}
-use Rattle.pair_law.specs.State.{PairState, opening, owner_of}
-use Rattle.pair_law.specs.Steps.{next}
-use Rattle.pair_text.specs.Values.{Fits, IsLawful, Machines, PairScriptValue, commands_of, epoch_at, op_at}
+use Rattle.pair_law.specs.Epochs.{state_at}
+use Rattle.pair_law.specs.State.{PairState, owner_of}
+use Rattle.pair_text.specs.Values.{Fits, IsLawful, PairScriptValue, epoch_at, op_at}
 use Rattle.pair_text.specs.declared.op.PairOp.{PairOp}
 use Rattle.pair_text.specs.declared.op.PairOp.TheVariants as ops
 use Rattle.pair_text.specs.declared.side.Side.TheVariants.{Second}
@@ -21,26 +18,6 @@ use Rattle.pair_law.specs.Entries.{entry}
 use Rattle.pair_law.specs.JointWindows.{is_flush}
 use Rattle.pair_law.specs.LevelRuns.{domain_on}
 use Rattle.rc_base.specs.declared.names.Gid.{Gid}
-
--- ---- tasks
-
--- the tasks of the opening state
-tasks_of-opening : (m : Machines) (tasks : List ℕ) → tasks_of (opening m tasks) ≡ tasks
-tasks_of-opening m [] = refl
-tasks_of-opening m (t ∷ tasks) = ap (λ (ts : List ℕ). t ∷ ts) (tasks_of-opening m tasks)
-
--- commands keep them
-tasks_of-state_after : (m : Machines) (s : PairState) (ops : List PairOp) → tasks_of (state_after m s ops) ≡ tasks_of s
-tasks_of-state_after m s [] = refl
-tasks_of-state_after m s (op ∷ ops) = tasks_of-state_after m (next m s op).state ops ∙ tasks_of-next m s op
-
--- a declared task is one of each epoch
-pub Contains-tasks_of : (script : PairScriptValue) (s : PairState) (epoch task : ℕ) → s ≡ state_at script epoch → Contains script.tasks task → Contains (tasks_of s) task
-Contains-tasks_of script s epoch task is declared =
-    let all : tasks_of s ≡ script.tasks = ap tasks_of is ∙ (tasks_of-state_after script.machines (opening script.machines script.tasks) (take epoch (commands_of script)) ∙ tasks_of-opening script.machines script.tasks) in
-    subst (λ (ts : List ℕ). Contains ts task) (sym all) declared
-
--- ---- one op
 
 module _ (script : PairScriptValue) (domain : ℕ) (hit : ℕ → Bool) (i : ℕ) where
   -- a use on a CPU of the domain is an entry

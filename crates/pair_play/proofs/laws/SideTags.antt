@@ -1,18 +1,17 @@
 -- The tag that the state of an op gives to a use on a side.
-use Rattle.std.proofs.Common.{◌≡◌, ℕ, ◌%◌, ◌^◌, ◌<◌, List, Contains, IfSome, Option, None, Some, unwrap_or, refl, sym, ap, ap₂, ◌∙◌, subst, arith}
+use Rattle.std.proofs.Common.{◌≡◌, ℕ, ◌%◌, ◌^◌, ◌<◌, List, IfSome, Option, None, Some, unwrap_or, refl, sym, ap, ap₂, ◌∙◌, subst, arith}
 use Rattle.cache_core.specs.declared.entry.SliceEntry.{SliceEntry}
 use Rattle.machine.proofs.laws.Domains.{domain_of-lt}
 use Rattle.machine.specs.Maps.{domain_of}
 use Rattle.machine.specs.declared.parameters.Parameters.{Parameters}
 use Rattle.pair_law.proofs.laws.Machines.{side_machine-range}
-use Rattle.pair_law.specs.Bounds.{tasks_of}
 use Rattle.pair_law.specs.Registers.{mask_of_group}
 use Rattle.pair_law.specs.State.{PairState, owner_of}
 use Rattle.pair_text.specs.Values.{IsLawful, LiesBelow, Machines, PairScriptValue, epoch_at, side_machine}
 use Rattle.pair_text.specs.declared.side.Side.{Side}
 use Rattle.pair_text.specs.declared.side.Side.TheVariants.{First, Second}
 use Rattle.pair_play.proofs.laws.LevelsSoFar.{CanAccess-IsLevelSoFar}
-use Rattle.pair_play.proofs.laws.Users.{some_way-owner, tasks_of-state_at}
+use Rattle.pair_play.proofs.laws.Users.{some_way-owner}
 use Rattle.pair_play.specs.Histories.{CanAccess, LevelValue}
 use Rattle.pair_play.specs.SideTags.{state_now, tag_in, tag_now, tag_on}
 use Rattle.pair_play.specs.SoFar.{AreCommandsSoFar, CommandsValue, IsLevelSoFar}
@@ -59,7 +58,3 @@ module _ (script : PairScriptValue) (i : ℕ) where
     tag_in-tag_now task cpu =
         ap₂ (λ (m : Machines) (s : PairState). tag_of m s c.tree.epoch task cpu) so_far.machines so_far.state
         ∙ ap (λ (n : ℕ). tag_of script.machines (state_now script i) n task cpu) so_far.epoch
-
-    -- a task of the script is one of the tree's
-    pub Contains-tasks_of : (task : ℕ) → Contains script.tasks task → Contains (tasks_of c.tree.state) task
-    Contains-tasks_of task declared = subst (λ (ts : List ℕ). Contains ts task) (sym (ap tasks_of so_far.state ∙ tasks_of-state_at script (epoch_at script i))) declared

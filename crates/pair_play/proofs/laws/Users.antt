@@ -1,50 +1,24 @@
--- What a tag of a script's use says: a declared task, a mask with some way, and a serial number that is small.
-use Rattle.std.proofs.Common.{◌≡◌, ℕ, ◌+◌, ◌%◌, ◌<◌, ◌≤◌, List, [], ◌∷◌, length, take, inl, inr, refl, sym, ap, ◌∙◌, subst, arith}
+-- What a tag of a script's use says: a mask with some way, and a serial number that is small.
+use Rattle.std.proofs.Common.{◌≡◌, ℕ, ◌+◌, ◌%◌, ◌<◌, ◌≤◌, length, take, inl, inr, sym, ◌∙◌, subst, arith}
 use Rattle.std.specs.Prelude.{◌^◌}
 use Rattle.std.proofs.lemmas.Bool.{cases_lt}
 use Rattle.std.proofs.lemmas.List.{length-take}
 use Rattle.cbm.proofs.laws.Validity.{checked-zero}
 use Rattle.lists.proofs.Tests.{IsFound-all}
 use Rattle.machine.specs.declared.parameters.Parameters.{Parameters}
-use Rattle.pair_law.proofs.laws.Bounds.{next_gid-next, tasks_of-next}
-use Rattle.pair_law.proofs.laws.Epochs.{IsSound-state_at}
+use Rattle.pair_law.proofs.laws.Epochs.{IsSound-state_at, next_gid-state_after}
 use Rattle.pair_law.proofs.laws.Owners.{IsGroup-owner, IsRecord-group, IsValid-record, mask_of_group-record}
-use Rattle.pair_law.specs.Bounds.{tasks_of}
-use Rattle.pair_law.specs.Epochs.{state_after, state_at}
+use Rattle.pair_law.specs.Epochs.{state_at}
 use Rattle.pair_law.specs.Registers.{mask_of_group}
-use Rattle.pair_law.specs.State.{PairGroup, PairState, has_gid, opening, owner_of}
-use Rattle.pair_law.specs.Steps.{next}
-use Rattle.pair_text.specs.Values.{IsLawful, Machines, PairScriptValue, commands_of, side_machine}
-use Rattle.pair_text.specs.declared.op.PairOp.{PairOp}
+use Rattle.pair_law.specs.State.{PairGroup, has_gid, opening, owner_of}
+use Rattle.pair_text.specs.Values.{IsLawful, PairScriptValue, commands_of, side_machine}
 use Rattle.pair_text.specs.declared.side.Side.{Side}
 use Rattle.run_law.proofs.laws.OwnLines.{mod-some_way}
 use Rattle.tree_law.specs.Masks.{IsValid}
 use Rattle.tree_law.specs.Space.{geometry_of}
 
--- ---- tasks
-
--- the tasks of the opening state
-tasks_of-opening : (m : Machines) (tasks : List ℕ) → tasks_of (opening m tasks) ≡ tasks
-tasks_of-opening m [] = refl
-tasks_of-opening m (t ∷ tasks) = ap (λ (ts : List ℕ). t ∷ ts) (tasks_of-opening m tasks)
-
--- commands keep them
-tasks_of-state_after : (m : Machines) (s : PairState) (ops : List PairOp) → tasks_of (state_after m s ops) ≡ tasks_of s
-tasks_of-state_after m s [] = refl
-tasks_of-state_after m s (op ∷ ops) = tasks_of-state_after m (next m s op).state ops ∙ tasks_of-next m s op
-
--- those of each epoch are the script's
-pub tasks_of-state_at : (script : PairScriptValue) (epoch : ℕ) → tasks_of (state_at script epoch) ≡ script.tasks
-tasks_of-state_at script epoch = tasks_of-state_after script.machines (opening script.machines script.tasks) (take epoch (commands_of script)) ∙ tasks_of-opening script.machines script.tasks
-
--- ---- serial numbers
-
-next_gid-state_after : (m : Machines) (s : PairState) (ops : List PairOp) → (state_after m s ops).next_gid ≤ s.next_gid + length ops
-next_gid-state_after m s [] = omega arith
-next_gid-state_after m s (op ∷ ops) = omega (arith, next_gid-state_after m (next m s op).state ops, next_gid-next m s op)
-
--- each command makes one group at most
-pub next_gid-state_at : (script : PairScriptValue) (epoch : ℕ) → (state_at script epoch).next_gid ≤ 1 + length (commands_of script)
+-- those of each epoch
+next_gid-state_at : (script : PairScriptValue) (epoch : ℕ) → (state_at script epoch).next_gid ≤ 1 + length (commands_of script)
 next_gid-state_at script epoch =
     let commands = commands_of script in
     omega (arith, next_gid-state_after script.machines (opening script.machines script.tasks) (take epoch commands), length-take epoch commands)

@@ -1,8 +1,9 @@
 -- The groups of every state of a script stand in order of their serial numbers.
-use Rattle.std.proofs.Common.{◌≡◌, ℕ, zero, suc, ◌+◌, ◌<◌, ◌≤◌, Bool, true, false, not, cond, List, [], ◌∷◌, length, take, get_or, Option, Some, None, Result, Ok, Err, inl, inr, refl, arith}
+use Rattle.std.proofs.Common.{◌≡◌, ℕ, zero, suc, ◌+◌, ◌<◌, ◌≤◌, Bool, true, false, not, cond, List, [], ◌∷◌, take, get_or, Option, Some, None, Result, Ok, Err, inl, inr, refl, arith}
 use Rattle.std.specs.List.{All}
 use Rattle.std.specs.Option.{option_map_or}
 use Rattle.std.proofs.lemmas.Bool.{cases_Bool, eqb-true}
+use Rattle.std.proofs.lemmas.List.{length-take}
 use Rattle.std.proofs.lemmas.List.Elements.{All-filter, All-map, All-push}
 use Rattle.std.proofs.lemmas.List.Kept.{AllPairs-filter}
 use Rattle.std.proofs.lemmas.List.Quantifiers.{all_pairs_push}
@@ -15,7 +16,7 @@ use Rattle.pair_law.specs.commands.Mode as mode
 use Rattle.pair_law.specs.commands.Rmdir as rmdir
 use Rattle.pair_law.specs.commands.Schemata as schemata
 use Rattle.pair_law.specs.commands.Tasks as tasks
-use Rattle.pair_law.proofs.laws.Bounds.{next_gid-next}
+use Rattle.pair_law.proofs.laws.Epochs.{next_gid-state_after}
 use Rattle.pair_text.specs.Values.{Machines, PairScriptValue, commands_of}
 use Rattle.pair_text.specs.declared.group.PairGroup.{PairGroup}
 use Rattle.pair_text.specs.declared.op.PairOp.{PairOp}
@@ -129,14 +130,10 @@ RiseByGid-next m s op rise = of (refusal m s op)
 
 -- ---- every epoch
 
--- the groups rise, and there were so many commands at least
+-- the groups rise after some commands
 RiseByGid-after : (m : Machines) (s : PairState) (ops : List PairOp) → RiseByGid s → RiseByGid (state_after m s ops)
 RiseByGid-after m s [] rise = rise
 RiseByGid-after m s (op ∷ ops) rise = RiseByGid-after m (next m s op).state ops (RiseByGid-next m s op rise)
-
-next_gid-after : (m : Machines) (s : PairState) (ops : List PairOp) → (state_after m s ops).next_gid ≤ s.next_gid + length ops
-next_gid-after m s [] = omega arith
-next_gid-after m s (op ∷ ops) = let more = next_gid-after m (next m s op).state ops in let one = next_gid-next m s op in omega (arith, more, one)
 
 -- of each epoch
 pub RiseByGid-state_at : (script : PairScriptValue) (epoch : ℕ) → RiseByGid (state_at script epoch)
@@ -149,15 +146,10 @@ RiseByGid-state_at script epoch = RiseByGid-after script.machines (opening scrip
     of zero d within = omega arith
     of (suc k) d within = absurd (omega (arith, within))
 
-length-take_le : {X : Type 0} (n : ℕ) (xs : List X) → length (take n xs) ≤ n
-length-take_le zero xs = omega arith
-length-take_le (suc n) [] = omega arith
-length-take_le (suc n) (x ∷ xs) = let le = length-take_le n xs in omega (arith, le)
-
 -- the groups of an epoch have numbers up to it
 pub gid-state_at : (script : PairScriptValue) (epoch : ℕ) → All (λ (g : PairGroup). g.gid.0 ≤ epoch) (state_at script epoch).groups
 gid-state_at script epoch = λ k d within.
     let lt = (RiseByGid-state_at script epoch).below k d within in
-    let most = next_gid-after script.machines (opening script.machines script.tasks) (take epoch (commands_of script)) in
-    let few = length-take_le epoch (commands_of script) in
+    let most = next_gid-state_after script.machines (opening script.machines script.tasks) (take epoch (commands_of script)) in
+    let few = length-take epoch (commands_of script) in
     omega (arith, lt, most, few)

@@ -1,5 +1,6 @@
 use Rattle.std.proofs.Common.{◌≡◌, ℕ, ◌<◌, length, Some, sym, ap, ◌∙◌, arith}
-use Rattle.pair_windows.proofs.LineUses.{Contains-tasks_of, Fits-read, op_at-read, use_in-none}
+use Rattle.pair_law.proofs.laws.Epochs.{Contains-tasks_of}
+use Rattle.pair_windows.proofs.LineUses.{Fits-read, op_at-read, use_in-none}
 use Rattle.pair_windows.specs.Segments.{use_in}
 use Rattle.pair_text.specs.Values.{op_at}
 use Rattle.pair_text.specs.declared.op.PairOp.{PairOp}

@@ -1,10 +1,11 @@
 use Rattle.std.proofs.Common.{◌+◌, refl, ap, ◌∙◌}
 use Rattle.std.proofs.lemmas.Result.{IfOk-weaker}
+use Rattle.pair_law.proofs.laws.Epochs.{Contains-tasks_of}
+use Rattle.pair_text.specs.Values.{epoch_at}
 use Rattle.pair_text.specs.declared.op.PairOp.TheVariants as ops
 use Rattle.pair_play.proofs.laws.NextOps.{IsFlushAt-taken, IsPlayedSoFar-command, IsUseAt-resolved}
 use Rattle.pair_play.proofs.laws.CommandsSoFar.{AreCommandsSoFar-use, epoch-AreCommandsSoFar}
 use Rattle.pair_play.proofs.laws.OpKinds.{Fits-read, HasShortName-Fits, is_command-other, op_at-read}
-use Rattle.pair_play.proofs.laws.SideTags.{Contains-tasks_of}
 use Rattle.pair_play.proofs.player.Player.step.Goals as goal
 use Rattle.pair_play.specs.Playing.{IsOther, IsPlayedSoFar}
 use Rattle.pair_play.specs.SoFar.{taken}
@@ -15,7 +16,7 @@ resolve-tag-requires-clause-task g c =
     let script = c.args.script.now in
     let u = c.in-Use in
     let fits = Fits-read script c.args.i c.ops.result.now c.index-ops-i.result (ops.Use u.task u.cpu u.line u.code) r.lawful c.ops.ensures c.index-ops-i.is u.is r.next in
-    Contains-tasks_of script c.args.i c.args.self.now.commands r.so_far.commands u.task fits.0
+    Contains-tasks_of script c.args.self.now.commands.tree.state (epoch_at script c.args.i) u.task r.so_far.commands.state fits.0
 
 pub make_use-requires : goal.make_use-requires
 make_use-requires g c =
