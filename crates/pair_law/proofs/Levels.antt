@@ -1,16 +1,15 @@
 -- One cache of a level in a joint window: what a use of the group does there.
-use Rattle.std.proofs.Common.{◌≡◌, ◌≢◌, ℕ, ◌+◌, ◌-◌, ◌%◌, ◌<◌, ◌≤◌, Bool, true, false, not, ◌==◌, ◌&&◌, List, [], ◌∷◌, ◌++◌, length, map, take, get_or, Option, None, Some, inl, inr, refl, sym, subst, ap, ◌∙◌, arith}
+use Rattle.std.proofs.Common.{◌≡◌, ℕ, ◌+◌, ◌-◌, ◌%◌, ◌<◌, ◌≤◌, Bool, true, false, not, ◌==◌, ◌&&◌, List, [], ◌∷◌, ◌++◌, length, map, take, get_or, Option, Some, inl, inr, refl, sym, subst, ap, ◌∙◌, arith}
 use Rattle.std.specs.List.{All, flat_map, list_any, range_with_len}
-use Rattle.std.proofs.lemmas.Bool.{and_cases, and_left, and_right, cases_Bool, eq-eqb, true≢false}
+use Rattle.std.proofs.lemmas.Bool.{and_cases, and_from, and_parts, and_left, and_right, eq-eqb}
 use Rattle.std.proofs.lemmas.List.{append_assoc, length-append}
-use Rattle.std.proofs.lemmas.List.Elements.{All-nil, All-push, All-weaker}
+use Rattle.std.proofs.lemmas.List.Elements.{All-push}
 use Rattle.std.proofs.lemmas.List.Folds.{list_any_none}
 use Rattle.cache_core.specs.History.{IsLegal, Shape, shape_of}
 use Rattle.cache_core.specs.declared.entry.SliceEntry.{SliceEntry}
 use Rattle.cache_core.specs.declared.entry.What.{What}
 use Rattle.cache_core.specs.declared.entry.What.TheVariants as whats
 use Rattle.cbm.specs.Masks.{ways_of}
-use Rattle.lists.proofs.Tests.{All-from_none, All-one}
 use Rattle.machine.specs.Ranges.{InRange}
 use Rattle.pair_law.proofs.laws.Machines.{side_machine-range}
 use Rattle.pair_law.proofs.laws.Epochs.{IsSound-state_at}
@@ -21,53 +20,21 @@ use Rattle.pair_text.specs.declared.op.PairOp.{PairOp}
 use Rattle.pair_text.specs.declared.op.PairOp.TheVariants as ops
 use Rattle.pair_text.specs.declared.side.Side.{Side}
 use Rattle.pair_text.specs.declared.side.Side.TheVariants.{Second}
-use Rattle.pair_law.proofs.laws.Cuts.{All-flat_map_range, Cut, flat_map-range_at, has_at-cut, map-cut, range_with_len-All}
-use Rattle.pair_law.proofs.Positions.{All-unmap}
-use Rattle.pair_law.proofs.Sides.{HasSide, IsValid-side, mask_of_group-side}
+use Rattle.pair_law.proofs.laws.Cuts.{All-flat_map_range, Cut, cut-range}
+use Rattle.pair_law.proofs.Sides.{HasSide, IsValid-side}
 use Rattle.pair_law.proofs.laws.Undecided.{All-undecided, IsAccess, Respects-undecided, is_loaded_use-flush, is_other_use-undecided, is_use-undecided, items-asked, what-access, what-flush}
 use Rattle.pair_law.proofs.Windows.{between-parts, get_or-after, take-front}
 use Rattle.pair_law.specs.Entries.{asked_by, entry, slice_in}
 use Rattle.run_law.specs.Owed.{undecided}
 use Rattle.pair_law.specs.JointWindows as joint
 use Rattle.pair_law.specs.LevelRuns.{IsLevelRun, LevelJournalsValue, asked_at, asked_of_op, domain_on, has_at, is_hit, is_miss, level, reaches, user_at}
+use Rattle.pair_law.proofs.LevelAsks.{Respects-asked, asked_of_op-each, has_at-asked, is_use-asked}
 use Rattle.private_lru.proofs.laws.SliceWindows.{IsIsolated-between}
 use Rattle.private_lru.specs.Covered.{is_covered, is_loaded_use, is_other_use, is_use, items, uses_line}
 use Rattle.private_lru.specs.Isolation.{HitsAsPrivate, IsIsolated, Opens, Respects, between}
 use Rattle.private_lru.specs.Private.{private_hit}
 use Rattle.private_lru.specs.declared.item.Item.{Item}
 use Rattle.rc_base.specs.declared.names.Gid.{Gid}
-
--- a use asks for one access or none
-asked_of_op-use : (script : PairScriptValue) (j : LevelJournalsValue) (side : Side) (x k task cpu line : ℕ) (code : Bool) → (P : SliceEntry → Type 0)
-    → (((domain_on script side cpu == x) && reaches script j side k cpu) ≡ true → P (entry k (epoch_at script k) (whats.Access false 0 (user_at script k task) 0 (mask_of_group (state_at script (epoch_at script k)) side x (user_at script k task)) line)))
-    → All P (asked_of_op script j side x k (Some (ops.Use task cpu line code)))
-asked_of_op-use script j side x k task cpu line code P each = elim (cases_Bool ((domain_on script side cpu == x) && reaches script j side k cpu)) [
-  | inl e ↦ rw e (All-one P _ (each e))
-  | inr e ↦ rw e (All-nil P)
-]
-
--- what an op asks for is the op's
-asked_of_op-op : (script : PairScriptValue) (j : LevelJournalsValue) (side : Side) (x k : ℕ) (o : Option PairOp) → All (λ (e : SliceEntry). e.op ≡ k) (asked_of_op script j side x k o)
-asked_of_op-op script j side x k (Some (ops.Use task cpu line code)) = asked_of_op-use script j side x k task cpu line code (λ (e : SliceEntry). e.op ≡ k) (λ here. refl)
-asked_of_op-op script j side x k (Some ops.Flush) = All-one (λ (e : SliceEntry). e.op ≡ k) _ refl
-asked_of_op-op script j side x k (Some (ops.Mkdir name)) = All-nil (λ (e : SliceEntry). e.op ≡ k)
-asked_of_op-op script j side x k (Some (ops.Rmdir name)) = All-nil (λ (e : SliceEntry). e.op ≡ k)
-asked_of_op-op script j side x k (Some (ops.Write file text)) = All-nil (λ (e : SliceEntry). e.op ≡ k)
-asked_of_op-op script j side x k (Some (ops.Read file)) = All-nil (λ (e : SliceEntry). e.op ≡ k)
-asked_of_op-op script j side x k None = All-nil (λ (e : SliceEntry). e.op ≡ k)
-
--- what is said of each access that a use asks for is said of what any op but a flush asks for
-asked_of_op-each : (script : PairScriptValue) (j : LevelJournalsValue) (side : Side) (x k : ℕ) (P : SliceEntry → Type 0) (o : Option PairOp) → joint.is_flush o ≡ false
-    → ((task cpu line : ℕ) (code : Bool) → o ≡ Some (ops.Use task cpu line code) → ((domain_on script side cpu == x) && reaches script j side k cpu) ≡ true
-    → P (entry k (epoch_at script k) (whats.Access false 0 (user_at script k task) 0 (mask_of_group (state_at script (epoch_at script k)) side x (user_at script k task)) line)))
-    → All P (asked_of_op script j side x k o)
-asked_of_op-each script j side x k P (Some (ops.Use task cpu line code)) calm each = asked_of_op-use script j side x k task cpu line code P (λ here. each task cpu line code refl here)
-asked_of_op-each script j side x k P (Some ops.Flush) calm each = absurd (true≢false calm)
-asked_of_op-each script j side x k P (Some (ops.Mkdir name)) calm each = All-nil P
-asked_of_op-each script j side x k P (Some (ops.Rmdir name)) calm each = All-nil P
-asked_of_op-each script j side x k P (Some (ops.Write file text)) calm each = All-nil P
-asked_of_op-each script j side x k P (Some (ops.Read file)) calm each = All-nil P
-asked_of_op-each script j side x k P None calm each = All-nil P
 
 -- one cache of a level, whose ways of a mask are an exclusive group's from a flush on up to an op
 module _ (script : PairScriptValue) (j : LevelJournalsValue) (lawful : IsLawful script) (run : IsLevelRun script j) (side : Side) (x : ℕ) (exists : x < (side_machine script.machines side).domains) (domain : ℕ) (group : Gid) (mask : ℕ) (from to : ℕ)
@@ -79,31 +46,6 @@ module _ (script : PairScriptValue) (j : LevelJournalsValue) (lawful : IsLawful 
 
   abbrev f : ℕ → List SliceEntry
   f k = asked_at script j side x k
-
-  -- ---- what the window asks for
-
-  -- each access respects the mask
-  pub Respects-asked : (k : ℕ) → from < k → k < to → All (λ (e : SliceEntry). Respects group.0 mask e.what) (f k)
-  Respects-asked k late early =
-      let s = stays k late early in
-      asked_of_op-each script j side x k (λ (e : SliceEntry). Respects group.0 mask e.what) (op_at script k) s.0
-      (λ task cpu line code is here. mask_of_group-side script.machines (state_at script (epoch_at script k)) (IsSound-state_at script (epoch_at script k) lawful) side x exists group mask s.1 task)
-
-  -- one of two tests
-  and-first : (a b : Bool) → (a && b) ≡ true → a ≡ true
-  and-first true b e = refl
-  and-first false b e = e
-
-  -- a line that the group does not use in the window is used by no access of the group
-  is_use-asked : (line : ℕ) → joint.uses_line script domain group.0 from to line ≡ false → (k : ℕ) → from < k → k < to → All (λ (e : SliceEntry). is_use group.0 line e.what ≡ false) (f k)
-  is_use-asked line none k late early =
-      let all = range_with_len-All (λ (n : ℕ). joint.is_own_use script domain group.0 line n (op_at script n) ≡ false) (from + 1) (to - (from + 1))
-      (All-from_none (λ (n : ℕ). joint.is_own_use script domain group.0 line n (op_at script n)) (range_with_len (from + 1) (to - (from + 1))) none) k (omega arith) (omega arith) in
-      asked_of_op-each script j side x k (λ (e : SliceEntry). is_use group.0 line e.what ≡ false) (op_at script k) (stays k late early).0
-      (λ task cpu its code is here.
-      let there : (domain_on script Second cpu == domain) ≡ true = above k task cpu its code is (and-first (domain_on script side cpu == x) (reaches script j side k cpu) here) in
-      let whole : ((domain_on script Second cpu == domain) && ((user_at script k task).0 == group.0) && (its == line)) ≡ false = subst (λ (o : Option PairOp). joint.is_own_use script domain group.0 line k o ≡ false) is all in
-      rw there at whole)
 
   module _ (i task cpu line : ℕ) (code : Bool) (late : from < i) (early : i < to) (is : op_at script i ≡ Some (ops.Use task cpu line code)) (here : ((domain_on script side cpu == x) && reaches script j side i cpu) ≡ true) (mine : (user_at script i task).0 ≡ group.0)
       (covered : (k : ℕ) → from < k → k < i → joint.is_other_use script domain group.0 from to k (op_at script k) ≡ false) where
@@ -119,17 +61,11 @@ module _ (script : PairScriptValue) (j : LevelJournalsValue) (lawful : IsLawful 
 
     -- the entries before it, it, and those after it
     pub cut : Cut asked_by entries (flat_map f (range_with_len 0 i)) wanted (flat_map f (range_with_len (i + 1) (length script.ops - (i + 1))))
-    cut = map-cut asked_by entries (flat_map f (range_with_len 0 i)) wanted (flat_map f (range_with_len (i + 1) (length script.ops - (i + 1))))
-        ((run side).entries x exists
-        ∙ (flat_map-range_at f 0 i (length script.ops - (i + 1)) (length script.ops) i (omega arith) (omega arith)
-        ∙ ap (λ (l : List SliceEntry). flat_map f (range_with_len 0 i) ++ (l ++ flat_map f (range_with_len (i + 1) (length script.ops - (i + 1))))) f-own))
+    cut = cut-range asked_by entries f (length script.ops) i wanted ((run side).entries x exists) (omega arith) f-own
 
     -- and of those before it, the flush and those since
     pub flush_cut : Cut asked_by cut.left (flat_map f (range_with_len 0 from)) (entry from (epoch_at script from + 1) whats.Flush) (flat_map f (range_with_len (from + 1) (i - (from + 1))))
-    flush_cut = map-cut asked_by cut.left (flat_map f (range_with_len 0 from)) (entry from (epoch_at script from + 1) whats.Flush) (flat_map f (range_with_len (from + 1) (i - (from + 1))))
-        (cut.left_is
-        ∙ (flat_map-range_at f 0 from (i - (from + 1)) i from (omega arith) (omega arith)
-        ∙ ap (λ (l : List SliceEntry). flat_map f (range_with_len 0 from) ++ (l ++ flat_map f (range_with_len (from + 1) (i - (from + 1))))) f-flush))
+    flush_cut = cut-range asked_by cut.left f i from (entry from (epoch_at script from + 1) whats.Flush) cut.left_is late f-flush
 
     -- the access
     abbrev e : SliceEntry
@@ -157,9 +93,6 @@ module _ (script : PairScriptValue) (j : LevelJournalsValue) (lawful : IsLawful 
     e-wanted : undecided e.what ≡ whats.Access false 0 (user_at script i task) 0 (mask_of_group (state_at script (epoch_at script i)) side x (user_at script i task)) line
     e-wanted = ap (λ (y : SliceEntry). y.what) cut.here_is
 
-    e-op : e.op ≡ i
-    e-op = ap (λ (y : SliceEntry). y.op) cut.here_is
-
     opening-flush : opening.what ≡ whats.Flush
     opening-flush = what-flush opening.what (ap (λ (y : SliceEntry). y.what) flush_cut.here_is)
 
@@ -181,13 +114,13 @@ module _ (script : PairScriptValue) (j : LevelJournalsValue) (lawful : IsLawful 
 
     -- a line that the group does not use in the window is used by none of its entries
     uses_line-window : (its : ℕ) → joint.uses_line script domain group.0 from to its ≡ false → uses_line group.0 window its ≡ false
-    uses_line-window its none = list_any_none (λ (y : SliceEntry). is_use group.0 its y.what) window (All-window (λ (w : What). is_use group.0 its w ≡ false) (is_use-undecided group.0 its) (is_use-asked its none))
+    uses_line-window its none = list_any_none (λ (y : SliceEntry). is_use group.0 its y.what) window (All-window (λ (w : What). is_use group.0 its w ≡ false) (is_use-undecided group.0 its) (is_use-asked script j side x group mask from to stays domain its above none))
 
     -- no entry before the access is another owner's use of a line of the group's
     is_other_use-asked : (k : ℕ) → from < k → k < i → All (λ (y : SliceEntry). is_other_use group.0 window y.what ≡ false) (f k)
     is_other_use-asked k late' early' = asked_of_op-each script j side x k (λ (y : SliceEntry). is_other_use group.0 window y.what ≡ false) (op_at script k) (stays k late' (omega arith)).0
         (λ task' cpu' its code' is' here'.
-        let there : (domain_on script Second cpu' == domain) ≡ true = above k task' cpu' its code' is' (and-first (domain_on script side cpu' == x) (reaches script j side k cpu') here') in
+        let there : (domain_on script Second cpu' == domain) ≡ true = above k task' cpu' its code' is' (and_parts (domain_on script side cpu' == x) (reaches script j side k cpu') here').0 in
         let other : ((domain_on script Second cpu' == domain) && not ((user_at script k task').0 == group.0) && joint.uses_line script domain group.0 from to its) ≡ false =
         subst (λ (o : Option PairOp). joint.is_other_use script domain group.0 from to k o ≡ false) is' (covered k late' early') in
         let parts : (not ((user_at script k task').0 == group.0) && joint.uses_line script domain group.0 from to its) ≡ false = rw there at other in
@@ -202,16 +135,11 @@ module _ (script : PairScriptValue) (j : LevelJournalsValue) (lawful : IsLawful 
     -- the access is covered in the slice
     is_covered-since : is_covered sets group.0 opening.what window since ≡ true
     is_covered-since = subst (λ (w : What). is_covered sets group.0 w window since ≡ true) (sym opening-flush)
-        (both (list_any (λ (y : SliceEntry). is_loaded_use sets group.0 whats.Flush y.what) window) (list_any (λ (y : SliceEntry). is_other_use group.0 window y.what) since)
-        (list_any_none (λ (y : SliceEntry). is_loaded_use sets group.0 whats.Flush y.what) window (λ k d within. is_loaded_use-flush sets group.0 (get_or window k d).what))
-        (list_any_none (λ (y : SliceEntry). is_other_use group.0 window y.what) since
+        (and_from (not (list_any (λ (y : SliceEntry). is_loaded_use sets group.0 whats.Flush y.what) window)) (not (list_any (λ (y : SliceEntry). is_other_use group.0 window y.what) since))
+        (ap not (list_any_none (λ (y : SliceEntry). is_loaded_use sets group.0 whats.Flush y.what) window (λ k d within. is_loaded_use-flush sets group.0 (get_or window k d).what)))
+        (ap not (list_any_none (λ (y : SliceEntry). is_other_use group.0 window y.what) since
         (All-undecided (λ (w : What). is_other_use group.0 window w ≡ false) (is_other_use-undecided group.0 window) since (flat_map f (range_with_len (from + 1) (i - (from + 1)))) asked_since
-        (All-flat_map_range (λ (y : SliceEntry). is_other_use group.0 window y.what ≡ false) f (from + 1) (i - (from + 1)) (λ k low high. is_other_use-asked k (omega arith) (omega arith))))))
-      where
-        both : (a b : Bool) → a ≡ false → b ≡ false → (not a && not b) ≡ true
-        both false false p q = refl
-        both false true p q = absurd (true≢false q)
-        both true b p q = absurd (true≢false p)
+        (All-flat_map_range (λ (y : SliceEntry). is_other_use group.0 window y.what ≡ false) f (from + 1) (i - (from + 1)) (λ k low high. is_other_use-asked k (omega arith) (omega arith)))))))
 
     -- the slice is isolated since the flush
     isolated : IsIsolated sets group.0 (length (ways_of mask)) opening.what window
@@ -232,7 +160,7 @@ module _ (script : PairScriptValue) (j : LevelJournalsValue) (lawful : IsLawful 
         legal (omega arith) (omega (arith, long, inner, more))
         (sym (get_or-after before opening (window ++ after) opening))
         (subst (Opens mask) (sym opening-flush) tt)
-        (subst (All (λ (y : SliceEntry). Respects group.0 mask y.what)) (sym is_window) (All-window (Respects group.0 mask) (Respects-undecided group.0 mask) Respects-asked)))
+        (subst (All (λ (y : SliceEntry). Respects group.0 mask y.what)) (sym is_window) (All-window (Respects group.0 mask) (Respects-undecided group.0 mask) (Respects-asked script j side x group mask from to stays lawful exists))))
 
     -- the group's items since the flush, with these lines as its own
     abbrev lines : (ℕ → Bool) → List Item
@@ -257,17 +185,9 @@ module _ (script : PairScriptValue) (j : LevelJournalsValue) (lawful : IsLawful 
         said (eq-eqb (user_at script i task).0 group.0 mine)
         ∙ ap (λ (l : List Item). private_hit (length (ways_of mask)) l line) (items-asked sets group.0 (line % sets) used since (flat_map f (range_with_len (from + 1) (i - (from + 1)))) asked_since)
 
-    -- the op's only entry is the access
-    op-other : (k : ℕ) → k ≢ i → All (λ (y : SliceEntry). y.op ≢ i) (f k)
-    op-other k ne = All-weaker (λ (y : SliceEntry). y.op ≡ k) (λ (y : SliceEntry). y.op ≢ i) (λ y is_k same. ne (sym is_k ∙ same)) (f k) (asked_of_op-op script j side x k (op_at script k))
-
+    -- it is the op's only entry
     has_at-e : (p : What → Bool) → has_at entries i p ≡ p e.what
-    has_at-e p =
-        ap (λ (l : List SliceEntry). has_at l i p) cut.whole
-        ∙ has_at-cut cut.left cut.right e i p
-        (All-unmap (λ (y : SliceEntry). y.op ≢ i) asked_by cut.left (subst (All (λ (y : SliceEntry). y.op ≢ i)) (sym cut.left_is) (All-flat_map_range (λ (y : SliceEntry). y.op ≢ i) f 0 i (λ k low high. op-other k (λ same. omega arith)))))
-        (All-unmap (λ (y : SliceEntry). y.op ≢ i) asked_by cut.right (subst (All (λ (y : SliceEntry). y.op ≢ i)) (sym cut.right_is) (All-flat_map_range (λ (y : SliceEntry). y.op ≢ i) f (i + 1) (length script.ops - (i + 1)) (λ k low high. op-other k (λ same. omega arith)))))
-        e-op
+    has_at-e = has_at-asked script j side x i (length script.ops - (i + 1)) entries wanted refl cut
 
     -- a use that is asked here hits exactly where it does in a private cache, and misses where it does not
     pub has_at-private : (own : ℕ → Bool) × ((has_at entries i is_hit ≡ private_hit (length (ways_of mask)) (lines own) line) × (has_at entries i is_miss ≡ not (private_hit (length (ways_of mask)) (lines own) line)))

@@ -3,6 +3,7 @@ pub mod Conditions
 pub mod Fits
 pub mod Floors
 pub mod Keeping
+pub mod LevelAsks
 pub mod Levels
 pub mod Lines
 pub mod Mkdir

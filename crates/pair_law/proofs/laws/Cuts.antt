@@ -1,5 +1,5 @@
 -- Entries by the op that made them: what stands before, at and after an op.
-use Rattle.std.proofs.Common.{◌≡◌, ◌≢◌, ℕ, zero, suc, ◌+◌, ◌<◌, ◌≤◌, Bool, true, false, ◌&&◌, ◌||◌, eqb, List, [], ◌∷◌, ◌++◌, map, get_or, inl, inr, refl, subst, ap, ap₂, ◌∙◌, arith}
+use Rattle.std.proofs.Common.{◌≡◌, ◌≢◌, ℕ, zero, suc, ◌+◌, ◌-◌, ◌<◌, ◌≤◌, Bool, true, false, ◌&&◌, ◌||◌, eqb, List, [], ◌∷◌, ◌++◌, map, get_or, inl, inr, refl, subst, ap, ap₂, ◌∙◌, arith}
 use Rattle.std.specs.List.{All, flat_map, list_any, range_with_len}
 use Rattle.std.proofs.lemmas.Bool.{cases_lt, eq-eqb, ne_eqb}
 use Rattle.std.proofs.lemmas.Grind.{flat_map-append}
@@ -9,8 +9,6 @@ use Rattle.cache_core.specs.declared.entry.SliceEntry.{SliceEntry}
 use Rattle.cache_core.specs.declared.entry.What.{What}
 use Rattle.lists.proofs.Pairs.{All-flat_map}
 use Rattle.pair_law.specs.LevelRuns.{has_at}
-
--- ---- ranges
 
 -- two ranges, one after the other
 pub range_with_len-append : (a x y n b : ℕ) → n ≡ x + y → b ≡ a + x → range_with_len a n ≡ range_with_len a x ++ range_with_len b y
@@ -94,6 +92,14 @@ module _ {X Y : Type 0} (f : X → Y) where
 
       at : Split es A (y ∷ B) → Cut es A y B
       at s = head s.left s.right s.whole s.left_is s.right_is
+
+  -- a list whose image the numbers below n give, cut where one of them gives one element
+  pub cut-range : (es : List X) (g : ℕ → List Y) (n i : ℕ) (y : Y) → map f es ≡ flat_map g (range_with_len 0 n) → i < n → g i ≡ y ∷ []
+      → Cut es (flat_map g (range_with_len 0 i)) y (flat_map g (range_with_len (i + 1) (n - (i + 1))))
+  cut-range es g n i y is within one = map-cut es (flat_map g (range_with_len 0 i)) y (flat_map g (range_with_len (i + 1) (n - (i + 1))))
+      (is
+      ∙ (flat_map-range_at g 0 i (n - (i + 1)) n i (omega arith) (omega arith)
+      ∙ ap (λ (l : List Y). flat_map g (range_with_len 0 i) ++ (l ++ flat_map g (range_with_len (i + 1) (n - (i + 1))))) one))
 
 -- ---- the entry of an op
 
