@@ -27,5 +27,6 @@ pub mod SegmentEnds
 pub mod SegmentSteps
 pub mod SegmentWindows
 pub mod SharedDomains
+pub mod SharedGroups
 pub mod Turns
 pub mod laws
