@@ -1,11 +1,14 @@
+pub mod AlonePartitions
 pub mod CdpCloses
 pub mod CdpDomains
 pub mod CdpMeets
 pub mod CdpSteps
 pub mod CountedWindows
 pub mod CoveredUses
+pub mod DomainJointWindows
 pub mod DomainLists
 pub mod DomainSteps
+pub mod DomainUsedWindows
 pub mod EarlierWindows
 pub mod FittingOps
 pub mod FlushWindows
