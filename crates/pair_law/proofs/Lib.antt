@@ -1,7 +1,6 @@
 pub mod Alone
 pub mod Conditions
 pub mod Fits
-pub mod Floors
 pub mod Keeping
 pub mod LevelAsks
 pub mod Levels

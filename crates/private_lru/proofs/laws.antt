@@ -2,6 +2,8 @@
 pub mod AloneEntries
 pub mod CoveredAccesses
 pub mod CoveredHits
+pub mod EntryExtents
+pub mod EntryFloors
 pub mod Extents
 pub mod FirstPlaces
 pub mod LastEpochs

@@ -1,30 +1,19 @@
 -- Every window of a run is isolated.
-use Rattle.std.proofs.Common.{◌≡◌, ℕ, ◌+◌, ◌-◌, ◌<◌, ◌≤◌, List, length, drop, get_or, sym, subst, ◌∙◌, arith}
-use Rattle.std.specs.List.{All}
-use Rattle.std.proofs.lemmas.List.{get_or-drop, get_or-take, length-take}
-use Rattle.std.proofs.lemmas.Option.{get_or_from_slice_get, slice_get-get_or}
+use Rattle.std.proofs.Common.{ℕ, ◌-◌, List, length, sym, subst, arith}
+use Rattle.std.proofs.lemmas.Option.{get_or_from_slice_get}
 use Rattle.cache_core.specs.declared.entry.SliceEntry.{SliceEntry}
 use Rattle.cbm.specs.Masks.{ways_of}
-use Rattle.private_lru.specs.Isolation.{IsIsolated, Respects, between}
+use Rattle.private_lru.specs.Isolation.{IsIsolated, Respects}
+use Rattle.private_lru.proofs.laws.EntryExtents.{All-between}
 use Rattle.private_lru.proofs.laws.SliceWindows.{IsIsolated-between}
 use Rattle.private_lru.proofs.laws.CoveredHits.{covered_hits-two_worlds}
 use Rattle.rc_base.specs.declared.names.Gid.{Gid}
-use Rattle.run_law.specs.Journals.{At, JournalsValue, slice_at}
+use Rattle.run_law.specs.Journals.{JournalsValue, slice_at}
 use Rattle.run_law.specs.Runs.{IsRun}
 use Rattle.run_law.specs.Slices.{shape_in}
 use Rattle.script_ops.specs.Values.{IsLawful, ScriptValue}
 use Rattle.run_windows.specs.WindowLaws.{IsWindowOf, WindowsAreIsolated, WorldsAgree}
 use Rattle.run_windows.proofs.WindowEntries.{IsValid-window, Opens-window, Respects-window}
-
--- what holds of the entries between two places holds of each of the list of them
-pub All-between : (P : SliceEntry → Type 0) (es : List SliceEntry) (from to : ℕ) → from < to → to ≤ length es → ((p : ℕ) (e : SliceEntry) → At es p e → from < p → p < to → P e) → All P (between es from to)
-All-between P es from to less most each k d within =
-    let n : ℕ = to - (from + 1) in
-    let rest : List SliceEntry = drop (from + 1) es in
-    let small : k < n = omega (arith, within, length-take n rest) in
-    let p : ℕ = from + 1 + k in
-    let is : get_or (between es from to) k d ≡ get_or es p d = get_or-take n rest k d small ∙ get_or-drop (from + 1) es k d in
-    subst P (sym is) (each p (get_or es p d) (slice_get-get_or es p d (omega arith)) (omega arith) (omega arith))
 
 -- every window of a run
 pub IsIsolated-window : WindowsAreIsolated

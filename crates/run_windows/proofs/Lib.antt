@@ -2,10 +2,8 @@ mod ChangeLists
 mod ChangedGroups
 mod CountedWindows
 mod Entries
-mod EntryExtents
 mod Epochs
 mod ExclusiveLists
-mod Floors
 mod FrontWindows
 mod GivenCommands
 mod IsolatedWindows

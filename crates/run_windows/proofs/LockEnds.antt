@@ -13,7 +13,7 @@ use Rattle.run_windows.specs.Epochs.{state_at}
 use Rattle.run_windows.specs.WindowLaws.{LockWindowsExist}
 use Rattle.run_windows.specs.Regions.{HasRegion}
 use Rattle.run_windows.proofs.Entries.{IsRun-given}
-use Rattle.run_windows.proofs.EntryExtents.{IsExtent-end, IsExtent-entries}
+use Rattle.private_lru.proofs.laws.EntryExtents.{IsExtent-end, IsExtent-entries}
 use Rattle.run_windows.proofs.GivenCommands.{IsGiven}
 use Rattle.run_windows.proofs.StepFollows.{IsRegionOf}
 use Rattle.tree_law.specs.State.{State}

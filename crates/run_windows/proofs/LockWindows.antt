@@ -25,7 +25,7 @@ use Rattle.run_windows.specs.Regions.{HasRegion}
 use Rattle.run_windows.proofs.Entries.{IsRun-given}
 use Rattle.run_windows.proofs.GivenCommands.{IsGiven, IsGivenEntry}
 use Rattle.run_windows.proofs.Epochs.{IsSound-state_at}
-use Rattle.run_windows.proofs.IsolatedWindows.{All-between}
+use Rattle.private_lru.proofs.laws.EntryExtents.{All-between}
 use Rattle.run_windows.proofs.Owners.{mask_of_group-region}
 use Rattle.run_windows.proofs.StepFollows.{IsRegionOf}
 

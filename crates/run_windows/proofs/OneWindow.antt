@@ -16,7 +16,7 @@ use Rattle.tree_law.specs.State.{State}
 use Rattle.run_windows.specs.Epochs.{state_at}
 use Rattle.run_windows.specs.WindowLaws.{WindowsAreUnique}
 use Rattle.run_windows.specs.Windows.{Ends, GoesOver, IsExclusive, StaysExclusive}
-use Rattle.run_windows.proofs.EntryExtents.{Ends-not_over, GoesOver-or_ends, IsExtent-between, IsOverAt}
+use Rattle.private_lru.proofs.laws.EntryExtents.{ends-not_over, ends-or_over, IsExtent-between, IsOverAt}
 use Rattle.run_windows.proofs.Owners.{IsSomeAnd-parts}
 
 -- a group has one mask in a domain
@@ -39,7 +39,7 @@ IsWindow-same script j i from to other_to opening other group mask other_mask la
     let stays_so : StaysExclusive script j domain group mask opening.epoch other_last = subst (λ k. StaysExclusive script j domain group k opening.epoch other_last) (sym masks) stays in
     let lasts : last ≡ other_last = IsSpan-same (λ epoch. IsExclusive domain group mask (state_at script j epoch)) opening.epoch (length j.tree) last other_last one.exclusive stays_so in
     let es : List SliceEntry = slice_at j i in
-    let x = IsExtent-between (GoesOver last) (Ends last) (GoesOver-or_ends last) (Ends-not_over last) es from to one.after_opening one.within one.goes_over one.ends in
-    let y = IsExtent-between (GoesOver last) (Ends last) (GoesOver-or_ends last) (Ends-not_over last) es from other_to two.after_opening two.within
+    let x = IsExtent-between (GoesOver last) (Ends last) (ends-or_over last) (ends-not_over last) es from to one.after_opening one.within one.goes_over one.ends in
+    let y = IsExtent-between (GoesOver last) (Ends last) (ends-or_over last) (ends-not_over last) es from other_to two.after_opening two.within
     (λ p e there late early. subst (λ k. GoesOver k e) (sym lasts) (two.goes_over p e there late early)) (subst (λ k. IfSome (slice_get es other_to) (Ends k)) (sym lasts) two.ends) in
     record { same_mask = masks; same_last = lasts; same_end = IsExtent-same (IsOverAt (GoesOver last) es) (from + 1) (length es) to other_to x y }

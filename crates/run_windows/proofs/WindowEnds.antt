@@ -14,7 +14,7 @@ use Rattle.run_windows.specs.Epochs.{state_at}
 use Rattle.run_windows.specs.WindowLaws.{WindowsExist}
 use Rattle.run_windows.specs.Windows.{Ends, GoesOver, IsExclusive}
 use Rattle.run_windows.proofs.Entries.{IsRun-given}
-use Rattle.run_windows.proofs.EntryExtents.{Ends-not_over, GoesOver-or_ends, IsExtent-end, IsExtent-entries}
+use Rattle.private_lru.proofs.laws.EntryExtents.{ends-not_over, ends-or_over, IsExtent-end, IsExtent-entries}
 use Rattle.private_lru.proofs.laws.LastEpochs.{IsSpan-some}
 use Rattle.tree_law.specs.Existing.{group_of}
 use Rattle.tree_law.specs.State.{State}
@@ -42,7 +42,7 @@ IsWindow-some script j i from opening group mask lawful run there opens empty ex
     (IsRun-given script j i from opening lawful run there opens).known exclusive in
     let last : ℕ = span.0 in
     let inside : from < length es = slice_get_within es from opening opens in
-    let x = IsExtent-entries (GoesOver last) (Ends last) (GoesOver-or_ends last) (Ends-not_over last) es (from + 1) (omega (arith, inside)) in
+    let x = IsExtent-entries (GoesOver last) (Ends last) (ends-or_over last) (ends-not_over last) es (from + 1) (omega (arith, inside)) in
     let begins = x.1.begins in (
       x.0,
       last,
@@ -54,6 +54,6 @@ IsWindow-some script j i from opening group mask lawful run there opens empty ex
         after_opening = omega (arith, begins);
         within = x.1.within;
         goes_over = λ p e at low high. x.1.over p (omega (arith, low)) high e at;
-        ends = IsExtent-end (GoesOver last) (Ends last) (GoesOver-or_ends last) (Ends-not_over last) es (from + 1) x.0 x.1;
+        ends = IsExtent-end (GoesOver last) (Ends last) (ends-or_over last) (ends-not_over last) es (from + 1) x.0 x.1;
       },
     )

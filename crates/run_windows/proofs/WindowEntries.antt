@@ -25,7 +25,7 @@ use Rattle.run_windows.specs.Windows.{IsExclusive, IsWindow}
 use Rattle.run_windows.proofs.Entries.{IsRun-given}
 use Rattle.run_windows.proofs.GivenCommands.{IsGiven, IsGivenEntry, domain_in-lt}
 use Rattle.run_windows.proofs.Epochs.{IsSound-state_at}
-use Rattle.run_windows.proofs.Floors.{epoch-le, is_access, sets_floor-empties}
+use Rattle.private_lru.proofs.laws.EntryFloors.{epoch-le, is_access, sets_floor-empties}
 use Rattle.run_windows.proofs.Owners.{IsValid-exclusive, mask_of_group-exclusive, overlaps-region}
 
 -- what an entry says in a state in which the group is exclusive

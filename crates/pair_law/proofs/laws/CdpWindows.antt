@@ -15,8 +15,8 @@ use Rattle.pair_text.specs.Values.{PairScriptValue}
 use Rattle.pair_text.specs.declared.side.Side.{Side}
 use Rattle.pair_law.proofs.Alone.{IsResolved-alone, IsValid-alone}
 use Rattle.pair_law.proofs.laws.CdpEntries.{IsCdpRun-given, IsGiven}
-use Rattle.pair_law.proofs.Floors.{epoch-le, is_access}
-use Rattle.pair_law.proofs.Positions.{All-between}
+use Rattle.private_lru.proofs.laws.EntryExtents.{All-between}
+use Rattle.private_lru.proofs.laws.EntryFloors.{epoch-le, is_access}
 use Rattle.pair_law.specs.CdpRuns.{owner_on}
 use Rattle.pair_law.specs.CdpWindows.{IsAlone}
 use Rattle.pair_law.specs.Entries.{slice_in}

@@ -1,8 +1,6 @@
 -- A flush begins just one window.
-use Rattle.std.proofs.Common.{◌≡◌, ℕ, ◌+◌, ◌-◌, ◌<◌, ◌≤◌, true, false, List, length, get_or, Option, None, Some, ◌⊎◌, inl, inr, refl, sym, subst, ◌∙◌, arith}
-use Rattle.std.specs.Prelude.{IfSome, slice_get}
+use Rattle.std.proofs.Common.{◌≡◌, ℕ, ◌+◌, ◌-◌, ◌<◌, ◌≤◌, true, false, List, length, Some, ◌⊎◌, inl, inr, refl, sym, subst, ◌∙◌, arith}
 use Rattle.std.proofs.lemmas.Bool.{cases_Bool, cases_lt, true≢false}
-use Rattle.std.proofs.lemmas.Option.{slice_get-get_or}
 use Rattle.cache_core.specs.Filled.{empties}
 use Rattle.cache_core.specs.declared.entry.SliceEntry.{SliceEntry}
 use Rattle.pair_law.specs.Epochs.{state_at}
@@ -12,61 +10,27 @@ use Rattle.pair_text.specs.declared.side.Side.{Side}
 use Rattle.pair_law.proofs.laws.CdpEntries.{IsCdpRun-given}
 use Rattle.pair_law.proofs.laws.Commands.{epoch_at-lt}
 use Rattle.pair_law.proofs.Conditions.{Decided, HasLevels-decided, HasLevels-masks, HasLevels-same, IsAlone-decided, IsAlone-mask}
-use Rattle.std.proofs.lemmas.Option.{slice_get_within}
+use Rattle.std.proofs.lemmas.Option.{same_Some, slice_get_within}
 use Rattle.pair_law.specs.CdpRuns.{CdpJournalsValue}
 use Rattle.pair_law.specs.CdpWindows.{IsAlone, IsCdpWindow, StaysAlone}
 use Rattle.pair_law.specs.Entries.{slice_in}
-use Rattle.run_law.specs.Journals.{At}
 use Rattle.pair_law.specs.JointWindows.{HasLevels, IsJointWindow, is_flush}
 use Rattle.pair_law.specs.WindowLaws.{CdpWindowsAreUnique, CdpWindowsExist, JointWindowsAreUnique, JointWindowsExist}
 use Rattle.rc_base.specs.declared.names.Gid.{Gid}
+use Rattle.private_lru.proofs.laws.EntryExtents.{IsExtent-between, IsExtent-end, IsExtent-entries, IsOverAt, ends-not_over, ends-or_over}
 use Rattle.private_lru.proofs.laws.Extents.{IsExtent, IsExtent-same, IsExtent-some}
 use Rattle.private_lru.proofs.laws.LastEpochs.{IsSpan-as, IsSpan-same, IsSpan-some}
 use Rattle.private_lru.specs.Spans.{IsSpan}
 
-At-same : {X : Type 0} (a b : X) → Some a ≡ Some b → a ≡ b
-At-same a b e = cc
-
 -- ---- in one cache
 
 -- an entry that a window goes over
-abbrev OverEntry : List SliceEntry → ℕ → ℕ → Type 0
-OverEntry es last k = (e : SliceEntry) → At es k e → (empties e.what ≡ false) × (e.epoch ≤ last)
+abbrev GoesOver : ℕ → SliceEntry → Type 0
+GoesOver last e = (empties e.what ≡ false) × (e.epoch ≤ last)
 
--- one that it does not go over ends it
-ends-or_over : (last : ℕ) (e : SliceEntry) → ((empties e.what ≡ false) × (e.epoch ≤ last)) ⊎ ((empties e.what ≡ true) ⊎ (last < e.epoch))
-ends-or_over last e = elim (cases_Bool (empties e.what)) [
-  | inl empty ↦ inr (inl empty)
-  | inr full ↦ elim (cases_lt last e.epoch) [
-    | inl late ↦ inr (inr late)
-    | inr early ↦ inl (full, early)
-  ]
-]
-
-ends-not_over : (last : ℕ) (e : SliceEntry) → (empties e.what ≡ true) ⊎ (last < e.epoch) → (empties e.what ≡ false) × (e.epoch ≤ last) → ⊥
-ends-not_over last e (inl empty) over = true≢false (sym empty ∙ over.0)
-ends-not_over last e (inr late) over = let le = over.1 in absurd (omega (arith, le))
-
-OverEntry-decided : (es : List SliceEntry) (last k : ℕ) → Decided (OverEntry es last k)
-OverEntry-decided es last k = at (slice_get es k) refl
-  where
-    at : (o : Option SliceEntry) → slice_get es k ≡ o → Decided (OverEntry es last k)
-    at None none = inl (λ e there. absurd (let bad : None ≡ Some e = sym none ∙ there in cc))
-    at (Some x) is = elim (ends-or_over last x) [
-      | inl over ↦ inl (λ e there. subst (λ (y : SliceEntry). (empties y.what ≡ false) × (y.epoch ≤ last)) (At-same x e (sym is ∙ there)) over)
-      | inr ends ↦ inr (λ all. ends-not_over last x ends (all x is))
-    ]
-
--- what ends an extent of entries
-IsExtent-ends : (es : List SliceEntry) (last start to : ℕ) → IsExtent (OverEntry es last) start (length es) to → IfSome (slice_get es to) (λ e. (empties e.what ≡ true) ⊎ (last < e.epoch))
-IsExtent-ends es last start to x = at (slice_get es to) refl
-  where
-    at : (o : Option SliceEntry) → slice_get es to ≡ o → IfSome o (λ e. (empties e.what ≡ true) ⊎ (last < e.epoch))
-    at None none = tt
-    at (Some e) is = elim (ends-or_over last e) [
-      | inl over ↦ absurd (x.ends (slice_get_within es to e is) (λ y there. subst (λ (z : SliceEntry). (empties z.what ≡ false) × (z.epoch ≤ last)) (At-same e y (sym is ∙ there)) over))
-      | inr ends ↦ ends
-    ]
+-- one that ends it
+abbrev Ends : ℕ → SliceEntry → Type 0
+Ends last e = (empties e.what ≡ true) ⊎ (last < e.epoch)
 
 pub IsCdpWindow-some : CdpWindowsExist
 IsCdpWindow-some script j domain from opening group side mask run exists opens flush alone =
@@ -74,7 +38,7 @@ IsCdpWindow-some script j domain from opening group side mask run exists opens f
     let known = (IsCdpRun-given script domain j from opening run exists opens).known in
     let span = IsSpan-some (λ epoch. IsAlone domain group side mask (state_at script epoch)) (λ epoch. IsAlone-decided domain group side mask (state_at script epoch)) opening.epoch (length (commands_of script)) known alone in
     let inside : from < length es = slice_get_within es from opening opens in
-    let x = IsExtent-some (OverEntry es span.0) (OverEntry-decided es span.0) (length es - (from + 1)) (from + 1) (length es) (omega arith) in
+    let x = IsExtent-entries (GoesOver span.0) (Ends span.0) (ends-or_over span.0) (ends-not_over span.0) es (from + 1) (omega (arith, inside)) in
     let begins = x.1.begins in (
       x.0,
       span.0,
@@ -86,30 +50,20 @@ IsCdpWindow-some script j domain from opening group side mask run exists opens f
         after_opening = omega (arith, begins);
         within = x.1.within;
         goes_over = λ p e there low high. x.1.over p (omega arith) high e there;
-        ends = IsExtent-ends es span.0 (from + 1) x.0 x.1;
+        ends = IsExtent-end (GoesOver span.0) (Ends span.0) (ends-or_over span.0) (ends-not_over span.0) es (from + 1) x.0 x.1;
       },
     )
 
 -- the extent of a window
 IsExtent-window : (script : PairScriptValue) (j : CdpJournalsValue) (domain from to : ℕ) (opening : SliceEntry) (group : Gid) (side : Side) (mask last : ℕ) → IsCdpWindow script j domain from to opening group side mask last
-    → IsExtent (OverEntry (slice_in j.slices domain) last) (from + 1) (length (slice_in j.slices domain)) to
+    → IsExtent (IsOverAt (GoesOver last) (slice_in j.slices domain)) (from + 1) (length (slice_in j.slices domain)) to
 IsExtent-window script j domain from to opening group side mask last w =
-    let after = w.after_opening in
-    record {
-      begins = omega (arith, after);
-      within = w.within;
-      over = λ k low high e there. w.goes_over k e there (omega arith) high;
-      ends = λ less over. at (slice_get (slice_in j.slices domain) to) refl w.ends less over;
-    }
-  where
-    at : (o : Option SliceEntry) → slice_get (slice_in j.slices domain) to ≡ o → IfSome o (λ e. (empties e.what ≡ true) ⊎ (last < e.epoch)) → to < length (slice_in j.slices domain) → OverEntry (slice_in j.slices domain) last to → ⊥
-    at None none ends less over = (let some : slice_get (slice_in j.slices domain) to ≡ Some (get_or (slice_in j.slices domain) to opening) = slice_get-get_or (slice_in j.slices domain) to opening less in let bad : None ≡ Some (get_or (slice_in j.slices domain) to opening) = sym none ∙ some in cc)
-    at (Some e) is ends less over = ends-not_over last e ends (over e is)
+    IsExtent-between (GoesOver last) (Ends last) (ends-or_over last) (ends-not_over last) (slice_in j.slices domain) from to w.after_opening w.within w.goes_over w.ends
 
 pub IsCdpWindow-same : CdpWindowsAreUnique
 IsCdpWindow-same script j domain from to other_to opening other group side mask other_mask last other_last one two =
     let es : List SliceEntry = slice_in j.slices domain in
-    let same_opening : other ≡ opening = At-same other opening (sym two.opens ∙ one.opens) in
+    let same_opening : other ≡ opening = same_Some other opening (sym two.opens ∙ one.opens) in
     let stays : StaysAlone script domain group side other_mask opening.epoch other_last = subst (λ (e : SliceEntry). StaysAlone script domain group side other_mask e.epoch other_last) same_opening two.alone in
     let low = one.alone.from_first in
     let low' = stays.from_first in
@@ -117,8 +71,8 @@ IsCdpWindow-same script j domain from to other_to opening other group side mask 
     let so : StaysAlone script domain group side mask opening.epoch other_last = subst (λ n. StaysAlone script domain group side n opening.epoch other_last) (sym masks) stays in
     let lasts : last ≡ other_last = IsSpan-same (λ epoch. IsAlone domain group side mask (state_at script epoch)) opening.epoch (length (commands_of script)) last other_last one.alone so in
     let x = IsExtent-window script j domain from to opening group side mask last one in
-    let y : IsExtent (OverEntry es last) (from + 1) (length es) other_to = subst (λ n. IsExtent (OverEntry es n) (from + 1) (length es) other_to) (sym lasts) (IsExtent-window script j domain from other_to other group side other_mask other_last two) in
-    record { same_end = IsExtent-same (OverEntry es last) (from + 1) (length es) to other_to x y; same_last = lasts; same_mask = masks }
+    let y : IsExtent (IsOverAt (GoesOver last) es) (from + 1) (length es) other_to = subst (λ n. IsExtent (IsOverAt (GoesOver n) es) (from + 1) (length es) other_to) (sym lasts) (IsExtent-window script j domain from other_to other group side other_mask other_last two) in
+    record { same_end = IsExtent-same (IsOverAt (GoesOver last) es) (from + 1) (length es) to other_to x y; same_last = lasts; same_mask = masks }
 
 -- ---- at two levels
 

@@ -1,5 +1,6 @@
 -- An access is of no earlier epoch than a raise, a flush or a lock before it.
-use Rattle.std.proofs.Common.{◌≡◌, ℕ, zero, suc, ◌<◌, ◌≤◌, Bool, true, false, List, [], ◌∷◌, length, take, get_or, refl, subst, ap, ◌∙◌, arith}
+use Rattle.std.proofs.Common.{◌≡◌, ℕ, zero, suc, ◌<◌, ◌≤◌, Bool, true, false, List, [], ◌∷◌, length, take, get_or, Some, refl, subst, ap, ◌∙◌, arith}
+use Rattle.std.specs.Prelude.{slice_get}
 use Rattle.std.proofs.lemmas.Bool.{false≢true}
 use Rattle.std.proofs.lemmas.List.{get_or-take, length-take}
 use Rattle.std.proofs.lemmas.Option.{get_or_from_slice_get, slice_get_within}
@@ -9,7 +10,6 @@ use Rattle.cache_core.specs.declared.entry.SliceEntry.{SliceEntry}
 use Rattle.cache_core.specs.declared.entry.What.{What}
 use Rattle.cache_core.specs.declared.entry.What.TheVariants.{Access, Raise, Flush, Lock, Look, Drop}
 use Rattle.rc_base.proofs.laws.Histories.{EachFollows-at}
-use Rattle.run_law.specs.Journals.{At}
 
 -- an access
 abbrev pub is_access : What → Bool
@@ -32,7 +32,7 @@ floor_of-le m before epoch (Look rmid lines) access may = absurd (false≢true a
 floor_of-le m before epoch (Drop line at) access may = absurd (false≢true access)
 
 -- so an access is of no earlier epoch than an entry before it that set the floor
-pub epoch-le : (m : Shape) (es : List SliceEntry) (q p : ℕ) (earlier e : SliceEntry) → IsLegal m es → At es q earlier → At es p e → q < p → sets_floor earlier.what ≡ true → is_access e.what ≡ true
+pub epoch-le : (m : Shape) (es : List SliceEntry) (q p : ℕ) (earlier e : SliceEntry) → IsLegal m es → slice_get es q ≡ Some earlier → slice_get es p ≡ Some e → q < p → sets_floor earlier.what ≡ true → is_access e.what ≡ true
     → earlier.epoch ≤ e.epoch
 epoch-le m es q p earlier e legal first second before sets access =
     let within : p < length es = slice_get_within es p e second in

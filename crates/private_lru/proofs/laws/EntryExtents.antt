@@ -1,17 +1,18 @@
 -- How far the entries of a slice are gone over.
-use Rattle.std.proofs.Common.{◌≡◌, ℕ, ◌+◌, ◌-◌, ◌<◌, ◌≤◌, List, [], ◌∷◌, length, get_or, Option, None, Some, ◌⊎◌, inl, inr, refl, sym, subst, ◌∙◌, arith}
+use Rattle.std.proofs.Common.{◌≡◌, ℕ, ◌+◌, ◌-◌, ◌<◌, ◌≤◌, List, [], ◌∷◌, length, drop, get_or, Option, None, Some, ◌⊎◌, inl, inr, refl, sym, subst, ◌∙◌, arith, true, false}
+use Rattle.std.specs.List.{All}
 use Rattle.std.specs.Prelude.{IfSome, slice_get}
 use Rattle.std.proofs.lemmas.Bool.{cases_Bool, cases_lt, true≢false}
+use Rattle.std.proofs.lemmas.List.{get_or-drop, get_or-take, length-take}
 use Rattle.std.proofs.lemmas.Option.{same_Some, slice_get-get_or, slice_get_within}
 use Rattle.cache_core.specs.Filled.{empties}
 use Rattle.cache_core.specs.declared.entry.SliceEntry.{SliceEntry}
-use Rattle.run_law.specs.Journals.{At}
-use Rattle.run_windows.specs.Windows.{Ends, GoesOver}
 use Rattle.private_lru.proofs.laws.Extents.{IsExtent, IsExtent-some}
+use Rattle.private_lru.specs.Isolation.{between}
 
 -- the entry at a place is gone over
 abbrev pub IsOverAt : (SliceEntry → Type 0) → List SliceEntry → ℕ → Type 0
-IsOverAt Over es k = (e : SliceEntry) → At es k e → Over e
+IsOverAt Over es k = (e : SliceEntry) → slice_get es k ≡ Some e → Over e
 
 -- each entry is gone over, or it ends that
 module _ (Over End : SliceEntry → Type 0) (either : (e : SliceEntry) → Over e ⊎ End e) (apart : (e : SliceEntry) → End e → Over e → ⊥) (es : List SliceEntry) where
@@ -41,7 +42,7 @@ module _ (Over End : SliceEntry → Type 0) (either : (e : SliceEntry) → Over 
       ]
 
   -- the extent of what is gone over after a place, up to what ends it
-  pub IsExtent-between : (from to : ℕ) → from < to → to ≤ length es → ((p : ℕ) (e : SliceEntry) → At es p e → from < p → p < to → Over e) → IfSome (slice_get es to) End
+  pub IsExtent-between : (from to : ℕ) → from < to → to ≤ length es → ((p : ℕ) (e : SliceEntry) → slice_get es p ≡ Some e → from < p → p < to → Over e) → IfSome (slice_get es to) End
       → IsExtent (IsOverAt Over es) (from + 1) (length es) to
   IsExtent-between from to after within goes_over ends = record {
     begins = omega (arith, after);
@@ -60,11 +61,11 @@ module _ (Over End : SliceEntry → Type 0) (either : (e : SliceEntry) → Over 
           entry_of (e ∷ rest) lt = e
       at (Some e) is ends less over = apart e ends (over e is)
 
--- ---- in a window
+-- ---- in a window, up to an epoch
 
--- an entry is gone over, or ends it
-pub GoesOver-or_ends : (last : ℕ) (e : SliceEntry) → GoesOver last e ⊎ Ends last e
-GoesOver-or_ends last e = elim (cases_Bool (empties e.what)) [
+-- an entry is gone over, or ends the window
+pub ends-or_over : (last : ℕ) (e : SliceEntry) → ((empties e.what ≡ false) × (e.epoch ≤ last)) ⊎ ((empties e.what ≡ true) ⊎ (last < e.epoch))
+ends-or_over last e = elim (cases_Bool (empties e.what)) [
   | inl empty ↦ inr (inl empty)
   | inr full ↦ elim (cases_lt last e.epoch) [
     | inl late ↦ inr (inr late)
@@ -72,7 +73,17 @@ GoesOver-or_ends last e = elim (cases_Bool (empties e.what)) [
   ]
 ]
 
--- what ends a window is not gone over
-pub Ends-not_over : (last : ℕ) (e : SliceEntry) → Ends last e → GoesOver last e → ⊥
-Ends-not_over last e (inl empties) over = true≢false (sym empties ∙ over.0)
-Ends-not_over last e (inr late) over = let le = over.1 in absurd (omega (arith, late, le))
+-- what ends it is not gone over
+pub ends-not_over : (last : ℕ) (e : SliceEntry) → (empties e.what ≡ true) ⊎ (last < e.epoch) → (empties e.what ≡ false) × (e.epoch ≤ last) → ⊥
+ends-not_over last e (inl empty) over = true≢false (sym empty ∙ over.0)
+ends-not_over last e (inr late) over = let le = over.1 in absurd (omega (arith, late, le))
+
+-- what holds of the entries between two places holds of each of the list of them
+pub All-between : (P : SliceEntry → Type 0) (es : List SliceEntry) (from to : ℕ) → from < to → to ≤ length es → ((p : ℕ) (e : SliceEntry) → slice_get es p ≡ Some e → from < p → p < to → P e) → All P (between es from to)
+All-between P es from to less most each k d within =
+    let n : ℕ = to - (from + 1) in
+    let rest : List SliceEntry = drop (from + 1) es in
+    let small : k < n = omega (arith, within, length-take n rest) in
+    let p : ℕ = from + 1 + k in
+    let is : get_or (between es from to) k d ≡ get_or es p d = get_or-take n rest k d small ∙ get_or-drop (from + 1) es k d in
+    subst P (sym is) (each p (get_or es p d) (slice_get-get_or es p d (omega arith)) (omega arith) (omega arith))
