@@ -1,12 +1,11 @@
 -- What the tree's cell and a thread keep with a command more.
-use Rattle.std.proofs.Common.{◌≡◌, ℕ, ◌+◌, ◌*◌, ◌≤◌, true, Bool, List, [], ◌∷◌, ◌++◌, length, map, take, get_or, None, Some, refl, sym, ap, ap₂, ◌∙◌, subst, arith}
-use Rattle.std.specs.Prelude.{IsTrue, nat_lt, not}
+use Rattle.std.proofs.Common.{◌≡◌, ℕ, ◌+◌, ◌≤◌, true, Bool, List, [], ◌∷◌, ◌++◌, length, take, get_or, None, Some, refl, sym, ap, ap₂, ◌∙◌, subst, arith}
+use Rattle.std.specs.Prelude.{IsTrue}
 use Rattle.std.proofs.Math.Seq.{take-append_seam}
 use Rattle.std.proofs.lemmas.List.{length_push}
 use Rattle.atomic_table.specs.Seated.{TableId}
 use Rattle.cache_core.specs.declared.entry.SliceEntry.{SliceEntry}
 use Rattle.live_law.specs.Cells.{TreeKeeps}
-use Rattle.live_law.proofs.laws.CommandStages.{IsFollowing-decide}
 use Rattle.live_law.proofs.laws.FollowStages.{IsFollowing-more, PassesKeepFrom-let_go}
 use Rattle.seen_journal.proofs.laws.Prefixes.{IsPrefix-self}
 use Rattle.live_law.proofs.laws.SliceCells.{At-same}
@@ -14,31 +13,27 @@ use Rattle.live_law.proofs.laws.TreeCells.{TreeKeeps-command}
 use Rattle.live_law.specs.DoneOps.{AreEnded}
 use Rattle.live_law.specs.Passes.{PassesKeepFrom}
 use Rattle.live_law.specs.SeenJournals.{HasGrown, SeesMore}
-use Rattle.live_law.specs.Stages.{IsFollowing, IsLooking, IsReady}
+use Rattle.live_law.specs.Stages.{IsFollowing, IsReady}
 use Rattle.seen_journal.specs.Prefixes.{IsPrefix}
 use Rattle.live_run.proofs.Bridges.{history_length}
-use Rattle.live_run.proofs.Decisions.{IsToDecide, decided_share, entry_follows, state_is}
+use Rattle.live_run.proofs.Decisions.{IsDecided, decided_share, entry_follows, follows_decided, looks_found, state_is}
 use Rattle.seen_journal.proofs.laws.Entries.{IsPrefix-list_of}
 use Rattle.live_run.proofs.Trees.{lists_at, lists_of, lists_same, tree_meets}
-use Rattle.live_run.specs.Cells.{AreOfThreads, ArePasses, TreeCellValue, TreeIsKept, pass_in, taken_from}
+use Rattle.live_run.specs.Cells.{ArePasses, TreeCellValue, TreeIsKept, pass_in}
 use Rattle.live_run.specs.Names.{SeenValue, history_of, seen_by}
 use Rattle.live_run.specs.Commands.{FollowsAt, HasReplied, shown_where}
-use Rattle.live_run.specs.Sharing.{HasStepped, IsShareOf}
+use Rattle.live_run.specs.Sharing.{IsShareOf}
 use Rattle.live_run.specs.Steps.{HasTaken, HaveGrown, HaveSeenSame}
 use Rattle.machine.specs.declared.parameters.Parameters.{Parameters}
 use Rattle.run_law.specs.Entries.{entry_value}
 use Rattle.run_law.specs.Jobs.{jobs_of, looks_of}
 use Rattle.run_law.specs.Journals.{At, JournalsValue}
-use Rattle.run_law.proofs.laws.FoundLooks.{given}
 use Rattle.run_law.proofs.laws.Positions.{At-last}
-use Rattle.run_law.specs.FoundLooks.{HasFound, pairs_for}
 use Rattle.run_law.proofs.laws.FollowCounts.{length-looks}
-use Rattle.run_law.specs.Looks.{lines_looked}
 use Rattle.run_law.specs.Ops.{is_command}
 use Rattle.run_law.specs.TreeHistory.{CommandMayFollow, TreeEntryValue, tree_after}
 use Rattle.run_law.specs.declared.journals.TreeEntry.{TreeEntry}
 use Rattle.schedule_law.specs.LiveParts.{live_tree}
-use Rattle.schedule_law.specs.declared.part.Happening.TheVariants as happenings
 use Rattle.schedule_law.specs.declared.part.Part.{Part}
 use Rattle.script_ops.specs.Values.{ScriptValue, op_at}
 use Rattle.script_ops.specs.declared.op.Op.{Op}
@@ -48,26 +43,9 @@ use Rattle.seen_journal.specs.Passes.{PassValue}
 use Rattle.shared_parts.specs.Shares.{ShareValue}
 use Rattle.tree_core.specs.Values.{TreeValue}
 use Rattle.tree_law.specs.State.{State}
-use Rattle.tree_law.specs.Steps.{needs, next}
+use Rattle.tree_law.specs.Steps.{after, next}
+use Rattle.tree_law.specs.declared.follow.Follow.{Follow}
 use Rattle.live_run.proofs.TakenTrees.{history_push, looks_same, named-next, shown_where-next}
-
--- What is known when a thread's command is decided.
-pub record IsDecided (script : ScriptValue) (table : TableId) (c : TreeCellValue) (s looked new : SeenValue) (n : ℕ) (op : Op) (tree : TreeValue) (journal : JournalValue TreeEntry) (entry : TreeEntry) (worker worker_now : ShareValue Part) : Type 0 where
-  pub looks : IsToDecide script table c s looked n op entry worker
-  pub last : Bool
-  pub made : ℕ
-  pub made_is : made ≡ length (needs script.machine (tree_after script (history_of c.journal.entries)) op) * script.machine.slices
-  pub ends : last ≡ not (nat_lt made (length (jobs_of script (history_of c.journal.entries) (length (history_of c.journal.entries)) op)))
-  pub stepped : HasStepped (happenings.Decide entry last made) worker worker_now
-  pub machine : tree.machine ≡ c.tree.machine
-  pub state : tree.state ≡ (next c.tree.machine c.tree.state op entry.looks.numbers).state
-  pub epoch : tree.epoch ≡ c.tree.epoch + 1
-  pub name : journal.name ≡ c.journal.name
-  pub list : journal.entries ≡ c.journal.entries ++ (looked.thread, entry) ∷ []
-  pub threads : AreOfThreads taken_from journal.entries
-  pub new_thread : new.thread ≡ looked.thread
-  pub seen : new.tree.seen ≡ journal.entries
-  pub slices : new.slices ≡ looked.slices
 
 module _ (script : ScriptValue) (table : TableId) (tree : JournalName) (slices : List JournalName) (c : TreeCellValue) (kept : TreeIsKept script table tree slices c) (now : List (PassValue SliceEntry)) (passes : ArePasses script slices now) (grown : HaveGrown c.slices now) (s looked new : SeenValue) (n : ℕ) (op : Op) (t : TreeValue) (journal : JournalValue TreeEntry) (entry : TreeEntry) (worker worker_now : ShareValue Part) (is : op_at script s.thread n ≡ Some op) (command : IsTrue (is_command op)) (decided : IsDecided script table c s looked new n op t journal entry worker worker_now) where
   abbrev before : JournalsValue
@@ -79,15 +57,8 @@ module _ (script : ScriptValue) (table : TableId) (tree : JournalName) (slices :
   abbrev pub at_k : ℕ
   at_k = length (history_of c.journal.entries)
 
-  -- what the thread has seen
-  abbrev front : JournalsValue
-  front = record { tree = history_of c.journal.entries; slices = lists_of looked.slices }
-
   abbrev behind : JournalsValue
   behind = record { tree = history_of c.journal.entries ++ h ∷ []; slices = lists_of looked.slices }
-
-  was : seen_by looked ≡ front
-  was = ap (λ (hs : List TreeEntryValue). record { tree = hs; slices = lists_of looked.slices }) (ap history_of decided.looks.whole)
 
   -- the history now
   history_now : history_of new.tree.seen ≡ behind.tree
@@ -102,25 +73,6 @@ module _ (script : ScriptValue) (table : TableId) (tree : JournalName) (slices :
   law_is : next c.tree.machine c.tree.state op h.looks ≡ next script.machine (tree_after script before.tree) op h.looks
   law_is = state_is script table tree slices c kept s looked n op entry worker is command decided.looks
 
-  abbrev counts : List (ℕ × ℕ)
-  counts = needs script.machine (tree_after script before.tree) op
-
-  looked_now : IsLooking script decided.looks.at.start s.thread n op decided.looks.at.found front
-  looked_now = subst (λ u. IsLooking script decided.looks.at.start u n op decided.looks.at.found front) decided.looks.same_thread (subst (λ (v : JournalsValue). IsLooking script decided.looks.at.start looked.thread n op decided.looks.at.found v) was decided.looks.at.is)
-
-  all_found : length decided.looks.at.found ≡ length counts * script.machine.slices
-  all_found = omega (arith, decided.looks.at.made)
-
-  -- it was given what its looks counted
-  given_now : map (λ x. Some x) h.looks ≡ map (lines_looked script front h) counts
-  given_now =
-      given script front h counts decided.looks.at.found h.looks
-      (subst (λ u. HasFound front u h.op (pairs_for script before.tree op) decided.looks.at.found) (sym decided.looks.thread)
-      (subst (λ o. HasFound front s.thread o (pairs_for script before.tree op) decided.looks.at.found) (sym decided.looks.number) looked_now.found_are)) all_found decided.looks.at.count decided.looks.at.each
-
-  follows_now : IsFollowing script decided.looks.at.start s.thread n at_k op h (length decided.looks.at.found) behind
-  follows_now = IsFollowing-decide script decided.looks.at.start s.thread n op decided.looks.at.found front h decided.looks.thread decided.looks.number given_now looked_now
-
   may : CommandMayFollow script before.tree h
   may = entry_follows script table tree slices c kept s looked n op entry worker is command decided.looks
 
@@ -131,18 +83,28 @@ module _ (script : ScriptValue) (table : TableId) (tree : JournalName) (slices :
   pub command_follows : FollowsAt script table n at_k op (length (looks_of script (history_of new.tree.seen) at_k op)) new worker_now
   command_follows =
       let looks : length decided.looks.at.found ≡ length (looks_of script (history_of new.tree.seen) at_k op) =
-      all_found ∙ (sym (length-looks script before.tree op) ∙ ap length (sym (looks_same script before.tree h op) ∙ ap (λ hs. looks_of script hs at_k op) (sym history_now))) in
+      looks_found script table tree slices c kept s looked n op entry worker is command decided.looks ∙ (sym (length-looks script before.tree op) ∙ ap length (sym (looks_same script before.tree h op) ∙ ap (λ hs. looks_of script hs at_k op) (sym history_now))) in
       subst (λ made. FollowsAt script table n at_k op made new worker_now) looks
       (record {
         start = decided.looks.at.start;
         ended = subst (λ u. AreEnded script decided.looks.at.start u) (sym decided.new_thread) decided.looks.at.ended;
         h = h;
         is = subst (λ u. IsFollowing script decided.looks.at.start u n at_k op h (length decided.looks.at.found) (seen_by new)) (sym new_thread)
-            (subst (λ (v : JournalsValue). IsFollowing script decided.looks.at.start s.thread n at_k op h (length decided.looks.at.found) v) (sym is_now) follows_now);
+            (subst (λ (v : JournalsValue). IsFollowing script decided.looks.at.start s.thread n at_k op h (length decided.looks.at.found) v) (sym is_now)
+            (follows_decided script table tree slices c kept s looked n op entry worker is command decided.looks));
         found = decided.looks.at.found;
         share_is = decided_share script table tree slices c kept s looked n op entry worker is command decided.looks decided.last decided.made decided.made_is decided.ends new worker_now decided.new_thread (decided.seen ∙ decided.list) decided.stepped;
         last = omega (arith, history_length c.journal.entries, ap length (decided.seen ∙ decided.list), length_push c.journal.entries (looked.thread, entry));
       })
+
+  -- what follows it is what the tree's law says
+  pub decided_follows : (fs : List Follow) → fs ≡ after c.tree.machine c.tree.state c.tree.epoch op → fs ≡ after script.machine (tree_after script (take at_k (history_of new.tree.seen))) at_k op
+  decided_follows fs are =
+      let front : take at_k (history_of new.tree.seen) ≡ before.tree = ap (take at_k) history_now ∙ take-append_seam before.tree (h ∷ []) in
+      are
+      ∙ (ap (λ (m : Parameters). after m c.tree.state c.tree.epoch op) kept.machine
+      ∙ (ap (λ (x : State). after script.machine x c.tree.epoch op) (kept.keeps.state_is ∙ ap (tree_after script) (sym front))
+      ∙ ap (λ x. after script.machine (tree_after script (take at_k (history_of new.tree.seen))) x op) (kept.epoch ∙ sym (history_length c.journal.entries))))
 
   -- its reply is what the tree's law says, and its text what the files show
   pub command_replied : (asked : Bool) (old last : SeenValue) (shown now_shown : List ℕ) → old.thread ≡ s.thread → length (history_of old.tree.seen) ≤ at_k → last.tree ≡ new.tree

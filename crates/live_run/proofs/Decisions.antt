@@ -1,17 +1,25 @@
 -- The decision of a command: what is known then, and the parts of its thread.
-use Rattle.std.proofs.Common.{◌≡◌, ℕ, ◌+◌, ◌*◌, ◌<◌, inl, inr, Bool, List, [], ◌∷◌, ◌++◌, length, take, sum_by, Some, sym, ap, ap₂, ◌∙◌, subst, arith}
+use Rattle.std.proofs.Common.{◌≡◌, ℕ, ◌+◌, ◌*◌, ◌<◌, inl, inr, Bool, List, [], ◌∷◌, ◌++◌, length, map, take, sum_by, Some, sym, ap, ap₂, ◌∙◌, subst, arith}
 use Rattle.std.specs.List.{flat_map}
 use Rattle.std.specs.Prelude.{◌==◌, IsTrue, nat_lt, not}
 use Rattle.std.proofs.Math.Seq.{take-length}
 use Rattle.std.proofs.lemmas.Bool.{cases_lt, eq-eqb, le-ltb, lt-ltb, ne_eqb}
 use Rattle.std.proofs.lemmas.List.{length-append}
 use Rattle.atomic_table.specs.Seated.{TableId}
+use Rattle.live_law.proofs.laws.CommandStages.{IsFollowing-decide}
+use Rattle.live_law.specs.Stages.{IsFollowing, IsLooking}
+use Rattle.live_run.proofs.Trees.{lists_of}
+use Rattle.run_law.proofs.laws.FoundLooks.{given}
+use Rattle.run_law.specs.FoundLooks.{HasFound, pairs_for}
+use Rattle.run_law.specs.Journals.{JournalsValue}
+use Rattle.run_law.specs.Looks.{lines_looked}
+use Rattle.tree_core.specs.Values.{TreeValue}
 use Rattle.live_run.proofs.Bridges.{history_length}
 use Rattle.live_run.proofs.HeldTrees.{following-decide}
 use Rattle.live_run.proofs.TakenTrees.{history_push, jobs_same}
-use Rattle.live_run.specs.Cells.{TreeCellValue, TreeIsKept}
+use Rattle.live_run.specs.Cells.{AreOfThreads, TreeCellValue, TreeIsKept, taken_from}
 use Rattle.live_run.specs.Commands.{LooksAt}
-use Rattle.live_run.specs.Names.{SeenValue, history_of}
+use Rattle.live_run.specs.Names.{SeenValue, history_of, seen_by}
 use Rattle.live_run.specs.Sharing.{HasStepped, IsShareOf, following, holding}
 use Rattle.machine.specs.declared.parameters.Parameters.{Parameters}
 use Rattle.run_law.proofs.laws.FollowCounts.{follows-are, length-follows, length-looks, none-follow, some-follow}
@@ -29,7 +37,7 @@ use Rattle.script_ops.specs.Values.{ScriptValue, op_at}
 use Rattle.script_ops.specs.declared.op.Op.{Op}
 use Rattle.seen_journal.proofs.laws.Entries.{length-list_of, list_of-append}
 use Rattle.seen_journal.specs.Entries.{list_of}
-use Rattle.seen_journal.specs.Journals.{JournalName}
+use Rattle.seen_journal.specs.Journals.{JournalName, JournalValue}
 use Rattle.shared_parts.specs.Parts.{parts_after}
 use Rattle.shared_parts.specs.Shares.{ShareValue}
 use Rattle.step_world.specs.declared.thread_state.ThreadState.TheVariants.{Looking}
@@ -63,6 +71,24 @@ pub record IsToDecide (script : ScriptValue) (table : TableId) (c : TreeCellValu
   pub number : entry.op ≡ n
   pub reply : entry.reply ≡ (next c.tree.machine c.tree.state op entry.looks.numbers).reply
 
+-- What is known when a thread's command is decided.
+pub record IsDecided (script : ScriptValue) (table : TableId) (c : TreeCellValue) (s looked new : SeenValue) (n : ℕ) (op : Op) (tree : TreeValue) (journal : JournalValue TreeEntry) (entry : TreeEntry) (worker worker_now : ShareValue Part) : Type 0 where
+  pub looks : IsToDecide script table c s looked n op entry worker
+  pub last : Bool
+  pub made : ℕ
+  pub made_is : made ≡ length (needs script.machine (tree_after script (history_of c.journal.entries)) op) * script.machine.slices
+  pub ends : last ≡ not (nat_lt made (length (jobs_of script (history_of c.journal.entries) (length (history_of c.journal.entries)) op)))
+  pub stepped : HasStepped (happenings.Decide entry last made) worker worker_now
+  pub machine : tree.machine ≡ c.tree.machine
+  pub state : tree.state ≡ (next c.tree.machine c.tree.state op entry.looks.numbers).state
+  pub epoch : tree.epoch ≡ c.tree.epoch + 1
+  pub name : journal.name ≡ c.journal.name
+  pub list : journal.entries ≡ c.journal.entries ++ (looked.thread, entry) ∷ []
+  pub threads : AreOfThreads taken_from journal.entries
+  pub new_thread : new.thread ≡ looked.thread
+  pub seen : new.tree.seen ≡ journal.entries
+  pub slices : new.slices ≡ looked.slices
+
 module _ (script : ScriptValue) (table : TableId) (tree : JournalName) (slices : List JournalName) (c : TreeCellValue) (kept : TreeIsKept script table tree slices c) (s looked : SeenValue) (n : ℕ) (op : Op) (entry : TreeEntry) (worker : ShareValue Part) (is : op_at script s.thread n ≡ Some op) (command : IsTrue (is_command op)) (looks : IsToDecide script table c s looked n op entry worker) where
   abbrev history : List TreeEntryValue
   history = history_of c.journal.entries
@@ -84,6 +110,30 @@ module _ (script : ScriptValue) (table : TableId) (tree : JournalName) (slices :
       (IsCommandThat (λ d. (length h.looks ≡ length (needs script.machine (tree_after script history) d)) × (h.reply ≡ (next script.machine (tree_after script history) d h.looks).reply)))
       (sym op_is)
       (command, (looks.at.count, looks.reply ∙ ap (λ o. o.reply) state_is))
+
+  -- it has looked in each slice for each count
+  pub looks_found : length looks.at.found ≡ length (needs script.machine (tree_after script (history_of c.journal.entries)) op) * script.machine.slices
+  looks_found = omega (arith, looks.at.made)
+
+  -- what the thread has seen
+  abbrev front : JournalsValue
+  front = record { tree = history; slices = lists_of looked.slices }
+
+  looked_now : IsLooking script looks.at.start s.thread n op looks.at.found front
+  looked_now =
+      let was : seen_by looked ≡ front = ap (λ (hs : List TreeEntryValue). record { tree = hs; slices = lists_of looked.slices }) (ap history_of looks.whole) in
+      subst (λ u. IsLooking script looks.at.start u n op looks.at.found front) looks.same_thread (subst (λ (v : JournalsValue). IsLooking script looks.at.start looked.thread n op looks.at.found v) was looks.at.is)
+
+  -- it was given what its looks counted
+  given_now : map (λ x. Some x) h.looks ≡ map (lines_looked script front h) (needs script.machine (tree_after script history) op)
+  given_now =
+      given script front h (needs script.machine (tree_after script history) op) looks.at.found h.looks
+      (subst (λ u. HasFound front u h.op (pairs_for script history op) looks.at.found) (sym looks.thread)
+      (subst (λ o. HasFound front s.thread o (pairs_for script history op) looks.at.found) (sym looks.number) looked_now.found_are)) looks_found looks.at.count looks.at.each
+
+  -- with its entry the thread follows it
+  pub follows_decided : IsFollowing script looks.at.start s.thread n (length (history_of c.journal.entries)) op (entry_value entry) (length looks.at.found) (record { tree = history_of c.journal.entries ++ entry_value entry ∷ []; slices = lists_of looked.slices })
+  follows_decided = IsFollowing-decide script looks.at.start s.thread n op looks.at.found front h looks.thread looks.number given_now looked_now
 
   module _ (last : Bool) (made : ℕ) (made_is : made ≡ length (needs script.machine (tree_after script (history_of c.journal.entries)) op) * script.machine.slices) (ends : last ≡ not (nat_lt made (length (jobs_of script (history_of c.journal.entries) (length (history_of c.journal.entries)) op)))) where
     all_found : made ≡ length looks.at.found
