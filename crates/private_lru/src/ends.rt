@@ -8,9 +8,10 @@ ghost use Rattle.private_lru.specs.Uses.{AreByLine};
 ghost use Rattle.private_lru.specs.declared.exclusive_span.ExclusiveSpan.{ExclusiveSpan};
 
 use crate::exclusive_span::ExclusiveSpan;
+use crate::span_set::SpanSet;
 use crate::users::loads;
 use crate::uses::LineUse;
-use cache_core::{SliceEntry, What};
+use cache_core::SliceEntry;
 use rc_base::{Gid, NoMemory};
 use std::alloc::Global;
 
@@ -81,53 +82,40 @@ fn end_by(end: usize, reach: usize, user: LineUse, at: usize) -> usize
 }
 
 // The covered accesses of the group of a use in its window end there at the latest.
-fn cut(ends: &mut [usize], stays: &[ExclusiveSpan], reaches: &[usize], user: LineUse, at: usize)
-    requires rising { RiseByGroup stays.now }
-    requires reaches { length reaches.now ≡ length stays.now }
-    requires ends { length ends.old ≡ length stays.now }
-    ensures { AreEach (cut_by user at) stays.now reaches.now ends.old ends.new }
+fn cut(ends: &mut [usize], set: &SpanSet<'_>, user: LineUse, at: usize)
+    requires rising { RiseByGroup set.now.stays.now }
+    requires reaches { length set.now.reaches.now ≡ length set.now.stays.now }
+    requires ends { length ends.old ≡ length set.now.stays.now }
+    ensures { AreEach (cut_by user at) set.now.stays.now set.now.reaches.now ends.old ends.new }
 {
-    match place_of(stays, user.owner, 0) {
-        Some(place) => ends[place] = end_by(ends[place], reaches[place], user, at),
+    match place_of(set.stays, user.owner, 0) {
+        Some(place) => ends[place] = end_by(ends[place], set.reaches[place], user, at),
         None => {}
     }
 }
 
 // No access of a group is covered, where the opening loaded the line of one.
-fn cut_loaded(
-    ends: &mut [usize],
-    stays: &[ExclusiveSpan],
-    reaches: &[usize],
-    sets: u32,
-    opening: What,
-    user: LineUse,
-)
-    requires rising { RiseByGroup stays.now }
-    requires reaches { length reaches.now ≡ length stays.now }
-    requires ends { length ends.old ≡ length stays.now }
-    ensures { AreEach (loaded_by sets opening user) stays.now reaches.now ends.old ends.new }
+fn cut_loaded(ends: &mut [usize], set: &SpanSet<'_>, user: LineUse)
+    requires rising { RiseByGroup set.now.stays.now }
+    requires reaches { length set.now.reaches.now ≡ length set.now.stays.now }
+    requires ends { length ends.old ≡ length set.now.stays.now }
+    ensures { AreEach (loaded_by set.now.sets set.now.opening user) set.now.stays.now set.now.reaches.now ends.old ends.new }
 {
-    if loads(sets, opening, user.line) {
-        cut(ends, stays, reaches, user, 0);
+    if loads(set.sets, set.opening, user.line) {
+        cut(ends, set, user, 0);
     }
 }
 
 // Of two uses of a line by two groups, each ends what is covered of the other.
-fn cut_shared(
-    ends: &mut [usize],
-    stays: &[ExclusiveSpan],
-    reaches: &[usize],
-    first: LineUse,
-    next: LineUse,
-)
-    requires rising { RiseByGroup stays.now }
-    requires reaches { length reaches.now ≡ length stays.now }
-    requires ends { length ends.old ≡ length stays.now }
-    ensures { AreEach (shared_by first next) stays.now reaches.now ends.old ends.new }
+fn cut_shared(ends: &mut [usize], set: &SpanSet<'_>, first: LineUse, next: LineUse)
+    requires rising { RiseByGroup set.now.stays.now }
+    requires reaches { length set.now.reaches.now ≡ length set.now.stays.now }
+    requires ends { length ends.old ≡ length set.now.stays.now }
+    ensures { AreEach (shared_by first next) set.now.stays.now set.now.reaches.now ends.old ends.new }
 {
     if first.owner.0 != next.owner.0 {
-        cut(ends, stays, reaches, first, next.at as usize);
-        cut(ends, stays, reaches, next, first.at as usize);
+        cut(ends, set, first, next.at as usize);
+        cut(ends, set, next, first.at as usize);
     }
 }
 
@@ -147,52 +135,36 @@ fn start_of(uses: &[LineUse], start: usize, next: usize) -> usize
 }
 
 // The ends with a use more.
-fn cut_use(
-    ends: &mut [usize],
-    stays: &[ExclusiveSpan],
-    reaches: &[usize],
-    sets: u32,
-    opening: What,
-    none: usize,
-    uses: &[LineUse],
-    start: usize,
-    next: usize,
-)
-    requires rising { RiseByGroup stays.now }
-    requires reaches { length reaches.now ≡ length stays.now }
+fn cut_use(ends: &mut [usize], set: &SpanSet<'_>, uses: &[LineUse], start: usize, next: usize)
+    requires rising { RiseByGroup set.now.stays.now }
+    requires reaches { length set.now.reaches.now ≡ length set.now.stays.now }
     requires within { next < length uses.now }
     requires early { start ≤ next }
     requires start { IsStart uses.now (next + 1) start }
-    requires ends { AreCuts sets opening uses.now next none stays.now reaches.now ends.old }
-    ensures { AreCuts sets opening uses.now (next + 1) none stays.now reaches.now ends.new }
+    requires ends { AreCuts set.now.sets set.now.opening uses.now next set.now.none set.now.stays.now set.now.reaches.now ends.old }
+    ensures { AreCuts set.now.sets set.now.opening uses.now (next + 1) set.now.none set.now.stays.now set.now.reaches.now ends.new }
 {
-    cut_loaded(ends, stays, reaches, sets, opening, uses[next]);
-    cut_shared(ends, stays, reaches, uses[start], uses[next]);
+    cut_loaded(ends, set, uses[next]);
+    cut_shared(ends, set, uses[start], uses[next]);
 }
 
-/// For each of these groups, how many entries stand before the first after which none of its accesses is covered; `none` where all
-/// are.
+/// For each of these groups, how many entries stand before the first after which none of its accesses is covered; the set's `none`
+/// where all are.
 pub(crate) fn ends_of(
     alloc: Global,
-    stays: &[ExclusiveSpan],
-    reaches: &[usize],
-    sets: u32,
-    opening: What,
-    none: usize,
+    set: &SpanSet<'_>,
     uses: &[LineUse],
 ) -> Result<Vec<usize>, NoMemory>
-    requires rising { RiseByGroup stays.now }
-    requires reaches { length reaches.now ≡ length stays.now }
+    requires rising { RiseByGroup set.now.stays.now }
+    requires reaches { length set.now.reaches.now ≡ length set.now.stays.now }
     requires by_line { AreByLine uses.now }
-    ensures { IfOk result (λ ends. AreCuts sets opening uses.now (length uses.now) none stays.now reaches.now ends.items) }
+    ensures { IfOk result (λ ends. AreCuts set.now.sets set.now.opening uses.now (length uses.now) set.now.none set.now.stays.now set.now.reaches.now ends.items) }
 {
-    let mut ends: Vec<usize> = vec![in alloc; none; stays.len()]?;
+    let mut ends: Vec<usize> = vec![in alloc; set.none; set.stays.len()]?;
     let mut start = 0;
     for next in 0..uses.len() {
         start = start_of(uses, start, next);
-        cut_use(
-            &mut ends, stays, reaches, sets, opening, none, uses, start, next,
-        );
+        cut_use(&mut ends, set, uses, start, next);
     }
     Ok(ends)
 }

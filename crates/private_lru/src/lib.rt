@@ -13,6 +13,7 @@ pub mod keeping;
 pub mod private;
 mod reaches;
 pub mod span;
+mod span_set;
 pub mod tallies;
 pub mod theorems;
 pub mod users;

@@ -10,6 +10,7 @@ use crate::WindowCounts;
 use crate::ends::{ends_of, high_after, place_of};
 use crate::exclusive_span::ExclusiveSpan;
 use crate::reaches::reaches_of;
+use crate::span_set::SpanSet;
 use crate::users::is_own_hit;
 use crate::uses::{access_of, uses_of};
 use cache_core::{SliceEntry, What};
@@ -55,28 +56,34 @@ fn with_access(counts: WindowCounts, hit: bool, covered: bool) -> WindowCounts
     }
 }
 
+// Exclusive spans, and up to which entry each one's accesses are covered.
+#[derive(Drop)]
+struct EndedSpans<'a> {
+    stays: &'a [ExclusiveSpan],
+    ends: &'a [usize],
+}
+
 // The counts with an entry more.
 fn tally_entry(
     tallies: &mut [WindowCounts],
-    ends: &[usize],
-    stays: &[ExclusiveSpan],
+    spans: &EndedSpans<'_>,
     entries: &[SliceEntry],
     at: usize,
     high: u64,
 )
-    requires rising { RiseByGroup stays.now }
+    requires rising { RiseByGroup spans.now.stays.now }
     requires high { IsHigh entries.now (at + 1) high }
     requires within { at < length entries.now }
     requires room { at + 1 < 2 ^ 64 }
-    requires ends { length ends.now ≡ length stays.now }
-    requires tallies { AreTallies entries.now at stays.now ends.now tallies.old }
-    ensures { AreTallies entries.now (at + 1) stays.now ends.now tallies.new }
+    requires ends { length spans.now.ends.now ≡ length spans.now.stays.now }
+    requires tallies { AreTallies entries.now at spans.now.stays.now spans.now.ends.now tallies.old }
+    ensures { AreTallies entries.now (at + 1) spans.now.stays.now spans.now.ends.now tallies.new }
 {
     let what = entries[at].what;
-    match place_at(stays, what, high) {
+    match place_at(spans.stays, what, high) {
         Some(place) => {
-            let hit = is_own_hit(what, stays[place].gid);
-            tallies[place] = with_access(tallies[place], hit, at < ends[place]);
+            let hit = is_own_hit(what, spans.stays[place].gid);
+            tallies[place] = with_access(tallies[place], hit, at < spans.ends[place]);
         }
         None => {}
     }
@@ -85,13 +92,12 @@ fn tally_entry(
 // What is counted up to these ends.
 fn tallies_of(
     alloc: Global,
-    ends: &[usize],
-    stays: &[ExclusiveSpan],
+    spans: &EndedSpans<'_>,
     entries: &[SliceEntry],
 ) -> Result<Vec<WindowCounts>, NoMemory>
-    requires rising { RiseByGroup stays.now }
-    requires ends { length ends.now ≡ length stays.now }
-    ensures { IfOk result (λ tallies. AreTallies entries.now (length entries.now) stays.now ends.now tallies.items) }
+    requires rising { RiseByGroup spans.now.stays.now }
+    requires ends { length spans.now.ends.now ≡ length spans.now.stays.now }
+    ensures { IfOk result (λ tallies. AreTallies entries.now (length entries.now) spans.now.stays.now spans.now.ends.now tallies.items) }
 {
     let none = WindowCounts {
         accesses: 0,
@@ -99,11 +105,11 @@ fn tallies_of(
         covered: 0,
         covered_hits: 0,
     };
-    let mut tallies: Vec<WindowCounts> = vec![in alloc; none; stays.len()]?;
+    let mut tallies: Vec<WindowCounts> = vec![in alloc; none; spans.stays.len()]?;
     let mut high = 0;
     for at in 0..entries.len() {
         high = high_after(entries, at, high);
-        tally_entry(&mut tallies, ends, stays, entries, at, high);
+        tally_entry(&mut tallies, spans, entries, at, high);
     }
     Ok(tallies)
 }
@@ -122,7 +128,15 @@ pub fn counts_of(
 {
     let uses = uses_of(alloc, entries)?;
     let reaches = reaches_of(alloc, stays, entries)?;
-    let ends = ends_of(alloc, stays, &reaches, sets, opening, entries.len(), &uses)?;
-    let counts = tallies_of(alloc, &ends, stays, entries)?;
+    let set = SpanSet {
+        stays,
+        reaches: &reaches,
+        sets,
+        opening,
+        none: entries.len(),
+    };
+    let ends = ends_of(alloc, &set, &uses)?;
+    let spans = EndedSpans { stays, ends: &ends };
+    let counts = tallies_of(alloc, &spans, entries)?;
     Ok(counts)
 }

@@ -8,11 +8,11 @@ use Rattle.private_lru.proofs.tallies.tallies_of.Goals as goal
 
 pub loop-at-init : goal.loop-at-init
 loop-at-init c =
-    let count = length c.args.stays.now in
+    let count = length c.args.spans.now.stays.now in
     let made = c.in_ok-tallies.ensures.items_if_clones_equal (λ y same. same) in
     record {
       is_high = IsHigh-none c.args.entries.now;
-      are_tallies = AreTallies-none c.args.entries.now c.args.stays.now c.args.ends.now c.in_ok-tallies.tallies.items (ap length made ∙ length-replicate count no_counts)
+      are_tallies = AreTallies-none c.args.entries.now c.args.spans.now.stays.now c.args.spans.now.ends.now c.in_ok-tallies.tallies.items (ap length made ∙ length-replicate count no_counts)
           (λ j d within. ap (λ (l : List WindowCounts). get_or l j d) made ∙ get_or-replicate count j no_counts d within);
     }
 
@@ -20,4 +20,4 @@ pub returns : goal.returns
 returns c =
     let stop = c.loop-at-test.false in
     let most = c.loop-at.auto.at-end in
-    subst (λ n. AreTallies c.args.entries.now n c.args.stays.now c.args.ends.now c.loop-at.tallies.items) (omega (arith, stop, most)) c.loop-at.invariant.are_tallies
+    subst (λ n. AreTallies c.args.entries.now n c.args.spans.now.stays.now c.args.spans.now.ends.now c.loop-at.tallies.items) (omega (arith, stop, most)) c.loop-at.invariant.are_tallies

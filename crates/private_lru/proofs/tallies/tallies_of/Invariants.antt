@@ -5,5 +5,5 @@ use Rattle.private_lru.proofs.tallies.tallies_of.Given as goal
 abbrev pub invariant-loop-at : goal.invariant-loop-at
 invariant-loop-at l = record {
   is_high : IsHigh l.entries l.at l.high;
-  are_tallies : AreTallies l.entries l.at l.stays l.ends l.tallies.items;
+  are_tallies : AreTallies l.entries l.at l.spans.stays.now l.spans.ends.now l.tallies.items;
 }
