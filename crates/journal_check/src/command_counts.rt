@@ -1,5 +1,5 @@
 //! How often each command of a script was taken, while a history of the tree is read.
-ghost use Rattle.std.specs.Prelude.{◌≡◌, ◌≤◌, ◌∷◌, ◌++◌, ◌↔◌, IfOk, IsTrue, List, []};
+ghost use Rattle.std.specs.Prelude.{◌≤◌, ◌∷◌, ◌++◌, ◌↔◌, IfOk, IsTrue, List, []};
 ghost use Rattle.journal_check.specs.CommandCounts.{AreCountsToTwo, HasUnexpected};
 ghost use Rattle.journal_check.specs.ExpectedCommands.{CanTake, IsExpected};
 ghost use Rattle.journal_check.specs.Tables.{AreTakenOnce, IsTableOf};
