@@ -1,17 +1,15 @@
 -- When ops began, entry by entry.
-use Rattle.std.proofs.Common.{◌≡◌, ℕ, zero, suc, ◌+◌, ◌<◌, ◌≤◌, ◌⊎◌, ◌↔◌, ◌%◌, ◌==◌, inl, inr, true, false, List, [], ◌∷◌, length, filter, get_or, Some, refl, sym, ap, ◌∙◌, subst, arith}
-use Rattle.std.specs.Prelude.{All, IsTrue}
-use Rattle.std.proofs.Math.Nat.{add-zero}
-use Rattle.std.proofs.lemmas.Bool.{cases_Bool, cases_lt, eq-eqb, eqb-false, eqb-true}
-use Rattle.std.proofs.lemmas.Option.{get_or_from_slice_get, slice_get-get_or, slice_get_within}
+use Rattle.std.proofs.Common.{◌≡◌, ℕ, ◌+◌, ◌<◌, ◌≤◌, ◌⊎◌, ◌%◌, ◌==◌, inl, inr, true, false, List, length, filter, Some, refl, sym, ap, ◌∙◌, subst, arith}
+use Rattle.std.specs.Prelude.{IsTrue}
+use Rattle.std.proofs.lemmas.Bool.{cases_Bool, cases_lt, eqb-false, eqb-true}
+use Rattle.std.proofs.lemmas.Option.{slice_get_within}
 use Rattle.cache_core.specs.declared.entry.SliceEntry.{SliceEntry}
 use Rattle.journal_check.proofs.TableNumbers.{changed, number_at-other, number_at-own}
-use Rattle.journal_check.proofs.laws.TakenPlaces.{At-filter_one, At-filter_some, command-legal, length-filter_some}
-use Rattle.journal_check.proofs.laws.Told.{op_at-number, slice_at-past, some-IsSome}
+use Rattle.journal_check.proofs.laws.TakenPlaces.{At-filter_one, command-legal, length-filter_some}
+use Rattle.journal_check.proofs.laws.Told.{slice_at-past}
 use Rattle.journal_check.specs.Begun.{AreBegun, IsSeen}
-use Rattle.journal_check.specs.Tables.{AreTakenOnce, IsTableOf, number_at, row_of}
-use Rattle.run_law.specs.Clauses.{AccessesAreTrue, EntriesStandOnce, OthersAreTrue}
-use Rattle.journal_check.specs.Marks.{AreStarts, stop_of}
+use Rattle.journal_check.specs.Tables.{AreTakenOnce, number_at, row_of}
+use Rattle.run_law.specs.Clauses.{EntriesStandOnce}
 use Rattle.lists.proofs.Sums.{one_if-le}
 use Rattle.lists.specs.Sums.{one_if}
 use Rattle.machine.proofs.laws.Domains.{domain_of-lt}
@@ -21,20 +19,13 @@ use Rattle.machine.specs.Slices.{slice_count, slice_of_line}
 use Rattle.run_law.proofs.laws.Pairs.{both_eqb-same, both_eqb-true}
 use Rattle.run_law.specs.Journals.{At, JournalsValue, slice_at}
 use Rattle.run_law.specs.Ops.{is_command}
-use Rattle.run_law.specs.Order.{HasMarks, IsMadeAt, IsTakenAt, Makes}
-use Rattle.run_law.specs.Truth.{IsTrueAccess, IsTrueCommand, is_made_by, is_of_access, is_taken_from}
+use Rattle.run_law.specs.Order.{Makes}
+use Rattle.run_law.specs.Truth.{is_made_by, is_taken_from}
 use Rattle.run_law.specs.TreeHistory.{IsLegalTree, TreeEntryValue}
-use Rattle.std.proofs.lemmas.List.Elements.{All-head, All-nil, All-tail}
 use Rattle.script_ops.specs.Fits.{Fits}
-use Rattle.script_ops.specs.Values.{IsLawful, ScriptValue, op_at, ops_of, threads_of}
+use Rattle.script_ops.specs.Values.{IsLawful, ScriptValue, op_at}
 use Rattle.script_ops.specs.declared.op.Op.{Op}
 use Rattle.script_ops.specs.declared.op.Op.TheVariants as ops
-
--- what is true of all ops of all threads is true of those of one
-All-threads : (P : Op → Type 0) (threads : List (List Op)) (thread : ℕ) → All (λ ops. All P ops) threads → All P (get_or threads thread [])
-All-threads P [] thread all = All-nil P
-All-threads P (t ∷ ts) zero all = All-head (λ ops. All P ops) t ts all
-All-threads P (t ∷ ts) (suc thread) all = All-threads P ts thread (All-tail (λ ops. All P ops) t ts all)
 
 -- the number of another op stays, the number of this one is new
 number-changed : (table : List (List ℕ)) (thread op n t o m : ℕ) → thread < length table → op < length (row_of table thread) → number_at (changed table thread op n) t o ≡ Some m
@@ -84,12 +75,12 @@ AreBegun-zero script j table = record {
 }
 
 -- the slice of the line of an access
-abbrev home_of : ScriptValue → Op → ℕ
+abbrev pub home_of : ScriptValue → Op → ℕ
 home_of script (ops.Access task cpu addr) = slice_of_line script.machine (domain_of script.machine cpu) (line_of addr)
 home_of script c = 0
 
 -- the entries that an access makes in a slice: one in its own
-made-access : (script : ScriptValue) (j : JournalsValue) (i t o : ℕ) (c : Op) (xs : List SliceEntry) → is_command c ≡ false → Makes script j i t o c xs → length xs ≡ one_if (i == home_of script c)
+pub made-access : (script : ScriptValue) (j : JournalsValue) (i t o : ℕ) (c : Op) (xs : List SliceEntry) → is_command c ≡ false → Makes script j i t o c xs → length xs ≡ one_if (i == home_of script c)
 made-access script j i t o (ops.Access task cpu addr) xs kind makes = makes
 made-access script j i t o c xs kind makes = absurd cc
 
@@ -102,7 +93,7 @@ one_if-some a b some = elim (cases_Bool (a == b)) [
 
 module _ (script : ScriptValue) (j : JournalsValue) (all : length j.slices ≡ slice_count script.machine) (made : EntriesStandOnce script j) where
   -- a slice with an entry is one of the machine
-  slice-there : (a p : ℕ) (x : SliceEntry) → At (slice_at j a) p x → a < slice_count script.machine
+  pub slice-there : (a p : ℕ) (x : SliceEntry) → At (slice_at j a) p x → a < slice_count script.machine
   slice-there a p x at = elim (cases_lt a (length j.slices)) [ inl within ↦ omega arith | inr past ↦ absurd (slice_at-past j a p x past at) ]
 
   -- an entry of an access is in its slice
@@ -197,110 +188,9 @@ AreBegun-slice script j table k i n whole begun = record {
           inr (same, omega arith)
     ]
 
--- ---- the marks of ops
-
--- of a command
-marks-taken : (j : JournalsValue) (t o : ℕ) (c : Op) (start stop : ℕ) → IsTrue (is_command c) → HasMarks j t o c start stop ↔ IsTakenAt j t o start stop
-marks-taken j t o (ops.Access task cpu addr) start stop command = absurd cc
-marks-taken j t o c start stop command = ((λ x. x), (λ x. x))
-
--- of an access
-marks-made : (j : JournalsValue) (t o : ℕ) (c : Op) (start stop : ℕ) → is_command c ≡ false → HasMarks j t o c start stop ↔ IsMadeAt j t o start stop
-marks-made j t o (ops.Access task cpu addr) start stop kind = ((λ x. x), (λ x. x))
-marks-made j t o c start stop kind = absurd cc
-
--- an op of a script fits it
-pub Fits-op : (script : ScriptValue) (t o : ℕ) (c : Op) → IsLawful script → op_at script t o ≡ Some c → Fits script.machine script.tasks c
-Fits-op script t o c lawful is =
-    let each : All (Fits script.machine script.tasks) (ops_of script t) = All-threads (Fits script.machine script.tasks) (threads_of script) t lawful.fit in
-    subst (Fits script.machine script.tasks) (get_or_from_slice_get (ops_of script t) o c c is) (each o c (slice_get_within (ops_of script t) o c is))
-
 -- the slice of an access is one of the machine
-home-there : (script : ScriptValue) (c : Op) → IsLawful script → Fits script.machine script.tasks c → is_command c ≡ false → home_of script c < slice_count script.machine
+pub home-there : (script : ScriptValue) (c : Op) → IsLawful script → Fits script.machine script.tasks c → is_command c ≡ false → home_of script c < slice_count script.machine
 home-there script (ops.Access task cpu addr) lawful fits kind =
     let some = lawful.in_range.some_slice in
     slice_number-lt script.machine (domain_of script.machine cpu) (line_of addr % script.machine.sets % script.machine.slices) (domain_of-lt script.machine cpu lawful.in_range fits.1) (omega arith)
 home-there script c lawful fits kind = absurd cc
-
-module _ (script : ScriptValue) (j : JournalsValue) (lawful : IsLawful script) (all : length j.slices ≡ slice_count script.machine) (once : AreTakenOnce script j.tree) (made : EntriesStandOnce script j) (table : List (List ℕ)) (i : ℕ) (whole : length j.slices ≤ i)
-    (table_of : IsTableOf script table) (begun : AreBegun script j (length j.tree) i 0 table) where
-  -- an entry of any slice was seen
-  all-seen : (a p : ℕ) (x : SliceEntry) → At (slice_at j a) p x → IsSeen i 0 a p
-  all-seen a p x at = inl (let within = slice-there script j all made a p x at in omega arith)
-
-  -- when a command began
-  command-start : (t o n : ℕ) (c : Op) → op_at script t o ≡ Some c → IsTrue (is_command c) → number_at table t o ≡ Some n → IsTakenAt j t o n (stop_of c n)
-  command-start t o n c is command number =
-      let it = At-filter_some (is_taken_from t o) j.tree (let one = once t o c is command in omega arith) in
-      let place : n ≡ it.0 = begun.taken t o it.0 n it.1 (slice_get_within j.tree it.0 it.1 it.2) it.2 it.3 number in
-      (it.1, subst (λ k. At j.tree k it.1) (sym place) it.2, it.3, ap (λ b. n + one_if b) command)
-
-  -- when an access began
-  access-start : (t o n : ℕ) (c : Op) → op_at script t o ≡ Some c → is_command c ≡ false → number_at table t o ≡ Some n → IsMadeAt j t o n (stop_of c n)
-  access-start t o n c is kind number =
-      let home = home_of script c in
-      let there = home-there script c lawful (Fits-op script t o c lawful is) kind in
-      let count = made-access script j home t o c (filter (is_made_by t o) (slice_at j home)) kind (made.each home t o c there is) in
-      let own : one_if (home == home) ≡ 1 = rw (eq-eqb home home refl) refl in
-      let it = At-filter_some (is_made_by t o) (slice_at j home) (omega arith) in
-      let epoch : n ≡ it.1.epoch = begun.made t o home it.0 n it.1 c (all-seen home it.0 it.1 it.2) it.2 it.3 is kind number in
-      let stop : stop_of c n ≡ n = ap (λ b. n + one_if b) kind ∙ add-zero n in
-      (home, it.0, it.1, it.2, it.3, sym epoch, stop)
-
-  -- the table says when each op began
-  pub AreStarts-begun : AreStarts script j table
-  AreStarts-begun = record {
-    table_of = table_of;
-    has = λ t o n c is number. elim (cases_Bool (is_command c)) [
-      | inl command ↦ (marks-taken j t o c n (stop_of c n) command).1 (command-start t o n c is command number)
-      | inr kind ↦ (marks-made j t o c n (stop_of c n) kind).1 (access-start t o n c is kind number)
-    ];
-    only = λ t o n start stop c is number marks. elim (cases_Bool (is_command c)) [
-      | inl command ↦
-          let it = (marks-taken j t o c start stop command).0 marks in
-          let place : n ≡ start = begun.taken t o start n it.0 (slice_get_within j.tree start it.0 it.1) it.1 it.2 number in
-          (sym place, it.3 ∙ (ap (λ k. k + 1) (sym place) ∙ sym (ap (λ b. n + one_if b) command)))
-      | inr kind ↦
-          let it = (marks-made j t o c start stop kind).0 marks in
-          let epoch : n ≡ it.2.epoch = begun.made t o it.0 it.1 n it.2 c (all-seen it.0 it.1 it.2 it.3) it.3 it.4 is kind number in
-          let place : start ≡ n = sym it.5 ∙ sym epoch in
-          (place, it.6 ∙ (place ∙ sym (ap (λ b. n + one_if b) kind ∙ add-zero n)))
-    ];
-  }
-
--- ---- how late an op may begin
-
--- an entry of an access is an access with an epoch that the tree had
-epoch-access : (script : ScriptValue) (j : JournalsValue) (a p : ℕ) (e : SliceEntry) (c : Op) → AccessesAreTrue script j → OthersAreTrue script j → At (slice_at j a) p e → op_at script e.thread e.op ≡ Some c → is_command c ≡ false → e.epoch ≤ length j.tree
-epoch-access script j a p e c accesses others at is kind = elim (cases_Bool (is_of_access c e.what)) [
-  | inl own ↦ told c kind (accesses a p e c at is own)
-  | inr other ↦ absurd (never c kind (others a p e c at is other))
-]
-  where
-    told : (d : Op) → is_command d ≡ false → IsTrueAccess script j.tree e d → e.epoch ≤ length j.tree
-    told (ops.Access task cpu addr) k h = h.0
-    told d k h = absurd cc
-
-    never : (d : Op) → is_command d ≡ false → IsTrueCommand script j.tree a e d → ⊥
-    never (ops.Access task cpu addr) k h = h
-    never d k h = absurd cc
-
--- each start is at most the number of the commands
-pub few-starts : (script : ScriptValue) (j : JournalsValue) (table : List (List ℕ)) → AccessesAreTrue script j → OthersAreTrue script j → AreStarts script j table → (t o n : ℕ) → number_at table t o ≡ Some n → n ≤ length j.tree
-few-starts script j table accesses others starts t o n number =
-    let it = some-IsSome (op_at script t o) (op_at-number script table t o n starts.table_of number) in
-    let marks = starts.has t o n it.0 it.1 number in
-    elim (cases_Bool (is_command it.0)) [
-      | inl command ↦ (let at = (marks-taken j t o it.0 n (stop_of it.0 n) command).0 marks in let within = slice_get_within j.tree n at.0 at.1 in omega arith)
-      | inr kind ↦
-          let at = (marks-made j t o it.0 n (stop_of it.0 n) kind).0 marks in
-          let names = both_eqb-true at.2.thread t at.2.op o at.4 in
-          let is : op_at script at.2.thread at.2.op ≡ Some it.0 = subst (λ u. op_at script u at.2.op ≡ Some it.0) (sym names.0) (subst (λ p. op_at script t p ≡ Some it.0) (sym names.1) it.1) in
-          let early = epoch-access script j at.0 at.1 at.2 it.0 accesses others at.3 is kind in
-          let epoch = at.5 in
-          omega arith
-    ]
-
--- and so few
-pub few-rows : (table : List (List ℕ)) (most : ℕ) → ((t o n : ℕ) → number_at table t o ≡ Some n → n ≤ most) → (t : ℕ) → All (λ n. n ≤ most) (row_of table t)
-few-rows table most each t = λ k d within. each t k (get_or (row_of table t) k d) (slice_get-get_or (row_of table t) k d within)

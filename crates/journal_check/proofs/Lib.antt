@@ -1,4 +1,6 @@
+mod AccessHomes
 mod AddedEntries
+mod AllMarked
 mod AskLists
 mod BegunOps
 mod ChangedLines
@@ -8,13 +10,16 @@ mod Counts
 mod EmptiedLines
 mod ExpectedCommands
 mod FirstFalse
+mod FittingOps
 mod FoundSums
 mod HomeMarks
+mod LateEntries
 mod LatestEpochs
 mod LegalLists
 mod LegalTrees
 mod MatchedCounts
 mod NeedKeys
+mod OpMarks
 mod Ordered
 mod OwedEntries
 mod PaidAccesses
@@ -26,6 +31,7 @@ mod StandingOps
 mod StandingPlaces
 mod Starts
 mod TableNumbers
+mod ThreadOrder
 mod Told
 mod TrueOthers
 mod WrittenPlaces

@@ -2,7 +2,8 @@ use Rattle.std.proofs.Common.{◌≡◌, ℕ, ◌+◌, List, get_or, Option, Som
 use Rattle.std.specs.Prelude.{IsSome}
 use Rattle.std.proofs.lemmas.Option.{slice_get-get_or}
 use Rattle.cache_core.specs.declared.entry.SliceEntry.{SliceEntry}
-use Rattle.journal_check.proofs.LatestEpochs.{AreAfterUpTo-skip, AreAfterUpTo-suc, IsAfterCommands-all, IsLatest-noted, IsLatest-skip, late-not_after}
+use Rattle.journal_check.proofs.LatestEpochs.{IsLatest-noted, IsLatest-skip}
+use Rattle.journal_check.proofs.LateEntries.{AreAfterUpTo-skip, AreAfterUpTo-suc, IsAfterCommands-all, late-not_after}
 use Rattle.journal_check.proofs.laws.Told.{is_false, is_true, no_entry, number_at-op, op_at-number}
 use Rattle.journal_check.specs.AfterCommands.{AreAfterUpTo, IsAccepted, IsAfterCommands, IsLatest, IsRefused}
 use Rattle.journal_check.specs.Places.{ArePlaces}

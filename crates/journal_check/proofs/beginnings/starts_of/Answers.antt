@@ -1,5 +1,5 @@
 use Rattle.std.proofs.Common.{ap, arith}
-use Rattle.journal_check.proofs.BegunOps.{AreStarts-begun, few-rows, few-starts}
+use Rattle.journal_check.proofs.OpMarks.{AreStarts-begun, few-rows, few-starts}
 use Rattle.journal_check.proofs.laws.FewCommands.{length-commands}
 use Rattle.machine.specs.Slices.{slice_count}
 use Rattle.journal_check.proofs.beginnings.starts_of.Goals as goal

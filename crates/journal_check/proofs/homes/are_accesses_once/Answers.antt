@@ -1,5 +1,5 @@
 use Rattle.std.proofs.Common.{◌≡◌, ap, arith, length}
-use Rattle.journal_check.proofs.HomeMarks.{AllMarked-home, home-AllMarked}
+use Rattle.journal_check.proofs.AllMarked.{AllMarked-home, home-AllMarked}
 use Rattle.machine.specs.Slices.{slice_count}
 use Rattle.journal_check.proofs.homes.are_accesses_once.Goals as goal
 

@@ -1,6 +1,6 @@
 use Rattle.std.proofs.Common.{◌≡◌, ◌+◌, ◌<◌, length, get_or, sym, subst, arith}
 use Rattle.std.proofs.lemmas.Option.{slice_get-get_or, slice_get_within}
-use Rattle.journal_check.proofs.Starts.{IsThreadEnd-suc, IsThreadInOrder-all, IsThreadInOrder-suc}
+use Rattle.journal_check.proofs.ThreadOrder.{IsThreadEnd-suc, IsThreadInOrder-all, IsThreadInOrder-suc}
 use Rattle.journal_check.specs.Marks.{IsThreadEnd}
 use Rattle.run_law.specs.Journals.{At}
 use Rattle.script_ops.specs.declared.op.Op.TheVariants.{Tick}
