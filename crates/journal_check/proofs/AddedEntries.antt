@@ -9,7 +9,6 @@ use Rattle.cache_core.proofs.laws.Places.{places_with-le}
 use Rattle.cache_core.specs.Fills.{IsOutcome, Resident}
 use Rattle.cache_core.specs.History.{EntryMayFollow, MayHappen, Shape, decides, held, is_of, is_own, left_by, sets_floor, used, uses, ways_below}
 use Rattle.cache_core.specs.declared.entry.SliceEntry.{SliceEntry}
-use Rattle.cache_core.specs.declared.entry.What.{What}
 use Rattle.cache_core.specs.declared.entry.What.TheVariants.{Access, Drop, Flush, Lock}
 use Rattle.journal_check.specs.declared.cached_line.CachedLine.{CachedLine}
 use Rattle.cbm.proofs.laws.Ways.{has_way-zero}
