@@ -8,7 +8,7 @@ use Rattle.journal_check.specs.declared.cached_line.CachedLine.{CachedLine}
 use Rattle.lists.proofs.Updates.{slice_get-set_same, slice_get-set_other}
 use Rattle.journal_check.specs.Slots.{Puts, SlotsValue, left_place, of_generation, place_at}
 use Rattle.journal_check.specs.declared.region.Region.{Region}
-use Rattle.journal_check.specs.declared.slots.Slot.{Slot}
+use Rattle.journal_check.specs.declared.slot.Slot.{Slot}
 
 -- two places with one number are one
 same-place : (ways s w t u : ℕ) → w < ways → u < ways → s * ways + w ≡ t * ways + u → (s ≡ t) × (w ≡ u)

@@ -7,7 +7,7 @@ use Rattle.cache_core.specs.History.{Shape, ways_below}
 use Rattle.cbm.specs.Masks.{has_way}
 use Rattle.journal_check.specs.declared.cached_line.CachedLine.{CachedLine}
 use Rattle.journal_check.specs.declared.region.Region.{Region}
-use Rattle.journal_check.specs.declared.slots.Slot.{Slot}
+use Rattle.journal_check.specs.declared.slot.Slot.{Slot}
 
 -- what contracts see of the places
 pub record SlotsValue : Type 0 where

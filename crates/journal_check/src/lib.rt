@@ -4,6 +4,7 @@
 //! A call that runs out of memory answers NoMemory.
 #![tactic(auto)]
 
+mod added_entry;
 mod after_commands;
 mod answers;
 mod asks;
@@ -25,6 +26,7 @@ pub mod needs;
 pub mod op_kinds;
 pub mod op_table;
 mod other_entries;
+pub mod outcome;
 mod owed;
 mod payments;
 mod phases;
@@ -33,6 +35,7 @@ pub mod region;
 pub mod replay;
 mod replies;
 pub mod rmid_counts;
+pub mod slot;
 pub mod slots;
 mod tags;
 pub mod theorems;

@@ -1,15 +1,11 @@
-//! A slice, replayed entry by entry.
-ghost use Rattle.std.specs.Prelude.{◌≡◌, ℕ, ◌+◌, ◌-◌, ◌%◌, ◌^◌, ◌<◌, ◌≤◌, ◌↔◌, ◌++◌, ◌∷◌, [], IfOk, IfSome, IsTrue, Some, length, true};
+//! A slice, replayed entry by entry, and what may happen in it next.
+ghost use Rattle.std.specs.Prelude.{◌≡◌, ◌%◌, ◌<◌, ◌≤◌, ◌↔◌, [], IfOk, IsTrue};
 ghost use Rattle.cache_core.specs.Fills.{IsOutcome, IsPlaceOf};
-ghost use Rattle.cache_core.specs.History.{EntryMayFollow, MayHappen, floor_of, held, is_own, lines_of, shape_of, used};
-ghost use Rattle.cache_core.specs.declared.entry.What.TheVariants.{Drop, Raise};
+ghost use Rattle.cache_core.specs.History.{MayHappen, floor_of, held, lines_of, shape_of, used};
 ghost use Rattle.machine.specs.Maps.{parameters_of};
-ghost use Rattle.journal_check.specs.Replays.{Empties, IsAccessOf, IsQuiet, IsRmidAfter, LeavesRegion, StandsFor, Writes};
-ghost use Rattle.journal_check.specs.RmidCounts.{count_at};
-ghost use Rattle.journal_check.specs.Slots.{place_at, rmid_of};
+ghost use Rattle.journal_check.specs.Replays.{StandsFor};
 
-use crate::cached_line::CachedLine;
-use crate::region::Region;
+use crate::outcome::Outcome;
 use crate::rmid_counts::RmidCounts;
 use crate::slots::Slots;
 use crate::victims::{is_outcome, is_place};
@@ -24,16 +20,6 @@ pub struct Replay {
     pub slots: Slots,
     pub counts: RmidCounts,
     pub floor: u64,
-}
-
-// The RMID of a place.
-fn rmid_of(place: Option<CachedLine>) -> Option<u16>
-    ensures { result ≡ rmid_of place }
-{
-    match place {
-        Some(place) => Some(place.rmid),
-        None => None,
-    }
 }
 
 impl Replay {
@@ -70,12 +56,12 @@ impl Replay {
     }
 
     // Whether the set of a line answers so to an access.
-    fn answers(&self, before: &[SliceEntry], mask: u32, line: u64, hit: bool, way: u8) -> bool
+    fn answers(&self, before: &[SliceEntry], mask: u32, outcome: Outcome) -> bool
         requires { StandsFor self.now.slots.shape before.now self.now }
-        ensures { IsTrue result ↔ IsOutcome self.now.slots.shape.ways mask (held self.now.slots.shape before.now (line % self.now.slots.shape.sets)) (used self.now.slots.shape before.now (line % self.now.slots.shape.sets)) line hit way }
+        ensures { let set = outcome.line % self.now.slots.shape.sets in IsTrue result ↔ IsOutcome self.now.slots.shape.ways mask (held self.now.slots.shape before.now set) (used self.now.slots.shape before.now set) outcome.line outcome.hit outcome.way }
     {
         let _entries = before;
-        is_outcome(&self.slots, mask, line, hit, way)
+        is_outcome(&self.slots, mask, outcome)
     }
 
     // Whether this way holds a line, or none where no way is given.
@@ -100,164 +86,13 @@ impl Replay {
                 mask,
                 line,
                 ..
-            } => self.is_fresh(before, epoch) && self.answers(before, mask, line, hit, way),
+            } => self.is_fresh(before, epoch)
+                && self.answers(before, mask, Outcome { line, hit, way }),
             What::Drop { line, way } => self.is_fresh(before, epoch)
                 && self.holds(before, line, way),
             What::Raise => self.is_fresh(before, epoch),
             What::Flush => self.is_fresh(before, epoch),
             What::Lock { .. } => self.is_fresh(before, epoch),
-        }
-    }
-
-    // Writes a place, and counts its line where the set is the slice's own.
-    fn write(&mut self, set: u32, way: u8, place: Option<CachedLine>)
-        requires set { set < self.old.slots.shape.sets }
-        requires way { way < self.old.slots.shape.ways }
-        requires left { is_own self.old.slots.shape set ≡ true → IfSome (rmid_of (place_at self.old.slots set way)) (λ r. 0 < count_at self.old.counts r) }
-        requires came { IfSome (rmid_of place) (λ r. count_at self.old.counts r < 2 ^ 64 - 1) }
-        ensures { Writes self.old self.new set way place }
-    {
-        if self.slots.is_own(set) {
-            let left = self.slots.rmid(set, way);
-            self.counts.recount(left, rmid_of(place));
-        }
-        self.slots.put(set, way, place);
-    }
-
-    // The RMID of a line after an access to a place.
-    fn rmid_after(&self, set: u32, way: u8, hit: bool, rmid: u16) -> u16
-        requires set { set < self.now.slots.shape.sets }
-        requires way { way < self.now.slots.shape.ways }
-        ensures { IsRmidAfter (place_at self.now.slots set way) hit rmid result }
-    {
-        if !hit {
-            return rmid;
-        }
-        match self.slots.rmid(set, way) {
-            Some(kept) => kept,
-            None => rmid,
-        }
-    }
-
-    // Empties every place, leaves a region, and raises the floor.
-    fn empty(&mut self, epoch: u64, region: Region)
-        requires slots { self.old.slots.generation < 2 ^ 64 - 1 }
-        requires counts { self.old.counts.generation < 2 ^ 64 - 1 }
-        ensures { Empties self.old self.new epoch region }
-    {
-        let lines = self.slots.region_lines(region.mask);
-        self.slots.clear(region);
-        self.counts.clear(lines);
-        self.floor = epoch;
-    }
-
-    // Adds an access, which hit or filled a way.
-    fn add_access(
-        &mut self,
-        before: &[SliceEntry],
-        entry: SliceEntry,
-        hit: bool,
-        way: u8,
-        rmid: u16,
-        line: u64,
-    )
-        requires few { length before.now < 2 ^ 64 - 1 }
-        requires stands { StandsFor self.old.slots.shape before.now self.old }
-        requires may { EntryMayFollow self.old.slots.shape before.now entry }
-        requires what { IsAccessOf entry hit way rmid line }
-        ensures { StandsFor self.old.slots.shape (before.now ++ entry ∷ []) self.new }
-    {
-        let _entry = entry;
-        let set = self.slots.set_of(line);
-        let place = CachedLine {
-            line,
-            rmid: self.rmid_after(set, way, hit, rmid),
-            used: before.len() as u64 + 1,
-        };
-        self.write(set, way, Some(place));
-    }
-
-    // Adds a drop of a line from the way that held it.
-    fn add_drop(&mut self, before: &[SliceEntry], entry: SliceEntry, line: u64, way: u8)
-        requires few { length before.now < 2 ^ 64 - 1 }
-        requires stands { StandsFor self.old.slots.shape before.now self.old }
-        requires may { EntryMayFollow self.old.slots.shape before.now entry }
-        requires what { entry.what ≡ Drop line (Some way) }
-        ensures { StandsFor self.old.slots.shape (before.now ++ entry ∷ []) self.new }
-    {
-        let _entries = before;
-        let _entry = entry;
-        let set = self.slots.set_of(line);
-        self.write(set, way, None);
-    }
-
-    // Adds a raise.
-    fn add_raise(&mut self, before: &[SliceEntry], entry: SliceEntry)
-        requires few { length before.now < 2 ^ 64 - 1 }
-        requires stands { StandsFor self.old.slots.shape before.now self.old }
-        requires may { EntryMayFollow self.old.slots.shape before.now entry }
-        requires what { entry.what ≡ Raise }
-        ensures { StandsFor self.old.slots.shape (before.now ++ entry ∷ []) self.new }
-    {
-        let _entries = before;
-        self.floor = entry.epoch;
-    }
-
-    // Adds a flush, or a lock with its region.
-    fn add_emptying(&mut self, before: &[SliceEntry], entry: SliceEntry, region: Region)
-        requires few { length before.now < 2 ^ 64 - 1 }
-        requires stands { StandsFor self.old.slots.shape before.now self.old }
-        requires may { EntryMayFollow self.old.slots.shape before.now entry }
-        requires low { floor_of before.now ≤ entry.epoch }
-        requires what { LeavesRegion self.old.slots.shape before.now entry region }
-        ensures { StandsFor self.old.slots.shape (before.now ++ entry ∷ []) self.new }
-    {
-        let _entries = before;
-        self.empty(entry.epoch, region);
-    }
-
-    // Adds an entry that changes nothing.
-    fn pass(&mut self, before: &[SliceEntry], entry: SliceEntry)
-        requires stands { StandsFor self.old.slots.shape before.now self.old }
-        requires quiet { IsQuiet self.old.slots.shape entry }
-        ensures { StandsFor self.old.slots.shape (before.now ++ entry ∷ []) self.new }
-    {
-        let _entries = before;
-        let _entry = entry;
-    }
-
-    /// Adds an entry that may follow.
-    pub fn add(&mut self, before: &[SliceEntry], entry: SliceEntry)
-        requires few { length before.now < 2 ^ 64 - 1 }
-        requires stands { StandsFor self.old.slots.shape before.now self.old }
-        requires may { EntryMayFollow self.old.slots.shape before.now entry }
-        ensures { StandsFor self.old.slots.shape (before.now ++ entry ∷ []) self.new }
-    {
-        match entry.what {
-            What::Access {
-                hit,
-                way,
-                rmid,
-                line,
-                ..
-            } => self.add_access(before, entry, hit, way, rmid, line),
-            What::Drop {
-                line,
-                way: Some(way),
-            } => self.add_drop(before, entry, line, way),
-            What::Raise => self.add_raise(before, entry),
-            What::Flush => self.add_emptying(before, entry, Region::none()),
-            What::Lock { mask, first_line } => self.add_emptying(
-                before,
-                entry,
-                Region {
-                    mask,
-                    first_line,
-                    stamp: before.len() as u64 + 1,
-                },
-            ),
-            What::Drop { way: None, .. } => self.pass(before, entry),
-            What::Look { .. } => self.pass(before, entry),
         }
     }
 }

@@ -6,18 +6,12 @@ ghost use Rattle.journal_check.specs.Slots.{HasLine, Puts, left_place, place_at,
 
 use crate::cached_line::CachedLine;
 use crate::region::{Region, ways_below};
+use crate::slot::Slot;
 use cbm::has_way;
 use machine::Machine;
 use rc_base::NoMemory;
 use std::alloc::Global;
 use std::marker::Model;
-
-/// What was last written of a place, and in which generation.
-#[derive(Clone, Copy, Debug, PartialEq, Eq)]
-pub struct Slot {
-    pub generation: u64,
-    pub place: Option<CachedLine>,
-}
 
 /// The places of every set of a domain. An emptying touches none of them: it begins a generation, and `region` says what it leaves
 /// in each place until that is written.

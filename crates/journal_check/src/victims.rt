@@ -4,16 +4,16 @@ ghost use Rattle.cbm.specs.Masks.{has_way};
 ghost use Rattle.journal_check.specs.Outcomes.{AreFull, AreNotOlder, IsMissing, IsNotOlder, IsOutcomeAt, IsPlaceAt, IsVictimAt};
 ghost use Rattle.journal_check.specs.Slots.{place_at};
 
+use crate::outcome::Outcome;
 use crate::slots::Slots;
 use cbm::has_way;
 
 /// Whether no way of a set holds a line.
-pub(crate) fn is_missing(slots: &Slots, ways: u8, set: u32, line: u64) -> bool
-    requires set { set < slots.now.shape.sets }
-    requires ways { ways ≡ slots.now.shape.ways }
+pub(crate) fn is_missing(slots: &Slots, set: u32, line: u64) -> bool
+    requires { set < slots.now.shape.sets }
     ensures { IsTrue result ↔ IsMissing slots.now set line }
 {
-    for way in 0..ways {
+    for way in 0..slots.ways() {
         if slots.has_line(set, way, line) {
             return false;
         }
@@ -47,13 +47,11 @@ fn is_not_older(other: Option<u64>, used: u64, is_before: bool) -> bool
 }
 
 // Whether each way of a mask holds a line, and none an older one than this way's.
-fn are_not_older(slots: &Slots, ways: u8, set: u32, mask: u32, way: u8, used: u64) -> bool
-    requires set { set < slots.now.shape.sets }
-    requires ways { ways ≡ slots.now.shape.ways }
-    requires few { ways ≤ 32 }
+fn are_not_older(slots: &Slots, set: u32, mask: u32, way: u8, used: u64) -> bool
+    requires { set < slots.now.shape.sets }
     ensures { IsTrue result ↔ AreNotOlder slots.now set mask way used }
 {
-    for w in 0..ways {
+    for w in 0..slots.ways() {
         if has_way(mask, w) && !is_not_older(slots.used(set, w), used, w < way) {
             return false;
         }
@@ -62,31 +60,29 @@ fn are_not_older(slots: &Slots, ways: u8, set: u32, mask: u32, way: u8, used: u6
 }
 
 /// Whether a fill takes this way of a set.
-pub(crate) fn is_victim(slots: &Slots, ways: u8, set: u32, mask: u32, way: u8) -> bool
-    requires set { set < slots.now.shape.sets }
-    requires ways { ways ≡ slots.now.shape.ways }
-    requires few { ways ≤ 32 }
+pub(crate) fn is_victim(slots: &Slots, set: u32, mask: u32, way: u8) -> bool
+    requires { set < slots.now.shape.sets }
     ensures { IsTrue result ↔ IsVictimAt slots.now set mask way }
 {
-    if way >= ways || !has_way(mask, way) {
+    if way >= slots.ways() || !has_way(mask, way) {
         return false;
     }
     match slots.used(set, way) {
-        Some(used) => are_not_older(slots, ways, set, mask, way, used),
+        Some(used) => are_not_older(slots, set, mask, way, used),
         None => are_full(slots, set, mask, way),
     }
 }
 
 /// Whether a set answers so to an access: a hit in a way that holds the line, or a fill of the way that it takes.
-pub(crate) fn is_outcome(slots: &Slots, mask: u32, line: u64, hit: bool, way: u8) -> bool
-    ensures { IsTrue result ↔ IsOutcomeAt slots.now mask line hit way }
+pub(crate) fn is_outcome(slots: &Slots, mask: u32, outcome: Outcome) -> bool
+    ensures { IsTrue result ↔ IsOutcomeAt slots.now mask outcome.line outcome.hit outcome.way }
 {
+    let Outcome { line, hit, way } = outcome;
     let set = slots.set_of(line);
-    let ways = slots.ways();
     if hit {
-        return way < ways && slots.has_line(set, way, line);
+        return way < slots.ways() && slots.has_line(set, way, line);
     }
-    is_missing(slots, ways, set, line) && is_victim(slots, ways, set, mask, way)
+    is_missing(slots, set, line) && is_victim(slots, set, mask, way)
 }
 
 /// Whether this way holds a line, or none where no way is given.
@@ -94,9 +90,8 @@ pub(crate) fn is_place(slots: &Slots, line: u64, way: Option<u8>) -> bool
     ensures { IsTrue result ↔ IsPlaceAt slots.now line way }
 {
     let set = slots.set_of(line);
-    let ways = slots.ways();
     match way {
-        Some(way) => way < ways && slots.has_line(set, way, line),
-        None => is_missing(slots, ways, set, line),
+        Some(way) => way < slots.ways() && slots.has_line(set, way, line),
+        None => is_missing(slots, set, line),
     }
 }
