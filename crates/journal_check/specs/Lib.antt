@@ -18,5 +18,6 @@ pub mod RmidCounts
 pub mod Slots
 pub mod Tables
 pub mod Tags
+pub mod TracedJournals
 pub mod Traces
 pub mod Verdicts

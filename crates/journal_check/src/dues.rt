@@ -5,6 +5,7 @@ ghost use Rattle.machine.specs.Maps.{parameters_of};
 ghost use Rattle.machine.specs.Slices.{domain_in};
 ghost use Rattle.run_law.specs.Owed.{Owed, follow_in, look_in, paid_by};
 
+use crate::debt::Debt;
 use crate::owed::{is_entered_in, is_same, undecided, what_of};
 use crate::trace::Step;
 use cache_core::{SliceEntry, What};
@@ -70,40 +71,35 @@ fn is_due(m: &Machine, i: usize, step: &Step, c: usize) -> bool
     }
 }
 
-// Whether an entry pays what a command at position k owes to slice i for the need or follow-up of this number.
-fn pays(m: &Machine, i: usize, k: u64, step: &Step, c: usize, entry: &SliceEntry) -> bool
-    requires place { k ≤ 4000000 }
-    requires within { c < length step.now.needs + length step.now.follows.items }
-    ensures { IsTrue result ↔ (due (parameters_of m.now) i k step.now c ≡ paid_by entry.now ∷ []) }
+// Whether an entry pays what a command owes to a slice for the need or follow-up of this number.
+fn pays(debt: &Debt<'_>, c: usize, entry: &SliceEntry) -> bool
+    requires position { debt.now.position ≤ 4000000 }
+    requires within { c < length debt.now.step.now.needs + length debt.now.step.now.follows.items }
+    ensures { IsTrue result ↔ (due (parameters_of debt.now.machine.now) debt.now.slice debt.now.position debt.now.step.now c ≡ paid_by entry.now ∷ []) }
 {
-    let needs = step.needs.as_slice();
+    let k = debt.position as u64;
+    let needs = debt.step.needs.as_slice();
     if c < needs.len() {
-        pays_look(m, i, k, needs[c], entry)
+        pays_look(debt.machine, debt.slice, k, needs[c], entry)
     } else {
-        pays_follow(m, i, k + 1, &step.follows[c - needs.len()], entry)
+        let follow = &debt.step.follows[c - needs.len()];
+        pays_follow(debt.machine, debt.slice, k + 1, follow, entry)
     }
 }
 
-/// The number after that of the need or follow-up which an entry pays, as the first that is owed to slice i from this one on, and
+/// The number after that of the need or follow-up which an entry pays, as the first that is owed to the slice from this one on, and
 /// `None` where it does not pay that.
-pub(crate) fn next_due(
-    m: &Machine,
-    i: usize,
-    k: u64,
-    step: &Step,
-    from: usize,
-    entry: &SliceEntry,
-) -> Option<usize>
-    requires place { k ≤ 4000000 }
+pub(crate) fn next_due(debt: &Debt<'_>, from: usize, entry: &SliceEntry) -> Option<usize>
+    requires { debt.now.position ≤ 4000000 }
     ensures { MatchOption result
-        ((more : List Owed) → rest (parameters_of m.now) i k step.now from ≡ paid_by entry.now ∷ more → ⊥)
-        (λ c. rest (parameters_of m.now) i k step.now from ≡ paid_by entry.now ∷ rest (parameters_of m.now) i k step.now c) }
+        ((more : List Owed) → rest (parameters_of debt.now.machine.now) debt.now.slice debt.now.position debt.now.step.now from ≡ paid_by entry.now ∷ more → ⊥)
+        (λ c. rest (parameters_of debt.now.machine.now) debt.now.slice debt.now.position debt.now.step.now from ≡ paid_by entry.now ∷ rest (parameters_of debt.now.machine.now) debt.now.slice debt.now.position debt.now.step.now c) }
 {
-    for c in from..count_of(step) {
-        if pays(m, i, k, step, c, entry) {
+    for c in from..count_of(debt.step) {
+        if pays(debt, c, entry) {
             return Some(c + 1);
         }
-        if is_due(m, i, step, c) {
+        if is_due(debt.machine, debt.slice, debt.step, c) {
             return None;
         }
     }

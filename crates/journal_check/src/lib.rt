@@ -12,6 +12,7 @@ mod beginnings;
 pub mod cached_line;
 pub mod command_counts;
 mod commands_once;
+mod debt;
 mod dues;
 mod entry_order;
 mod first_looks;
@@ -40,6 +41,7 @@ pub mod slots;
 mod tags;
 pub mod theorems;
 pub mod trace;
+mod traced_journals;
 pub mod verdict;
 pub mod victims;
 

@@ -4,4 +4,4 @@ use Rattle.machine.specs.Maps.{parameters_of}
 use Rattle.journal_check.proofs.dues.next_due.Given as goal
 
 abbrev pub invariant-loop-c : goal.invariant-loop-c
-invariant-loop-c l = rest (parameters_of l.m) l.i l.k l.step l.from ≡ rest (parameters_of l.m) l.i l.k l.step l.c
+invariant-loop-c l = rest (parameters_of l.debt.machine.now) l.debt.slice l.debt.position l.debt.step.now l.from ≡ rest (parameters_of l.debt.machine.now) l.debt.slice l.debt.position l.debt.step.now l.c

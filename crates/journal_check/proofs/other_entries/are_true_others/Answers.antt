@@ -9,8 +9,8 @@ use Rattle.journal_check.proofs.other_entries.are_true_others.Goals as goal
 
 pub loop-entry-preserved : goal.loop-entry-preserved
 loop-entry-preserved c p e below at =
-    let script = c.args.script.now in
-    let j = c.args.j.now in
+    let script = c.args.traced.now.script.now in
+    let j = c.args.traced.now.journals.now in
     let n = c.loop-entry.entry-index in
     let items : c.slice-entry-items.result.now ≡ slice_at j c.args.i = c.slice-entry-items.ensures ∙ ap (slice_at j) c.from.ensures in
     let own = get_or c.slice-entry-items.result.now n no_entry in
@@ -26,8 +26,8 @@ loop-entry-preserved c p e below at =
 
 pub returns : goal.returns
 returns c =
-    let script = c.args.script.now in
-    let j = c.args.j.now in
+    let script = c.args.traced.now.script.now in
+    let j = c.args.traced.now.journals.now in
     let items : c.slice-entry-items.result.now ≡ slice_at j c.args.i = c.slice-entry-items.ensures ∙ ap (slice_at j) c.from.ensures in
     is_true (AreTrueOthers script j.tree c.args.i (slice_at j c.args.i))
     (λ p e at. c.loop-entry.invariant p e (let within = slice_get_within (slice_at j c.args.i) p e at in let over = c.loop-entry-test.false in omega (arith, within, over, ap (λ (es : List SliceEntry). length es) items)) at)

@@ -1,6 +1,6 @@
-use Rattle.std.proofs.Common.{◌≡◌, ◌↔◌, ℕ, ◌+◌, ◌-◌, false, List, length, Some, None, refl, sym, ap, ◌∙◌, subst, arith}
+use Rattle.std.proofs.Common.{◌≡◌, ◌↔◌, ℕ, ◌+◌, ◌-◌, false, List, get_or, Some, None, sym, ap, ◌∙◌, subst, arith}
 use Rattle.std.specs.Prelude.{Contains, IsTrue}
-use Rattle.std.proofs.lemmas.Option.{slice_get_read, slice_get_within}
+use Rattle.std.proofs.lemmas.Option.{slice_get-get_or, slice_get_within}
 use Rattle.journal_check.proofs.laws.OpKinds.{is_access_of-false, is_access_of-true}
 use Rattle.journal_check.proofs.laws.Told.{IsSome-some, is_true, number_at-op, op_at-number, some-IsSome}
 use Rattle.cache_core.specs.declared.entry.SliceEntry.{SliceEntry}
@@ -19,8 +19,8 @@ use Rattle.journal_check.proofs.other_entries.is_true_other.Goals as goal
 pub returns-then-is_access_at : goal.returns-then-is_access_at
 returns-then-is_access_at c =
     let e = c.args.entry.now in
-    let it = is_access_of-true (op_at c.args.script.now e.thread e.op) (sym c.if-is_access_at.ensures) in
-    let same = other-access c.args.script.now c.args.j.now.tree c.args.i e it.0 it.1 it.2 in
+    let it = is_access_of-true (op_at c.args.traced.now.script.now e.thread e.op) (sym c.if-is_access_at.ensures) in
+    let same = other-access c.args.traced.now.script.now c.args.traced.now.journals.now.tree c.args.i e it.0 it.1 it.2 in
     (λ shown. same.0 (sym c.is_access.ensures ∙ shown), λ told. c.is_access.ensures ∙ same.1 told)
 
 -- the command of an entry that is of no access, where it has a place
@@ -33,45 +33,46 @@ command-of script places e place table number none =
 pub overflow_sub-k : goal.overflow_sub-k
 overflow_sub-k c =
     let e = c.args.entry.now in
-    let of = command-of c.args.script.now c.args.places.now e c.in-Some.place c.requires.table (sym c.in-Some.ensures) (sym c.if-is_access_at.ensures) in
-    let it = place-once c.args.script.now c.args.j.now.tree c.args.steps.now c.args.places.now c.requires.once c.requires.trace c.requires.places e.thread e.op c.in-Some.place of.0 of.1 of.2 (sym c.in-Some.ensures) in
+    let of = command-of c.args.traced.now.script.now c.args.traced.now.places.now e c.in-Some.place c.requires.traced.table (sym c.in-Some.ensures) (sym c.if-is_access_at.ensures) in
+    let it = place-once c.args.traced.now.script.now c.args.traced.now.journals.now.tree c.args.traced.now.steps.now c.args.traced.now.places.now c.requires.once c.requires.traced.trace c.requires.traced.places e.thread e.op c.in-Some.place of.0 of.1 of.2 (sym c.in-Some.ensures) in
     let is = it.2 in
     omega arith
 
-pub bounds-steps-k : goal.bounds-steps-k
-bounds-steps-k c =
+pub bounds-traced-k : goal.bounds-traced-k
+bounds-traced-k c =
     let e = c.args.entry.now in
-    let of = command-of c.args.script.now c.args.places.now e c.in-Some.place c.requires.table (sym c.in-Some.ensures) (sym c.if-is_access_at.ensures) in
-    let it = place-once c.args.script.now c.args.j.now.tree c.args.steps.now c.args.places.now c.requires.once c.requires.trace c.requires.places e.thread e.op c.in-Some.place of.0 of.1 of.2 (sym c.in-Some.ensures) in
+    let of = command-of c.args.traced.now.script.now c.args.traced.now.places.now e c.in-Some.place c.requires.traced.table (sym c.in-Some.ensures) (sym c.if-is_access_at.ensures) in
+    let it = place-once c.args.traced.now.script.now c.args.traced.now.journals.now.tree c.args.traced.now.steps.now c.args.traced.now.places.now c.requires.once c.requires.traced.trace c.requires.traced.places e.thread e.op c.in-Some.place of.0 of.1 of.2 (sym c.in-Some.ensures) in
     let is = it.2 in
-    let within = slice_get_within c.args.j.now.tree it.0 it.1 it.3 in
-    let count = c.requires.trace.count in
+    let within = slice_get_within c.args.traced.now.journals.now.tree it.0 it.1 it.3 in
+    let count = c.requires.traced.trace.count in
     omega arith
 
 pub returns-in-Some : goal.returns-in-Some
 returns-in-Some c =
-    let script = c.args.script.now in
-    let tree = c.args.j.now.tree in
-    let steps = c.args.steps.now in
+    let script = c.args.traced.now.script.now in
+    let tree = c.args.traced.now.journals.now.tree in
+    let steps = c.args.traced.now.steps.now in
     let e = c.args.entry.now in
     let place = c.in-Some.place in
-    let of = command-of script c.args.places.now e place c.requires.table (sym c.in-Some.ensures) (sym c.if-is_access_at.ensures) in
+    let of = command-of script c.args.traced.now.places.now e place c.requires.traced.table (sym c.in-Some.ensures) (sym c.if-is_access_at.ensures) in
     let op = of.0 in
-    let it = place-once script tree steps c.args.places.now c.requires.once c.requires.trace c.requires.places e.thread e.op place op of.1 of.2 (sym c.in-Some.ensures) in
+    let it = place-once script tree steps c.args.traced.now.places.now c.requires.once c.requires.traced.trace c.requires.traced.places e.thread e.op place op of.1 of.2 (sym c.in-Some.ensures) in
     let placed = it.2 in
     let back : place ≡ (place - 1) + 1 = omega arith in
-    let number : number_at c.args.places.now e.thread e.op ≡ Some ((place - 1) + 1) = sym c.in-Some.ensures ∙ ap (λ (n : ℕ). Some n) back in
+    let number : number_at c.args.traced.now.places.now e.thread e.op ≡ Some ((place - 1) + 1) = sym c.in-Some.ensures ∙ ap (λ (n : ℕ). Some n) back in
     let within = slice_get_within tree it.0 it.1 it.3 in
-    let count = c.requires.trace.count in
-    let there : At steps (place - 1) c.index-steps-k.result = slice_get_read steps (length steps) (place - 1) c.index-steps-k.result refl (omega arith) c.index-steps-k.is in
-    let owed = owed-step script tree steps c.args.places.now c.requires.once c.requires.trace c.requires.places c.args.i (place - 1) e op c.index-steps-k.result of.1 number there in
+    let count = c.requires.traced.trace.count in
+    let step = get_or steps (place - 1) c.index-traced-k.result in
+    let there : At steps (place - 1) step = slice_get-get_or steps (place - 1) c.index-traced-k.result (omega arith) in
+    let owed = owed-step script tree steps c.args.traced.now.places.now c.requires.once c.requires.traced.trace c.requires.traced.places c.args.i (place - 1) e op step of.1 number there in
     let true_where = other-command script tree c.args.i e op of.1 of.2 in
-    let told = subst (λ (m : Parameters). IsTrue c.is_owed.result ↔ Contains (owed_by_step m c.args.i (place - 1) c.index-steps-k.result) (paid_by e)) c.machine.ensures c.is_owed.ensures in
+    let told = subst (λ (m : Parameters). IsTrue c.is_owed.result ↔ Contains (owed_by_step m c.args.i (place - 1) step) (paid_by e)) c.machine.ensures c.is_owed.ensures in
     (λ shown. true_where.0 (owed.0 (told.0 shown)), λ h. told.1 (owed.1 (true_where.1 h)))
 
 pub returns-in-None : goal.returns-in-None
 returns-in-None c =
     let e = c.args.entry.now in
-    let number : number_at c.args.places.now e.thread e.op ≡ None = sym c.get.ensures ∙ c.in-None.is in
-    is_true (IsTrueOther c.args.script.now c.args.j.now.tree c.args.i e)
-    (λ op is other. absurd (let it = number_at-op c.args.script.now c.args.places.now e.thread e.op c.requires.table (IsSome-some (op_at c.args.script.now e.thread e.op) op is) in let wrong : None ≡ Some it.0 = sym number ∙ it.1 in cc))
+    let number : number_at c.args.traced.now.places.now e.thread e.op ≡ None = sym c.get.ensures ∙ c.in-None.is in
+    is_true (IsTrueOther c.args.traced.now.script.now c.args.traced.now.journals.now.tree c.args.i e)
+    (λ op is other. absurd (let it = number_at-op c.args.traced.now.script.now c.args.traced.now.places.now e.thread e.op c.requires.traced.table (IsSome-some (op_at c.args.traced.now.script.now e.thread e.op) op is) in let wrong : None ≡ Some it.0 = sym number ∙ it.1 in cc))

@@ -8,14 +8,14 @@ use Rattle.run_law.specs.Journals.{slice_at}
 use Rattle.journal_check.proofs.payments.are_all_paid.Goals as goal
 
 pub pay_all-requires-clause-paid : goal.pay_all-requires-clause-paid
-pay_all-requires-clause-paid c = ArePaid-zero c.args.script.now.machine c.args.i c.args.j.now.tree c.args.steps.now c.in_ok-cursors.cursors.items c.in_ok-cursors.ensures.zero
+pay_all-requires-clause-paid c = ArePaid-zero c.args.traced.now.script.now.machine c.args.i c.args.traced.now.journals.now.tree c.args.traced.now.steps.now c.in_ok-cursors.cursors.items c.in_ok-cursors.ensures.zero
 
 pub returns : goal.returns
 returns c =
-    let machine = c.args.script.now.machine in
+    let machine = c.args.traced.now.script.now.machine in
     let i = c.args.i in
-    let j = c.args.j.now in
-    let steps = c.args.steps.now in
+    let j = c.args.traced.now.journals.now in
+    let steps = c.args.traced.now.steps.now in
     let cursors = c.pay_all.new.cursors.items in
     let ended = c.are_ended.result in
     let both = AreEnded-all machine i j.tree steps (slice_at j i) cursors c.pay_all.ensures.cursors (c.pay_all.ensures.paid c.if-not-pay_all.false) in
