@@ -11,13 +11,22 @@ use mode_rules::DomainUse;
 use pair_text::{PairGroup, Side};
 use rc_base::{Gid, Mode};
 
-// Whether a group is another than this one, and in this mode.
-fn is_other_in(but: Option<Gid>, mode: Mode, g: &PairGroup) -> bool
-    ensures { result ≡ is_other_in but mode g.now }
+// The groups in a mode, but for one; all of them where none is named.
+#[derive(Clone, Copy, Drop)]
+struct Others {
+    // The group that is none of them.
+    but: Option<Gid>,
+    // The mode.
+    mode: Mode,
+}
+
+// Whether a group is one of these.
+fn is_other_in(others: Others, g: &PairGroup) -> bool
+    ensures { result ≡ is_other_in others.but others.mode g.now }
 {
-    match but {
-        Some(gid) => gid.0 != g.gid.0 && mode == g.mode,
-        None => mode == g.mode,
+    match others.but {
+        Some(gid) => gid.0 != g.gid.0 && others.mode == g.mode,
+        None => others.mode == g.mode,
     }
 }
 
@@ -34,21 +43,14 @@ fn ways_beside(m: &Machines, g: &PairGroup, side: Side, domain: u8) -> u32
 }
 
 impl Tables {
-    // The ways of the others in a mode, in a domain of a side.
-    fn union_of_others(
-        &self,
-        m: &Machines,
-        but: Option<Gid>,
-        mode: Mode,
-        side: Side,
-        domain: u8,
-    ) -> u32
+    // The ways of these groups in a domain of a side.
+    fn union_of_others(&self, m: &Machines, others: Others, side: Side, domain: u8) -> u32
         requires { domain < 8 }
-        ensures { result ≡ union_of (masks_of_others m.now (state_of self.now) but mode (record { side = side; domain = domain })) }
+        ensures { result ≡ union_of (masks_of_others m.now (state_of self.now) others.but others.mode (record { side = side; domain = domain })) }
     {
         let mut ways = 0;
         for g in &self.groups {
-            if is_other_in(but, mode, g) {
+            if is_other_in(others, g) {
                 ways |= ways_beside(m, g, side, domain);
             }
         }
@@ -60,10 +62,18 @@ impl Tables {
         requires { domain < 8 }
         ensures { result ≡ used_in m.now (state_of self.now) but (record { side = side; domain = domain }) }
     {
+        let shareable = Others {
+            but,
+            mode: Mode::Shareable,
+        };
+        let exclusive = Others {
+            but,
+            mode: Mode::Exclusive,
+        };
         DomainUse {
             hardware: m.side(side).shareable,
-            shared: self.union_of_others(m, but, Mode::Shareable, side, domain),
-            exclusive: self.union_of_others(m, but, Mode::Exclusive, side, domain),
+            shared: self.union_of_others(m, shareable, side, domain),
+            exclusive: self.union_of_others(m, exclusive, side, domain),
             region: 0,
         }
     }

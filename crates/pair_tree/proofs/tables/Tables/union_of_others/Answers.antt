@@ -12,7 +12,7 @@ pub loop-g-preserved : goal.loop-g-preserved
 loop-g-preserved c =
     let items = c.args.self.now.groups.items in
     let f = masks_of (sides_beside c.args.m.now.l2 c.args.side) c.args.domain in
-    let p = is_other_in c.args.but c.args.mode in
+    let p = is_other_in c.args.others.but c.args.others.mode in
     let i = c.loop-g.g-index in
     let rest : drop i items ≡ c.g-item.result ∷ drop (i + 1) items = drop-item items i c.g-item.result (omega (arith, ap length c.deref-g-items.ensures.value)) (rw c.deref-g-items.ensures.value at c.g-item.is) in
     elim c.if-is_other_in.branch [
@@ -24,6 +24,6 @@ pub returns : goal.returns
 returns c =
     let items = c.args.self.now.groups.items in
     let f = masks_of (sides_beside c.args.m.now.l2 c.args.side) c.args.domain in
-    let p = is_other_in c.args.but c.args.mode in
+    let p = is_other_in c.args.others.but c.args.others.mode in
     let none = drop_all c.loop-g.g-index items (omega (arith, ap length c.deref-g-items.ensures.value)) in
     sym (bit_or-zero c.loop-g.ways) ∙ ap (λ l. bit_or c.loop-g.ways (union_of (flat_map f (filter p l)))) (sym none) ∙ c.loop-g.invariant

@@ -6,5 +6,5 @@ use Rattle.pair_tree.proofs.tables.Tables.union_of_others.Given as goal
 
 abbrev pub invariant-loop-g : goal.invariant-loop-g
 invariant-loop-g l =
-    bit_or l.ways (union_of (flat_map (masks_of (sides_beside l.m.l2 l.side) l.domain) (filter (is_other_in l.but l.mode) (drop l.g-index l.self.groups.items))))
-    ≡ union_of (flat_map (masks_of (sides_beside l.m.l2 l.side) l.domain) (filter (is_other_in l.but l.mode) l.self.groups.items))
+    bit_or l.ways (union_of (flat_map (masks_of (sides_beside l.m.l2 l.side) l.domain) (filter (is_other_in l.others.but l.others.mode) (drop l.g-index l.self.groups.items))))
+    ≡ union_of (flat_map (masks_of (sides_beside l.m.l2 l.side) l.domain) (filter (is_other_in l.others.but l.others.mode) l.self.groups.items))
