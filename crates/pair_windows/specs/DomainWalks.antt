@@ -65,11 +65,3 @@ pub record IsCountable (w : DomainWalk) : Type 0 where
 pub record CanClose (script : PairScriptValue) (from last : ℕ) : Type 0 where
   pub flush : is_flush (op_at script from) ≡ true
   pub segment : IsSegment script (from + 1) last
-
--- A place after a flush, whose position among the commands this is, and domains of which the windows that begin before it are found.
-pub record HasFoundAfter (script : PairScriptValue) (hits : Hits) (epoch place : ℕ) (walks : List DomainWalk) : Type 0 where
-  pub from : ℕ
-  pub after : place ≡ from + 1
-  pub flush : is_flush (op_at script from) ≡ true
-  pub position : epoch ≡ epoch_at script from
-  pub found : Each (HasFound script hits from) walks

@@ -9,6 +9,7 @@ ghost use Rattle.pair_windows.specs.declared.segments.Hits.{Hits as HitsValue};
 ghost use Rattle.private_lru.specs.Ends.{RiseByGroup};
 ghost use Rattle.private_lru.specs.Tallies.{AreCounted};
 
+use crate::counted_groups::CountedGroups;
 use crate::domain_walks::DomainWalk;
 use crate::joint_window::JointWindow;
 use crate::level_masks::LevelMasks;
@@ -59,16 +60,15 @@ fn push_counted(
     windows: &mut Vec<JointWindow>,
     domain: u8,
     from: u32,
-    held: &[Span<LevelMasks>],
-    l2: &[WindowCounts],
-    l3: &[WindowCounts],
+    groups: &CountedGroups<'_>,
 ) -> Result<(), NoMemory>
-    requires l2 { length l2.now ≡ length held.now }
-    requires l3 { length l3.now ≡ length held.now }
-    ensures { OnOk result (windows.new.items ≡ windows.old.items ++ filter is_used (counted_windows domain from held.now l2.now l3.now)) }
+    requires l2 { length groups.now.l2.now ≡ length groups.now.held.now }
+    requires l3 { length groups.now.l3.now ≡ length groups.now.held.now }
+    ensures { OnOk result (windows.new.items ≡ windows.old.items ++ filter is_used (counted_windows domain from groups.now.held.now groups.now.l2.now groups.now.l3.now)) }
 {
-    for i in 0..held.len() {
-        push_used(windows, window_of(domain, from, held[i], l2[i], l3[i]))?;
+    for i in 0..groups.held.len() {
+        let window = window_of(domain, from, groups.held[i], groups.l2[i], groups.l3[i]);
+        push_used(windows, window)?;
     }
     Ok(())
 }
@@ -104,7 +104,12 @@ fn close(
     let part = &walk.segment;
     let l2 = counts_at(alloc, sets, &part.held, &part.l2)?;
     let l3 = counts_at(alloc, sets, &part.held, &part.l3)?;
-    push_counted(&mut walk.windows, walk.domain, epoch, &part.held, &l2, &l3)?;
+    let groups = CountedGroups {
+        held: &part.held,
+        l2: &l2,
+        l3: &l3,
+    };
+    push_counted(&mut walk.windows, walk.domain, epoch, &groups)?;
     Ok(())
 }
 

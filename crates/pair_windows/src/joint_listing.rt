@@ -5,7 +5,7 @@ ghost use Rattle.pair_text.specs.Values.{op_at};
 ghost use Rattle.pair_text.specs.declared.side.Side.TheVariants.{First, Second};
 ghost use Rattle.pair_law.specs.JointWindows.{is_flush};
 ghost use Rattle.pair_law.specs.LevelRuns.{LevelJournalsValue};
-ghost use Rattle.pair_windows.specs.DomainWalks.{Each, HasFound, HasFoundAfter, IsFresh};
+ghost use Rattle.pair_windows.specs.DomainWalks.{Each, HasFound, IsFresh};
 ghost use Rattle.pair_windows.specs.Hits.{AreHits};
 ghost use Rattle.pair_windows.specs.JointWindows.{joint_windows};
 ghost use Rattle.pair_windows.specs.LevelJournals.{IsPlayedOnLevels, level_journals};
@@ -40,29 +40,6 @@ fn take_quiet(script: &PairScript, replay: &mut Replay)
     }
 }
 
-// Takes the ops after a flush, whose position among the commands this is, up to the next one, and adds the windows that begin at it.
-fn push_held(
-    alloc: Global,
-    script: &PairScript,
-    hits: &Hits,
-    epoch: u32,
-    replay: &mut Replay,
-    walks: &mut [DomainWalk],
-) -> Result<(), NoMemory>
-    requires walk { CanWalk script.now hits.now }
-    requires one_each { length walks.old ≡ script.now.machines.machine.domains }
-    requires taken { HasTaken script.now replay.old }
-    requires within { replay.old.place ≤ length script.now.ops }
-    requires found { HasFoundAfter script.now hits.now epoch replay.old.place walks.old }
-    ensures taken { OnOk result (HasTaken script.now replay.new) }
-    ensures segment { OnOk result (IsSegment script.now replay.old.place replay.new.place) }
-    ensures found { OnOk result (Each (HasFound script.now hits.now replay.new.place) walks.new) }
-{
-    take_segment(alloc, walks, script, hits, replay)?;
-    close_all(alloc, walks, script, epoch)?;
-    Ok(())
-}
-
 // Takes a flush and the ops up to the next one, and adds the windows that begin at it: none where no group is exclusive then.
 fn push_flush(
     alloc: Global,
@@ -87,7 +64,8 @@ fn push_flush(
         take_quiet(script, replay);
         return Ok(());
     }
-    push_held(alloc, script, hits, epoch, replay, walks)?;
+    take_segment(alloc, walks, script, hits, replay)?;
+    close_all(alloc, walks, script, epoch)?;
     Ok(())
 }
 

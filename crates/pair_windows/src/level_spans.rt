@@ -17,7 +17,7 @@ use private_lru::{ExclusiveSpan, HoldsAt, Span};
 use rc_base::{Gid, Mode, NoMemory};
 use std::alloc::Global;
 
-/// The groups of an epoch, as the masks of a group in an L3 domain, and in the L2 domains that lie in it, are kept or not.
+/// An L3 domain of a script at an epoch, at which groups keep their masks there, and in the L2 domains that lie in it, or not.
 #[derive(Drop)]
 pub(crate) struct LevelState<'a> {
     /// The script.

@@ -10,6 +10,7 @@ mod cdp_walks;
 pub mod cdp_window;
 mod commands;
 mod counted;
+mod counted_groups;
 mod domain_walks;
 pub mod domains;
 mod fronts;

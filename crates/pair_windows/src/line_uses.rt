@@ -9,9 +9,9 @@ ghost use Rattle.pair_windows.specs.Replays.{HasTaken, IsPlayable};
 ghost use Rattle.pair_law.specs.Entries.{entry};
 
 use crate::Replay;
+use crate::level_spans::LevelState;
 use cache_core::{SliceEntry, What};
 use pair_text::{PairOp, PairScript};
-use pair_tree::PairTree;
 use rc_base::{Gid, NoMemory};
 
 /// A use of a line by a group.
@@ -23,26 +23,19 @@ pub(crate) struct LineUse {
     pub line: u64,
 }
 
-// Whose use it is, where it is on a CPU of an L3 domain.
-fn use_of(
-    script: &PairScript,
-    tree: &PairTree,
-    domain: u8,
-    task: u32,
-    cpu: u8,
-    line: u64,
-) -> Option<LineUse>
-    requires machines { tree.now.machines ≡ script.now.machines }
-    requires task { Contains (tasks_of tree.now.state) task }
-    requires cpu { cpu < script.now.machines.machine.cpus }
-    ensures { (code : Bool) → result ≡ use_in script.now tree.now.state domain (Some (ops.Use task cpu line code)) }
+// Whose use it is, where it is on a CPU of the domain.
+fn use_of(state: &LevelState<'_>, task: u32, cpu: u8, line: u64) -> Option<LineUse>
+    requires machines { state.now.tree.now.machines ≡ state.now.script.now.machines }
+    requires task { Contains (tasks_of state.now.tree.now.state) task }
+    requires cpu { cpu < state.now.script.now.machines.machine.cpus }
+    ensures { (code : Bool) → result ≡ use_in state.now.script.now state.now.tree.now.state state.now.domain (Some (ops.Use task cpu line code)) }
 {
-    let own = script.machine().domain_of(cpu);
-    if own != domain {
+    let own = state.script.machine().domain_of(cpu);
+    if own != state.domain {
         return None;
     }
     Some(LineUse {
-        owner: tree.resolve(task, cpu).owner,
+        owner: state.tree.resolve(task, cpu).owner,
         line,
     })
 }
@@ -60,7 +53,14 @@ pub(crate) fn next_use(script: &PairScript, domain: u8, replay: &Replay) -> Opti
             cpu,
             line,
             ..
-        } => use_of(script, replay.tree(), domain, *task, *cpu, *line),
+        } => {
+            let state = LevelState {
+                script,
+                tree: replay.tree(),
+                domain,
+            };
+            use_of(&state, *task, *cpu, *line)
+        }
         _ => None,
     }
 }
