@@ -12,6 +12,7 @@ ghost use Rattle.run_counts.specs.declared.line_counts.TheConstants.{MOST_COUNT}
 ghost use Rattle.run_law.specs.Slices.{shape_in};
 
 use crate::line_counts::Occupancy;
+use crate::placed_line::PlacedLine;
 use cache_core::{SliceEntry, What};
 use cbm::has_way;
 use machine::Machine;
@@ -31,27 +32,27 @@ pub(crate) fn places_of(machine: &Machine) -> u64
 }
 
 impl Occupancy {
-    /// Counts a line that filled a place, where the place is of slice i.
+    /// Counts a line that filled its place, where the place is of slice i.
     #[inline]
-    pub(crate) fn fill(&mut self, machine: &Machine, i: u32, line: u64, way: u8, rmid: u16)
+    pub(crate) fn fill(&mut self, machine: &Machine, i: u32, placed: PlacedLine, rmid: u16)
         requires sets { length self.old.seen ≡ machine.now.sets }
         requires few { IsAtMost MOST_COUNT self.old }
-        ensures { AddsPlaces (shape_in (parameters_of machine.now) i) self.old self.new rmid (λ s w. (line % machine.now.sets == s) && (way == w)) }
+        ensures { AddsPlaces (shape_in (parameters_of machine.now) i) self.old self.new rmid (λ s w. (placed.line % machine.now.sets == s) && (placed.way == w)) }
     {
-        let set = machine.set_of(line);
-        if is_of_slice(machine, i, set) && way < machine.ways {
-            self.put(set, way, rmid);
+        let set = machine.set_of(placed.line);
+        if is_of_slice(machine, i, set) && placed.way < machine.ways {
+            self.put(set, placed.way, rmid);
         }
     }
 
     // Marks the place of a dropped line as done with, where the place is of slice i.
-    fn empty(&mut self, machine: &Machine, i: u32, line: u64, way: u8)
+    fn empty(&mut self, machine: &Machine, i: u32, placed: PlacedLine)
         requires sets { length self.old.seen ≡ machine.now.sets }
-        ensures { SkipsPlaces (shape_in (parameters_of machine.now) i) self.old self.new (λ s w. (line % machine.now.sets == s) && (way == w)) }
+        ensures { SkipsPlaces (shape_in (parameters_of machine.now) i) self.old self.new (λ s w. (placed.line % machine.now.sets == s) && (placed.way == w)) }
     {
-        let set = machine.set_of(line);
-        if is_of_slice(machine, i, set) && way < machine.ways {
-            self.skip(set, way);
+        let set = machine.set_of(placed.line);
+        if is_of_slice(machine, i, set) && placed.way < machine.ways {
+            self.skip(set, placed.way);
         }
     }
 
@@ -61,7 +62,7 @@ impl Occupancy {
         ensures { SkipsPlaces (shape_in (parameters_of machine.now) i) self.old self.new (λ s w. decides (shape_in (parameters_of machine.now) i) s w (Drop line way)) }
     {
         match way {
-            Some(way) => self.empty(machine, i, line, way),
+            Some(way) => self.empty(machine, i, PlacedLine { line, way }),
             None => {}
         }
     }

@@ -7,6 +7,7 @@ mod counts;
 mod domain_lines;
 mod domains;
 mod line_counts;
+mod placed_line;
 mod refusals;
 mod run_counts;
 mod running_tally;

@@ -12,6 +12,7 @@ ghost use Rattle.run_law.specs.Slices.{shape_in};
 
 use crate::counting::places_of;
 use crate::line_counts::Occupancy;
+use crate::placed_line::PlacedLine;
 use crate::running_tally::RunningTally;
 use cache_core::{SliceEntry, What};
 use machine::Machine;
@@ -71,7 +72,7 @@ impl Walk {
                 ..
             } => {
                 self.tally.add_miss(owner.0)?;
-                self.lines.fill(machine, i, line, way, rmid);
+                self.lines.fill(machine, i, PlacedLine { line, way }, rmid);
                 Ok(true)
             }
             _ => Ok(self.lines.take_change(machine, i, entry)),
