@@ -1,3 +1,4 @@
+pub mod Beginnings
 pub mod Codes
 pub mod Endings
 pub mod Feeding

@@ -5,6 +5,8 @@ ghost use Rattle.call_rim.specs.Outside.{IsGoodSoFar, reading_of, writing_of};
 ghost use Rattle.call_rim.specs.Within.{RefusesWithin, ReportsWithin};
 ghost use Rattle.call_rim.specs.declared.status.Status.TheVariants.{ReadFault};
 
+use crate::early::make_early;
+use crate::early_program::EarlyProgram;
 use crate::ended::{Ended, without_outcome};
 use crate::feeding::feed;
 use crate::program::Program;
@@ -35,6 +37,30 @@ pub fn call<P: Program, S: Source, K: Sink>(
 {
     match read_all(alloc, source, program.most_bytes()) {
         Ok(bytes) => tell(perform_within(alloc, program, bytes), sink),
+        Err(ReadError::Failed) => without_outcome(Status::ReadFault),
+        Err(ReadError::NoMemory) => without_outcome(Status::NoMemory),
+    }
+}
+
+/// A call of a program that has its whole input first, unless it refuses the input by its first 2^20 bytes, with a command line that is
+/// valid: does what `call` does. Of an input that its beginning refuses the rest is read, and not held.
+pub fn call_early<P: EarlyProgram, S: Source, K: Sink>(
+    alloc: Global,
+    program: &P,
+    source: &mut S,
+    sink: &mut K,
+) -> Ended<P::Outcome>
+    requires source { S.faults source.old < 2 ^ 64 - 1 }
+    requires sink { K.faults sink.old < 2 ^ 64 - 1 }
+    requires large { 2 ^ 20 ≤ P.most program.now }
+    ensures ends { (usage : List ℕ) → Ends (RefusesWithin (P.most program.now) (P.refuses program.now)) (ReportsWithin (P.most program.now) (P.reports program.now)) (call_of true usage
+        (reading_of S.left S.faults source.old source.new)
+        (writing_of K.taken K.held K.faults sink.old sink.new)) result.status result.outcome }
+    ensures leaves { LeavesBy (P.most program.now) (reading_of S.left S.faults source.old source.new) result.status }
+    ensures end { S.ends source.new ≤ S.ends source.old + 1 }
+{
+    match make_early(alloc, program, source) {
+        Ok(made) => tell(made, sink),
         Err(ReadError::Failed) => without_outcome(Status::ReadFault),
         Err(ReadError::NoMemory) => without_outcome(Status::NoMemory),
     }

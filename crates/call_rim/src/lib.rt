@@ -3,6 +3,8 @@
 #![tactic(auto)]
 
 pub mod calls;
+mod early;
+pub mod early_program;
 pub mod ended;
 mod feeding;
 pub mod pass_program;
@@ -17,7 +19,8 @@ pub mod theorems;
 mod within;
 pub mod writing;
 
-pub use calls::{call, stream, usage};
+pub use calls::{call, call_early, stream, usage};
+pub use early_program::EarlyProgram;
 pub use ended::{Ended, without_outcome};
 pub use pass_program::{MOST_DUE_BYTES, PassProgram, Passing};
 pub use passing::pass;

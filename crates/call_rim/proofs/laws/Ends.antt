@@ -1,7 +1,7 @@
 -- How calls end, from what was read and what was written.
 use Rattle.std.proofs.Common.{◌≡◌, ℕ, ◌<◌, ◌⊎◌, true, false, List, Option, Some, None, refl, sym, subst, inl, inr, arith}
 use Rattle.call_rim.proofs.laws.InputBytes.{IsToTheEnd-known, LeavesRest-few, first_bytes-few, first_bytes-many}
-use Rattle.call_rim.specs.Endings.{Call, Ends, HasInput, IsComplete, IsRefused, IsReported, IsUsage, LeavesBy, ReadsWell, Says, Tells}
+use Rattle.call_rim.specs.Endings.{Call, Ends, IsComplete, IsRefused, IsReported, IsUsage, LeavesBy, ReadsWell, Says, Tells}
 use Rattle.call_rim.specs.Feeding.{IsMade}
 use Rattle.call_rim.specs.Outside.{IsInput, LeavesRest, Reading, TakesAll, TakesSome, Writing}
 use Rattle.call_rim.specs.Passing.{PassEnds}

@@ -67,6 +67,13 @@ first_bytes-few most left bytes input few =
     let taken = length-take (most + 1) left in
     input ∙ take_all (most + 1) left (omega (arith, same, taken, few))
 
+-- fewer bytes than a first limit are all that there are
+pub IsInput-short : (first most : ℕ) (left : Option (List ℕ)) (bytes : List ℕ) → IsInput first left bytes → length bytes ≤ first → first ≤ most → IsInput most left bytes
+IsInput-short first most None bytes input few less = tt
+IsInput-short first most (Some left) bytes input few less =
+    let all : bytes ≡ left = first_bytes-few first left bytes input few in
+    all ∙ sym (first_bytes-all most left (omega (arith, few, less, ap length all)))
+
 -- and many are of more
 pub first_bytes-many : (most : ℕ) (left bytes : List ℕ) → bytes ≡ first_bytes most left → most < length bytes → most < length left
 unfolding first_bytes

@@ -2,7 +2,7 @@ use Rattle.std.proofs.Common.{◌≡◌, ◌<◌, ◌≤◌, ◌+◌, length, ta
 use Rattle.std.proofs.lemmas.List.{length-take}
 use Rattle.std.proofs.lemmas.Grind.{common_steps}
 use Rattle.call_rim.proofs.laws.InputBytes.{IsInput-at_end, IsInput-full}
-use Rattle.call_rim.proofs.reading.read_all.Goals as goal
+use Rattle.call_rim.proofs.reading.read_on.Goals as goal
 
 pub returns-in-Ok-eq0-clause-bytes : goal.returns-in-Ok-eq0-clause-bytes
 returns-in-Ok-eq0-clause-bytes g c =
@@ -11,17 +11,17 @@ returns-in-Ok-eq0-clause-bytes g c =
     let whole : length c.deref_mut.result.now ≡ 65536 = grind (arith, common_steps) in
     let room : 0 < c.min-room.result = grind (arith, common_steps) in
     let some : 0 < length (take c.min-room.result c.deref_mut.result.now) = omega (arith, whole, room, length-take c.min-room.result c.deref_mut.result.now) in
-    let before : vec_len c.loop-bytes.bytes ≤ most = grind (arith, common_steps) in
+    let before : vec_len c.pieces.bytes ≤ most = grind (arith, common_steps) in
     let now : vec_len c.read_piece.new.bytes ≡ length c.read_piece.new.bytes.items = c.read_piece.new.bytes.ok.0 in
     let fits : length c.read_piece.new.bytes.items ≤ most + 1 = omega (arith, before, now, read.count, c.in-Ok-eq0.field-0-test) in
-    IsInput-at_end most (g.S.Source.left c.args.source.now) (g.S.Source.left c.read_piece.new.source) c.read_piece.new.bytes.items
-    (read.bytes (g.S.Source.left c.args.source.now) c.loop-bytes.invariant.bytes) (read.end c.in-Ok-eq0.field-0-test some) fits
+    λ start consumed. IsInput-at_end most start (g.S.Source.left c.read_piece.new.source) c.read_piece.new.bytes.items
+    (read.bytes start (c.pieces.invariant.bytes start consumed)) (read.end c.in-Ok-eq0.field-0-test some) fits
 
 pub returns-clause-bytes : goal.returns-clause-bytes
 returns-clause-bytes g c =
-    let now : vec_len c.loop-bytes.bytes ≡ length c.loop-bytes.bytes.items = c.loop-bytes.bytes.ok.0 in
+    let now : vec_len c.pieces.bytes ≡ length c.pieces.bytes.items = c.pieces.bytes.ok.0 in
     let most = c.args.most in
-    let more : most < vec_len c.loop-bytes.bytes = grind (arith, common_steps) in
-    let room = c.loop-bytes.invariant.room in
-    let full : length c.loop-bytes.bytes.items ≡ most + 1 = omega (arith, now, more, room) in
-    IsInput-full most (g.S.Source.left c.args.source.now) (g.S.Source.left c.loop-bytes.source) c.loop-bytes.bytes.items c.loop-bytes.invariant.bytes full
+    let more : most < vec_len c.pieces.bytes = grind (arith, common_steps) in
+    let room = c.pieces.invariant.room in
+    let full : length c.pieces.bytes.items ≡ most + 1 = omega (arith, now, more, room) in
+    λ start consumed. IsInput-full most start (g.S.Source.left c.pieces.source) c.pieces.bytes.items (c.pieces.invariant.bytes start consumed) full
