@@ -14,6 +14,7 @@ use crate::cached_tag::CachedTag;
 use crate::live::Live;
 use crate::run_names::{NamedTable, RunNames, StepShare};
 use crate::seen::Seen;
+use crate::turn::{AccessTurn, TaggedAccess};
 use rc_stream::{Gate, Point};
 use std::sync::Wait;
 use step_world::Reached;
@@ -45,26 +46,27 @@ impl<N: RunNames, T: NamedTable> Live<N, T> {
         s: &mut Seen<N>,
         worker: &mut StepShare<N>,
         cached: &mut Option<CachedTag>,
-        op: u32,
-        task: u32,
-        cpu: u8,
-        addr: u64,
+        access: AccessTurn,
     ) -> Result<Reached, u64>
-        requires op { op_at N.script s.old.thread op ≡ Some (Access task cpu addr) }
-        requires room { HasRoomIn N.script (slice_reached N.script.machine cpu addr) s.old }
-        requires worker { IsResting T.table s.old.thread op true worker.old }
+        requires op { op_at N.script s.old.thread access.number ≡ Some (Access access.task access.cpu access.addr) }
+        requires room { HasRoomIn N.script (slice_reached N.script.machine access.cpu access.addr) s.old }
+        requires worker { IsResting T.table s.old.thread access.number true worker.old }
         requires cached { HoldsCached N.script s.old cached.old }
         ensures cached_now { HoldsCached N.script s.new cached.new }
-        ensures turned { HasTurned N.script op task cpu addr s.old s.new result }
-        ensures worker { IsResting T.table s.old.thread (op_after op result) true worker.new }
+        ensures turned { HasTurned N.script access.number access.task access.cpu access.addr s.old s.new result }
+        ensures worker { IsResting T.table s.old.thread (op_after access.number result) true worker.new }
     {
+        let AccessTurn {
+            number,
+            task,
+            cpu,
+            addr,
+        } = access;
         let tag = self.tree.lock(rt).tag(s, worker, cached, task, cpu);
         let line = addr / 64;
         let slice = self.machine.line_slice(tag.domain, line);
-        match self
-            .slices
-            .touch(rt, hold, slice, s, worker, op, &tag, line)
-        {
+        let tagged = TaggedAccess { number, tag, line };
+        match self.slices.touch(rt, hold, slice, s, worker, &tagged) {
             Some(reached) => Ok(reached),
             None => Err(tag.epoch),
         }
@@ -78,24 +80,21 @@ impl<N: RunNames, T: NamedTable> Live<N, T> {
         s: &mut Seen<N>,
         worker: &mut StepShare<N>,
         cached: &mut Option<CachedTag>,
-        op: u32,
-        task: u32,
-        cpu: u8,
-        addr: u64,
+        access: AccessTurn,
     ) -> Reached
-        requires op { op_at N.script s.old.thread op ≡ Some (Access task cpu addr) }
-        requires room { HasRoomIn N.script (slice_reached N.script.machine cpu addr) s.old }
-        requires worker { IsResting T.table s.old.thread op true worker.old }
+        requires op { op_at N.script s.old.thread access.number ≡ Some (Access access.task access.cpu access.addr) }
+        requires room { HasRoomIn N.script (slice_reached N.script.machine access.cpu access.addr) s.old }
+        requires worker { IsResting T.table s.old.thread access.number true worker.old }
         requires cached { HoldsCached N.script s.old cached.old }
         ensures cached_now { HoldsCached N.script s.new cached.new }
-        ensures accessed { HasAccessed N.script op task cpu addr result s.old s.new }
-        ensures worker { IsResting T.table s.old.thread (op + 1) true worker.new }
+        ensures accessed { HasAccessed N.script access.number access.task access.cpu access.addr result s.old s.new }
+        ensures worker { IsResting T.table s.old.thread (access.number + 1) true worker.new }
     {
-        let mut turn = self.turn(rt, hold, s, worker, cached, op, task, cpu, addr);
+        let mut turn = self.turn(rt, hold, s, worker, cached, access);
         loop {
             match turn {
                 Ok(reached) => return reached,
-                Err(_) => turn = self.turn(rt, hold, s, worker, cached, op, task, cpu, addr),
+                Err(_) => turn = self.turn(rt, hold, s, worker, cached, access),
             }
         }
     }

@@ -9,7 +9,7 @@ use crate::seen::Seen;
 use crate::slice_slot::SliceSlot;
 use crate::slice_slots::SliceSlots;
 use crate::slot_pair::SlotPair;
-use rc_base::Tag;
+use crate::turn::TaggedAccess;
 use run_law::TreeEntry;
 use seen_journal::Journal;
 use std::sync::Wait;
@@ -83,11 +83,9 @@ impl<
         i: usize,
         s: &mut Seen<N>,
         worker: &mut StepShare<N>,
-        op: u32,
-        tag: &Tag,
-        line: u64,
+        access: &TaggedAccess,
     ) -> Option<Reached> {
-        self.slots.touch(rt, hold, i, s, worker, op, tag, line)
+        self.slots.touch(rt, hold, i, s, worker, access)
     }
 
     fn last() -> usize {

@@ -26,6 +26,7 @@ mod slices;
 mod slot_pair;
 pub mod theorems;
 mod tree;
+mod turn;
 mod whole_run;
 mod worker;
 

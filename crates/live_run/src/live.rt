@@ -19,6 +19,7 @@ use crate::run_names::{NamedTable, RunNames, StepShare};
 use crate::seen::hand;
 use crate::slices::Slices;
 use crate::tree::TreeCell;
+use crate::turn::AccessTurn;
 use machine::Machine;
 use rc_base::Reply;
 use rc_stream::Gate;
@@ -162,10 +163,12 @@ impl<N: RunNames, T: NamedTable> Live<N, T> {
             &mut p.seen,
             &mut p.share,
             cached,
-            p.next,
-            *task,
-            *cpu,
-            *addr,
+            AccessTurn {
+                number: p.next,
+                task: *task,
+                cpu: *cpu,
+                addr: *addr,
+            },
         );
         p.next += 1;
         reached

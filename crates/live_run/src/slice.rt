@@ -13,8 +13,8 @@ use crate::access::Hold;
 use crate::parts::Part;
 use crate::run_names::{NamedTable, RunNames, StepShare};
 use crate::seen::{Seen, meet, note};
+use crate::turn::TaggedAccess;
 use cache_core::{Cache, SliceEntry, What};
-use rc_base::Tag;
 use run_law::TreeEntry;
 use schedule_law::{accesses, commands};
 use seen_journal::{Journal, Pass};
@@ -146,23 +146,23 @@ impl<N: RunNames, T: NamedTable, const I: usize> SliceCell<N, T, I> {
         hold: &H,
         s: &mut Seen<N>,
         worker: &mut StepShare<N>,
-        op: u32,
-        tag: &Tag,
-        line: u64,
+        access: &TaggedAccess,
     ) -> Option<Reached>
-        requires may { MayTouch N.script I op tag.now line s.old }
-        requires tagged { IsTagged N.script T.table I op tag.now line s.old worker.old }
-        ensures touched { HasTouched I op tag.now line s.old s.new result }
-        ensures worker { HasReached s.old.thread op tag.now line result worker.old worker.new }
+        requires may { MayTouch N.script I access.now.number access.now.tag access.now.line s.old }
+        requires tagged { IsTagged N.script T.table I access.now.number access.now.tag access.now.line s.old worker.old }
+        ensures touched { HasTouched I access.now.number access.now.tag access.now.line s.old s.new result }
+        ensures worker { HasReached s.old.thread access.now.number access.now.tag access.now.line result worker.old worker.new }
     {
+        let TaggedAccess { number, tag, line } = *access;
         meet(&mut self.tree, s);
         if tag.epoch < self.cache.floor() {
             accesses::tag_again(&mut self.share, worker, I);
             return None;
         }
         hold.hold(s.thread());
-        let reached = reach(&mut self.cache, tag, line);
-        let entry = entry(s.thread(), op, tag.epoch, access_of(tag, line, reached));
+        let reached = reach(&mut self.cache, &tag, line);
+        let what = access_of(&tag, line, reached);
+        let entry = entry(s.thread(), number, tag.epoch, what);
         note::<N, I>(&mut self.journal, s, entry);
         accesses::touch(&mut self.share, worker, I, entry);
         Some(reached)

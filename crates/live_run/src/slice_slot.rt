@@ -7,7 +7,7 @@ use crate::run_names::{NamedTable, RunNames, StepShare};
 use crate::seen::Seen;
 use crate::slice::SliceCell;
 use crate::slice_slots::SliceSlots;
-use rc_base::Tag;
+use crate::turn::TaggedAccess;
 use run_law::TreeEntry;
 use seen_journal::Journal;
 use std::marker::Model;
@@ -82,14 +82,12 @@ impl<N: RunNames, T: NamedTable, const I: usize> SliceSlots<N, T> for SliceSlot<
         _i: usize,
         s: &mut Seen<N>,
         worker: &mut StepShare<N>,
-        op: u32,
-        tag: &Tag,
-        line: u64,
+        access: &TaggedAccess,
     ) -> Option<Reached> {
         let Some(cell) = &self.cell else {
             unreachable!()
         };
-        cell.lock(rt).touch(hold, s, worker, op, tag, line)
+        cell.lock(rt).touch(hold, s, worker, access)
     }
 
     fn last() -> usize {

@@ -11,7 +11,7 @@ ghost use Rattle.schedule_law.specs.declared.part.Happening.TheVariants as happe
 use crate::access::Hold;
 use crate::run_names::{NamedTable, RunNames, StepShare};
 use crate::seen::Seen;
-use rc_base::Tag;
+use crate::turn::TaggedAccess;
 use run_law::TreeEntry;
 use seen_journal::Journal;
 use std::sync::Wait;
@@ -85,18 +85,16 @@ pub trait SliceSlots<N: RunNames, T: NamedTable> {
         i: usize,
         s: &mut Seen<N>,
         worker: &mut StepShare<N>,
-        op: u32,
-        tag: &Tag,
-        line: u64,
+        access: &TaggedAccess,
     ) -> Option<Reached>
         requires joined { joined }
         requires from { first ≤ i }
         requires to { i ≤ last }
         requires number { i < slice_count N.script.machine }
-        requires may { MayTouch N.script i op tag.now line s.old }
-        requires tagged { IsTagged N.script T.table i op tag.now line s.old worker.old }
-        ensures touched { HasTouched i op tag.now line s.old s.new result }
-        ensures worker { HasReached s.old.thread op tag.now line result worker.old worker.new };
+        requires may { MayTouch N.script i access.now.number access.now.tag access.now.line s.old }
+        requires tagged { IsTagged N.script T.table i access.now.number access.now.tag access.now.line s.old worker.old }
+        ensures touched { HasTouched i access.now.number access.now.tag access.now.line s.old s.new result }
+        ensures worker { HasReached s.old.thread access.now.number access.now.tag access.now.line result worker.old worker.new };
 
     /// The number of the last.
     fn last() -> usize

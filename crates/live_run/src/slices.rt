@@ -18,7 +18,7 @@ use crate::run_names::{NamedTable, RunNames, StepShare};
 use crate::seen::Seen;
 use crate::slice_slots::SliceSlots;
 use crate::slot_pair::SlotPair;
-use rc_base::Tag;
+use crate::turn::TaggedAccess;
 use run_law::TreeEntry;
 use seen_journal::Journal;
 use std::marker::Model;
@@ -168,16 +168,14 @@ impl<N: RunNames, T: NamedTable> Slices<N, T> {
         i: usize,
         s: &mut Seen<N>,
         worker: &mut StepShare<N>,
-        op: u32,
-        tag: &Tag,
-        line: u64,
+        access: &TaggedAccess,
     ) -> Option<Reached>
         requires number { i < slice_count N.script.machine }
-        requires may { MayTouch N.script i op tag.now line s.old }
-        requires tagged { IsTagged N.script T.table i op tag.now line s.old worker.old }
-        ensures touched { HasTouched i op tag.now line s.old s.new result }
-        ensures worker { HasReached s.old.thread op tag.now line result worker.old worker.new }
+        requires may { MayTouch N.script i access.now.number access.now.tag access.now.line s.old }
+        requires tagged { IsTagged N.script T.table i access.now.number access.now.tag access.now.line s.old worker.old }
+        ensures touched { HasTouched i access.now.number access.now.tag access.now.line s.old s.new result }
+        ensures worker { HasReached s.old.thread access.now.number access.now.tag access.now.line result worker.old worker.new }
     {
-        self.slots.touch(rt, hold, i, s, worker, op, tag, line)
+        self.slots.touch(rt, hold, i, s, worker, access)
     }
 }

@@ -7,7 +7,7 @@ use crate::parts::Part;
 use crate::run_names::{NamedTable, RunNames, StepShare};
 use crate::seen::Seen;
 use crate::slice_slots::SliceSlots;
-use rc_base::Tag;
+use crate::turn::TaggedAccess;
 use run_law::TreeEntry;
 use seen_journal::Journal;
 use std::sync::Wait;
@@ -88,14 +88,12 @@ impl<N: RunNames, T: NamedTable, A: SliceSlots<N, T>, B: SliceSlots<N, T>> Slice
         i: usize,
         s: &mut Seen<N>,
         worker: &mut StepShare<N>,
-        op: u32,
-        tag: &Tag,
-        line: u64,
+        access: &TaggedAccess,
     ) -> Option<Reached> {
         if i <= A::last() {
-            self.front.touch(rt, hold, i, s, worker, op, tag, line)
+            self.front.touch(rt, hold, i, s, worker, access)
         } else {
-            self.back.touch(rt, hold, i, s, worker, op, tag, line)
+            self.back.touch(rt, hold, i, s, worker, access)
         }
     }
 

@@ -6,8 +6,8 @@ use Rattle.live_run.specs.Sharing.{IsResting, op_after}
 
 abbrev pub invariant-loop-turn : goal.invariant-loop-turn
 invariant-loop-turn g l = record {
-  turning : IsTurning g.N.RunNames.script l.op l.task l.cpu l.addr l.fn.s l.s l.turn;
-  worker : IsResting g.T.NamedTable.table l.fn.s.thread (op_after l.op l.turn) true l.worker;
+  turning : IsTurning g.N.RunNames.script l.access.number l.access.task l.access.cpu l.access.addr l.fn.s l.s l.turn;
+  worker : IsResting g.T.NamedTable.table l.fn.s.thread (op_after l.access.number l.turn) true l.worker;
   cached : HoldsCached g.N.RunNames.script l.s l.cached;
 }
 

@@ -36,13 +36,13 @@ pub invariant_of-self-2 : goal.invariant_of-self-2
 invariant_of-self-2 g c =
     let i : ℕ = g.row.I in
     let s = c.args.s.now in
-    let tag = c.args.tag.now in
+    let tag = c.args.access.now.tag in
     let met = c.meet.new.s in
-    let what = whats.Access c.reach-reached.result.hit c.reach-reached.result.way tag.owner tag.rmid tag.mask c.args.line in
+    let what = whats.Access c.reach-reached.result.hit c.reach-reached.result.way tag.owner tag.rmid tag.mask c.args.access.now.line in
     let old : SliceCellValue = record { cache = c.self.inside.cache; journal = c.self.inside.journal; tree = c.self.inside.tree; share = c.self.inside.share } in
-    cell_touches g.N.RunNames.script g.T.NamedTable.table g.N.RunNames.tree (name_at g.N.RunNames.slices i) i old c.meet.new.tree (longer_of c.self.inside.tree.seen s.tree.seen) s met c.reach-reached.new.cache c.note.new.journal c.touch.new.slice c.args.op tag.epoch what c.entry-entry.result c.self.invariant
+    cell_touches g.N.RunNames.script g.T.NamedTable.table g.N.RunNames.tree (name_at g.N.RunNames.slices i) i old c.meet.new.tree (longer_of c.self.inside.tree.seen s.tree.seen) s met c.reach-reached.new.cache c.note.new.journal c.touch.new.slice c.args.access.now.number tag.epoch what c.entry-entry.result c.self.invariant
     c.meet.ensures.cell c.meet.ensures.threads c.meet.ensures.thread c.meet.ensures.same c.requires.may.within c.requires.may.known c.requires.may.made c.reach-reached.ensures.shape c.reach-reached.ensures.rmids c.reach-reached.ensures.adds
-    (c.entry-entry.ensures ∙ (ap (λ t. entry t c.args.op tag.epoch c.access_of.result) c.thread-2.ensures.thread ∙ ap (λ w. entry met.thread c.args.op tag.epoch w) c.access_of.ensures))
+    (c.entry-entry.ensures ∙ (ap (λ t. entry t c.args.access.now.number tag.epoch c.access_of-what.result) c.thread-2.ensures.thread ∙ ap (λ w. entry met.thread c.args.access.now.number tag.epoch w) c.access_of-what.ensures))
     c.note.ensures.name c.note.ensures.list c.note.ensures.few c.note.ensures.prefix
     (share_after g.N.RunNames.script g.T.NamedTable.table g.N.RunNames.tree (name_at g.N.RunNames.slices g.row.I) g.row.I old c.self.invariant c.entry-entry.result (happenings.Touch c.entry-entry.result) c.touch.new.slice refl c.touch.ensures.table.0 c.touch.ensures.slice)
 
@@ -59,7 +59,7 @@ tag_again-requires-clause-lock g c =
 pub tag_again-requires-clause-may : goal.tag_again-requires-clause-may
 tag_again-requires-clause-may g c =
     let old : SliceCellValue = record { cache = c.self.inside.cache; journal = c.self.inside.journal; tree = c.self.inside.tree; share = c.self.inside.share } in
-    may_tag_again g.N.RunNames.script g.T.NamedTable.table g.N.RunNames.tree (name_at g.N.RunNames.slices g.row.I) g.row.I old c.self.invariant c.args.op c.args.line c.args.tag.now c.args.s.now c.args.worker.now c.requires.tagged (omega (arith, c.floor.ensures, c.if-tag-floor.true))
+    may_tag_again g.N.RunNames.script g.T.NamedTable.table g.N.RunNames.tree (name_at g.N.RunNames.slices g.row.I) g.row.I old c.self.invariant c.args.access.now.number c.args.access.now.line c.args.access.now.tag c.args.s.now c.args.worker.now c.requires.tagged (omega (arith, c.floor.ensures, c.if-tag-floor.true))
 
 pub touch-requires-clause-table : goal.touch-requires-clause-table
 touch-requires-clause-table g c = c.self.invariant.share_is.table_is ∙ sym c.requires.tagged.share.table_is
@@ -72,14 +72,14 @@ touch-requires-clause-lock g c =
 pub touch-requires-clause-may : goal.touch-requires-clause-may
 touch-requires-clause-may g c =
     let old : SliceCellValue = record { cache = c.self.inside.cache; journal = c.self.inside.journal; tree = c.self.inside.tree; share = c.self.inside.share } in
-    let tag = c.args.tag.now in
-    may_touch g.N.RunNames.script g.T.NamedTable.table g.N.RunNames.tree (name_at g.N.RunNames.slices g.row.I) g.row.I old c.self.invariant c.reach-reached.new.cache c.args.op c.args.line tag c.reach-reached.result.hit c.reach-reached.result.way c.args.s.now c.args.worker.now c.entry-entry.result c.requires.tagged
+    let tag = c.args.access.now.tag in
+    may_touch g.N.RunNames.script g.T.NamedTable.table g.N.RunNames.tree (name_at g.N.RunNames.slices g.row.I) g.row.I old c.self.invariant c.reach-reached.new.cache c.args.access.now.number c.args.access.now.line tag c.reach-reached.result.hit c.reach-reached.result.way c.args.s.now c.args.worker.now c.entry-entry.result c.requires.tagged
     (omega (arith, c.floor.ensures, c.if-tag-floor.false))
-    (c.entry-entry.ensures ∙ (ap (λ t. entry t c.args.op tag.epoch c.access_of.result) (c.thread-2.ensures.thread ∙ c.meet.ensures.thread.thread) ∙ ap (λ w. entry c.args.s.now.thread c.args.op tag.epoch w) c.access_of.ensures))
+    (c.entry-entry.ensures ∙ (ap (λ t. entry t c.args.access.now.number tag.epoch c.access_of-what.result) (c.thread-2.ensures.thread ∙ c.meet.ensures.thread.thread) ∙ ap (λ w. entry c.args.s.now.thread c.args.access.now.number tag.epoch w) c.access_of-what.ensures))
     c.reach-reached.ensures.shape c.reach-reached.ensures.adds
 
 pub returns-clause-worker : goal.returns-clause-worker
 returns-clause-worker g c =
-    let tag = c.args.tag.now in
-    let is = c.entry-entry.ensures ∙ (ap (λ t. entry t c.args.op tag.epoch c.access_of.result) (c.thread-2.ensures.thread ∙ c.meet.ensures.thread.thread) ∙ ap (λ w. entry c.args.s.now.thread c.args.op tag.epoch w) c.access_of.ensures) in
+    let tag = c.args.access.now.tag in
+    let is = c.entry-entry.ensures ∙ (ap (λ t. entry t c.args.access.now.number tag.epoch c.access_of-what.result) (c.thread-2.ensures.thread ∙ c.meet.ensures.thread.thread) ∙ ap (λ w. entry c.args.s.now.thread c.args.access.now.number tag.epoch w) c.access_of-what.ensures) in
     (c.touch.ensures.table.1, c.touch.ensures.worker ∙ ap (λ (x : SliceEntry). parts_after after (happenings.Touch x) c.args.worker.now.parts) is)
