@@ -19,6 +19,7 @@ ghost use Rattle.tree_law.specs.Steps.{needs, after, follow_domain, refusal};
 use crate::run_names::{NamedTable, RunNames, StepShare};
 use crate::seen::Seen;
 use crate::slices::Slices;
+use crate::turn::CommandTurn;
 use file_view::{is_reading, text};
 use machine::Machine;
 use rc_base::{LookList, Reply, TextBuf};
@@ -37,8 +38,7 @@ pub(crate) fn look_all<N: RunNames, T: NamedTable>(
     history: &mut Journal<TreeEntry>,
     s: &mut Seen<N>,
     worker: &mut StepShare<N>,
-    number: u32,
-    epoch: u64,
+    turn: CommandTurn,
     op: &Op,
     counts: &Counts,
     looks: &mut LookList,
@@ -47,24 +47,24 @@ pub(crate) fn look_all<N: RunNames, T: NamedTable>(
     requires range { InRange N.script.machine }
     requires name { history.old.name ≡ N.tree }
     requires whole { s.old.tree.seen ≡ history.old.entries }
-    requires epoch { epoch ≡ length history.old.entries }
+    requires epoch { turn.epoch ≡ length history.old.entries }
     requires counts { counts.now ≡ needs N.script.machine (tree_after N.script (history_of s.old.tree.seen)) op.now }
     requires distinct { AreDistinct counts.now }
     requires exist { All (CanLook N.script.machine) counts.now }
     requires room { length counts.now ≤ looks.old.spare }
-    requires at { LooksAt N.script T.table number op.now 0 0 0 looks.old.numbers s.old worker.old }
+    requires at { LooksAt N.script T.table turn.number op.now 0 0 0 looks.old.numbers s.old worker.old }
     ensures history { history.new ≡ history.old }
     ensures tree { s.new.tree ≡ s.old.tree }
     ensures thread { s.new.thread ≡ s.old.thread }
     ensures seen { HasGrown (seen_by s.old) (seen_by s.new) }
-    ensures done { LooksAt N.script T.table number op.now (length counts.now) 0 0 looks.new.numbers s.new worker.new }
+    ensures done { LooksAt N.script T.table turn.number op.now (length counts.now) 0 0 looks.new.numbers s.new worker.new }
 {
     for q in 0..counts.len() {
         let (domain, rmid) = counts.at(q);
         let mut lines = 0;
         for x in 0..m.slices {
             let i = m.slice_number(domain, x);
-            lines += slices.look(rt, i, history, s, worker, number, epoch, rmid);
+            lines += slices.look(rt, i, history, s, worker, turn, rmid);
         }
         looks.push(lines);
     }
@@ -78,8 +78,7 @@ pub(crate) fn follow_all<N: RunNames, T: NamedTable>(
     history: &mut Journal<TreeEntry>,
     s: &mut Seen<N>,
     worker: &mut StepShare<N>,
-    number: u32,
-    epoch: u64,
+    turn: CommandTurn,
     op: &Op,
     all: &[Follow],
 )
@@ -87,16 +86,16 @@ pub(crate) fn follow_all<N: RunNames, T: NamedTable>(
     requires range { InRange N.script.machine }
     requires name { history.old.name ≡ N.tree }
     requires whole { s.old.tree.seen ≡ history.old.entries }
-    requires epoch { (0 < epoch) × (epoch ≡ length history.old.entries) }
-    requires follows { all.now ≡ after N.script.machine (tree_after N.script (take (epoch - 1) (history_of s.old.tree.seen))) (epoch - 1) op.now }
+    requires epoch { (0 < turn.epoch) × (turn.epoch ≡ length history.old.entries) }
+    requires follows { all.now ≡ after N.script.machine (tree_after N.script (take (turn.epoch - 1) (history_of s.old.tree.seen))) (turn.epoch - 1) op.now }
     requires domains { All (λ f. follow_domain f < N.script.machine.domains) all.now }
     requires ready { All (IsReady N.script.machine) all.now }
-    requires at { FollowsAt N.script T.table number (epoch - 1) op.now (length (looks_of N.script (history_of s.old.tree.seen) (epoch - 1) op.now)) s.old worker.old }
+    requires at { FollowsAt N.script T.table turn.number (turn.epoch - 1) op.now (length (looks_of N.script (history_of s.old.tree.seen) (turn.epoch - 1) op.now)) s.old worker.old }
     ensures history { history.new ≡ history.old }
     ensures tree { s.new.tree ≡ s.old.tree }
     ensures thread { s.new.thread ≡ s.old.thread }
     ensures seen { HasGrown (seen_by s.old) (seen_by s.new) }
-    ensures done { FollowsAt N.script T.table number (epoch - 1) op.now (length (jobs_of N.script (history_of s.old.tree.seen) (epoch - 1) op.now)) s.new worker.new }
+    ensures done { FollowsAt N.script T.table turn.number (turn.epoch - 1) op.now (length (jobs_of N.script (history_of s.old.tree.seen) (turn.epoch - 1) op.now)) s.new worker.new }
 {
     for q in 0..all.len() {
         let follow = all[q];
@@ -104,7 +103,7 @@ pub(crate) fn follow_all<N: RunNames, T: NamedTable>(
         for x in 0..count {
             let i = slice_for(m, follow, x);
             let last = q + 1 == all.len() && x + 1 == count;
-            slices.follow(rt, i, history, s, worker, number, epoch, follow, last);
+            slices.follow(rt, i, history, s, worker, turn, follow, last);
         }
     }
 }

@@ -9,7 +9,7 @@ use crate::seen::Seen;
 use crate::slice_slot::SliceSlot;
 use crate::slice_slots::SliceSlots;
 use crate::slot_pair::SlotPair;
-use crate::turn::TaggedAccess;
+use crate::turn::{CommandTurn, TaggedAccess};
 use run_law::TreeEntry;
 use seen_journal::Journal;
 use std::sync::Wait;
@@ -53,11 +53,10 @@ impl<
         history: &mut Journal<TreeEntry>,
         s: &mut Seen<N>,
         worker: &mut StepShare<N>,
-        op: u32,
-        epoch: u64,
+        turn: CommandTurn,
         rmid: u16,
     ) -> u64 {
-        self.slots.look(rt, i, history, s, worker, op, epoch, rmid)
+        self.slots.look(rt, i, history, s, worker, turn, rmid)
     }
 
     fn follow<R: Wait>(
@@ -67,13 +66,12 @@ impl<
         history: &mut Journal<TreeEntry>,
         s: &mut Seen<N>,
         worker: &mut StepShare<N>,
-        op: u32,
-        epoch: u64,
+        turn: CommandTurn,
         follow: Follow,
         is_last: bool,
     ) {
         self.slots
-            .follow(rt, i, history, s, worker, op, epoch, follow, is_last);
+            .follow(rt, i, history, s, worker, turn, follow, is_last);
     }
 
     fn touch<R: Wait, H: Hold>(

@@ -13,7 +13,7 @@ use crate::access::Hold;
 use crate::parts::Part;
 use crate::run_names::{NamedTable, RunNames, StepShare};
 use crate::seen::{Seen, meet, note};
-use crate::turn::TaggedAccess;
+use crate::turn::{CommandTurn, TaggedAccess};
 use cache_core::{Cache, SliceEntry, What};
 use run_law::TreeEntry;
 use schedule_law::{accesses, commands};
@@ -94,22 +94,21 @@ impl<N: RunNames, T: NamedTable, const I: usize> SliceCell<N, T, I> {
         history: &mut Journal<TreeEntry>,
         s: &mut Seen<N>,
         worker: &mut StepShare<N>,
-        op: u32,
-        epoch: u64,
+        turn: CommandTurn,
         rmid: u16,
     ) -> u64
-        requires may { MayLook N.script N.tree I op epoch rmid history.old s.old }
-        requires next { IsNextCount N.script T.table I op rmid history.old s.old worker.old }
+        requires may { MayLook N.script N.tree I turn.number turn.epoch rmid history.old s.old }
+        requires next { IsNextCount N.script T.table I turn.number rmid history.old s.old worker.old }
         ensures few { result ≤ 2097152 }
         ensures history { history.new ≡ history.old }
         ensures tree { s.new.tree ≡ s.old.tree }
-        ensures added { HasAdded I (entry_of s.old.thread op epoch (Look rmid result)) s.old s.new }
-        ensures worker { HasStepped (happenings.Look (entry_of s.old.thread op epoch (Look rmid result))) worker.old worker.new }
+        ensures added { HasAdded I (entry_of s.old.thread turn.number turn.epoch (Look rmid result)) s.old s.new }
+        ensures worker { HasStepped (happenings.Look (entry_of s.old.thread turn.number turn.epoch (Look rmid result))) worker.old worker.new }
     {
         history.show(&mut self.tree);
         let lines = self.cache.look(rmid);
         let what = What::Look { rmid, lines };
-        let entry = entry(s.thread(), op, epoch, what);
+        let entry = entry(s.thread(), turn.number, turn.epoch, what);
         note::<N, I>(&mut self.journal, s, entry);
         commands::look(&mut self.share, worker, I, entry);
         lines
@@ -121,21 +120,20 @@ impl<N: RunNames, T: NamedTable, const I: usize> SliceCell<N, T, I> {
         history: &mut Journal<TreeEntry>,
         s: &mut Seen<N>,
         worker: &mut StepShare<N>,
-        op: u32,
-        epoch: u64,
+        turn: CommandTurn,
         follow: Follow,
         last: bool,
     )
-        requires may { MayFollow N.script N.tree I op epoch follow history.old s.old }
-        requires next { IsNextFollow N.script T.table I op epoch follow last history.old s.old worker.old }
+        requires may { MayFollow N.script N.tree I turn.number turn.epoch follow history.old s.old }
+        requires next { IsNextFollow N.script T.table I turn.number turn.epoch follow last history.old s.old worker.old }
         ensures history { history.new ≡ history.old }
         ensures tree { s.new.tree ≡ s.old.tree }
-        ensures followed { HasFollowed I op epoch follow s.old s.new }
+        ensures followed { HasFollowed I turn.number turn.epoch follow s.old s.new }
         ensures worker { HasFollowedOn last worker.old worker.new }
     {
         history.show(&mut self.tree);
-        let what = enact(&mut self.cache, epoch, follow);
-        let entry = entry(s.thread(), op, epoch, what);
+        let what = enact(&mut self.cache, turn.epoch, follow);
+        let entry = entry(s.thread(), turn.number, turn.epoch, what);
         note::<N, I>(&mut self.journal, s, entry);
         commands::follow(&mut self.share, worker, I, entry, last);
     }

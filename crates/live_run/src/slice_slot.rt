@@ -7,7 +7,7 @@ use crate::run_names::{NamedTable, RunNames, StepShare};
 use crate::seen::Seen;
 use crate::slice::SliceCell;
 use crate::slice_slots::SliceSlots;
-use crate::turn::TaggedAccess;
+use crate::turn::{CommandTurn, TaggedAccess};
 use run_law::TreeEntry;
 use seen_journal::Journal;
 use std::marker::Model;
@@ -46,14 +46,13 @@ impl<N: RunNames, T: NamedTable, const I: usize> SliceSlots<N, T> for SliceSlot<
         history: &mut Journal<TreeEntry>,
         s: &mut Seen<N>,
         worker: &mut StepShare<N>,
-        op: u32,
-        epoch: u64,
+        turn: CommandTurn,
         rmid: u16,
     ) -> u64 {
         let Some(cell) = &self.cell else {
             unreachable!()
         };
-        cell.lock(rt).look(history, s, worker, op, epoch, rmid)
+        cell.lock(rt).look(history, s, worker, turn, rmid)
     }
 
     fn follow<R: Wait>(
@@ -63,8 +62,7 @@ impl<N: RunNames, T: NamedTable, const I: usize> SliceSlots<N, T> for SliceSlot<
         history: &mut Journal<TreeEntry>,
         s: &mut Seen<N>,
         worker: &mut StepShare<N>,
-        op: u32,
-        epoch: u64,
+        turn: CommandTurn,
         follow: Follow,
         is_last: bool,
     ) {
@@ -72,7 +70,7 @@ impl<N: RunNames, T: NamedTable, const I: usize> SliceSlots<N, T> for SliceSlot<
             unreachable!()
         };
         cell.lock(rt)
-            .follow(history, s, worker, op, epoch, follow, is_last);
+            .follow(history, s, worker, turn, follow, is_last);
     }
 
     fn touch<R: Wait, H: Hold>(

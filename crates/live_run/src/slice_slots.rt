@@ -11,7 +11,7 @@ ghost use Rattle.schedule_law.specs.declared.part.Happening.TheVariants as happe
 use crate::access::Hold;
 use crate::run_names::{NamedTable, RunNames, StepShare};
 use crate::seen::Seen;
-use crate::turn::TaggedAccess;
+use crate::turn::{CommandTurn, TaggedAccess};
 use run_law::TreeEntry;
 use seen_journal::Journal;
 use std::sync::Wait;
@@ -37,21 +37,20 @@ pub trait SliceSlots<N: RunNames, T: NamedTable> {
         history: &mut Journal<TreeEntry>,
         s: &mut Seen<N>,
         worker: &mut StepShare<N>,
-        op: u32,
-        epoch: u64,
+        turn: CommandTurn,
         rmid: u16,
     ) -> u64
         requires joined { joined }
         requires from { first ≤ i }
         requires to { i ≤ last }
         requires number { i < slice_count N.script.machine }
-        requires may { MayLook N.script N.tree i op epoch rmid history.old s.old }
-        requires next { IsNextCount N.script T.table i op rmid history.old s.old worker.old }
+        requires may { MayLook N.script N.tree i turn.number turn.epoch rmid history.old s.old }
+        requires next { IsNextCount N.script T.table i turn.number rmid history.old s.old worker.old }
         ensures few { result ≤ 2097152 }
         ensures history { history.new ≡ history.old }
         ensures tree { s.new.tree ≡ s.old.tree }
-        ensures added { HasAdded i (entry_of s.old.thread op epoch (Look rmid result)) s.old s.new }
-        ensures worker { HasStepped (happenings.Look (entry_of s.old.thread op epoch (Look rmid result))) worker.old worker.new };
+        ensures added { HasAdded i (entry_of s.old.thread turn.number turn.epoch (Look rmid result)) s.old s.new }
+        ensures worker { HasStepped (happenings.Look (entry_of s.old.thread turn.number turn.epoch (Look rmid result))) worker.old worker.new };
 
     /// Does what follows the command that holds the tree, in the slice of a number.
     fn follow<R: Wait>(
@@ -61,8 +60,7 @@ pub trait SliceSlots<N: RunNames, T: NamedTable> {
         history: &mut Journal<TreeEntry>,
         s: &mut Seen<N>,
         worker: &mut StepShare<N>,
-        op: u32,
-        epoch: u64,
+        turn: CommandTurn,
         follow: Follow,
         is_last: bool,
     )
@@ -70,11 +68,11 @@ pub trait SliceSlots<N: RunNames, T: NamedTable> {
         requires from { first ≤ i }
         requires to { i ≤ last }
         requires number { i < slice_count N.script.machine }
-        requires may { MayFollow N.script N.tree i op epoch follow history.old s.old }
-        requires next { IsNextFollow N.script T.table i op epoch follow is_last history.old s.old worker.old }
+        requires may { MayFollow N.script N.tree i turn.number turn.epoch follow history.old s.old }
+        requires next { IsNextFollow N.script T.table i turn.number turn.epoch follow is_last history.old s.old worker.old }
         ensures history { history.new ≡ history.old }
         ensures tree { s.new.tree ≡ s.old.tree }
-        ensures followed { HasFollowed i op epoch follow s.old s.new }
+        ensures followed { HasFollowed i turn.number turn.epoch follow s.old s.new }
         ensures worker { HasFollowedOn is_last worker.old worker.new };
 
     /// Makes the access of a tag in the slice of a number, unless the tag is stale.

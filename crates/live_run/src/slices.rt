@@ -18,7 +18,7 @@ use crate::run_names::{NamedTable, RunNames, StepShare};
 use crate::seen::Seen;
 use crate::slice_slots::SliceSlots;
 use crate::slot_pair::SlotPair;
-use crate::turn::TaggedAccess;
+use crate::turn::{CommandTurn, TaggedAccess};
 use run_law::TreeEntry;
 use seen_journal::Journal;
 use std::marker::Model;
@@ -119,20 +119,19 @@ impl<N: RunNames, T: NamedTable> Slices<N, T> {
         history: &mut Journal<TreeEntry>,
         s: &mut Seen<N>,
         worker: &mut StepShare<N>,
-        op: u32,
-        epoch: u64,
+        turn: CommandTurn,
         rmid: u16,
     ) -> u64
         requires number { i < slice_count N.script.machine }
-        requires may { MayLook N.script N.tree i op epoch rmid history.old s.old }
-        requires next { IsNextCount N.script T.table i op rmid history.old s.old worker.old }
+        requires may { MayLook N.script N.tree i turn.number turn.epoch rmid history.old s.old }
+        requires next { IsNextCount N.script T.table i turn.number rmid history.old s.old worker.old }
         ensures few { result ≤ 2097152 }
         ensures history { history.new ≡ history.old }
         ensures tree { s.new.tree ≡ s.old.tree }
-        ensures added { HasAdded i (entry_of s.old.thread op epoch (Look rmid result)) s.old s.new }
-        ensures worker { HasStepped (happenings.Look (entry_of s.old.thread op epoch (Look rmid result))) worker.old worker.new }
+        ensures added { HasAdded i (entry_of s.old.thread turn.number turn.epoch (Look rmid result)) s.old s.new }
+        ensures worker { HasStepped (happenings.Look (entry_of s.old.thread turn.number turn.epoch (Look rmid result))) worker.old worker.new }
     {
-        self.slots.look(rt, i, history, s, worker, op, epoch, rmid)
+        self.slots.look(rt, i, history, s, worker, turn, rmid)
     }
 
     /// Does what follows the command that holds the tree, in the slice of a number.
@@ -143,21 +142,20 @@ impl<N: RunNames, T: NamedTable> Slices<N, T> {
         history: &mut Journal<TreeEntry>,
         s: &mut Seen<N>,
         worker: &mut StepShare<N>,
-        op: u32,
-        epoch: u64,
+        turn: CommandTurn,
         follow: Follow,
         is_last: bool,
     )
         requires number { i < slice_count N.script.machine }
-        requires may { MayFollow N.script N.tree i op epoch follow history.old s.old }
-        requires next { IsNextFollow N.script T.table i op epoch follow is_last history.old s.old worker.old }
+        requires may { MayFollow N.script N.tree i turn.number turn.epoch follow history.old s.old }
+        requires next { IsNextFollow N.script T.table i turn.number turn.epoch follow is_last history.old s.old worker.old }
         ensures history { history.new ≡ history.old }
         ensures tree { s.new.tree ≡ s.old.tree }
-        ensures followed { HasFollowed i op epoch follow s.old s.new }
+        ensures followed { HasFollowed i turn.number turn.epoch follow s.old s.new }
         ensures worker { HasFollowedOn is_last worker.old worker.new }
     {
         self.slots
-            .follow(rt, i, history, s, worker, op, epoch, follow, is_last);
+            .follow(rt, i, history, s, worker, turn, follow, is_last);
     }
 
     /// Makes the access of a tag in the slice of a number, unless the tag is stale.

@@ -7,7 +7,7 @@ use crate::parts::Part;
 use crate::run_names::{NamedTable, RunNames, StepShare};
 use crate::seen::Seen;
 use crate::slice_slots::SliceSlots;
-use crate::turn::TaggedAccess;
+use crate::turn::{CommandTurn, TaggedAccess};
 use run_law::TreeEntry;
 use seen_journal::Journal;
 use std::sync::Wait;
@@ -49,14 +49,13 @@ impl<N: RunNames, T: NamedTable, A: SliceSlots<N, T>, B: SliceSlots<N, T>> Slice
         history: &mut Journal<TreeEntry>,
         s: &mut Seen<N>,
         worker: &mut StepShare<N>,
-        op: u32,
-        epoch: u64,
+        turn: CommandTurn,
         rmid: u16,
     ) -> u64 {
         if i <= A::last() {
-            self.front.look(rt, i, history, s, worker, op, epoch, rmid)
+            self.front.look(rt, i, history, s, worker, turn, rmid)
         } else {
-            self.back.look(rt, i, history, s, worker, op, epoch, rmid)
+            self.back.look(rt, i, history, s, worker, turn, rmid)
         }
     }
 
@@ -67,17 +66,16 @@ impl<N: RunNames, T: NamedTable, A: SliceSlots<N, T>, B: SliceSlots<N, T>> Slice
         history: &mut Journal<TreeEntry>,
         s: &mut Seen<N>,
         worker: &mut StepShare<N>,
-        op: u32,
-        epoch: u64,
+        turn: CommandTurn,
         follow: Follow,
         is_last: bool,
     ) {
         if i <= A::last() {
             self.front
-                .follow(rt, i, history, s, worker, op, epoch, follow, is_last);
+                .follow(rt, i, history, s, worker, turn, follow, is_last);
         } else {
             self.back
-                .follow(rt, i, history, s, worker, op, epoch, follow, is_last);
+                .follow(rt, i, history, s, worker, turn, follow, is_last);
         }
     }
 

@@ -21,6 +21,7 @@ use crate::command::{follow_all, look_all, show};
 use crate::run_names::{NamedTable, RunNames, StepShare, TREE_LOCK};
 use crate::seen::{Seen, decide, release, take, take_unless};
 use crate::slices::Slices;
+use crate::turn::CommandTurn;
 use cache_core::SliceEntry;
 use rc_base::{LookList, NoMemory, Reply, Tag, TextBuf};
 use run_law::TreeEntry;
@@ -154,8 +155,10 @@ impl<N: RunNames, T: NamedTable> TreeCell<N, T> {
             &mut self.journal,
             s,
             worker,
-            number,
-            before,
+            CommandTurn {
+                number,
+                epoch: before,
+            },
             op,
             &counts,
             &mut looks,
@@ -179,8 +182,7 @@ impl<N: RunNames, T: NamedTable> TreeCell<N, T> {
             &mut self.journal,
             s,
             worker,
-            number,
-            epoch,
+            CommandTurn { number, epoch },
             op,
             after.as_slice(),
         );

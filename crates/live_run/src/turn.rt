@@ -2,6 +2,15 @@
 
 use rc_base::Tag;
 
+/// The command that holds the tree.
+#[derive(Clone, Copy)]
+pub struct CommandTurn {
+    /// The number of the op in its thread, from 0.
+    pub(crate) number: u32,
+    /// How many commands the tree has taken, this one too once it is decided.
+    pub(crate) epoch: u64,
+}
+
 /// The access that a thread makes next.
 #[derive(Clone, Copy)]
 pub(crate) struct AccessTurn {

@@ -12,7 +12,7 @@ invariant-loop-q g l = record {
   tree : l.s.tree ≡ l.fn.s.tree;
   thread : l.s.thread ≡ l.fn.s.thread;
   grown : HasGrown (seen_by l.fn.s) (seen_by l.s);
-  at : FollowsAt g.N.RunNames.script g.T.NamedTable.table l.number (l.epoch - 1) l.op (length (looks_of g.N.RunNames.script (history_of l.fn.s.tree.seen) (l.epoch - 1) l.op) + sum_by (slices_for g.N.RunNames.script.machine) (take l.q l.all)) l.s l.worker;
+  at : FollowsAt g.N.RunNames.script g.T.NamedTable.table l.turn.number (l.turn.epoch - 1) l.op (length (looks_of g.N.RunNames.script (history_of l.fn.s.tree.seen) (l.turn.epoch - 1) l.op) + sum_by (slices_for g.N.RunNames.script.machine) (take l.q l.all)) l.s l.worker;
 }
 
 abbrev pub invariant-loop-x : goal.invariant-loop-x
@@ -21,5 +21,5 @@ invariant-loop-x g l = record {
   tree : l.s.tree ≡ l.fn.s.tree;
   thread : l.s.thread ≡ l.fn.s.thread;
   grown : HasGrown (seen_by l.fn.s) (seen_by l.s);
-  at : FollowsAt g.N.RunNames.script g.T.NamedTable.table l.number (l.epoch - 1) l.op (length (looks_of g.N.RunNames.script (history_of l.fn.s.tree.seen) (l.epoch - 1) l.op) + sum_by (slices_for g.N.RunNames.script.machine) (take l.q l.all) + l.x) l.s l.worker;
+  at : FollowsAt g.N.RunNames.script g.T.NamedTable.table l.turn.number (l.turn.epoch - 1) l.op (length (looks_of g.N.RunNames.script (history_of l.fn.s.tree.seen) (l.turn.epoch - 1) l.op) + sum_by (slices_for g.N.RunNames.script.machine) (take l.q l.all) + l.x) l.s l.worker;
 }

@@ -11,7 +11,7 @@ invariant-loop-q g l = record {
   thread : l.s.thread ≡ l.fn.s.thread;
   grown : HasGrown (seen_by l.fn.s) (seen_by l.s);
   room : length l.counts ≤ l.looks.spare + l.q;
-  at : LooksAt g.N.RunNames.script g.T.NamedTable.table l.number l.op l.q 0 0 l.looks.numbers l.s l.worker;
+  at : LooksAt g.N.RunNames.script g.T.NamedTable.table l.turn.number l.op l.q 0 0 l.looks.numbers l.s l.worker;
 }
 
 abbrev pub invariant-loop-x : goal.invariant-loop-x
@@ -20,5 +20,5 @@ invariant-loop-x g l = record {
   tree : l.s.tree ≡ l.fn.s.tree;
   thread : l.s.thread ≡ l.fn.s.thread;
   grown : HasGrown (seen_by l.fn.s) (seen_by l.s);
-  at : LooksAt g.N.RunNames.script g.T.NamedTable.table l.number l.op l.q l.x l.lines l.looks.numbers l.s l.worker;
+  at : LooksAt g.N.RunNames.script g.T.NamedTable.table l.turn.number l.op l.q l.x l.lines l.looks.numbers l.s l.worker;
 }

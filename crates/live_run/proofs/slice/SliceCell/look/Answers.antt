@@ -22,9 +22,9 @@ invariant_of-self g c =
     let s = c.args.s.now in
     let what = whats.Look c.args.rmid c.look-lines.result in
     let old : SliceCellValue = record { cache = c.self.inside.cache; journal = c.self.inside.journal; tree = c.self.inside.tree; share = c.self.inside.share } in
-    cell_notes g.N.RunNames.script g.T.NamedTable.table g.N.RunNames.tree (name_at g.N.RunNames.slices i) i old c.show.new.pass s c.self.inside.cache c.note.new.journal c.look.new.slice c.args.op c.args.epoch c.args.epoch what c.entry-entry.result c.self.invariant
+    cell_notes g.N.RunNames.script g.T.NamedTable.table g.N.RunNames.tree (name_at g.N.RunNames.slices i) i old c.show.new.pass s c.self.inside.cache c.note.new.journal c.look.new.slice c.args.turn.number c.args.turn.epoch c.args.turn.epoch what c.entry-entry.result c.self.invariant
     (subst (λ l. HasSeen c.self.inside.tree c.show.new.pass l) (sym c.requires.may.whole) c.show.ensures.seen) c.thread.ensures.threads (c.requires.may.is_epoch ∙ ap length (sym c.requires.may.whole)) (omega arith) c.requires.may.known c.requires.may.made
-    (λ k h from less at. absurd (omega (arith, from, less))) refl refl (c.look-lines.ensures.entry c.args.epoch) (c.entry-entry.ensures ∙ ap (λ t. entry t c.args.op c.args.epoch what) c.thread.ensures.thread)
+    (λ k h from less at. absurd (omega (arith, from, less))) refl refl (c.look-lines.ensures.entry c.args.turn.epoch) (c.entry-entry.ensures ∙ ap (λ t. entry t c.args.turn.number c.args.turn.epoch what) c.thread.ensures.thread)
     c.note.ensures.name c.note.ensures.list c.note.ensures.few c.note.ensures.prefix
     (share_after g.N.RunNames.script g.T.NamedTable.table g.N.RunNames.tree (name_at g.N.RunNames.slices g.row.I) g.row.I old c.self.invariant c.entry-entry.result (happenings.Look c.entry-entry.result) c.look.new.slice refl c.look.ensures.table.0 c.look.ensures.slice)
 
@@ -48,11 +48,11 @@ pub look-requires-clause-may : goal.look-requires-clause-may
 look-requires-clause-may g c =
     let old : SliceCellValue = record { cache = c.self.inside.cache; journal = c.self.inside.journal; tree = c.self.inside.tree; share = c.self.inside.share } in
     let what = whats.Look c.args.rmid c.look-lines.result in
-    may_count g.N.RunNames.script g.T.NamedTable.table g.N.RunNames.tree (name_at g.N.RunNames.slices g.row.I) g.row.I old c.self.invariant c.args.op c.args.epoch c.args.rmid c.look-lines.result c.args.history.now c.args.s.now c.args.worker.now c.entry-entry.result c.requires.next c.requires.may.is_epoch
-    (c.entry-entry.ensures ∙ ap (λ t. entry t c.args.op c.args.epoch what) c.thread.ensures.thread) (c.look-lines.ensures.entry c.args.epoch)
+    may_count g.N.RunNames.script g.T.NamedTable.table g.N.RunNames.tree (name_at g.N.RunNames.slices g.row.I) g.row.I old c.self.invariant c.args.turn.number c.args.turn.epoch c.args.rmid c.look-lines.result c.args.history.now c.args.s.now c.args.worker.now c.entry-entry.result c.requires.next c.requires.may.is_epoch
+    (c.entry-entry.ensures ∙ ap (λ t. entry t c.args.turn.number c.args.turn.epoch what) c.thread.ensures.thread) (c.look-lines.ensures.entry c.args.turn.epoch)
 
 pub returns-clause-worker : goal.returns-clause-worker
 returns-clause-worker g c =
     let what = whats.Look c.args.rmid c.look-lines.result in
-    let is = c.entry-entry.ensures ∙ ap (λ t. entry t c.args.op c.args.epoch what) c.thread.ensures.thread in
+    let is = c.entry-entry.ensures ∙ ap (λ t. entry t c.args.turn.number c.args.turn.epoch what) c.thread.ensures.thread in
     (c.look.ensures.table.1, c.look.ensures.worker ∙ ap (λ (x : SliceEntry). parts_after after (happenings.Look x) c.args.worker.now.parts) is)
