@@ -12,8 +12,8 @@ ghost use Rattle.script_ops.specs.declared.op.Op.TheVariants.{Access};
 
 use crate::cached_tag::CachedTag;
 use crate::live::Live;
-use crate::run_names::{NamedTable, RunNames, StepShare};
-use crate::seen::Seen;
+use crate::run_names::{NamedTable, RunNames};
+use crate::thread_side::ThreadSide;
 use crate::turn::{AccessTurn, TaggedAccess};
 use rc_stream::{Gate, Point};
 use std::sync::Wait;
@@ -43,18 +43,17 @@ impl<N: RunNames, T: NamedTable> Live<N, T> {
         &self,
         rt: &impl Wait,
         hold: &impl Hold,
-        s: &mut Seen<N>,
-        worker: &mut StepShare<N>,
+        side: &mut ThreadSide<N>,
         cached: &mut Option<CachedTag>,
         access: AccessTurn,
     ) -> Result<Reached, u64>
-        requires op { op_at N.script s.old.thread access.number ≡ Some (Access access.task access.cpu access.addr) }
-        requires room { HasRoomIn N.script (slice_reached N.script.machine access.cpu access.addr) s.old }
-        requires worker { IsResting T.table s.old.thread access.number true worker.old }
-        requires cached { HoldsCached N.script s.old cached.old }
-        ensures cached_now { HoldsCached N.script s.new cached.new }
-        ensures turned { HasTurned N.script access.number access.task access.cpu access.addr s.old s.new result }
-        ensures worker { IsResting T.table s.old.thread (op_after access.number result) true worker.new }
+        requires op { op_at N.script side.old.seen.thread access.number ≡ Some (Access access.task access.cpu access.addr) }
+        requires room { HasRoomIn N.script (slice_reached N.script.machine access.cpu access.addr) side.old.seen }
+        requires worker { IsResting T.table side.old.seen.thread access.number true side.old.share }
+        requires cached { HoldsCached N.script side.old.seen cached.old }
+        ensures cached_now { HoldsCached N.script side.new.seen cached.new }
+        ensures turned { HasTurned N.script access.number access.task access.cpu access.addr side.old.seen side.new.seen result }
+        ensures worker { IsResting T.table side.old.seen.thread (op_after access.number result) true side.new.share }
     {
         let AccessTurn {
             number,
@@ -62,11 +61,11 @@ impl<N: RunNames, T: NamedTable> Live<N, T> {
             cpu,
             addr,
         } = access;
-        let tag = self.tree.lock(rt).tag(s, worker, cached, task, cpu);
+        let tag = self.tree.lock(rt).tag(side, cached, task, cpu);
         let line = addr / 64;
         let slice = self.machine.line_slice(tag.domain, line);
         let tagged = TaggedAccess { number, tag, line };
-        match self.slices.touch(rt, hold, slice, s, worker, &tagged) {
+        match self.slices.touch(rt, hold, slice, side, &tagged) {
             Some(reached) => Ok(reached),
             None => Err(tag.epoch),
         }
@@ -77,24 +76,23 @@ impl<N: RunNames, T: NamedTable> Live<N, T> {
         &self,
         rt: &impl Wait,
         hold: &impl Hold,
-        s: &mut Seen<N>,
-        worker: &mut StepShare<N>,
+        side: &mut ThreadSide<N>,
         cached: &mut Option<CachedTag>,
         access: AccessTurn,
     ) -> Reached
-        requires op { op_at N.script s.old.thread access.number ≡ Some (Access access.task access.cpu access.addr) }
-        requires room { HasRoomIn N.script (slice_reached N.script.machine access.cpu access.addr) s.old }
-        requires worker { IsResting T.table s.old.thread access.number true worker.old }
-        requires cached { HoldsCached N.script s.old cached.old }
-        ensures cached_now { HoldsCached N.script s.new cached.new }
-        ensures accessed { HasAccessed N.script access.number access.task access.cpu access.addr result s.old s.new }
-        ensures worker { IsResting T.table s.old.thread (access.number + 1) true worker.new }
+        requires op { op_at N.script side.old.seen.thread access.number ≡ Some (Access access.task access.cpu access.addr) }
+        requires room { HasRoomIn N.script (slice_reached N.script.machine access.cpu access.addr) side.old.seen }
+        requires worker { IsResting T.table side.old.seen.thread access.number true side.old.share }
+        requires cached { HoldsCached N.script side.old.seen cached.old }
+        ensures cached_now { HoldsCached N.script side.new.seen cached.new }
+        ensures accessed { HasAccessed N.script access.number access.task access.cpu access.addr result side.old.seen side.new.seen }
+        ensures worker { IsResting T.table side.old.seen.thread (access.number + 1) true side.new.share }
     {
-        let mut turn = self.turn(rt, hold, s, worker, cached, access);
+        let mut turn = self.turn(rt, hold, side, cached, access);
         loop {
             match turn {
                 Ok(reached) => return reached,
-                Err(_) => turn = self.turn(rt, hold, s, worker, cached, access),
+                Err(_) => turn = self.turn(rt, hold, side, cached, access),
             }
         }
     }

@@ -24,6 +24,7 @@ use crate::passes::Passes;
 use crate::run_names::{NamedTable, RunNames, ScriptOf, StepShare};
 use crate::seen::Seen;
 use crate::slice::SliceCell;
+use crate::thread_side::ThreadSide;
 use crate::tree::TreeCell;
 use cache_core::SliceEntry;
 use run_law::{Journals, TreeEntry};
@@ -82,13 +83,13 @@ fn gather<N: RunNames, T: NamedTable>(
 {
     for passes in p {
         let Passes {
-            seen,
-            share: _,
+            side,
             next: _,
             looks: _,
             shown: _,
             of: _,
         } = passes;
+        let ThreadSide { seen, share: _ } = side;
         let Seen {
             thread: _,
             tree,

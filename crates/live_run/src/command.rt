@@ -16,9 +16,9 @@ ghost use Rattle.tree_core.specs.Named.{AreNamed};
 ghost use Rattle.tree_law.specs.LawsCounts.{CanLook};
 ghost use Rattle.tree_law.specs.Steps.{needs, after, follow_domain, refusal};
 
-use crate::run_names::{NamedTable, RunNames, StepShare};
-use crate::seen::Seen;
+use crate::run_names::{NamedTable, RunNames};
 use crate::slices::Slices;
+use crate::thread_side::ThreadSide;
 use crate::turn::CommandTurn;
 use file_view::{is_reading, text};
 use machine::Machine;
@@ -36,8 +36,7 @@ pub(crate) fn look_all<N: RunNames, T: NamedTable>(
     rt: &impl Wait,
     m: &Machine,
     history: &mut Journal<TreeEntry>,
-    s: &mut Seen<N>,
-    worker: &mut StepShare<N>,
+    side: &mut ThreadSide<N>,
     turn: CommandTurn,
     op: &Op,
     counts: &Counts,
@@ -46,25 +45,25 @@ pub(crate) fn look_all<N: RunNames, T: NamedTable>(
     requires machine { parameters_of m.now ≡ N.script.machine }
     requires range { InRange N.script.machine }
     requires name { history.old.name ≡ N.tree }
-    requires whole { s.old.tree.seen ≡ history.old.entries }
+    requires whole { side.old.seen.tree.seen ≡ history.old.entries }
     requires epoch { turn.epoch ≡ length history.old.entries }
-    requires counts { counts.now ≡ needs N.script.machine (tree_after N.script (history_of s.old.tree.seen)) op.now }
+    requires counts { counts.now ≡ needs N.script.machine (tree_after N.script (history_of side.old.seen.tree.seen)) op.now }
     requires distinct { AreDistinct counts.now }
     requires exist { All (CanLook N.script.machine) counts.now }
     requires room { length counts.now ≤ looks.old.spare }
-    requires at { LooksAt N.script T.table turn.number op.now 0 0 0 looks.old.numbers s.old worker.old }
+    requires at { LooksAt N.script T.table turn.number op.now 0 0 0 looks.old.numbers side.old.seen side.old.share }
     ensures history { history.new ≡ history.old }
-    ensures tree { s.new.tree ≡ s.old.tree }
-    ensures thread { s.new.thread ≡ s.old.thread }
-    ensures seen { HasGrown (seen_by s.old) (seen_by s.new) }
-    ensures done { LooksAt N.script T.table turn.number op.now (length counts.now) 0 0 looks.new.numbers s.new worker.new }
+    ensures tree { side.new.seen.tree ≡ side.old.seen.tree }
+    ensures thread { side.new.seen.thread ≡ side.old.seen.thread }
+    ensures seen { HasGrown (seen_by side.old.seen) (seen_by side.new.seen) }
+    ensures done { LooksAt N.script T.table turn.number op.now (length counts.now) 0 0 looks.new.numbers side.new.seen side.new.share }
 {
     for q in 0..counts.len() {
         let (domain, rmid) = counts.at(q);
         let mut lines = 0;
         for x in 0..m.slices {
             let i = m.slice_number(domain, x);
-            lines += slices.look(rt, i, history, s, worker, turn, rmid);
+            lines += slices.look(rt, i, history, side, turn, rmid);
         }
         looks.push(lines);
     }
@@ -76,8 +75,7 @@ pub(crate) fn follow_all<N: RunNames, T: NamedTable>(
     rt: &impl Wait,
     m: &Machine,
     history: &mut Journal<TreeEntry>,
-    s: &mut Seen<N>,
-    worker: &mut StepShare<N>,
+    side: &mut ThreadSide<N>,
     turn: CommandTurn,
     op: &Op,
     all: &[Follow],
@@ -85,17 +83,17 @@ pub(crate) fn follow_all<N: RunNames, T: NamedTable>(
     requires machine { parameters_of m.now ≡ N.script.machine }
     requires range { InRange N.script.machine }
     requires name { history.old.name ≡ N.tree }
-    requires whole { s.old.tree.seen ≡ history.old.entries }
+    requires whole { side.old.seen.tree.seen ≡ history.old.entries }
     requires epoch { (0 < turn.epoch) × (turn.epoch ≡ length history.old.entries) }
-    requires follows { all.now ≡ after N.script.machine (tree_after N.script (take (turn.epoch - 1) (history_of s.old.tree.seen))) (turn.epoch - 1) op.now }
+    requires follows { all.now ≡ after N.script.machine (tree_after N.script (take (turn.epoch - 1) (history_of side.old.seen.tree.seen))) (turn.epoch - 1) op.now }
     requires domains { All (λ f. follow_domain f < N.script.machine.domains) all.now }
     requires ready { All (IsReady N.script.machine) all.now }
-    requires at { FollowsAt N.script T.table turn.number (turn.epoch - 1) op.now (length (looks_of N.script (history_of s.old.tree.seen) (turn.epoch - 1) op.now)) s.old worker.old }
+    requires at { FollowsAt N.script T.table turn.number (turn.epoch - 1) op.now (length (looks_of N.script (history_of side.old.seen.tree.seen) (turn.epoch - 1) op.now)) side.old.seen side.old.share }
     ensures history { history.new ≡ history.old }
-    ensures tree { s.new.tree ≡ s.old.tree }
-    ensures thread { s.new.thread ≡ s.old.thread }
-    ensures seen { HasGrown (seen_by s.old) (seen_by s.new) }
-    ensures done { FollowsAt N.script T.table turn.number (turn.epoch - 1) op.now (length (jobs_of N.script (history_of s.old.tree.seen) (turn.epoch - 1) op.now)) s.new worker.new }
+    ensures tree { side.new.seen.tree ≡ side.old.seen.tree }
+    ensures thread { side.new.seen.thread ≡ side.old.seen.thread }
+    ensures seen { HasGrown (seen_by side.old.seen) (seen_by side.new.seen) }
+    ensures done { FollowsAt N.script T.table turn.number (turn.epoch - 1) op.now (length (jobs_of N.script (history_of side.old.seen.tree.seen) (turn.epoch - 1) op.now)) side.new.seen side.new.share }
 {
     for q in 0..all.len() {
         let follow = all[q];
@@ -103,7 +101,7 @@ pub(crate) fn follow_all<N: RunNames, T: NamedTable>(
         for x in 0..count {
             let i = slice_for(m, follow, x);
             let last = q + 1 == all.len() && x + 1 == count;
-            slices.follow(rt, i, history, s, worker, turn, follow, last);
+            slices.follow(rt, i, history, side, turn, follow, last);
         }
     }
 }

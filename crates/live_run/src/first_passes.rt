@@ -14,6 +14,7 @@ use crate::log::Log;
 use crate::passes::Passes;
 use crate::run_names::{NamedTable, RunNames, StepShare};
 use crate::seen::Seen;
+use crate::thread_side::ThreadSide;
 use cache_core::SliceEntry;
 use rc_base::{NoMemory, TEXT_MAX, TextBuf};
 use run_law::{LookLists, TreeEntry, command_counts};
@@ -82,8 +83,7 @@ fn first<N: RunNames, T: NamedTable>(
         of: PhantomData,
     };
     Ok(Passes {
-        seen,
-        share,
+        side: ThreadSide { seen, share },
         next: 0,
         looks,
         shown,

@@ -4,11 +4,11 @@ ghost use Rattle.std.specs.Prelude.{◌≡◌, ◌+◌};
 use crate::access::Hold;
 use crate::fill::Fill;
 use crate::parts::Part;
-use crate::run_names::{NamedTable, RunNames, StepShare};
-use crate::seen::Seen;
+use crate::run_names::{NamedTable, RunNames};
 use crate::slice_slot::SliceSlot;
 use crate::slice_slots::SliceSlots;
 use crate::slot_pair::SlotPair;
+use crate::thread_side::ThreadSide;
 use crate::turn::{CommandTurn, TaggedAccess};
 use run_law::TreeEntry;
 use seen_journal::Journal;
@@ -51,12 +51,11 @@ impl<
         rt: &R,
         i: usize,
         history: &mut Journal<TreeEntry>,
-        s: &mut Seen<N>,
-        worker: &mut StepShare<N>,
+        side: &mut ThreadSide<N>,
         turn: CommandTurn,
         rmid: u16,
     ) -> u64 {
-        self.slots.look(rt, i, history, s, worker, turn, rmid)
+        self.slots.look(rt, i, history, side, turn, rmid)
     }
 
     fn follow<R: Wait>(
@@ -64,14 +63,13 @@ impl<
         rt: &R,
         i: usize,
         history: &mut Journal<TreeEntry>,
-        s: &mut Seen<N>,
-        worker: &mut StepShare<N>,
+        side: &mut ThreadSide<N>,
         turn: CommandTurn,
         follow: Follow,
         is_last: bool,
     ) {
         self.slots
-            .follow(rt, i, history, s, worker, turn, follow, is_last);
+            .follow(rt, i, history, side, turn, follow, is_last);
     }
 
     fn touch<R: Wait, H: Hold>(
@@ -79,11 +77,10 @@ impl<
         rt: &R,
         hold: &H,
         i: usize,
-        s: &mut Seen<N>,
-        worker: &mut StepShare<N>,
+        side: &mut ThreadSide<N>,
         access: &TaggedAccess,
     ) -> Option<Reached> {
-        self.slots.touch(rt, hold, i, s, worker, access)
+        self.slots.touch(rt, hold, i, side, access)
     }
 
     fn last() -> usize {

@@ -25,6 +25,7 @@ mod slice_slots;
 mod slices;
 mod slot_pair;
 pub mod theorems;
+mod thread_side;
 mod tree;
 mod turn;
 mod whole_run;

@@ -96,8 +96,7 @@ impl<N: RunNames, T: NamedTable> Live<N, T> {
             rt,
             &self.slices,
             script,
-            &mut p.seen,
-            &mut p.share,
+            &mut p.side,
             p.next,
             op,
             asked,
@@ -160,8 +159,7 @@ impl<N: RunNames, T: NamedTable> Live<N, T> {
         let reached = self.reach(
             rt,
             &hold,
-            &mut p.seen,
-            &mut p.share,
+            &mut p.side,
             cached,
             AccessTurn {
                 number: p.next,
@@ -186,6 +184,6 @@ impl<N: RunNames, T: NamedTable> Live<N, T> {
         ensures ended { IsAtEnd N.script earlier.old → HasEnded N.script (seen_by later.new.seen) earlier.old.seen.thread }
         ensures later_ended { IsAtEnd N.script later.old → HasEnded N.script (seen_by earlier.new.seen) later.old.seen.thread }
     {
-        hand(&mut earlier.seen, &mut later.seen);
+        hand(&mut earlier.side.seen, &mut later.side.seen);
     }
 }

@@ -1,8 +1,8 @@
 //! A thread's passes, between two of its ops.
 ghost use Rattle.std.specs.Prelude.{◌≡◌};
 
-use crate::run_names::{NamedTable, RunNames, StepShare};
-use crate::seen::Seen;
+use crate::run_names::{NamedTable, RunNames};
+use crate::thread_side::ThreadSide;
 use rc_base::TextBuf;
 use run_law::LookLists;
 use std::marker::{Model, PhantomData};
@@ -11,8 +11,7 @@ use std::marker::{Model, PhantomData};
 /// number of its next op, and the text of its last accepted read or list. It has the room for the texts and the counts of all its commands.
 #[derive(Drop)]
 pub struct Passes<N: RunNames, T: NamedTable> {
-    pub(crate) seen: Seen<N>,
-    pub(crate) share: StepShare<N>,
+    pub(crate) side: ThreadSide<N>,
     pub(crate) next: u32,
     pub(crate) looks: LookLists,
     pub(crate) shown: TextBuf,
@@ -26,9 +25,9 @@ impl<N: RunNames, T: NamedTable> Model for Passes<N, T> {
 
     ghost Value = { PassesValue };
 
-    ghost view = { λ p. record { seen = p.seen; next = p.next; shown = p.shown.bytes; begun = begun_in p.share.parts } };
+    ghost view = { λ p. record { seen = p.side.seen; next = p.next; shown = p.shown.bytes; begun = begun_in p.side.share.parts } };
 
-    ghost invariant = { λ p. PassesAreKept N.script T.table p.seen p.next p.looks p.shown p.share };
+    ghost invariant = { λ p. PassesAreKept N.script T.table p.side.seen p.next p.looks p.shown p.side.share };
 }
 
 impl<N: RunNames, T: NamedTable> Passes<N, T> {

@@ -77,7 +77,7 @@ pub fn begin<N: RunNames, T: NamedTable>(turn: &mut StepShare<N>, p: &mut Passes
     ensures turn { turn.new ≡ turn.old }
     ensures begun { p.new ≡ (record p.old { begun = true }) }
 {
-    phases::begin(turn, &mut p.share, TREE_LOCK);
+    phases::begin(turn, &mut p.side.share, TREE_LOCK);
 }
 
 // That of each thread has.
@@ -97,7 +97,7 @@ pub fn end<N: RunNames, T: NamedTable>(turn: &mut StepShare<N>, p: &mut Passes<N
     ensures turn { HaveEnded 1 turn.old turn.new }
     ensures same { p.new ≡ p.old }
 {
-    phases::end(turn, &mut p.share, TREE_LOCK);
+    phases::end(turn, &mut p.side.share, TREE_LOCK);
 }
 
 // Each thread is at its end.

@@ -12,7 +12,8 @@ ghost use Rattle.schedule_law.specs.declared.part.Happening.TheVariants as happe
 use crate::access::Hold;
 use crate::parts::Part;
 use crate::run_names::{NamedTable, RunNames, StepShare};
-use crate::seen::{Seen, meet, note};
+use crate::seen::{meet, note};
+use crate::thread_side::ThreadSide;
 use crate::turn::{CommandTurn, TaggedAccess};
 use cache_core::{Cache, SliceEntry, What};
 use run_law::TreeEntry;
@@ -92,25 +93,24 @@ impl<N: RunNames, T: NamedTable, const I: usize> SliceCell<N, T, I> {
     pub(crate) fn look(
         &mut self,
         history: &mut Journal<TreeEntry>,
-        s: &mut Seen<N>,
-        worker: &mut StepShare<N>,
+        side: &mut ThreadSide<N>,
         turn: CommandTurn,
         rmid: u16,
     ) -> u64
-        requires may { MayLook N.script N.tree I turn.number turn.epoch rmid history.old s.old }
-        requires next { IsNextCount N.script T.table I turn.number rmid history.old s.old worker.old }
+        requires may { MayLook N.script N.tree I turn.number turn.epoch rmid history.old side.old.seen }
+        requires next { IsNextCount N.script T.table I turn.number rmid history.old side.old.seen side.old.share }
         ensures few { result ≤ 2097152 }
         ensures history { history.new ≡ history.old }
-        ensures tree { s.new.tree ≡ s.old.tree }
-        ensures added { HasAdded I (entry_of s.old.thread turn.number turn.epoch (Look rmid result)) s.old s.new }
-        ensures worker { HasStepped (happenings.Look (entry_of s.old.thread turn.number turn.epoch (Look rmid result))) worker.old worker.new }
+        ensures tree { side.new.seen.tree ≡ side.old.seen.tree }
+        ensures added { HasAdded I (entry_of side.old.seen.thread turn.number turn.epoch (Look rmid result)) side.old.seen side.new.seen }
+        ensures worker { HasStepped (happenings.Look (entry_of side.old.seen.thread turn.number turn.epoch (Look rmid result))) side.old.share side.new.share }
     {
         history.show(&mut self.tree);
         let lines = self.cache.look(rmid);
         let what = What::Look { rmid, lines };
-        let entry = entry(s.thread(), turn.number, turn.epoch, what);
-        note::<N, I>(&mut self.journal, s, entry);
-        commands::look(&mut self.share, worker, I, entry);
+        let entry = entry(side.seen.thread(), turn.number, turn.epoch, what);
+        note::<N, I>(&mut self.journal, &mut side.seen, entry);
+        commands::look(&mut self.share, &mut side.share, I, entry);
         lines
     }
 
@@ -118,51 +118,49 @@ impl<N: RunNames, T: NamedTable, const I: usize> SliceCell<N, T, I> {
     pub(crate) fn follow(
         &mut self,
         history: &mut Journal<TreeEntry>,
-        s: &mut Seen<N>,
-        worker: &mut StepShare<N>,
+        side: &mut ThreadSide<N>,
         turn: CommandTurn,
         follow: Follow,
         last: bool,
     )
-        requires may { MayFollow N.script N.tree I turn.number turn.epoch follow history.old s.old }
-        requires next { IsNextFollow N.script T.table I turn.number turn.epoch follow last history.old s.old worker.old }
+        requires may { MayFollow N.script N.tree I turn.number turn.epoch follow history.old side.old.seen }
+        requires next { IsNextFollow N.script T.table I turn.number turn.epoch follow last history.old side.old.seen side.old.share }
         ensures history { history.new ≡ history.old }
-        ensures tree { s.new.tree ≡ s.old.tree }
-        ensures followed { HasFollowed I turn.number turn.epoch follow s.old s.new }
-        ensures worker { HasFollowedOn last worker.old worker.new }
+        ensures tree { side.new.seen.tree ≡ side.old.seen.tree }
+        ensures followed { HasFollowed I turn.number turn.epoch follow side.old.seen side.new.seen }
+        ensures worker { HasFollowedOn last side.old.share side.new.share }
     {
         history.show(&mut self.tree);
         let what = enact(&mut self.cache, turn.epoch, follow);
-        let entry = entry(s.thread(), turn.number, turn.epoch, what);
-        note::<N, I>(&mut self.journal, s, entry);
-        commands::follow(&mut self.share, worker, I, entry, last);
+        let entry = entry(side.seen.thread(), turn.number, turn.epoch, what);
+        note::<N, I>(&mut self.journal, &mut side.seen, entry);
+        commands::follow(&mut self.share, &mut side.share, I, entry, last);
     }
 
     /// Makes the access of a tag, and notes it, unless the tag is stale; then the thread has seen a longer history of the tree.
     pub(crate) fn touch<H: Hold>(
         &mut self,
         hold: &H,
-        s: &mut Seen<N>,
-        worker: &mut StepShare<N>,
+        side: &mut ThreadSide<N>,
         access: &TaggedAccess,
     ) -> Option<Reached>
-        requires may { MayTouch N.script I access.now.number access.now.tag access.now.line s.old }
-        requires tagged { IsTagged N.script T.table I access.now.number access.now.tag access.now.line s.old worker.old }
-        ensures touched { HasTouched I access.now.number access.now.tag access.now.line s.old s.new result }
-        ensures worker { HasReached s.old.thread access.now.number access.now.tag access.now.line result worker.old worker.new }
+        requires may { MayTouch N.script I access.now.number access.now.tag access.now.line side.old.seen }
+        requires tagged { IsTagged N.script T.table I access.now.number access.now.tag access.now.line side.old.seen side.old.share }
+        ensures touched { HasTouched I access.now.number access.now.tag access.now.line side.old.seen side.new.seen result }
+        ensures worker { HasReached side.old.seen.thread access.now.number access.now.tag access.now.line result side.old.share side.new.share }
     {
         let TaggedAccess { number, tag, line } = *access;
-        meet(&mut self.tree, s);
+        meet(&mut self.tree, &mut side.seen);
         if tag.epoch < self.cache.floor() {
-            accesses::tag_again(&mut self.share, worker, I);
+            accesses::tag_again(&mut self.share, &mut side.share, I);
             return None;
         }
-        hold.hold(s.thread());
+        hold.hold(side.seen.thread());
         let reached = reach(&mut self.cache, &tag, line);
         let what = access_of(&tag, line, reached);
-        let entry = entry(s.thread(), number, tag.epoch, what);
-        note::<N, I>(&mut self.journal, s, entry);
-        accesses::touch(&mut self.share, worker, I, entry);
+        let entry = entry(side.seen.thread(), number, tag.epoch, what);
+        note::<N, I>(&mut self.journal, &mut side.seen, entry);
+        accesses::touch(&mut self.share, &mut side.share, I, entry);
         Some(reached)
     }
 }

@@ -3,10 +3,10 @@
 use crate::access::Hold;
 use crate::fill::Fill;
 use crate::parts::Part;
-use crate::run_names::{NamedTable, RunNames, StepShare};
-use crate::seen::Seen;
+use crate::run_names::{NamedTable, RunNames};
 use crate::slice::SliceCell;
 use crate::slice_slots::SliceSlots;
+use crate::thread_side::ThreadSide;
 use crate::turn::{CommandTurn, TaggedAccess};
 use run_law::TreeEntry;
 use seen_journal::Journal;
@@ -44,15 +44,14 @@ impl<N: RunNames, T: NamedTable, const I: usize> SliceSlots<N, T> for SliceSlot<
         rt: &R,
         _i: usize,
         history: &mut Journal<TreeEntry>,
-        s: &mut Seen<N>,
-        worker: &mut StepShare<N>,
+        side: &mut ThreadSide<N>,
         turn: CommandTurn,
         rmid: u16,
     ) -> u64 {
         let Some(cell) = &self.cell else {
             unreachable!()
         };
-        cell.lock(rt).look(history, s, worker, turn, rmid)
+        cell.lock(rt).look(history, side, turn, rmid)
     }
 
     fn follow<R: Wait>(
@@ -60,8 +59,7 @@ impl<N: RunNames, T: NamedTable, const I: usize> SliceSlots<N, T> for SliceSlot<
         rt: &R,
         _i: usize,
         history: &mut Journal<TreeEntry>,
-        s: &mut Seen<N>,
-        worker: &mut StepShare<N>,
+        side: &mut ThreadSide<N>,
         turn: CommandTurn,
         follow: Follow,
         is_last: bool,
@@ -69,8 +67,7 @@ impl<N: RunNames, T: NamedTable, const I: usize> SliceSlots<N, T> for SliceSlot<
         let Some(cell) = &self.cell else {
             unreachable!()
         };
-        cell.lock(rt)
-            .follow(history, s, worker, turn, follow, is_last);
+        cell.lock(rt).follow(history, side, turn, follow, is_last);
     }
 
     fn touch<R: Wait, H: Hold>(
@@ -78,14 +75,13 @@ impl<N: RunNames, T: NamedTable, const I: usize> SliceSlots<N, T> for SliceSlot<
         rt: &R,
         hold: &H,
         _i: usize,
-        s: &mut Seen<N>,
-        worker: &mut StepShare<N>,
+        side: &mut ThreadSide<N>,
         access: &TaggedAccess,
     ) -> Option<Reached> {
         let Some(cell) = &self.cell else {
             unreachable!()
         };
-        cell.lock(rt).touch(hold, s, worker, access)
+        cell.lock(rt).touch(hold, side, access)
     }
 
     fn last() -> usize {

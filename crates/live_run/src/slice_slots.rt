@@ -9,8 +9,8 @@ ghost use Rattle.machine.specs.Slices.{slice_count};
 ghost use Rattle.schedule_law.specs.declared.part.Happening.TheVariants as happenings;
 
 use crate::access::Hold;
-use crate::run_names::{NamedTable, RunNames, StepShare};
-use crate::seen::Seen;
+use crate::run_names::{NamedTable, RunNames};
+use crate::thread_side::ThreadSide;
 use crate::turn::{CommandTurn, TaggedAccess};
 use run_law::TreeEntry;
 use seen_journal::Journal;
@@ -35,8 +35,7 @@ pub trait SliceSlots<N: RunNames, T: NamedTable> {
         rt: &R,
         i: usize,
         history: &mut Journal<TreeEntry>,
-        s: &mut Seen<N>,
-        worker: &mut StepShare<N>,
+        side: &mut ThreadSide<N>,
         turn: CommandTurn,
         rmid: u16,
     ) -> u64
@@ -44,13 +43,13 @@ pub trait SliceSlots<N: RunNames, T: NamedTable> {
         requires from { first ≤ i }
         requires to { i ≤ last }
         requires number { i < slice_count N.script.machine }
-        requires may { MayLook N.script N.tree i turn.number turn.epoch rmid history.old s.old }
-        requires next { IsNextCount N.script T.table i turn.number rmid history.old s.old worker.old }
+        requires may { MayLook N.script N.tree i turn.number turn.epoch rmid history.old side.old.seen }
+        requires next { IsNextCount N.script T.table i turn.number rmid history.old side.old.seen side.old.share }
         ensures few { result ≤ 2097152 }
         ensures history { history.new ≡ history.old }
-        ensures tree { s.new.tree ≡ s.old.tree }
-        ensures added { HasAdded i (entry_of s.old.thread turn.number turn.epoch (Look rmid result)) s.old s.new }
-        ensures worker { HasStepped (happenings.Look (entry_of s.old.thread turn.number turn.epoch (Look rmid result))) worker.old worker.new };
+        ensures tree { side.new.seen.tree ≡ side.old.seen.tree }
+        ensures added { HasAdded i (entry_of side.old.seen.thread turn.number turn.epoch (Look rmid result)) side.old.seen side.new.seen }
+        ensures worker { HasStepped (happenings.Look (entry_of side.old.seen.thread turn.number turn.epoch (Look rmid result))) side.old.share side.new.share };
 
     /// Does what follows the command that holds the tree, in the slice of a number.
     fn follow<R: Wait>(
@@ -58,8 +57,7 @@ pub trait SliceSlots<N: RunNames, T: NamedTable> {
         rt: &R,
         i: usize,
         history: &mut Journal<TreeEntry>,
-        s: &mut Seen<N>,
-        worker: &mut StepShare<N>,
+        side: &mut ThreadSide<N>,
         turn: CommandTurn,
         follow: Follow,
         is_last: bool,
@@ -68,12 +66,12 @@ pub trait SliceSlots<N: RunNames, T: NamedTable> {
         requires from { first ≤ i }
         requires to { i ≤ last }
         requires number { i < slice_count N.script.machine }
-        requires may { MayFollow N.script N.tree i turn.number turn.epoch follow history.old s.old }
-        requires next { IsNextFollow N.script T.table i turn.number turn.epoch follow is_last history.old s.old worker.old }
+        requires may { MayFollow N.script N.tree i turn.number turn.epoch follow history.old side.old.seen }
+        requires next { IsNextFollow N.script T.table i turn.number turn.epoch follow is_last history.old side.old.seen side.old.share }
         ensures history { history.new ≡ history.old }
-        ensures tree { s.new.tree ≡ s.old.tree }
-        ensures followed { HasFollowed i turn.number turn.epoch follow s.old s.new }
-        ensures worker { HasFollowedOn is_last worker.old worker.new };
+        ensures tree { side.new.seen.tree ≡ side.old.seen.tree }
+        ensures followed { HasFollowed i turn.number turn.epoch follow side.old.seen side.new.seen }
+        ensures worker { HasFollowedOn is_last side.old.share side.new.share };
 
     /// Makes the access of a tag in the slice of a number, unless the tag is stale.
     fn touch<R: Wait, H: Hold>(
@@ -81,18 +79,17 @@ pub trait SliceSlots<N: RunNames, T: NamedTable> {
         rt: &R,
         hold: &H,
         i: usize,
-        s: &mut Seen<N>,
-        worker: &mut StepShare<N>,
+        side: &mut ThreadSide<N>,
         access: &TaggedAccess,
     ) -> Option<Reached>
         requires joined { joined }
         requires from { first ≤ i }
         requires to { i ≤ last }
         requires number { i < slice_count N.script.machine }
-        requires may { MayTouch N.script i access.now.number access.now.tag access.now.line s.old }
-        requires tagged { IsTagged N.script T.table i access.now.number access.now.tag access.now.line s.old worker.old }
-        ensures touched { HasTouched i access.now.number access.now.tag access.now.line s.old s.new result }
-        ensures worker { HasReached s.old.thread access.now.number access.now.tag access.now.line result worker.old worker.new };
+        requires may { MayTouch N.script i access.now.number access.now.tag access.now.line side.old.seen }
+        requires tagged { IsTagged N.script T.table i access.now.number access.now.tag access.now.line side.old.seen side.old.share }
+        ensures touched { HasTouched i access.now.number access.now.tag access.now.line side.old.seen side.new.seen result }
+        ensures worker { HasReached side.old.seen.thread access.now.number access.now.tag access.now.line result side.old.share side.new.share };
 
     /// The number of the last.
     fn last() -> usize

@@ -14,10 +14,10 @@ use crate::access::Hold;
 use crate::fill::Fill;
 use crate::four_slots::FourSlots;
 use crate::parts::Part;
-use crate::run_names::{NamedTable, RunNames, StepShare};
-use crate::seen::Seen;
+use crate::run_names::{NamedTable, RunNames};
 use crate::slice_slots::SliceSlots;
 use crate::slot_pair::SlotPair;
+use crate::thread_side::ThreadSide;
 use crate::turn::{CommandTurn, TaggedAccess};
 use run_law::TreeEntry;
 use seen_journal::Journal;
@@ -117,21 +117,20 @@ impl<N: RunNames, T: NamedTable> Slices<N, T> {
         rt: &impl Wait,
         i: usize,
         history: &mut Journal<TreeEntry>,
-        s: &mut Seen<N>,
-        worker: &mut StepShare<N>,
+        side: &mut ThreadSide<N>,
         turn: CommandTurn,
         rmid: u16,
     ) -> u64
         requires number { i < slice_count N.script.machine }
-        requires may { MayLook N.script N.tree i turn.number turn.epoch rmid history.old s.old }
-        requires next { IsNextCount N.script T.table i turn.number rmid history.old s.old worker.old }
+        requires may { MayLook N.script N.tree i turn.number turn.epoch rmid history.old side.old.seen }
+        requires next { IsNextCount N.script T.table i turn.number rmid history.old side.old.seen side.old.share }
         ensures few { result ≤ 2097152 }
         ensures history { history.new ≡ history.old }
-        ensures tree { s.new.tree ≡ s.old.tree }
-        ensures added { HasAdded i (entry_of s.old.thread turn.number turn.epoch (Look rmid result)) s.old s.new }
-        ensures worker { HasStepped (happenings.Look (entry_of s.old.thread turn.number turn.epoch (Look rmid result))) worker.old worker.new }
+        ensures tree { side.new.seen.tree ≡ side.old.seen.tree }
+        ensures added { HasAdded i (entry_of side.old.seen.thread turn.number turn.epoch (Look rmid result)) side.old.seen side.new.seen }
+        ensures worker { HasStepped (happenings.Look (entry_of side.old.seen.thread turn.number turn.epoch (Look rmid result))) side.old.share side.new.share }
     {
-        self.slots.look(rt, i, history, s, worker, turn, rmid)
+        self.slots.look(rt, i, history, side, turn, rmid)
     }
 
     /// Does what follows the command that holds the tree, in the slice of a number.
@@ -140,22 +139,21 @@ impl<N: RunNames, T: NamedTable> Slices<N, T> {
         rt: &impl Wait,
         i: usize,
         history: &mut Journal<TreeEntry>,
-        s: &mut Seen<N>,
-        worker: &mut StepShare<N>,
+        side: &mut ThreadSide<N>,
         turn: CommandTurn,
         follow: Follow,
         is_last: bool,
     )
         requires number { i < slice_count N.script.machine }
-        requires may { MayFollow N.script N.tree i turn.number turn.epoch follow history.old s.old }
-        requires next { IsNextFollow N.script T.table i turn.number turn.epoch follow is_last history.old s.old worker.old }
+        requires may { MayFollow N.script N.tree i turn.number turn.epoch follow history.old side.old.seen }
+        requires next { IsNextFollow N.script T.table i turn.number turn.epoch follow is_last history.old side.old.seen side.old.share }
         ensures history { history.new ≡ history.old }
-        ensures tree { s.new.tree ≡ s.old.tree }
-        ensures followed { HasFollowed i turn.number turn.epoch follow s.old s.new }
-        ensures worker { HasFollowedOn is_last worker.old worker.new }
+        ensures tree { side.new.seen.tree ≡ side.old.seen.tree }
+        ensures followed { HasFollowed i turn.number turn.epoch follow side.old.seen side.new.seen }
+        ensures worker { HasFollowedOn is_last side.old.share side.new.share }
     {
         self.slots
-            .follow(rt, i, history, s, worker, turn, follow, is_last);
+            .follow(rt, i, history, side, turn, follow, is_last);
     }
 
     /// Makes the access of a tag in the slice of a number, unless the tag is stale.
@@ -164,16 +162,15 @@ impl<N: RunNames, T: NamedTable> Slices<N, T> {
         rt: &impl Wait,
         hold: &impl Hold,
         i: usize,
-        s: &mut Seen<N>,
-        worker: &mut StepShare<N>,
+        side: &mut ThreadSide<N>,
         access: &TaggedAccess,
     ) -> Option<Reached>
         requires number { i < slice_count N.script.machine }
-        requires may { MayTouch N.script i access.now.number access.now.tag access.now.line s.old }
-        requires tagged { IsTagged N.script T.table i access.now.number access.now.tag access.now.line s.old worker.old }
-        ensures touched { HasTouched i access.now.number access.now.tag access.now.line s.old s.new result }
-        ensures worker { HasReached s.old.thread access.now.number access.now.tag access.now.line result worker.old worker.new }
+        requires may { MayTouch N.script i access.now.number access.now.tag access.now.line side.old.seen }
+        requires tagged { IsTagged N.script T.table i access.now.number access.now.tag access.now.line side.old.seen side.old.share }
+        ensures touched { HasTouched i access.now.number access.now.tag access.now.line side.old.seen side.new.seen result }
+        ensures worker { HasReached side.old.seen.thread access.now.number access.now.tag access.now.line result side.old.share side.new.share }
     {
-        self.slots.touch(rt, hold, i, s, worker, access)
+        self.slots.touch(rt, hold, i, side, access)
     }
 }

@@ -4,9 +4,9 @@ ghost use Rattle.std.specs.Prelude.{◌≡◌, ◌+◌};
 use crate::access::Hold;
 use crate::fill::Fill;
 use crate::parts::Part;
-use crate::run_names::{NamedTable, RunNames, StepShare};
-use crate::seen::Seen;
+use crate::run_names::{NamedTable, RunNames};
 use crate::slice_slots::SliceSlots;
+use crate::thread_side::ThreadSide;
 use crate::turn::{CommandTurn, TaggedAccess};
 use run_law::TreeEntry;
 use seen_journal::Journal;
@@ -47,15 +47,14 @@ impl<N: RunNames, T: NamedTable, A: SliceSlots<N, T>, B: SliceSlots<N, T>> Slice
         rt: &R,
         i: usize,
         history: &mut Journal<TreeEntry>,
-        s: &mut Seen<N>,
-        worker: &mut StepShare<N>,
+        side: &mut ThreadSide<N>,
         turn: CommandTurn,
         rmid: u16,
     ) -> u64 {
         if i <= A::last() {
-            self.front.look(rt, i, history, s, worker, turn, rmid)
+            self.front.look(rt, i, history, side, turn, rmid)
         } else {
-            self.back.look(rt, i, history, s, worker, turn, rmid)
+            self.back.look(rt, i, history, side, turn, rmid)
         }
     }
 
@@ -64,18 +63,17 @@ impl<N: RunNames, T: NamedTable, A: SliceSlots<N, T>, B: SliceSlots<N, T>> Slice
         rt: &R,
         i: usize,
         history: &mut Journal<TreeEntry>,
-        s: &mut Seen<N>,
-        worker: &mut StepShare<N>,
+        side: &mut ThreadSide<N>,
         turn: CommandTurn,
         follow: Follow,
         is_last: bool,
     ) {
         if i <= A::last() {
             self.front
-                .follow(rt, i, history, s, worker, turn, follow, is_last);
+                .follow(rt, i, history, side, turn, follow, is_last);
         } else {
             self.back
-                .follow(rt, i, history, s, worker, turn, follow, is_last);
+                .follow(rt, i, history, side, turn, follow, is_last);
         }
     }
 
@@ -84,14 +82,13 @@ impl<N: RunNames, T: NamedTable, A: SliceSlots<N, T>, B: SliceSlots<N, T>> Slice
         rt: &R,
         hold: &H,
         i: usize,
-        s: &mut Seen<N>,
-        worker: &mut StepShare<N>,
+        side: &mut ThreadSide<N>,
         access: &TaggedAccess,
     ) -> Option<Reached> {
         if i <= A::last() {
-            self.front.touch(rt, hold, i, s, worker, access)
+            self.front.touch(rt, hold, i, side, access)
         } else {
-            self.back.touch(rt, hold, i, s, worker, access)
+            self.back.touch(rt, hold, i, side, access)
         }
     }
 

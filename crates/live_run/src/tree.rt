@@ -19,8 +19,9 @@ ghost use Rattle.script_ops.specs.Values.{IsLawful, op_at, threads_of};
 use crate::cached_tag::{CachedTag, current_tag, tag_of};
 use crate::command::{follow_all, look_all, show};
 use crate::run_names::{NamedTable, RunNames, StepShare, TREE_LOCK};
-use crate::seen::{Seen, decide, release, take, take_unless};
+use crate::seen::{decide, release, take, take_unless};
 use crate::slices::Slices;
+use crate::thread_side::ThreadSide;
 use crate::turn::CommandTurn;
 use cache_core::SliceEntry;
 use rc_base::{LookList, NoMemory, Reply, Tag, TextBuf};
@@ -86,30 +87,34 @@ impl<N: RunNames, T: NamedTable> TreeCell<N, T> {
     /// held here.
     pub(crate) fn tag(
         &mut self,
-        s: &mut Seen<N>,
-        worker: &mut StepShare<N>,
+        side: &mut ThreadSide<N>,
         cached: &mut Option<CachedTag>,
         task: u32,
         cpu: u8,
     ) -> Tag
         requires task { Contains N.script.tasks task }
         requires cpu { cpu < N.script.machine.cpus }
-        requires worker { IsBeforeAccess N.script T.table task cpu s.old worker.old }
-        requires cached { HoldsCached N.script s.old cached.old }
-        ensures cached_now { HoldsCached N.script s.new cached.new }
-        ensures taken { HasTaken s.old s.new }
-        ensures tag { HoldsTag N.script (seen_by s.new) task cpu result }
-        ensures fresh { length s.old.tree.seen ≤ result.epoch }
+        requires worker { IsBeforeAccess N.script T.table task cpu side.old.seen side.old.share }
+        requires cached { HoldsCached N.script side.old.seen cached.old }
+        ensures cached_now { HoldsCached N.script side.new.seen cached.new }
+        ensures taken { HasTaken side.old.seen side.new.seen }
+        ensures tag { HoldsTag N.script (seen_by side.new.seen) task cpu result }
+        ensures fresh { length side.old.seen.tree.seen ≤ result.epoch }
         ensures most { result.epoch ≤ command_count N.script }
         ensures known { result.rmid < N.script.machine.rmids }
         ensures valid { (0 < result.mask) × (result.mask < 2 ^ N.script.machine.ways) }
-        ensures worker { HasStepped (happenings.Label result) worker.old worker.new }
+        ensures worker { HasStepped (happenings.Label result) side.old.share side.new.share }
     {
         let current = current_tag(cached, &self.tree);
-        take_unless(current.is_some(), &mut self.journal, &mut self.slices, s);
+        take_unless(
+            current.is_some(),
+            &mut self.journal,
+            &mut self.slices,
+            &mut side.seen,
+        );
         let tag = tag_of(&self.tree, &current, task, cpu);
         *cached = Some(CachedTag { task, cpu, tag });
-        accesses::tag(&mut self.share, worker, TREE_LOCK, &tag);
+        accesses::tag(&mut self.share, &mut side.share, TREE_LOCK, &tag);
         tag
     }
 
@@ -120,8 +125,7 @@ impl<N: RunNames, T: NamedTable> TreeCell<N, T> {
         rt: &impl Wait,
         slices: &Slices<N, T>,
         script: &Script,
-        s: &mut Seen<N>,
-        worker: &mut StepShare<N>,
+        side: &mut ThreadSide<N>,
         number: u32,
         op: &Op,
         asked: bool,
@@ -129,22 +133,27 @@ impl<N: RunNames, T: NamedTable> TreeCell<N, T> {
         shown: &mut TextBuf,
     ) -> Reply
         requires script { script.now ≡ N.script }
-        requires op { op_at N.script s.old.thread number ≡ Some op.now }
+        requires op { op_at N.script side.old.seen.thread number ≡ Some op.now }
         requires command { IsTrue (is_command op.now) }
         requires looks { looks.numbers ≡ [] }
         requires list { most_counts N.script.machine op.now ≤ looks.spare }
         requires room { TEXT_MAX ≤ shown.old.spare + length shown.old.bytes }
-        requires ready { IsReady N.script s.old.thread number (seen_by s.old) }
-        requires worker { IsResting T.table s.old.thread number true worker.old }
-        ensures thread { s.new.thread ≡ s.old.thread }
-        ensures seen { HasGrown (seen_by s.old) (seen_by s.new) }
-        ensures ready { IsReady N.script s.old.thread (number + 1) (seen_by s.new) }
-        ensures reply { HasReplied N.script asked op.now result (record { seen = s.old; next = number; shown = shown.old.bytes; begun = true }) (record { seen = s.new; next = number + 1; shown = shown.new.bytes; begun = true }) }
+        requires ready { IsReady N.script side.old.seen.thread number (seen_by side.old.seen) }
+        requires worker { IsResting T.table side.old.seen.thread number true side.old.share }
+        ensures thread { side.new.seen.thread ≡ side.old.seen.thread }
+        ensures seen { HasGrown (seen_by side.old.seen) (seen_by side.new.seen) }
+        ensures ready { IsReady N.script side.old.seen.thread (number + 1) (seen_by side.new.seen) }
+        ensures reply { HasReplied N.script asked op.now result (record { seen = side.old.seen; next = number; shown = shown.old.bytes; begun = true }) (record { seen = side.new.seen; next = number + 1; shown = shown.new.bytes; begun = true }) }
         ensures room { shown.new.spare + length shown.new.bytes ≡ shown.old.spare + length shown.old.bytes }
-        ensures worker { IsResting T.table s.old.thread (number + 1) true worker.new }
+        ensures worker { IsResting T.table side.old.seen.thread (number + 1) true side.new.share }
     {
-        take(&mut self.journal, &mut self.slices, s);
-        commands::take(&mut self.share, worker, TREE_LOCK, u64::from(s.thread()));
+        take(&mut self.journal, &mut self.slices, &mut side.seen);
+        commands::take(
+            &mut self.share,
+            &mut side.share,
+            TREE_LOCK,
+            u64::from(side.seen.thread()),
+        );
         let m = script.machine();
         let counts = self.tree.counts(op);
         let before = self.tree.epoch();
@@ -153,8 +162,7 @@ impl<N: RunNames, T: NamedTable> TreeCell<N, T> {
             rt,
             m,
             &mut self.journal,
-            s,
-            worker,
+            side,
             CommandTurn {
                 number,
                 epoch: before,
@@ -166,28 +174,27 @@ impl<N: RunNames, T: NamedTable> TreeCell<N, T> {
         let (reply, after) = self.tree.apply(op, looks.items());
         show(&self.tree, script, op, looks.items(), reply, asked, shown);
         let entry = TreeEntry {
-            thread: s.thread(),
+            thread: side.seen.thread(),
             op: number,
             reply,
             looks,
         };
         let made = counts.len() as u64 * u64::from(m.slices);
-        let entry = commands::decide(worker, TREE_LOCK, entry, after.is_empty(), made);
-        decide(&mut self.journal, s, entry);
+        let entry = commands::decide(&mut side.share, TREE_LOCK, entry, after.is_empty(), made);
+        decide(&mut self.journal, &mut side.seen, entry);
         let epoch = self.tree.epoch();
         follow_all(
             slices,
             rt,
             m,
             &mut self.journal,
-            s,
-            worker,
+            side,
             CommandTurn { number, epoch },
             op,
             after.as_slice(),
         );
-        release(&mut self.slices, s);
-        commands::release(&mut self.share, worker);
+        release(&mut self.slices, &mut side.seen);
+        commands::release(&mut self.share, &mut side.share);
         reply
     }
 }

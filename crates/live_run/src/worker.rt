@@ -27,7 +27,7 @@ impl<N: RunNames, T: NamedTable> Live<N, T> {
         requires may { MayWork N.script p.old }
         ensures { HasWorked N.script p.old p.new }
     {
-        let thread = p.seen.thread();
+        let thread = p.side.seen.thread();
         let ops = script.ops(thread);
         let mut cached = None;
         for i in 0..ops.len() {

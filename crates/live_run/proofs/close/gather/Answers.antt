@@ -22,7 +22,7 @@ loop-passes-preserved g c =
     let s : SeenValue = record { thread = c.seen.inside.thread; tree = c.seen.inside.tree; slices = c.seen.inside.slices.items } in
     let same : s ≡ p.seen = c.seen.view_is ∙ ap (λ (q : PassesValue). q.seen) c.passes.view_is in
     let next : c.passes.inside.next ≡ p.next = ap (λ (q : PassesValue). q.next) c.passes.view_is in
-    let keeps : PassesKeep script s.thread p.next (seen_by s) = subst (λ (z : SeenValue). PassesKeep script z.thread p.next (seen_by z)) (sym c.seen.view_is) (subst (λ n. PassesKeep script c.passes.inside.seen.thread n (seen_by c.passes.inside.seen)) next c.passes.invariant.keep) in
+    let keeps : PassesKeep script s.thread p.next (seen_by s) = subst (λ (z : SeenValue). PassesKeep script z.thread p.next (seen_by z)) (sym c.seen.view_is) (subst (λ n. PassesKeep script c.passes.inside.side.seen.thread n (seen_by c.passes.inside.side.seen)) next c.passes.invariant.keep) in
     record {
       gathered = subst (λ (ts : List (PassValue TreeEntry)). AreGathered script g.N.RunNames.tree g.N.RunNames.slices (ps ++ p ∷ []) ts c.give_each.new.lists.items) (sym c.push_reserved.ensures.items) (AreGathered-push script g.N.RunNames.tree g.N.RunNames.slices ps p c.loop-passes.trees.items c.loop-passes.lists.items c.give_each.new.lists.items s same had.gathered c.seen.invariant keeps c.give_each.ensures);
       trees_room = omega (arith, had.trees_room, length_push ps p, ap length (c.in-Some.ensures.steps).0, c.push_reserved.ensures.capacity);

@@ -9,17 +9,17 @@ use Rattle.run_law.specs.Targets.{slices_for}
 abbrev pub invariant-loop-q : goal.invariant-loop-q
 invariant-loop-q g l = record {
   history : l.history ≡ l.fn.history;
-  tree : l.s.tree ≡ l.fn.s.tree;
-  thread : l.s.thread ≡ l.fn.s.thread;
-  grown : HasGrown (seen_by l.fn.s) (seen_by l.s);
-  at : FollowsAt g.N.RunNames.script g.T.NamedTable.table l.turn.number (l.turn.epoch - 1) l.op (length (looks_of g.N.RunNames.script (history_of l.fn.s.tree.seen) (l.turn.epoch - 1) l.op) + sum_by (slices_for g.N.RunNames.script.machine) (take l.q l.all)) l.s l.worker;
+  tree : l.side.seen.tree ≡ l.fn.side.seen.tree;
+  thread : l.side.seen.thread ≡ l.fn.side.seen.thread;
+  grown : HasGrown (seen_by l.fn.side.seen) (seen_by l.side.seen);
+  at : FollowsAt g.N.RunNames.script g.T.NamedTable.table l.turn.number (l.turn.epoch - 1) l.op (length (looks_of g.N.RunNames.script (history_of l.fn.side.seen.tree.seen) (l.turn.epoch - 1) l.op) + sum_by (slices_for g.N.RunNames.script.machine) (take l.q l.all)) l.side.seen l.side.share;
 }
 
 abbrev pub invariant-loop-x : goal.invariant-loop-x
 invariant-loop-x g l = record {
   history : l.history ≡ l.fn.history;
-  tree : l.s.tree ≡ l.fn.s.tree;
-  thread : l.s.thread ≡ l.fn.s.thread;
-  grown : HasGrown (seen_by l.fn.s) (seen_by l.s);
-  at : FollowsAt g.N.RunNames.script g.T.NamedTable.table l.turn.number (l.turn.epoch - 1) l.op (length (looks_of g.N.RunNames.script (history_of l.fn.s.tree.seen) (l.turn.epoch - 1) l.op) + sum_by (slices_for g.N.RunNames.script.machine) (take l.q l.all) + l.x) l.s l.worker;
+  tree : l.side.seen.tree ≡ l.fn.side.seen.tree;
+  thread : l.side.seen.thread ≡ l.fn.side.seen.thread;
+  grown : HasGrown (seen_by l.fn.side.seen) (seen_by l.side.seen);
+  at : FollowsAt g.N.RunNames.script g.T.NamedTable.table l.turn.number (l.turn.epoch - 1) l.op (length (looks_of g.N.RunNames.script (history_of l.fn.side.seen.tree.seen) (l.turn.epoch - 1) l.op) + sum_by (slices_for g.N.RunNames.script.machine) (take l.q l.all) + l.x) l.side.seen l.side.share;
 }

@@ -7,18 +7,18 @@ use Rattle.live_run.specs.Names.{seen_by}
 abbrev pub invariant-loop-q : goal.invariant-loop-q
 invariant-loop-q g l = record {
   history : l.history ≡ l.fn.history;
-  tree : l.s.tree ≡ l.fn.s.tree;
-  thread : l.s.thread ≡ l.fn.s.thread;
-  grown : HasGrown (seen_by l.fn.s) (seen_by l.s);
+  tree : l.side.seen.tree ≡ l.fn.side.seen.tree;
+  thread : l.side.seen.thread ≡ l.fn.side.seen.thread;
+  grown : HasGrown (seen_by l.fn.side.seen) (seen_by l.side.seen);
   room : length l.counts ≤ l.looks.spare + l.q;
-  at : LooksAt g.N.RunNames.script g.T.NamedTable.table l.turn.number l.op l.q 0 0 l.looks.numbers l.s l.worker;
+  at : LooksAt g.N.RunNames.script g.T.NamedTable.table l.turn.number l.op l.q 0 0 l.looks.numbers l.side.seen l.side.share;
 }
 
 abbrev pub invariant-loop-x : goal.invariant-loop-x
 invariant-loop-x g l = record {
   history : l.history ≡ l.fn.history;
-  tree : l.s.tree ≡ l.fn.s.tree;
-  thread : l.s.thread ≡ l.fn.s.thread;
-  grown : HasGrown (seen_by l.fn.s) (seen_by l.s);
-  at : LooksAt g.N.RunNames.script g.T.NamedTable.table l.turn.number l.op l.q l.x l.lines l.looks.numbers l.s l.worker;
+  tree : l.side.seen.tree ≡ l.fn.side.seen.tree;
+  thread : l.side.seen.thread ≡ l.fn.side.seen.thread;
+  grown : HasGrown (seen_by l.fn.side.seen) (seen_by l.side.seen);
+  at : LooksAt g.N.RunNames.script g.T.NamedTable.table l.turn.number l.op l.q l.x l.lines l.looks.numbers l.side.seen l.side.share;
 }

@@ -6,9 +6,9 @@ use Rattle.live_run.specs.Sharing.{IsResting, op_after}
 
 abbrev pub invariant-loop-turn : goal.invariant-loop-turn
 invariant-loop-turn g l = record {
-  turning : IsTurning g.N.RunNames.script l.access.number l.access.task l.access.cpu l.access.addr l.fn.s l.s l.turn;
-  worker : IsResting g.T.NamedTable.table l.fn.s.thread (op_after l.access.number l.turn) true l.worker;
-  cached : HoldsCached g.N.RunNames.script l.s l.cached;
+  turning : IsTurning g.N.RunNames.script l.access.number l.access.task l.access.cpu l.access.addr l.fn.side.seen l.side.seen l.turn;
+  worker : IsResting g.T.NamedTable.table l.fn.side.seen.thread (op_after l.access.number l.turn) true l.side.share;
+  cached : HoldsCached g.N.RunNames.script l.side.seen l.cached;
 }
 
 abbrev pub decreases-loop-turn : goal.decreases-loop-turn

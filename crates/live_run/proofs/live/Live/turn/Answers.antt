@@ -13,41 +13,41 @@ use Rattle.machine.specs.Slices.{slice_of_line}
 use Rattle.machine.specs.declared.parameters.Parameters.{Parameters}
 
 pub tag-tag-requires-clause-task : goal.tag-tag-requires-clause-task
-tag-tag-requires-clause-task g c = (access_fits g.N.RunNames.script c.args.s.now.thread c.args.access.number c.args.access.task c.args.access.cpu c.args.access.addr c.self.invariant.lawful c.requires.op).0
+tag-tag-requires-clause-task g c = (access_fits g.N.RunNames.script c.args.side.now.seen.thread c.args.access.number c.args.access.task c.args.access.cpu c.args.access.addr c.self.invariant.lawful c.requires.op).0
 
 pub tag-tag-requires-clause-cpu : goal.tag-tag-requires-clause-cpu
-tag-tag-requires-clause-cpu g c = (access_fits g.N.RunNames.script c.args.s.now.thread c.args.access.number c.args.access.task c.args.access.cpu c.args.access.addr c.self.invariant.lawful c.requires.op).1
+tag-tag-requires-clause-cpu g c = (access_fits g.N.RunNames.script c.args.side.now.seen.thread c.args.access.number c.args.access.task c.args.access.cpu c.args.access.addr c.self.invariant.lawful c.requires.op).1
 
 pub line_slice-slice-requires : goal.line_slice-slice-requires
 line_slice-slice-requires g c =
-    let fits = access_fits g.N.RunNames.script c.args.s.now.thread c.args.access.number c.args.access.task c.args.access.cpu c.args.access.addr c.self.invariant.lawful c.requires.op in
-    let domain = tag_domain g.N.RunNames.script c.tag-tag.new.s c.args.access.task c.args.access.cpu c.tag-tag.result c.tag-tag.ensures.tag in
+    let fits = access_fits g.N.RunNames.script c.args.side.now.seen.thread c.args.access.number c.args.access.task c.args.access.cpu c.args.access.addr c.self.invariant.lawful c.requires.op in
+    let domain = tag_domain g.N.RunNames.script c.tag-tag.new.side.seen c.args.access.task c.args.access.cpu c.tag-tag.result c.tag-tag.ensures.tag in
     let there = domain_of-lt g.N.RunNames.script.machine c.args.access.cpu c.self.invariant.lawful.in_range fits.1 in
     omega (arith, domain, there, ap (λ (m : Parameters). m.domains) c.self.invariant.machine)
 
 pub touch-requires-clause-may : goal.touch-requires-clause-may
 touch-requires-clause-may g c =
     let number : c.line_slice-slice.result ≡ slice_of_line g.N.RunNames.script.machine c.tag-tag.result.domain (line_of c.args.access.addr) = c.line_slice-slice.ensures.number ∙ ap (λ (m : Parameters). slice_of_line m c.tag-tag.result.domain (line_of c.args.access.addr)) c.self.invariant.machine in
-    turn_can g.N.RunNames.script c.args.access.number c.args.access.task c.args.access.cpu c.args.access.addr c.line_slice-slice.result c.tag-tag.result c.args.s.now c.tag-tag.new.s c.self.invariant.lawful c.requires.op c.tag-tag.ensures.taken c.tag-tag.ensures.tag
+    turn_can g.N.RunNames.script c.args.access.number c.args.access.task c.args.access.cpu c.args.access.addr c.line_slice-slice.result c.tag-tag.result c.args.side.now.seen c.tag-tag.new.side.seen c.self.invariant.lawful c.requires.op c.tag-tag.ensures.taken c.tag-tag.ensures.tag
     c.tag-tag.ensures.known c.tag-tag.ensures.valid number c.requires.room
 
 pub returns-in-Some-clause-turned : goal.returns-in-Some-clause-turned
 returns-in-Some-clause-turned g c =
     let number : c.line_slice-slice.result ≡ slice_of_line g.N.RunNames.script.machine c.tag-tag.result.domain (line_of c.args.access.addr) = c.line_slice-slice.ensures.number ∙ ap (λ (m : Parameters). slice_of_line m c.tag-tag.result.domain (line_of c.args.access.addr)) c.self.invariant.machine in
-    turn_some g.N.RunNames.script c.args.access.number c.args.access.task c.args.access.cpu c.args.access.addr c.line_slice-slice.result c.tag-tag.result c.in-Some.reached c.args.s.now c.tag-tag.new.s c.touch.new.s c.tag-tag.ensures.taken c.tag-tag.ensures.tag c.tag-tag.ensures.fresh number c.in-Some.ensures.touched
+    turn_some g.N.RunNames.script c.args.access.number c.args.access.task c.args.access.cpu c.args.access.addr c.line_slice-slice.result c.tag-tag.result c.in-Some.reached c.args.side.now.seen c.tag-tag.new.side.seen c.touch.new.side.seen c.tag-tag.ensures.taken c.tag-tag.ensures.tag c.tag-tag.ensures.fresh number c.in-Some.ensures.touched
 
 pub returns-in-None-clause-turned : goal.returns-in-None-clause-turned
 returns-in-None-clause-turned g c =
-    turn_none g.N.RunNames.script c.args.access.number c.args.access.task c.args.access.cpu c.args.access.addr c.line_slice-slice.result (line_of c.args.access.addr) c.tag-tag.result c.args.s.now c.tag-tag.new.s c.touch.new.s c.tag-tag.ensures.taken c.tag-tag.ensures.fresh c.tag-tag.ensures.most c.in-None.ensures.touched
+    turn_none g.N.RunNames.script c.args.access.number c.args.access.task c.args.access.cpu c.args.access.addr c.line_slice-slice.result (line_of c.args.access.addr) c.tag-tag.result c.args.side.now.seen c.tag-tag.new.side.seen c.touch.new.side.seen c.tag-tag.ensures.taken c.tag-tag.ensures.fresh c.tag-tag.ensures.most c.in-None.ensures.touched
 
 -- the thread has its tag
 pub tag-tag-requires-clause-worker : goal.tag-tag-requires-clause-worker
 tag-tag-requires-clause-worker g c = record { n = c.args.access.number; addr = c.args.access.addr; resting = c.requires.worker; is = c.requires.op }
 
-is_tagged : (g : Over) (c : After-line_slice-slice g) → IsTagged g.N.RunNames.script g.T.NamedTable.table c.line_slice-slice.result c.args.access.number c.tag-tag.result (line_of c.args.access.addr) c.tag-tag.new.s c.tag-tag.new.worker
+is_tagged : (g : Over) (c : After-line_slice-slice g) → IsTagged g.N.RunNames.script g.T.NamedTable.table c.line_slice-slice.result c.args.access.number c.tag-tag.result (line_of c.args.access.addr) c.tag-tag.new.side.seen c.tag-tag.new.side.share
 is_tagged g c =
     let number : c.line_slice-slice.result ≡ slice_of_line g.N.RunNames.script.machine c.tag-tag.result.domain (line_of c.args.access.addr) = c.line_slice-slice.ensures.number ∙ ap (λ (m : Parameters). slice_of_line m c.tag-tag.result.domain (line_of c.args.access.addr)) c.self.invariant.machine in
-    tagged_turn g.N.RunNames.script g.T.NamedTable.table c.line_slice-slice.result c.args.access.number c.args.access.task c.args.access.cpu c.args.access.addr c.tag-tag.result c.args.s.now c.tag-tag.new.s c.args.worker.now c.tag-tag.new.worker c.requires.worker c.requires.op c.tag-tag.ensures.taken c.tag-tag.ensures.worker number
+    tagged_turn g.N.RunNames.script g.T.NamedTable.table c.line_slice-slice.result c.args.access.number c.args.access.task c.args.access.cpu c.args.access.addr c.tag-tag.result c.args.side.now.seen c.tag-tag.new.side.seen c.args.side.now.share c.tag-tag.new.side.share c.requires.worker c.requires.op c.tag-tag.ensures.taken c.tag-tag.ensures.worker number
 
 pub touch-requires-clause-tagged : goal.touch-requires-clause-tagged
 touch-requires-clause-tagged g c = is_tagged g (goal.at.touch-requires-clause-tagged g c).After-line_slice-slice
@@ -55,19 +55,19 @@ touch-requires-clause-tagged g c = is_tagged g (goal.at.touch-requires-clause-ta
 -- it has touched, or is to tag again
 pub returns-in-Some-clause-worker : goal.returns-in-Some-clause-worker
 returns-in-Some-clause-worker g c =
-    touched_turn g.N.RunNames.script g.T.NamedTable.table c.line_slice-slice.result c.args.access.number (line_of c.args.access.addr) c.tag-tag.result c.in-Some.reached c.args.s.now c.tag-tag.new.s c.tag-tag.new.worker c.touch.new.worker
+    touched_turn g.N.RunNames.script g.T.NamedTable.table c.line_slice-slice.result c.args.access.number (line_of c.args.access.addr) c.tag-tag.result c.in-Some.reached c.args.side.now.seen c.tag-tag.new.side.seen c.tag-tag.new.side.share c.touch.new.side.share
     (is_tagged g (goal.at.returns-in-Some-clause-worker g c).After-line_slice-slice) c.tag-tag.ensures.taken c.in-Some.ensures.worker
 
 pub returns-in-None-clause-worker : goal.returns-in-None-clause-worker
 returns-in-None-clause-worker g c =
-    stale_turn g.N.RunNames.script g.T.NamedTable.table c.line_slice-slice.result c.args.access.number (line_of c.args.access.addr) c.tag-tag.result c.args.s.now c.tag-tag.new.s c.tag-tag.new.worker c.touch.new.worker
+    stale_turn g.N.RunNames.script g.T.NamedTable.table c.line_slice-slice.result c.args.access.number (line_of c.args.access.addr) c.tag-tag.result c.args.side.now.seen c.tag-tag.new.side.seen c.tag-tag.new.side.share c.touch.new.side.share
     (is_tagged g (goal.at.returns-in-None-clause-worker g c).After-line_slice-slice) c.tag-tag.ensures.taken c.in-None.ensures.worker
 
 -- what it knows of its tag, it knows after it
 pub returns-in-Some-clause-cached_now : goal.returns-in-Some-clause-cached_now
 returns-in-Some-clause-cached_now g c =
-    HoldsCached-grown g.N.RunNames.script c.tag-tag.new.s c.touch.new.s c.tag-tag.new.cached (HasGrown-touched c.line_slice-slice.result c.args.access.number c.tag-tag.result (line_of c.args.access.addr) c.tag-tag.new.s c.touch.new.s (Some c.in-Some.reached) c.in-Some.ensures.touched) c.tag-tag.ensures.cached_now
+    HoldsCached-grown g.N.RunNames.script c.tag-tag.new.side.seen c.touch.new.side.seen c.tag-tag.new.cached (HasGrown-touched c.line_slice-slice.result c.args.access.number c.tag-tag.result (line_of c.args.access.addr) c.tag-tag.new.side.seen c.touch.new.side.seen (Some c.in-Some.reached) c.in-Some.ensures.touched) c.tag-tag.ensures.cached_now
 
 pub returns-in-None-clause-cached_now : goal.returns-in-None-clause-cached_now
 returns-in-None-clause-cached_now g c =
-    HoldsCached-grown g.N.RunNames.script c.tag-tag.new.s c.touch.new.s c.tag-tag.new.cached (HasGrown-touched c.line_slice-slice.result c.args.access.number c.tag-tag.result (line_of c.args.access.addr) c.tag-tag.new.s c.touch.new.s None c.in-None.ensures.touched) c.tag-tag.ensures.cached_now
+    HoldsCached-grown g.N.RunNames.script c.tag-tag.new.side.seen c.touch.new.side.seen c.tag-tag.new.cached (HasGrown-touched c.line_slice-slice.result c.args.access.number c.tag-tag.result (line_of c.args.access.addr) c.tag-tag.new.side.seen c.touch.new.side.seen None c.in-None.ensures.touched) c.tag-tag.ensures.cached_now

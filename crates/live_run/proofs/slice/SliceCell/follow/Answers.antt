@@ -25,7 +25,7 @@ enact-what-requires-clause-clock g c =
 pub invariant_of-self : goal.invariant_of-self
 invariant_of-self g c =
     let i : ℕ = g.row.I in
-    let s = c.args.s.now in
+    let s = c.args.side.now.seen in
     let what = c.enact-what.result in
     let old : SliceCellValue = record { cache = c.self.inside.cache; journal = c.self.inside.journal; tree = c.self.inside.tree; share = c.self.inside.share } in
     cell_notes g.N.RunNames.script g.T.NamedTable.table g.N.RunNames.tree (name_at g.N.RunNames.slices i) i old c.show.new.pass s c.enact-what.new.cache c.note.new.journal c.follow.new.slice c.args.turn.number c.args.turn.epoch (c.args.turn.epoch - 1) what c.entry-entry.result c.self.invariant
@@ -41,13 +41,13 @@ follow-requires-clause-table g c = c.self.invariant.share_is.table_is ∙ sym c.
 pub follow-requires-clause-lock : goal.follow-requires-clause-lock
 follow-requires-clause-lock g c =
     let old : SliceCellValue = record { cache = c.self.inside.cache; journal = c.self.inside.journal; tree = c.self.inside.tree; share = c.self.inside.share } in
-    lock_there g.N.RunNames.script g.T.NamedTable.table g.N.RunNames.tree (name_at g.N.RunNames.slices g.row.I) g.row.I old c.self.invariant c.args.worker.now c.requires.next.share.table_is
+    lock_there g.N.RunNames.script g.T.NamedTable.table g.N.RunNames.tree (name_at g.N.RunNames.slices g.row.I) g.row.I old c.self.invariant c.args.side.now.share c.requires.next.share.table_is
 
 pub follow-requires-clause-may : goal.follow-requires-clause-may
 follow-requires-clause-may g c =
     let old : SliceCellValue = record { cache = c.self.inside.cache; journal = c.self.inside.journal; tree = c.self.inside.tree; share = c.self.inside.share } in
     let what = c.enact-what.result in
-    may_follow_on g.N.RunNames.script g.T.NamedTable.table g.N.RunNames.tree (name_at g.N.RunNames.slices g.row.I) g.row.I old c.self.invariant c.enact-what.new.cache c.args.turn.number c.args.turn.epoch c.args.follow what c.args.history.now c.args.s.now c.args.worker.now c.entry-entry.result c.args.last c.requires.next c.requires.may.is_epoch
+    may_follow_on g.N.RunNames.script g.T.NamedTable.table g.N.RunNames.tree (name_at g.N.RunNames.slices g.row.I) g.row.I old c.self.invariant c.enact-what.new.cache c.args.turn.number c.args.turn.epoch c.args.follow what c.args.history.now c.args.side.now.seen c.args.side.now.share c.entry-entry.result c.args.last c.requires.next c.requires.may.is_epoch
     (c.entry-entry.ensures ∙ ap (λ t. entry t c.args.turn.number c.args.turn.epoch what) c.thread.ensures.thread) c.enact-what.ensures.owed c.enact-what.ensures.shape c.enact-what.ensures.adds
 
 pub returns-clause-worker : goal.returns-clause-worker

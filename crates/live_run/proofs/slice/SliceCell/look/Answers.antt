@@ -19,7 +19,7 @@ use Rattle.seen_journal.specs.Passes.{HasSeen}
 pub invariant_of-self : goal.invariant_of-self
 invariant_of-self g c =
     let i : ℕ = g.row.I in
-    let s = c.args.s.now in
+    let s = c.args.side.now.seen in
     let what = whats.Look c.args.rmid c.look-lines.result in
     let old : SliceCellValue = record { cache = c.self.inside.cache; journal = c.self.inside.journal; tree = c.self.inside.tree; share = c.self.inside.share } in
     cell_notes g.N.RunNames.script g.T.NamedTable.table g.N.RunNames.tree (name_at g.N.RunNames.slices i) i old c.show.new.pass s c.self.inside.cache c.note.new.journal c.look.new.slice c.args.turn.number c.args.turn.epoch c.args.turn.epoch what c.entry-entry.result c.self.invariant
@@ -42,17 +42,17 @@ look-requires-clause-table g c = c.self.invariant.share_is.table_is ∙ sym c.re
 pub look-requires-clause-lock : goal.look-requires-clause-lock
 look-requires-clause-lock g c =
     let old : SliceCellValue = record { cache = c.self.inside.cache; journal = c.self.inside.journal; tree = c.self.inside.tree; share = c.self.inside.share } in
-    lock_there g.N.RunNames.script g.T.NamedTable.table g.N.RunNames.tree (name_at g.N.RunNames.slices g.row.I) g.row.I old c.self.invariant c.args.worker.now c.requires.next.share.table_is
+    lock_there g.N.RunNames.script g.T.NamedTable.table g.N.RunNames.tree (name_at g.N.RunNames.slices g.row.I) g.row.I old c.self.invariant c.args.side.now.share c.requires.next.share.table_is
 
 pub look-requires-clause-may : goal.look-requires-clause-may
 look-requires-clause-may g c =
     let old : SliceCellValue = record { cache = c.self.inside.cache; journal = c.self.inside.journal; tree = c.self.inside.tree; share = c.self.inside.share } in
     let what = whats.Look c.args.rmid c.look-lines.result in
-    may_count g.N.RunNames.script g.T.NamedTable.table g.N.RunNames.tree (name_at g.N.RunNames.slices g.row.I) g.row.I old c.self.invariant c.args.turn.number c.args.turn.epoch c.args.rmid c.look-lines.result c.args.history.now c.args.s.now c.args.worker.now c.entry-entry.result c.requires.next c.requires.may.is_epoch
+    may_count g.N.RunNames.script g.T.NamedTable.table g.N.RunNames.tree (name_at g.N.RunNames.slices g.row.I) g.row.I old c.self.invariant c.args.turn.number c.args.turn.epoch c.args.rmid c.look-lines.result c.args.history.now c.args.side.now.seen c.args.side.now.share c.entry-entry.result c.requires.next c.requires.may.is_epoch
     (c.entry-entry.ensures ∙ ap (λ t. entry t c.args.turn.number c.args.turn.epoch what) c.thread.ensures.thread) (c.look-lines.ensures.entry c.args.turn.epoch)
 
 pub returns-clause-worker : goal.returns-clause-worker
 returns-clause-worker g c =
     let what = whats.Look c.args.rmid c.look-lines.result in
     let is = c.entry-entry.ensures ∙ ap (λ t. entry t c.args.turn.number c.args.turn.epoch what) c.thread.ensures.thread in
-    (c.look.ensures.table.1, c.look.ensures.worker ∙ ap (λ (x : SliceEntry). parts_after after (happenings.Look x) c.args.worker.now.parts) is)
+    (c.look.ensures.table.1, c.look.ensures.worker ∙ ap (λ (x : SliceEntry). parts_after after (happenings.Look x) c.args.side.now.share.parts) is)

@@ -17,7 +17,7 @@ pub invariant_of-self : goal.invariant_of-self
 invariant_of-self g c =
     let old : SliceCellValue = record { cache = c.self.inside.cache; journal = c.self.inside.journal; tree = c.self.inside.tree; share = c.self.inside.share } in
     share_same g.N.RunNames.script g.T.NamedTable.table g.N.RunNames.tree (name_at g.N.RunNames.slices g.row.I) g.row.I (record { cache = c.self.inside.cache; journal = c.self.inside.journal; tree = c.meet.new.tree; share = c.self.inside.share })
-    (cell_sees g.N.RunNames.script g.T.NamedTable.table g.N.RunNames.tree (name_at g.N.RunNames.slices g.row.I) g.row.I old c.meet.new.tree (longer_of c.self.inside.tree.seen c.args.s.now.tree.seen) c.meet.ensures.cell c.meet.ensures.threads c.self.invariant)
+    (cell_sees g.N.RunNames.script g.T.NamedTable.table g.N.RunNames.tree (name_at g.N.RunNames.slices g.row.I) g.row.I old c.meet.new.tree (longer_of c.self.inside.tree.seen c.args.side.now.seen.tree.seen) c.meet.ensures.cell c.meet.ensures.threads c.self.invariant)
     c.tag_again.new.slice c.tag_again.ensures.table.0 c.tag_again.ensures.slice
 
 pub returns-then-tag-floor-clause-touched : goal.returns-then-tag-floor-clause-touched
@@ -35,7 +35,7 @@ reach-reached-requires-clause-clock g c =
 pub invariant_of-self-2 : goal.invariant_of-self-2
 invariant_of-self-2 g c =
     let i : ℕ = g.row.I in
-    let s = c.args.s.now in
+    let s = c.args.side.now.seen in
     let tag = c.args.access.now.tag in
     let met = c.meet.new.s in
     let what = whats.Access c.reach-reached.result.hit c.reach-reached.result.way tag.owner tag.rmid tag.mask c.args.access.now.line in
@@ -54,12 +54,12 @@ tag_again-requires-clause-table g c = c.self.invariant.share_is.table_is ∙ sym
 pub tag_again-requires-clause-lock : goal.tag_again-requires-clause-lock
 tag_again-requires-clause-lock g c =
     let old : SliceCellValue = record { cache = c.self.inside.cache; journal = c.self.inside.journal; tree = c.self.inside.tree; share = c.self.inside.share } in
-    lock_there g.N.RunNames.script g.T.NamedTable.table g.N.RunNames.tree (name_at g.N.RunNames.slices g.row.I) g.row.I old c.self.invariant c.args.worker.now c.requires.tagged.share.table_is
+    lock_there g.N.RunNames.script g.T.NamedTable.table g.N.RunNames.tree (name_at g.N.RunNames.slices g.row.I) g.row.I old c.self.invariant c.args.side.now.share c.requires.tagged.share.table_is
 
 pub tag_again-requires-clause-may : goal.tag_again-requires-clause-may
 tag_again-requires-clause-may g c =
     let old : SliceCellValue = record { cache = c.self.inside.cache; journal = c.self.inside.journal; tree = c.self.inside.tree; share = c.self.inside.share } in
-    may_tag_again g.N.RunNames.script g.T.NamedTable.table g.N.RunNames.tree (name_at g.N.RunNames.slices g.row.I) g.row.I old c.self.invariant c.args.access.now.number c.args.access.now.line c.args.access.now.tag c.args.s.now c.args.worker.now c.requires.tagged (omega (arith, c.floor.ensures, c.if-tag-floor.true))
+    may_tag_again g.N.RunNames.script g.T.NamedTable.table g.N.RunNames.tree (name_at g.N.RunNames.slices g.row.I) g.row.I old c.self.invariant c.args.access.now.number c.args.access.now.line c.args.access.now.tag c.args.side.now.seen c.args.side.now.share c.requires.tagged (omega (arith, c.floor.ensures, c.if-tag-floor.true))
 
 pub touch-requires-clause-table : goal.touch-requires-clause-table
 touch-requires-clause-table g c = c.self.invariant.share_is.table_is ∙ sym c.requires.tagged.share.table_is
@@ -67,19 +67,19 @@ touch-requires-clause-table g c = c.self.invariant.share_is.table_is ∙ sym c.r
 pub touch-requires-clause-lock : goal.touch-requires-clause-lock
 touch-requires-clause-lock g c =
     let old : SliceCellValue = record { cache = c.self.inside.cache; journal = c.self.inside.journal; tree = c.self.inside.tree; share = c.self.inside.share } in
-    lock_there g.N.RunNames.script g.T.NamedTable.table g.N.RunNames.tree (name_at g.N.RunNames.slices g.row.I) g.row.I old c.self.invariant c.args.worker.now c.requires.tagged.share.table_is
+    lock_there g.N.RunNames.script g.T.NamedTable.table g.N.RunNames.tree (name_at g.N.RunNames.slices g.row.I) g.row.I old c.self.invariant c.args.side.now.share c.requires.tagged.share.table_is
 
 pub touch-requires-clause-may : goal.touch-requires-clause-may
 touch-requires-clause-may g c =
     let old : SliceCellValue = record { cache = c.self.inside.cache; journal = c.self.inside.journal; tree = c.self.inside.tree; share = c.self.inside.share } in
     let tag = c.args.access.now.tag in
-    may_touch g.N.RunNames.script g.T.NamedTable.table g.N.RunNames.tree (name_at g.N.RunNames.slices g.row.I) g.row.I old c.self.invariant c.reach-reached.new.cache c.args.access.now.number c.args.access.now.line tag c.reach-reached.result.hit c.reach-reached.result.way c.args.s.now c.args.worker.now c.entry-entry.result c.requires.tagged
+    may_touch g.N.RunNames.script g.T.NamedTable.table g.N.RunNames.tree (name_at g.N.RunNames.slices g.row.I) g.row.I old c.self.invariant c.reach-reached.new.cache c.args.access.now.number c.args.access.now.line tag c.reach-reached.result.hit c.reach-reached.result.way c.args.side.now.seen c.args.side.now.share c.entry-entry.result c.requires.tagged
     (omega (arith, c.floor.ensures, c.if-tag-floor.false))
-    (c.entry-entry.ensures ∙ (ap (λ t. entry t c.args.access.now.number tag.epoch c.access_of-what.result) (c.thread-2.ensures.thread ∙ c.meet.ensures.thread.thread) ∙ ap (λ w. entry c.args.s.now.thread c.args.access.now.number tag.epoch w) c.access_of-what.ensures))
+    (c.entry-entry.ensures ∙ (ap (λ t. entry t c.args.access.now.number tag.epoch c.access_of-what.result) (c.thread-2.ensures.thread ∙ c.meet.ensures.thread.thread) ∙ ap (λ w. entry c.args.side.now.seen.thread c.args.access.now.number tag.epoch w) c.access_of-what.ensures))
     c.reach-reached.ensures.shape c.reach-reached.ensures.adds
 
 pub returns-clause-worker : goal.returns-clause-worker
 returns-clause-worker g c =
     let tag = c.args.access.now.tag in
-    let is = c.entry-entry.ensures ∙ (ap (λ t. entry t c.args.access.now.number tag.epoch c.access_of-what.result) (c.thread-2.ensures.thread ∙ c.meet.ensures.thread.thread) ∙ ap (λ w. entry c.args.s.now.thread c.args.access.now.number tag.epoch w) c.access_of-what.ensures) in
-    (c.touch.ensures.table.1, c.touch.ensures.worker ∙ ap (λ (x : SliceEntry). parts_after after (happenings.Touch x) c.args.worker.now.parts) is)
+    let is = c.entry-entry.ensures ∙ (ap (λ t. entry t c.args.access.now.number tag.epoch c.access_of-what.result) (c.thread-2.ensures.thread ∙ c.meet.ensures.thread.thread) ∙ ap (λ w. entry c.args.side.now.seen.thread c.args.access.now.number tag.epoch w) c.access_of-what.ensures) in
+    (c.touch.ensures.table.1, c.touch.ensures.worker ∙ ap (λ (x : SliceEntry). parts_after after (happenings.Touch x) c.args.side.now.share.parts) is)

@@ -45,7 +45,7 @@ look_all-requires g c =
     let counts = counts_are g (goal.at.look_all-requires g c).After-counts-counts in
     let entries : c.take.new.journal.entries ≡ old.journal.entries = ap (λ (j : JournalValue TreeEntry). j.entries) c.take.ensures.journal in
     let sound = state_sound script g.T.NamedTable.table g.N.RunNames.tree g.N.RunNames.slices old c.self.invariant in
-    let few = counts_few script g.T.NamedTable.table g.N.RunNames.tree g.N.RunNames.slices old c.self.invariant c.take.new.slices.items c.take.ensures.passes c.take.ensures.grown c.args.s.now c.take.new.s c.args.number c.args.op.now
+    let few = counts_few script g.T.NamedTable.table g.N.RunNames.tree g.N.RunNames.slices old c.self.invariant c.take.new.slices.items c.take.ensures.passes c.take.ensures.grown c.args.side.now.seen c.take.new.s c.args.number c.args.op.now
     c.requires.op c.requires.command c.take.ensures.taken c.take.ensures.tree c.take.ensures.same c.requires.ready in
     record {
       machine = c.machine-m.ensures ∙ ap (λ (x : ScriptValue). x.machine) c.requires.script;
@@ -66,7 +66,7 @@ pub take-requires-2-clause-table : goal.take-requires-2-clause-table
 take-requires-2-clause-table g c = c.self.invariant.share_is.table_is ∙ sym c.requires.worker.is.table_is
 
 pub take-requires-2-clause-lock : goal.take-requires-2-clause-lock
-take-requires-2-clause-lock g c = tree_lock_there g.T.NamedTable.table c.args.worker.now.parts c.args.worker.now (record { table_is = c.requires.worker.is.table_is; words = c.requires.worker.is.words; parts_are = refl })
+take-requires-2-clause-lock g c = tree_lock_there g.T.NamedTable.table c.args.side.now.share.parts c.args.side.now.share (record { table_is = c.requires.worker.is.table_is; words = c.requires.worker.is.words; parts_are = refl })
 
 pub take-requires-2-clause-may : goal.take-requires-2-clause-may
 take-requires-2-clause-may g c = may_take g (goal.at.take-requires-2-clause-may g c).After-from
@@ -74,14 +74,14 @@ take-requires-2-clause-may g c = may_take g (goal.at.take-requires-2-clause-may 
 pub decide-entry-requires-clause-lock : goal.decide-entry-requires-clause-lock
 decide-entry-requires-clause-lock g c =
     let at = c.look_all.ensures.done in
-    tree_lock_there g.T.NamedTable.table c.look_all.new.worker.parts c.look_all.new.worker (record { table_is = at.share_is.table_is; words = at.share_is.words; parts_are = refl })
+    tree_lock_there g.T.NamedTable.table c.look_all.new.side.share.parts c.look_all.new.side.share (record { table_is = at.share_is.table_is; words = at.share_is.words; parts_are = refl })
 
 pub decide-entry-requires-clause-may : goal.decide-entry-requires-clause-may
 decide-entry-requires-clause-may g c =
     let old : TreeCellValue = record { tree = c.self.inside.tree; journal = c.self.inside.journal; slices = c.self.inside.slices.items; share = c.self.inside.share } in
     let looked = has_looked g (goal.at.decide-entry-requires-clause-may g c).After-is_empty in
     let entry : TreeEntry = record { thread = c.thread-2.result; op = c.args.number; reply = c.apply-reply.result.0; looks = c.look_all.new.looks } in
-    may_decide g.N.RunNames.script g.T.NamedTable.table g.N.RunNames.tree g.N.RunNames.slices old c.self.invariant c.args.s.now c.look_all.new.s c.args.number c.args.op.now entry c.look_all.new.worker c.requires.op c.requires.command
+    may_decide g.N.RunNames.script g.T.NamedTable.table g.N.RunNames.tree g.N.RunNames.slices old c.self.invariant c.args.side.now.seen c.look_all.new.side.seen c.args.number c.args.op.now entry c.look_all.new.side.share c.requires.op c.requires.command
     looked.looks c.is_empty.result (c.len.result * c.from-2.result) looked.made looked.last
 
 pub apply-reply-requires-clause-looks : goal.apply-reply-requires-clause-looks
@@ -96,7 +96,7 @@ decide-requires g c =
       name = ap (λ (j : JournalValue TreeEntry). j.name) journal ∙ c.self.invariant.journal_is;
       threads = subst (λ (j : JournalValue TreeEntry). AreOfThreads taken_from j.entries) (sym journal) c.self.invariant.threads;
       thread = ap (λ (e : TreeEntry). e.thread) c.decide-entry.ensures.command ∙ c.thread-2.ensures.thread;
-      room = command-room g.N.RunNames.script at.start c.look_all.new.s.thread c.args.number c.args.op.now at.found (seen_by c.look_all.new.s) at.is;
+      room = command-room g.N.RunNames.script at.start c.look_all.new.side.seen.thread c.args.number c.args.op.now at.found (seen_by c.look_all.new.side.seen) at.is;
     }
 
 pub apply-reply-requires-clause-fits : goal.apply-reply-requires-clause-fits
@@ -110,10 +110,10 @@ follow_all-requires g c =
     let looked = has_looked g (goal.at.follow_all-requires g c).After-is_empty in
     let its = is_decided g (goal.at.follow_all-requires g c).After-decide looked.looks looked.made looked.last in
     let k : ℕ = length (history_of old.journal.entries) in
-    let many : length c.decide.new.journal.entries ≡ length old.journal.entries + 1 = ap length its.list ∙ length_push old.journal.entries (c.look_all.new.s.thread, entry) in
+    let many : length c.decide.new.journal.entries ≡ length old.journal.entries + 1 = ap length its.list ∙ length_push old.journal.entries (c.look_all.new.side.seen.thread, entry) in
     let epoch : c.epoch-epoch.result ≡ length old.journal.entries + 1 = c.epoch-epoch.ensures ∙ (its.epoch ∙ ap (λ x. x + 1) c.self.invariant.epoch) in
     let position : k ≡ c.epoch-epoch.result - 1 = omega (arith, epoch, history_length old.journal.entries) in
-    let follows = decided_follows script g.T.NamedTable.table g.N.RunNames.tree g.N.RunNames.slices old c.self.invariant c.take.new.slices.items c.take.ensures.passes c.take.ensures.grown c.args.s.now c.look_all.new.s c.decide.new.s c.args.number c.args.op.now c.apply-reply.new.self c.decide.new.journal entry c.look_all.new.worker c.decide-entry.new.worker
+    let follows = decided_follows script g.T.NamedTable.table g.N.RunNames.tree g.N.RunNames.slices old c.self.invariant c.take.new.slices.items c.take.ensures.passes c.take.ensures.grown c.args.side.now.seen c.look_all.new.side.seen c.decide.new.s c.args.number c.args.op.now c.apply-reply.new.self c.decide.new.journal entry c.look_all.new.side.share c.decide-entry.new.worker
     c.requires.op c.requires.command its c.apply-reply.result.1.items c.apply-reply.ensures.after in
     let all : c.as_slice.result.now ≡ c.apply-reply.result.1.items = c.as_slice.ensures.value in
     record {
@@ -126,7 +126,7 @@ follow_all-requires g c =
       domains = subst (λ (fs : List Follow). All (λ f. follow_domain f < script.machine.domains) fs) (sym all) (subst (λ (m : Parameters). All (λ f. follow_domain f < m.domains) c.apply-reply.result.1.items) c.self.invariant.machine c.apply-reply.ensures.domains);
       ready = subst (λ (fs : List Follow). All (IsReady script.machine) fs) (sym all) (subst (λ (m : Parameters). All (IsReady m) c.apply-reply.result.1.items) c.self.invariant.machine c.apply-reply.ensures.ready);
       at = subst (λ q. FollowsAt script g.T.NamedTable.table c.args.number q c.args.op.now (length (looks_of script (history_of c.decide.new.s.tree.seen) q c.args.op.now)) c.decide.new.s c.decide-entry.new.worker) position
-          (command_follows script g.T.NamedTable.table g.N.RunNames.tree g.N.RunNames.slices old c.self.invariant c.take.new.slices.items c.take.ensures.passes c.take.ensures.grown c.args.s.now c.look_all.new.s c.decide.new.s c.args.number c.args.op.now c.apply-reply.new.self c.decide.new.journal entry c.look_all.new.worker c.decide-entry.new.worker
+          (command_follows script g.T.NamedTable.table g.N.RunNames.tree g.N.RunNames.slices old c.self.invariant c.take.new.slices.items c.take.ensures.passes c.take.ensures.grown c.args.side.now.seen c.look_all.new.side.seen c.decide.new.s c.args.number c.args.op.now c.apply-reply.new.self c.decide.new.journal entry c.look_all.new.side.share c.decide-entry.new.worker
           c.requires.op c.requires.command its);
     }
 
@@ -139,10 +139,10 @@ pub release-requires-2-clause-may : goal.release-requires-2-clause-may
 release-requires-2-clause-may g c =
     let gone = has_let_go g (goal.at.release-requires-2-clause-may g c).After-follow_all in
     record {
-      t = c.args.s.now.thread;
+      t = c.args.side.now.seen.thread;
       n = c.args.number + 1;
       begun = true;
-      history = list_of c.follow_all.new.s.tree.seen;
+      history = list_of c.follow_all.new.side.seen.tree.seen;
       found = gone.found;
       tree_is = c.take-2.ensures.tree;
       worker_is = gone.is.parts_are;
@@ -184,7 +184,7 @@ returns-clause-reply g c =
 pub apply-reply-requires-clause-epoch : goal.apply-reply-requires-clause-epoch
 apply-reply-requires-clause-epoch g c =
     let script = g.N.RunNames.script in
-    let room = c.take.ensures.room (ready-room script c.args.s.now.thread c.args.number c.args.op.now (seen_by c.args.s.now) c.requires.op c.requires.command c.requires.ready) in
+    let room = c.take.ensures.room (ready-room script c.args.side.now.seen.thread c.args.number c.args.op.now (seen_by c.args.side.now.seen) c.requires.op c.requires.command c.requires.ready) in
     omega (arith, room, c.self.invariant.epoch, commands-light script c.self.invariant.lawful)
 
 pub show-requires-clause-accepted : goal.show-requires-clause-accepted

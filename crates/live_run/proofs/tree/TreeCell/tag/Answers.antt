@@ -25,8 +25,8 @@ tag_of-tag-requires-clause-cpu g c = omega (arith, c.requires.cpu, ap (λ (m : P
 pub tag_of-tag-requires-clause-current : goal.tag_of-tag-requires-clause-current
 tag_of-tag-requires-clause-current g c =
     let old : TreeCellValue = record { tree = c.self.inside.tree; journal = c.self.inside.journal; slices = c.self.inside.slices.items; share = c.self.inside.share } in
-    let known = HoldsCached-current g.N.RunNames.script c.args.s.now c.args.cached.now c.current_tag-current.result c.current_tag-current.ensures.cached c.requires.cached in
-    current_given g.N.RunNames.script g.T.NamedTable.table g.N.RunNames.tree g.N.RunNames.slices old c.self.invariant c.args.s.now c.take_unless.new.s c.take_unless.ensures.taken c.take_unless.ensures.tree c.current_tag-current.result known c.current_tag-current.ensures.epoch
+    let known = HoldsCached-current g.N.RunNames.script c.args.side.now.seen c.args.cached.now c.current_tag-current.result c.current_tag-current.ensures.cached c.requires.cached in
+    current_given g.N.RunNames.script g.T.NamedTable.table g.N.RunNames.tree g.N.RunNames.slices old c.self.invariant c.args.side.now.seen c.take_unless.new.s c.take_unless.ensures.taken c.take_unless.ensures.tree c.current_tag-current.result known c.current_tag-current.ensures.epoch
 
 pub invariant_of-self : goal.invariant_of-self
 invariant_of-self g c =
@@ -41,7 +41,7 @@ pub tag-requires-clause-table : goal.tag-requires-clause-table
 tag-requires-clause-table g c = c.self.invariant.share_is.table_is ∙ sym c.requires.worker.resting.is.table_is
 
 pub tag-requires-clause-lock : goal.tag-requires-clause-lock
-tag-requires-clause-lock g c = tree_lock_there g.T.NamedTable.table c.args.worker.now.parts c.args.worker.now (record { table_is = c.requires.worker.resting.is.table_is; words = c.requires.worker.resting.is.words; parts_are = refl })
+tag-requires-clause-lock g c = tree_lock_there g.T.NamedTable.table c.args.side.now.share.parts c.args.side.now.share (record { table_is = c.requires.worker.resting.is.table_is; words = c.requires.worker.resting.is.words; parts_are = refl })
 
 pub tag-requires-clause-may : goal.tag-requires-clause-may
 tag-requires-clause-may g c =
@@ -49,7 +49,7 @@ tag-requires-clause-may g c =
     let its = c.requires.worker in
     record {
       some = c.self.invariant.lawful.in_range.some_slice;
-      t = c.args.s.now.thread;
+      t = c.args.side.now.seen.thread;
       n = its.n;
       task = c.args.task;
       cpu = c.args.cpu;
@@ -68,11 +68,11 @@ returns g c =
     let now = c.take_unless.new.slices.items in
     let given = c.tag_of-tag.ensures in
     let epoch = ap (λ t. t.epoch) given.is in
-    let before = c.args.s.now.tree.seen in
+    let before = c.args.side.now.seen.tree.seen in
     let after = c.take_unless.new.s.tree.seen in
-    let longer = length-prefix (history_of before) (history_of after) (IsPrefix-no_more (is_from c.args.s.now.thread) (history_of before) (history_of after) c.take_unless.ensures.taken.sees.tree) in
-    let known = HoldsCached-current g.N.RunNames.script c.args.s.now c.args.cached.now c.current_tag-current.result c.current_tag-current.ensures.cached c.requires.cached in
-    let knows = caches_given g.N.RunNames.script g.T.NamedTable.table g.N.RunNames.tree g.N.RunNames.slices old c.self.invariant c.args.s.now c.take_unless.new.s c.take_unless.ensures.taken c.take_unless.ensures.tree c.current_tag-current.result known c.current_tag-current.ensures.epoch
+    let longer = length-prefix (history_of before) (history_of after) (IsPrefix-no_more (is_from c.args.side.now.seen.thread) (history_of before) (history_of after) c.take_unless.ensures.taken.sees.tree) in
+    let known = HoldsCached-current g.N.RunNames.script c.args.side.now.seen c.args.cached.now c.current_tag-current.result c.current_tag-current.ensures.cached c.requires.cached in
+    let knows = caches_given g.N.RunNames.script g.T.NamedTable.table g.N.RunNames.tree g.N.RunNames.slices old c.self.invariant c.args.side.now.seen c.take_unless.new.s c.take_unless.ensures.taken c.take_unless.ensures.tree c.current_tag-current.result known c.current_tag-current.ensures.epoch
     now c.take_unless.ensures.passes c.take_unless.ensures.grown (λ none. c.take_unless.ensures.same (c.is_some.ensures ∙ none)) c.args.task c.args.cpu c.tag_of-tag.result given in
     record {
       cached_now = knows;

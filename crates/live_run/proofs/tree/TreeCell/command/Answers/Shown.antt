@@ -44,4 +44,4 @@ pub are_named : (g : Over) (c : After-items-2 g) → AreNamed c.args.script.now.
 are_named g c =
     let script = g.N.RunNames.script in
     subst (λ (x : ScriptValue). AreNamed x.names c.apply-reply.new.self.state.groups) (sym c.requires.script)
-    (named-next script c.self.inside.tree.machine c.self.inside.tree.state c.apply-reply.new.self.state c.args.s.now.thread c.args.number c.args.op.now c.items.result.now c.self.invariant.lawful c.requires.op c.apply-reply.ensures.state c.self.invariant.named)
+    (named-next script c.self.inside.tree.machine c.self.inside.tree.state c.apply-reply.new.self.state c.args.side.now.seen.thread c.args.number c.args.op.now c.items.result.now c.self.invariant.lawful c.requires.op c.apply-reply.ensures.state c.self.invariant.named)

@@ -23,7 +23,7 @@ use Rattle.live_run.proofs.tree.TreeCell.command.Goals.{After-counts-counts, Aft
 pub op_fits_now : (g : Over) (c : After-take g) → Fits c.self.inside.tree.machine (tasks_of c.self.inside.tree.state) c.args.op.now
 op_fits_now g c =
     let old : TreeCellValue = record { tree = c.self.inside.tree; journal = c.self.inside.journal; slices = c.self.inside.slices.items; share = c.self.inside.share } in
-    let fits : Fits g.N.RunNames.script.machine g.N.RunNames.script.tasks c.args.op.now = Fits-op_at g.N.RunNames.script c.args.s.now.thread c.args.number c.args.op.now c.self.invariant.lawful c.requires.op in
+    let fits : Fits g.N.RunNames.script.machine g.N.RunNames.script.tasks c.args.op.now = Fits-op_at g.N.RunNames.script c.args.side.now.seen.thread c.args.number c.args.op.now c.self.invariant.lawful c.requires.op in
     subst (λ (m : Parameters). Fits m (tasks_of c.self.inside.tree.state) c.args.op.now) (sym c.self.invariant.machine)
     (subst (λ (ts : List ℕ). Fits g.N.RunNames.script.machine ts c.args.op.now) (sym (tree_tasks g.N.RunNames.script g.T.NamedTable.table g.N.RunNames.tree g.N.RunNames.slices old c.self.invariant)) fits)
 
@@ -35,10 +35,10 @@ counts_are g c =
     ∙ ap (λ (x : State). needs g.N.RunNames.script.machine x c.args.op.now) c.self.invariant.keeps.state_is)
 
 -- by the parts at hand it may take the tree
-pub may_take : (g : Over) (c : After-from g) → MayTake g.N.RunNames.script c.self.inside.share.parts c.args.worker.now.parts c.from.result
+pub may_take : (g : Over) (c : After-from g) → MayTake g.N.RunNames.script c.self.inside.share.parts c.args.side.now.share.parts c.from.result
 may_take g c =
-    let taker : c.from.result ≡ c.args.s.now.thread = c.from.ensures ∙ (c.thread.ensures.thread ∙ c.take.ensures.taken.thread) in
-    subst (λ t. MayTake g.N.RunNames.script c.self.inside.share.parts c.args.worker.now.parts t) (sym taker)
+    let taker : c.from.result ≡ c.args.side.now.seen.thread = c.from.ensures ∙ (c.thread.ensures.thread ∙ c.take.ensures.taken.thread) in
+    subst (λ t. MayTake g.N.RunNames.script c.self.inside.share.parts c.args.side.now.share.parts t) (sym taker)
     (record {
       some = c.self.invariant.lawful.in_range.some_slice;
       n = c.args.number;
@@ -56,8 +56,8 @@ pub looks_at : (g : Over) (c : After-take-2 g) → LooksAt g.N.RunNames.script g
 looks_at g c =
     let script = g.N.RunNames.script in
     let old : TreeCellValue = record { tree = c.self.inside.tree; journal = c.self.inside.journal; slices = c.self.inside.slices.items; share = c.self.inside.share } in
-    let taker : c.from.result ≡ c.args.s.now.thread = c.from.ensures ∙ (c.thread.ensures.thread ∙ c.take.ensures.taken.thread) in
+    let taker : c.from.result ≡ c.args.side.now.seen.thread = c.from.ensures ∙ (c.thread.ensures.thread ∙ c.take.ensures.taken.thread) in
     subst (λ (ns : List ℕ). LooksAt script g.T.NamedTable.table c.args.number c.args.op.now 0 0 0 ns c.take.new.s c.take-2.new.worker) (sym c.requires.looks)
-    (command_looks script g.T.NamedTable.table g.N.RunNames.tree g.N.RunNames.slices old c.self.invariant c.take.new.slices.items c.take.ensures.passes c.take.ensures.grown c.args.s.now c.take.new.s c.args.number c.args.op.now
-    c.requires.op c.requires.command c.take.ensures.taken c.take.ensures.tree c.take.ensures.same c.requires.ready c.args.worker.now c.take-2.new.worker c.requires.worker c.take-2.ensures.table.1
-    (subst (λ t. c.take-2.new.worker.parts ≡ parts_after after_event (happenings.Take t) (c.self.inside.share.parts ++ c.args.worker.now.parts)) taker c.take-2.ensures.worker))
+    (command_looks script g.T.NamedTable.table g.N.RunNames.tree g.N.RunNames.slices old c.self.invariant c.take.new.slices.items c.take.ensures.passes c.take.ensures.grown c.args.side.now.seen c.take.new.s c.args.number c.args.op.now
+    c.requires.op c.requires.command c.take.ensures.taken c.take.ensures.tree c.take.ensures.same c.requires.ready c.args.side.now.share c.take-2.new.worker c.requires.worker c.take-2.ensures.table.1
+    (subst (λ t. c.take-2.new.worker.parts ≡ parts_after after_event (happenings.Take t) (c.self.inside.share.parts ++ c.args.side.now.share.parts)) taker c.take-2.ensures.worker))
