@@ -149,16 +149,16 @@ impl<N: RunNames, T: NamedTable, const I: usize> SliceCell<N, T, I> {
         ensures touched { HasTouched I access.now.number access.now.tag access.now.line side.old.seen side.new.seen result }
         ensures worker { HasReached side.old.seen.thread access.now.number access.now.tag access.now.line result side.old.share side.new.share }
     {
-        let TaggedAccess { number, tag, line } = *access;
+        let TaggedAccess { number, tag, line } = access;
         meet(&mut self.tree, &mut side.seen);
         if tag.epoch < self.cache.floor() {
             accesses::tag_again(&mut self.share, &mut side.share, I);
             return None;
         }
         hold.hold(side.seen.thread());
-        let reached = reach(&mut self.cache, &tag, line);
-        let what = access_of(&tag, line, reached);
-        let entry = entry(side.seen.thread(), number, tag.epoch, what);
+        let reached = reach(&mut self.cache, tag, *line);
+        let what = access_of(tag, *line, reached);
+        let entry = entry(side.seen.thread(), *number, tag.epoch, what);
         note::<N, I>(&mut self.journal, &mut side.seen, entry);
         accesses::touch(&mut self.share, &mut side.share, I, entry);
         Some(reached)
