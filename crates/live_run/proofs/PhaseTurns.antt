@@ -1,5 +1,5 @@
 -- The threads of a phase, and who starts it, on the parts that they have.
-use Rattle.std.proofs.Common.{◌≡◌, ℕ, ◌+◌, ◌<◌, ◌≤◌, inl, inr, true, List, [], ◌∷◌, length, set, sym, ap, ◌∙◌, subst, arith}
+use Rattle.std.proofs.Common.{◌≡◌, ℕ, ◌+◌, ◌<◌, ◌≤◌, inl, inr, true, List, Option, [], ◌∷◌, length, set, sym, ap, ◌∙◌, subst, arith}
 use Rattle.std.proofs.lemmas.Bool.{cases_lt}
 use Rattle.std.proofs.lemmas.List.{get_or-set_other, get_or-set_same, length-set}
 use Rattle.atomic_table.specs.Seated.{TableId}
@@ -10,6 +10,7 @@ use Rattle.live_run.specs.Names.{PassesValue, SeenValue, seen_by}
 use Rattle.live_run.specs.Passes.{PassesAreKept}
 use Rattle.live_run.specs.Phases.{AreBegun, AreEndedIn, AreOfPhase, HaveEnded, IsEndedIn, IsOfPhase, no_passes, passes_at}
 use Rattle.live_run.specs.Sharing.{IsAtPhase, IsShareOf, begun_in}
+use Rattle.live_run.specs.declared.cached_tag.CachedTag.{CachedTag}
 use Rattle.rc_base.specs.Buffers.{Looks, Roomy}
 use Rattle.run_law.specs.Ops.{phase_in}
 use Rattle.schedule_law.specs.LiveParts.{after, live_phase, resting_thread}
@@ -26,7 +27,7 @@ share_is_same a b table parts = λ j. record { table = table j; parts = parts j 
 
 -- ---- one thread
 
-module _ (script : ScriptValue) (table : TableId) (s : SeenValue) (n : ℕ) (lists : List Looks) (shown : Roomy) (share turn : ShareValue Part) (kept : PassesAreKept script table s n lists shown share) where
+module _ (script : ScriptValue) (table : TableId) (s : SeenValue) (n : ℕ) (lists : List Looks) (shown : Roomy) (share turn : ShareValue Part) (cached : Option CachedTag) (kept : PassesAreKept script table s n lists shown share cached) where
   abbrev pub passes_now : PassesValue
   passes_now = record { seen = s; next = n; shown = shown.bytes; begun = begun_in share.parts }
 
@@ -58,18 +59,19 @@ module _ (script : ScriptValue) (table : TableId) (s : SeenValue) (n : ℕ) (lis
     pub is_begun : begun_in now.parts ≡ true
     is_begun = ap begun_in begun_parts
 
-    pub begun_kept : AreEnded script (seen_by s) s.thread → PassesAreKept script table s n lists shown now
+    pub begun_kept : AreEnded script (seen_by s) s.thread → PassesAreKept script table s n lists shown now cached
     begun_kept ended = record {
       keep = kept.keep;
       lists_are = kept.lists_are;
       room = kept.room;
       share_is = IsResting-known table s.thread n true kept.share_is.found now (record { table_is = same ∙ kept.share_is.is.table_is; words = kept.share_is.is.words; parts_are = begun_parts });
       ended = λ begun. ended;
+      cached_is = kept.cached_is;
     }
 
   -- or it has the same part
-  pub same_kept : (now : ShareValue Part) → now.table ≡ share.table → now.parts ≡ share.parts → PassesAreKept script table s n lists shown now
-  same_kept now same parts = subst (PassesAreKept script table s n lists shown) (sym (share_is_same now share same parts)) kept
+  pub same_kept : (now : ShareValue Part) → now.table ≡ share.table → now.parts ≡ share.parts → PassesAreKept script table s n lists shown now cached
+  same_kept now same parts = subst (λ x. PassesAreKept script table s n lists shown x cached) (sym (share_is_same now share same parts)) kept
 
   -- it is at its end
   pub may_end : IsEndedIn script table passes_now turn → MayEnd script turn.parts share.parts

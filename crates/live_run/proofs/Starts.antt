@@ -1,5 +1,5 @@
 -- The threads before their first ops.
-use Rattle.std.proofs.Common.{◌≡◌, ℕ, ◌+◌, ◌-◌, ◌<◌, ◌≤◌, inl, inr, List, [], ◌∷◌, ◌++◌, false, length, map, replicate, sym, ap, ◌∙◌, arith}
+use Rattle.std.proofs.Common.{◌≡◌, ℕ, ◌+◌, ◌-◌, ◌<◌, ◌≤◌, inl, inr, List, None, [], ◌∷◌, ◌++◌, false, length, map, replicate, sym, ap, ◌∙◌, arith}
 use Rattle.std.proofs.Math.ListN.{get_or-map}
 use Rattle.std.proofs.lemmas.Bool.{cases_lt, false≢true}
 use Rattle.std.proofs.lemmas.List.{get_or_past, length_push, length-append, length-map, length-replicate}
@@ -31,7 +31,7 @@ use Rattle.shared_parts.specs.Shares.{ShareValue}
 
 -- what a thread has seen that has seen nothing
 pub PassesAreKept-first : (script : ScriptValue) (table : TableId) (names : List JournalName) (n : ℕ) (s : SeenValue) (lists : List Looks) (shown : Roomy) (share : ShareValue Part) → s.tree.seen ≡ [] → AreNew names n s.thread s.slices
-    → AreReady (rooms_of script.machine (ops_of script s.thread)) lists → TEXT_MAX ≤ shown.spare + length shown.bytes → IsShareOf table (resting_thread s.thread 0 false [] ∷ []) share → PassesAreKept script table s 0 lists shown share
+    → AreReady (rooms_of script.machine (ops_of script s.thread)) lists → TEXT_MAX ≤ shown.spare + length shown.bytes → IsShareOf table (resting_thread s.thread 0 false [] ∷ []) share → PassesAreKept script table s 0 lists shown share None
 PassesAreKept-first script table names n s lists shown share none new ready room own = record {
   keep =
       PassesKeep-opening script s.thread (seen_by s) (ap history_of none)
@@ -43,6 +43,7 @@ PassesAreKept-first script table names n s lists shown share none new ready room
   room = room;
   share_is = IsResting-known table s.thread 0 false [] share own;
   ended = λ begun. absurd (false≢true (sym (ap begun_in own.parts_are) ∙ begun));
+  cached_is = tt;
 }
 
 -- one thread more is before its first op

@@ -10,7 +10,6 @@ ghost use Rattle.machine.specs.Slices.{slice_of_line};
 ghost use Rattle.script_ops.specs.Values.{op_at};
 ghost use Rattle.script_ops.specs.declared.op.Op.TheVariants.{Access};
 
-use crate::cached_tag::CachedTag;
 use crate::live::Live;
 use crate::run_names::{NamedTable, RunNames};
 use crate::thread_side::ThreadSide;
@@ -44,14 +43,13 @@ impl<N: RunNames, T: NamedTable> Live<N, T> {
         rt: &impl Wait,
         hold: &impl Hold,
         side: &mut ThreadSide<N>,
-        cached: &mut Option<CachedTag>,
         access: AccessTurn,
     ) -> Result<Reached, u64>
         requires op { op_at N.script side.old.seen.thread access.number ≡ Some (Access access.task access.cpu access.addr) }
         requires room { HasRoomIn N.script (slice_reached N.script.machine access.cpu access.addr) side.old.seen }
         requires worker { IsResting T.table side.old.seen.thread access.number true side.old.share }
-        requires cached { HoldsCached N.script side.old.seen cached.old }
-        ensures cached_now { HoldsCached N.script side.new.seen cached.new }
+        requires cached { HoldsCached N.script side.old.seen side.old.cached }
+        ensures cached_now { HoldsCached N.script side.new.seen side.new.cached }
         ensures turned { HasTurned N.script access.number access.task access.cpu access.addr side.old.seen side.new.seen result }
         ensures worker { IsResting T.table side.old.seen.thread (op_after access.number result) true side.new.share }
     {
@@ -61,7 +59,7 @@ impl<N: RunNames, T: NamedTable> Live<N, T> {
             cpu,
             addr,
         } = access;
-        let tag = self.tree.lock(rt).tag(side, cached, task, cpu);
+        let tag = self.tree.lock(rt).tag(side, task, cpu);
         let line = addr / 64;
         let slice = self.machine.line_slice(tag.domain, line);
         let tagged = TaggedAccess { number, tag, line };
@@ -77,22 +75,21 @@ impl<N: RunNames, T: NamedTable> Live<N, T> {
         rt: &impl Wait,
         hold: &impl Hold,
         side: &mut ThreadSide<N>,
-        cached: &mut Option<CachedTag>,
         access: AccessTurn,
     ) -> Reached
         requires op { op_at N.script side.old.seen.thread access.number ≡ Some (Access access.task access.cpu access.addr) }
         requires room { HasRoomIn N.script (slice_reached N.script.machine access.cpu access.addr) side.old.seen }
         requires worker { IsResting T.table side.old.seen.thread access.number true side.old.share }
-        requires cached { HoldsCached N.script side.old.seen cached.old }
-        ensures cached_now { HoldsCached N.script side.new.seen cached.new }
+        requires cached { HoldsCached N.script side.old.seen side.old.cached }
+        ensures cached_now { HoldsCached N.script side.new.seen side.new.cached }
         ensures accessed { HasAccessed N.script access.number access.task access.cpu access.addr result side.old.seen side.new.seen }
         ensures worker { IsResting T.table side.old.seen.thread (access.number + 1) true side.new.share }
     {
-        let mut turn = self.turn(rt, hold, side, cached, access);
+        let mut turn = self.turn(rt, hold, side, access);
         loop {
             match turn {
                 Ok(reached) => return reached,
-                Err(_) => turn = self.turn(rt, hold, side, cached, access),
+                Err(_) => turn = self.turn(rt, hold, side, access),
             }
         }
     }

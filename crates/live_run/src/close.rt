@@ -89,7 +89,11 @@ fn gather<N: RunNames, T: NamedTable>(
             shown: _,
             of: _,
         } = passes;
-        let ThreadSide { seen, share: _ } = side;
+        let ThreadSide {
+            seen,
+            share: _,
+            cached: _,
+        } = side;
         let Seen {
             thread: _,
             tree,

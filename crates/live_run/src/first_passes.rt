@@ -83,7 +83,11 @@ fn first<N: RunNames, T: NamedTable>(
         of: PhantomData,
     };
     Ok(Passes {
-        side: ThreadSide { seen, share },
+        side: ThreadSide {
+            seen,
+            share,
+            cached: None,
+        },
         next: 0,
         looks,
         shown,

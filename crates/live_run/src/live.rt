@@ -4,7 +4,6 @@ ghost use Rattle.live_law.specs.DoneOps.{HasEnded};
 ghost use Rattle.live_law.specs.SeenJournals.{HasGrown};
 ghost use Rattle.live_run.specs.Accesses.{HasAccessed};
 ghost use Rattle.live_run.specs.Commands.{HasReplied};
-ghost use Rattle.live_run.specs.CachedTags.{HoldsCached};
 ghost use Rattle.live_run.specs.Names.{seen_by};
 ghost use Rattle.live_run.specs.Phases.{IsAtEnd};
 ghost use Rattle.live_run.specs.Steps.{HasTaken};
@@ -12,7 +11,6 @@ ghost use Rattle.run_law.specs.Ops.{ByKind, is_command};
 ghost use Rattle.script_ops.specs.Values.{op_at};
 
 use crate::access::SliceGate;
-use crate::cached_tag::CachedTag;
 use crate::closing_room::Closing;
 use crate::passes::Passes;
 use crate::run_names::{NamedTable, RunNames, StepShare};
@@ -103,6 +101,7 @@ impl<N: RunNames, T: NamedTable> Live<N, T> {
             looks,
             &mut p.shown,
         );
+        p.side.cached = None;
         p.next += 1;
         reply
     }
@@ -126,30 +125,6 @@ impl<N: RunNames, T: NamedTable> Live<N, T> {
         ensures next { p.new.next ≡ p.old.next + 1 }
         ensures begun { p.new.begun ≡ true }
     {
-        self.access_cached(rt, p, &mut None, op, gate)
-    }
-
-    /// The same by a thread that keeps the tag that it was given last, where it was given one since its last command.
-    pub(crate) fn access_cached<R: Wait, G: Gate>(
-        &self,
-        rt: &R,
-        p: &mut Passes<N, T>,
-        cached: &mut Option<CachedTag>,
-        op: &Op,
-        gate: &G,
-    ) -> Reached
-        requires op { op_at N.script p.old.seen.thread p.old.next ≡ Some op.now }
-        requires access { is_command op.now ≡ false }
-        requires begun { p.old.begun ≡ true }
-        requires cached { HoldsCached N.script p.old.seen cached.old }
-        ensures cached_now { HoldsCached N.script p.new.seen cached.new }
-        ensures accessed { ByKind (λ task cpu addr. HasAccessed N.script p.old.next task cpu addr result p.old.seen p.new.seen) (Unit {0}) op.now }
-        ensures seen { HasGrown (seen_by p.old.seen) (seen_by p.new.seen) }
-        ensures shown { p.new.shown ≡ p.old.shown }
-        ensures thread { p.new.seen.thread ≡ p.old.seen.thread }
-        ensures next { p.new.next ≡ p.old.next + 1 }
-        ensures begun { p.new.begun ≡ true }
-    {
         // What the type keeps says that the script is lawful, so that there is room.
         let _ = &self.machine;
         let Op::Access { task, cpu, addr } = op else {
@@ -160,7 +135,6 @@ impl<N: RunNames, T: NamedTable> Live<N, T> {
             rt,
             &hold,
             &mut p.side,
-            cached,
             AccessTurn {
                 number: p.next,
                 task: *task,

@@ -8,7 +8,8 @@ use run_law::LookLists;
 use std::marker::{Model, PhantomData};
 
 /// A thread's passes: what it has seen of the journals and added to them, the share that has it as a part of the machine of steps, the
-/// number of its next op, and the text of its last accepted read or list. It has the room for the texts and the counts of all its commands.
+/// tag that it was given last, the number of its next op, and the text of its last accepted read or list. It has the room for the texts
+/// and the counts of all its commands.
 #[derive(Drop)]
 pub struct Passes<N: RunNames, T: NamedTable> {
     pub(crate) side: ThreadSide<N>,
@@ -27,7 +28,7 @@ impl<N: RunNames, T: NamedTable> Model for Passes<N, T> {
 
     ghost view = { λ p. record { seen = p.side.seen; next = p.next; shown = p.shown.bytes; begun = begun_in p.side.share.parts } };
 
-    ghost invariant = { λ p. PassesAreKept N.script T.table p.side.seen p.next p.looks p.shown p.side.share };
+    ghost invariant = { λ p. PassesAreKept N.script T.table p.side.seen p.next p.looks p.shown p.side.share p.side.cached };
 }
 
 impl<N: RunNames, T: NamedTable> Passes<N, T> {

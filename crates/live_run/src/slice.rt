@@ -147,6 +147,7 @@ impl<N: RunNames, T: NamedTable, const I: usize> SliceCell<N, T, I> {
         requires may { MayTouch N.script I access.now.number access.now.tag access.now.line side.old.seen }
         requires tagged { IsTagged N.script T.table I access.now.number access.now.tag access.now.line side.old.seen side.old.share }
         ensures touched { HasTouched I access.now.number access.now.tag access.now.line side.old.seen side.new.seen result }
+        ensures cached { side.new.cached ≡ side.old.cached }
         ensures worker { HasReached side.old.seen.thread access.now.number access.now.tag access.now.line result side.old.share side.new.share }
     {
         let TaggedAccess { number, tag, line } = access;

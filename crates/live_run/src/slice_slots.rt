@@ -89,6 +89,7 @@ pub trait SliceSlots<N: RunNames, T: NamedTable> {
         requires may { MayTouch N.script i access.now.number access.now.tag access.now.line side.old.seen }
         requires tagged { IsTagged N.script T.table i access.now.number access.now.tag access.now.line side.old.seen side.old.share }
         ensures touched { HasTouched i access.now.number access.now.tag access.now.line side.old.seen side.new.seen result }
+        ensures cached { side.new.cached ≡ side.old.cached }
         ensures worker { HasReached side.old.seen.thread access.now.number access.now.tag access.now.line result side.old.share side.new.share };
 
     /// The number of the last.

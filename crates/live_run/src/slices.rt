@@ -169,6 +169,7 @@ impl<N: RunNames, T: NamedTable> Slices<N, T> {
         requires may { MayTouch N.script i access.now.number access.now.tag access.now.line side.old.seen }
         requires tagged { IsTagged N.script T.table i access.now.number access.now.tag access.now.line side.old.seen side.old.share }
         ensures touched { HasTouched i access.now.number access.now.tag access.now.line side.old.seen side.new.seen result }
+        ensures cached { side.new.cached ≡ side.old.cached }
         ensures worker { HasReached side.old.seen.thread access.now.number access.now.tag access.now.line result side.old.share side.new.share }
     {
         self.slots.touch(rt, hold, i, side, access)

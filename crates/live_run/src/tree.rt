@@ -88,15 +88,14 @@ impl<N: RunNames, T: NamedTable> TreeCell<N, T> {
     pub(crate) fn tag(
         &mut self,
         side: &mut ThreadSide<N>,
-        cached: &mut Option<CachedTag>,
         task: u32,
         cpu: u8,
     ) -> Tag
         requires task { Contains N.script.tasks task }
         requires cpu { cpu < N.script.machine.cpus }
         requires worker { IsBeforeAccess N.script T.table task cpu side.old.seen side.old.share }
-        requires cached { HoldsCached N.script side.old.seen cached.old }
-        ensures cached_now { HoldsCached N.script side.new.seen cached.new }
+        requires cached { HoldsCached N.script side.old.seen side.old.cached }
+        ensures cached_now { HoldsCached N.script side.new.seen side.new.cached }
         ensures taken { HasTaken side.old.seen side.new.seen }
         ensures tag { HoldsTag N.script (seen_by side.new.seen) task cpu result }
         ensures fresh { length side.old.seen.tree.seen ≤ result.epoch }
@@ -105,7 +104,7 @@ impl<N: RunNames, T: NamedTable> TreeCell<N, T> {
         ensures valid { (0 < result.mask) × (result.mask < 2 ^ N.script.machine.ways) }
         ensures worker { HasStepped (happenings.Label result) side.old.share side.new.share }
     {
-        let current = current_tag(cached, &self.tree);
+        let current = current_tag(&side.cached, &self.tree);
         take_unless(
             current.is_some(),
             &mut self.journal,
@@ -113,7 +112,7 @@ impl<N: RunNames, T: NamedTable> TreeCell<N, T> {
             &mut side.seen,
         );
         let tag = tag_of(&self.tree, &current, task, cpu);
-        *cached = Some(CachedTag { task, cpu, tag });
+        side.cached = Some(CachedTag { task, cpu, tag });
         accesses::tag(&mut self.share, &mut side.share, TREE_LOCK, &tag);
         tag
     }

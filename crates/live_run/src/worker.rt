@@ -1,12 +1,10 @@
 //! A worker.
 ghost use Rattle.std.specs.Prelude.{◌≡◌, ◌+◌, Some, true};
 ghost use Rattle.live_law.specs.SeenJournals.{HasGrown};
-ghost use Rattle.live_run.specs.CachedTags.{HoldsCached};
 ghost use Rattle.live_run.specs.Names.{seen_by};
 ghost use Rattle.live_run.specs.Phases.{HasWorked, MayWork};
 ghost use Rattle.script_ops.specs.Values.{op_at};
 
-use crate::cached_tag::CachedTag;
 use crate::live::Live;
 use crate::passes::Passes;
 use crate::run_names::{NamedTable, RunNames, StepShare};
@@ -29,12 +27,11 @@ impl<N: RunNames, T: NamedTable> Live<N, T> {
     {
         let thread = p.side.seen.thread();
         let ops = script.ops(thread);
-        let mut cached = None;
         for i in 0..ops.len() {
             let op = ops.at(i);
             let op = op.get();
             gate.at(Point::BeforeOp, thread);
-            self.make(rt, script, p, &mut cached, op, gate);
+            self.make(rt, script, p, op, gate);
             gate.at(Point::AfterOp, thread);
         }
     }
@@ -45,24 +42,20 @@ impl<N: RunNames, T: NamedTable> Live<N, T> {
         rt: &R,
         script: &Script,
         p: &mut Passes<N, T>,
-        cached: &mut Option<CachedTag>,
         op: &Op,
         gate: &G,
     )
         requires script { script.now ≡ N.script }
         requires op { op_at N.script p.old.seen.thread p.old.next ≡ Some op.now }
         requires begun { p.old.begun ≡ true }
-        requires cached { HoldsCached N.script p.old.seen cached.old }
-        ensures cached_now { HoldsCached N.script p.new.seen cached.new }
         ensures thread { p.new.seen.thread ≡ p.old.seen.thread }
         ensures next { p.new.next ≡ p.old.next + 1 }
         ensures begun { p.new.begun ≡ true }
         ensures seen { HasGrown (seen_by p.old.seen) (seen_by p.new.seen) }
     {
         if let Op::Access { .. } = op {
-            self.access_cached(rt, p, cached, op, gate);
+            self.access(rt, p, op, gate);
         } else {
-            *cached = None;
             self.carry_out(rt, script, p, op, false);
         }
     }

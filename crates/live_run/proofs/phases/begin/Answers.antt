@@ -7,22 +7,22 @@ use Rattle.live_run.specs.Phases.{IsOfPhase}
 
 pub begin-requires-clause-table : goal.begin-requires-clause-table
 begin-requires-clause-table g c =
-    same_table g.N.RunNames.script g.T.NamedTable.table c.p.inside.side.seen c.p.inside.next c.p.inside.looks c.p.inside.shown c.p.inside.side.share c.args.turn.now c.p.invariant c.requires.may.share.table_is
+    same_table g.N.RunNames.script g.T.NamedTable.table c.p.inside.side.seen c.p.inside.next c.p.inside.looks c.p.inside.shown c.p.inside.side.share c.args.turn.now c.p.inside.side.cached c.p.invariant c.requires.may.share.table_is
 
 pub begin-requires-clause-lock : goal.begin-requires-clause-lock
 begin-requires-clause-lock g c =
-    tree_lock_there g.N.RunNames.script g.T.NamedTable.table c.p.inside.side.seen c.p.inside.next c.p.inside.looks c.p.inside.shown c.p.inside.side.share c.args.turn.now c.p.invariant
+    tree_lock_there g.N.RunNames.script g.T.NamedTable.table c.p.inside.side.seen c.p.inside.next c.p.inside.looks c.p.inside.shown c.p.inside.side.share c.args.turn.now c.p.inside.side.cached c.p.invariant
 
 pub begin-requires-clause-may : goal.begin-requires-clause-may
 begin-requires-clause-may g c =
     let script = g.N.RunNames.script in
     let table = g.T.NamedTable.table in
-    may_begin script table c.p.inside.side.seen c.p.inside.next c.p.inside.looks c.p.inside.shown c.p.inside.side.share c.args.turn.now c.p.invariant
+    may_begin script table c.p.inside.side.seen c.p.inside.next c.p.inside.looks c.p.inside.shown c.p.inside.side.share c.args.turn.now c.p.inside.side.cached c.p.invariant
     (subst (λ (p : PassesValue). IsOfPhase script table p c.args.turn.now) (sym c.p.view_is) c.requires.may)
 
 pub invariant_of-p : goal.invariant_of-p
 invariant_of-p g c =
-    begun_kept g.N.RunNames.script g.T.NamedTable.table c.p.inside.side.seen c.p.inside.next c.p.inside.looks c.p.inside.shown c.p.inside.side.share c.args.turn.now c.p.invariant c.begin.new.worker c.begin.ensures.table.1 c.begin.ensures.worker
+    begun_kept g.N.RunNames.script g.T.NamedTable.table c.p.inside.side.seen c.p.inside.next c.p.inside.looks c.p.inside.shown c.p.inside.side.share c.args.turn.now c.p.inside.side.cached c.p.invariant c.begin.new.worker c.begin.ensures.table.1 c.begin.ensures.worker
     (subst (λ (p : PassesValue). AreEnded g.N.RunNames.script (seen_by p.seen) p.seen.thread) (sym c.p.view_is) c.requires.may.earlier)
 
 pub returns-clause-turn : goal.returns-clause-turn
@@ -30,5 +30,5 @@ returns-clause-turn g c = share_is_same c.begin.new.phase c.args.turn.now c.begi
 
 pub returns-clause-begun : goal.returns-clause-begun
 returns-clause-begun g c =
-    let begun = is_begun g.N.RunNames.script g.T.NamedTable.table c.p.inside.side.seen c.p.inside.next c.p.inside.looks c.p.inside.shown c.p.inside.side.share c.args.turn.now c.p.invariant c.begin.new.worker c.begin.ensures.table.1 c.begin.ensures.worker in
+    let begun = is_begun g.N.RunNames.script g.T.NamedTable.table c.p.inside.side.seen c.p.inside.next c.p.inside.looks c.p.inside.shown c.p.inside.side.share c.args.turn.now c.p.inside.side.cached c.p.invariant c.begin.new.worker c.begin.ensures.table.1 c.begin.ensures.worker in
     λ j. record { seen = (c.p.view_is j).seen; next = (c.p.view_is j).next; shown = (c.p.view_is j).shown; begun = begun j }

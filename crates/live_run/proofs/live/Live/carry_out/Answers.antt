@@ -41,7 +41,7 @@ command-reply-requires-clause-ready g c =
 
 pub command-reply-requires-clause-worker : goal.command-reply-requires-clause-worker
 command-reply-requires-clause-worker g c =
-    resting_before g.N.RunNames.script g.T.NamedTable.table c.p.inside.side.seen c.p.inside.next c.p.inside.looks c.p.inside.shown c.p.inside.side.share c.p.invariant (ap (λ (p : PassesValue). p.begun) c.p.view_is ∙ c.requires.begun)
+    resting_before g.N.RunNames.script g.T.NamedTable.table c.p.inside.side.seen c.p.inside.next c.p.inside.looks c.p.inside.shown c.p.inside.side.share c.p.inside.side.cached c.p.invariant (ap (λ (p : PassesValue). p.begun) c.p.view_is ∙ c.requires.begun)
 
 pub overflow_add-p : goal.overflow_add-p
 overflow_add-p g c = omega (arith, next_few g.N.RunNames.script c.p.inside.side.seen.thread c.p.inside.next c.args.op.now c.self.invariant.lawful (op_is g (goal.at.overflow_add-p g c).After-take-looks))
@@ -58,6 +58,7 @@ invariant_of-p g c =
       room = omega (arith, c.p.invariant.room, c.command-reply.ensures.room);
       share_is = resting_after g.T.NamedTable.table t c.command-reply.new.side.seen.thread (n + 1) c.command-reply.new.side.share c.command-reply.ensures.thread c.command-reply.ensures.worker;
       ended = λ begun. still_ended script (seen_by c.p.inside.side.seen) (seen_by c.command-reply.new.side.seen) t c.command-reply.new.side.seen.thread c.command-reply.ensures.seen c.command-reply.ensures.thread (c.p.invariant.ended (ap (λ (p : PassesValue). p.begun) c.p.view_is ∙ c.requires.begun));
+      cached_is = tt;
     }
 
 pub returns-clause-seen : goal.returns-clause-seen

@@ -7,10 +7,10 @@ use Rattle.live_run.specs.Names.{PassesValue, seen_by}
 use Rattle.live_run.specs.Phases.{IsAtEnd}
 
 pub invariant_of-earlier : goal.invariant_of-earlier
-invariant_of-earlier g c = passes_handed g.N.RunNames.script g.T.NamedTable.table c.earlier.inside.side.seen c.hand.new.a c.earlier.inside.next c.earlier.inside.looks c.earlier.inside.shown c.earlier.inside.side.share c.hand.ensures.a c.earlier.invariant
+invariant_of-earlier g c = passes_handed g.N.RunNames.script g.T.NamedTable.table c.earlier.inside.side.seen c.hand.new.a c.earlier.inside.next c.earlier.inside.looks c.earlier.inside.shown c.earlier.inside.side.share c.earlier.inside.side.cached c.hand.ensures.a c.earlier.invariant
 
 pub invariant_of-later : goal.invariant_of-later
-invariant_of-later g c = passes_handed g.N.RunNames.script g.T.NamedTable.table c.later.inside.side.seen c.hand.new.b c.later.inside.next c.later.inside.looks c.later.inside.shown c.later.inside.side.share c.hand.ensures.b c.later.invariant
+invariant_of-later g c = passes_handed g.N.RunNames.script g.T.NamedTable.table c.later.inside.side.seen c.hand.new.b c.later.inside.next c.later.inside.looks c.later.inside.shown c.later.inside.side.share c.later.inside.side.cached c.hand.ensures.b c.later.invariant
 
 pub returns-clause-ended : goal.returns-clause-ended
 returns-clause-ended g c =

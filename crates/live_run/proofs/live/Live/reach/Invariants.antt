@@ -8,7 +8,7 @@ abbrev pub invariant-loop-turn : goal.invariant-loop-turn
 invariant-loop-turn g l = record {
   turning : IsTurning g.N.RunNames.script l.access.number l.access.task l.access.cpu l.access.addr l.fn.side.seen l.side.seen l.turn;
   worker : IsResting g.T.NamedTable.table l.fn.side.seen.thread (op_after l.access.number l.turn) true l.side.share;
-  cached : HoldsCached g.N.RunNames.script l.side.seen l.cached;
+  cached : HoldsCached g.N.RunNames.script l.side.seen l.side.cached;
 }
 
 abbrev pub decreases-loop-turn : goal.decreases-loop-turn

@@ -1,4 +1,4 @@
-use Rattle.std.proofs.Common.{◌≡◌, ◌∙◌, None, Some, ap, arith}
+use Rattle.std.proofs.Common.{◌≡◌, ◌∙◌, None, Some, ap, arith, subst, sym}
 use Rattle.live_run.proofs.Growth.{HasGrown-touched}
 use Rattle.live_run.proofs.CachedTags.{HoldsCached-grown}
 use Rattle.live_run.proofs.TurnSteps.{stale_turn, tagged_turn, touched_turn}
@@ -6,6 +6,7 @@ use Rattle.live_run.proofs.Turns.{access_fits, tag_domain, turn_can, turn_none, 
 use Rattle.live_run.proofs.live.Live.turn.Goals as goal
 use Rattle.live_run.proofs.live.Live.turn.Goals.{After-line_slice-slice}
 use Rattle.live_run.proofs.live.Live.turn.Given.{Over}
+use Rattle.live_run.specs.CachedTags.{HoldsCached}
 use Rattle.live_run.specs.Sharing.{IsTagged}
 use Rattle.machine.proofs.laws.Domains.{domain_of-lt}
 use Rattle.machine.specs.Maps.{line_of}
@@ -66,8 +67,10 @@ returns-in-None-clause-worker g c =
 -- what it knows of its tag, it knows after it
 pub returns-in-Some-clause-cached_now : goal.returns-in-Some-clause-cached_now
 returns-in-Some-clause-cached_now g c =
-    HoldsCached-grown g.N.RunNames.script c.tag-tag.new.side.seen c.touch.new.side.seen c.tag-tag.new.cached (HasGrown-touched c.line_slice-slice.result c.args.access.number c.tag-tag.result (line_of c.args.access.addr) c.tag-tag.new.side.seen c.touch.new.side.seen (Some c.in-Some.reached) c.in-Some.ensures.touched) c.tag-tag.ensures.cached_now
+    subst (HoldsCached g.N.RunNames.script c.touch.new.side.seen) (sym c.in-Some.ensures.cached)
+    (HoldsCached-grown g.N.RunNames.script c.tag-tag.new.side.seen c.touch.new.side.seen c.tag-tag.new.side.cached (HasGrown-touched c.line_slice-slice.result c.args.access.number c.tag-tag.result (line_of c.args.access.addr) c.tag-tag.new.side.seen c.touch.new.side.seen (Some c.in-Some.reached) c.in-Some.ensures.touched) c.tag-tag.ensures.cached_now)
 
 pub returns-in-None-clause-cached_now : goal.returns-in-None-clause-cached_now
 returns-in-None-clause-cached_now g c =
-    HoldsCached-grown g.N.RunNames.script c.tag-tag.new.side.seen c.touch.new.side.seen c.tag-tag.new.cached (HasGrown-touched c.line_slice-slice.result c.args.access.number c.tag-tag.result (line_of c.args.access.addr) c.tag-tag.new.side.seen c.touch.new.side.seen None c.in-None.ensures.touched) c.tag-tag.ensures.cached_now
+    subst (HoldsCached g.N.RunNames.script c.touch.new.side.seen) (sym c.in-None.ensures.cached)
+    (HoldsCached-grown g.N.RunNames.script c.tag-tag.new.side.seen c.touch.new.side.seen c.tag-tag.new.side.cached (HasGrown-touched c.line_slice-slice.result c.args.access.number c.tag-tag.result (line_of c.args.access.addr) c.tag-tag.new.side.seen c.touch.new.side.seen None c.in-None.ensures.touched) c.tag-tag.ensures.cached_now)

@@ -24,5 +24,4 @@ loop-i-preserved g c = record {
   next = search rules;
   begun = c.make.ensures.begun;
   grown = HasGrown-through _ _ _ c.loop-i.invariant.grown c.make.ensures.seen;
-  cached = c.make.ensures.cached_now;
 }

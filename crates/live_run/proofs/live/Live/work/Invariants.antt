@@ -1,7 +1,6 @@
 use Rattle.std.proofs.Common.{◌≡◌, true}
 use Rattle.live_law.specs.SeenJournals.{HasGrown}
 use Rattle.live_run.proofs.live.Live.work.Given as goal
-use Rattle.live_run.specs.CachedTags.{HoldsCached}
 use Rattle.live_run.specs.Names.{seen_by}
 
 abbrev pub invariant-loop-i : goal.invariant-loop-i
@@ -10,5 +9,4 @@ invariant-loop-i g l = record {
   next : l.p.next ≡ l.i;
   begun : l.p.begun ≡ true;
   grown : HasGrown (seen_by l.fn.p.seen) (seen_by l.p.seen);
-  cached : HoldsCached g.N.RunNames.script l.p.seen l.cached;
 }

@@ -25,7 +25,7 @@ tag_of-tag-requires-clause-cpu g c = omega (arith, c.requires.cpu, ap (λ (m : P
 pub tag_of-tag-requires-clause-current : goal.tag_of-tag-requires-clause-current
 tag_of-tag-requires-clause-current g c =
     let old : TreeCellValue = record { tree = c.self.inside.tree; journal = c.self.inside.journal; slices = c.self.inside.slices.items; share = c.self.inside.share } in
-    let known = HoldsCached-current g.N.RunNames.script c.args.side.now.seen c.args.cached.now c.current_tag-current.result c.current_tag-current.ensures.cached c.requires.cached in
+    let known = HoldsCached-current g.N.RunNames.script c.args.side.now.seen c.args.side.now.cached c.current_tag-current.result c.current_tag-current.ensures.cached c.requires.cached in
     current_given g.N.RunNames.script g.T.NamedTable.table g.N.RunNames.tree g.N.RunNames.slices old c.self.invariant c.args.side.now.seen c.take_unless.new.s c.take_unless.ensures.taken c.take_unless.ensures.tree c.current_tag-current.result known c.current_tag-current.ensures.epoch
 
 pub invariant_of-self : goal.invariant_of-self
@@ -71,7 +71,7 @@ returns g c =
     let before = c.args.side.now.seen.tree.seen in
     let after = c.take_unless.new.s.tree.seen in
     let longer = length-prefix (history_of before) (history_of after) (IsPrefix-no_more (is_from c.args.side.now.seen.thread) (history_of before) (history_of after) c.take_unless.ensures.taken.sees.tree) in
-    let known = HoldsCached-current g.N.RunNames.script c.args.side.now.seen c.args.cached.now c.current_tag-current.result c.current_tag-current.ensures.cached c.requires.cached in
+    let known = HoldsCached-current g.N.RunNames.script c.args.side.now.seen c.args.side.now.cached c.current_tag-current.result c.current_tag-current.ensures.cached c.requires.cached in
     let knows = caches_given g.N.RunNames.script g.T.NamedTable.table g.N.RunNames.tree g.N.RunNames.slices old c.self.invariant c.args.side.now.seen c.take_unless.new.s c.take_unless.ensures.taken c.take_unless.ensures.tree c.current_tag-current.result known c.current_tag-current.ensures.epoch
     now c.take_unless.ensures.passes c.take_unless.ensures.grown (λ none. c.take_unless.ensures.same (c.is_some.ensures ∙ none)) c.args.task c.args.cpu c.tag_of-tag.result given in
     record {

@@ -5,8 +5,7 @@ use Rattle.live_law.specs.SeenJournals.{HasGrown}
 use Rattle.live_run.proofs.Growth.{HasGrown-accessed}
 use Rattle.live_run.proofs.Openings.{lists_after_access, next_few, resting_after, resting_before, resting_begun, still_ended}
 use Rattle.live_run.proofs.Turns.{passes_access}
-use Rattle.live_run.proofs.live.Live.access_cached.Goals as goal
-use Rattle.live_run.specs.CachedTags.{HoldsCached}
+use Rattle.live_run.proofs.live.Live.access.Goals as goal
 use Rattle.live_run.specs.Names.{PassesValue, seen_by}
 use Rattle.run_law.specs.LookLists.{AreReady, rooms_of}
 use Rattle.script_ops.specs.Values.{op_at, ops_of}
@@ -20,11 +19,11 @@ reach-reached-requires-clause-room g c =
     access-room script c.p.inside.side.seen.thread c.p.inside.next c.in-Access.task c.in-Access.cpu c.in-Access.addr (seen_by c.p.inside.side.seen) c.self.invariant.lawful is c.p.invariant.keep
 
 pub reach-reached-requires-clause-cached : goal.reach-reached-requires-clause-cached
-reach-reached-requires-clause-cached g c = subst (λ (p : PassesValue). HoldsCached g.N.RunNames.script p.seen c.args.cached.now) (sym c.p.view_is) c.requires.cached
+reach-reached-requires-clause-cached g c = c.p.invariant.cached_is
 
 pub reach-reached-requires-clause-worker : goal.reach-reached-requires-clause-worker
 reach-reached-requires-clause-worker g c =
-    resting_before g.N.RunNames.script g.T.NamedTable.table c.p.inside.side.seen c.p.inside.next c.p.inside.looks c.p.inside.shown c.p.inside.side.share c.p.invariant (ap (λ (p : PassesValue). p.begun) c.p.view_is ∙ c.requires.begun)
+    resting_before g.N.RunNames.script g.T.NamedTable.table c.p.inside.side.seen c.p.inside.next c.p.inside.looks c.p.inside.shown c.p.inside.side.share c.p.inside.side.cached c.p.invariant (ap (λ (p : PassesValue). p.begun) c.p.view_is ∙ c.requires.begun)
 
 pub overflow_add-p : goal.overflow_add-p
 overflow_add-p g c =
@@ -48,6 +47,7 @@ invariant_of-p g c =
       ended = λ begun. still_ended script (seen_by c.p.inside.side.seen) (seen_by c.reach-reached.new.side.seen) t c.reach-reached.new.side.seen.thread
           (HasGrown-accessed script n c.in-Access.task c.in-Access.cpu c.in-Access.addr c.reach-reached.result c.p.inside.side.seen c.reach-reached.new.side.seen c.reach-reached.ensures.accessed)
           c.reach-reached.ensures.accessed.thread ended;
+      cached_is = c.reach-reached.ensures.cached_now;
     }
 
 pub returns-clause-seen : goal.returns-clause-seen
