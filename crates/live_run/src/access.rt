@@ -62,8 +62,13 @@ impl<N: RunNames, T: NamedTable> Live<N, T> {
         let tag = self.tree.lock(rt).tag(side, task, cpu);
         let line = addr / 64;
         let slice = self.machine.line_slice(tag.domain, line);
-        let tagged = TaggedAccess { number, tag, line };
-        match self.slices.touch(rt, hold, slice, side, &tagged) {
+        let tagged = TaggedAccess {
+            slice,
+            number,
+            tag,
+            line,
+        };
+        match self.slices.touch(rt, hold, side, &tagged) {
             Some(reached) => Ok(reached),
             None => Err(tag.epoch),
         }

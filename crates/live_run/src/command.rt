@@ -19,7 +19,7 @@ ghost use Rattle.tree_law.specs.Steps.{needs, after, follow_domain, refusal};
 use crate::run_names::{NamedTable, RunNames};
 use crate::slices::Slices;
 use crate::thread_side::ThreadSide;
-use crate::turn::CommandTurn;
+use crate::turn::{CommandFollow, CommandLook, CommandTurn};
 use file_view::{is_reading, text};
 use machine::Machine;
 use rc_base::{LookList, Reply, TextBuf};
@@ -63,7 +63,13 @@ pub(crate) fn look_all<N: RunNames, T: NamedTable>(
         let mut lines = 0;
         for x in 0..m.slices {
             let i = m.slice_number(domain, x);
-            lines += slices.look(rt, i, history, side, turn, rmid);
+            let look = CommandLook {
+                slice: i,
+                number: turn.number,
+                epoch: turn.epoch,
+                rmid,
+            };
+            lines += slices.look(rt, history, side, look);
         }
         looks.push(lines);
     }
@@ -100,8 +106,15 @@ pub(crate) fn follow_all<N: RunNames, T: NamedTable>(
         let count = slices_for(m, follow);
         for x in 0..count {
             let i = slice_for(m, follow, x);
-            let last = q + 1 == all.len() && x + 1 == count;
-            slices.follow(rt, i, history, side, turn, follow, last);
+            let is_last = q + 1 == all.len() && x + 1 == count;
+            let step = CommandFollow {
+                slice: i,
+                number: turn.number,
+                epoch: turn.epoch,
+                follow,
+                is_last,
+            };
+            slices.follow(rt, history, side, step);
         }
     }
 }

@@ -9,12 +9,11 @@ use crate::slice_slot::SliceSlot;
 use crate::slice_slots::SliceSlots;
 use crate::slot_pair::SlotPair;
 use crate::thread_side::ThreadSide;
-use crate::turn::{CommandTurn, TaggedAccess};
+use crate::turn::{CommandFollow, CommandLook, TaggedAccess};
 use run_law::TreeEntry;
 use seen_journal::Journal;
 use std::sync::Wait;
 use step_world::Reached;
-use tree_law::Follow;
 
 /// The slots of four slices. A type of its own, since what stands on a pair of pairs ties the impls of them all.
 #[derive(Drop)]
@@ -49,38 +48,31 @@ impl<
     fn look<R: Wait>(
         &self,
         rt: &R,
-        i: usize,
         history: &mut Journal<TreeEntry>,
         side: &mut ThreadSide<N>,
-        turn: CommandTurn,
-        rmid: u16,
+        look: CommandLook,
     ) -> u64 {
-        self.slots.look(rt, i, history, side, turn, rmid)
+        self.slots.look(rt, history, side, look)
     }
 
     fn follow<R: Wait>(
         &self,
         rt: &R,
-        i: usize,
         history: &mut Journal<TreeEntry>,
         side: &mut ThreadSide<N>,
-        turn: CommandTurn,
-        follow: Follow,
-        is_last: bool,
+        step: CommandFollow,
     ) {
-        self.slots
-            .follow(rt, i, history, side, turn, follow, is_last);
+        self.slots.follow(rt, history, side, step);
     }
 
     fn touch<R: Wait, H: Hold>(
         &self,
         rt: &R,
         hold: &H,
-        i: usize,
         side: &mut ThreadSide<N>,
         access: &TaggedAccess,
     ) -> Option<Reached> {
-        self.slots.touch(rt, hold, i, side, access)
+        self.slots.touch(rt, hold, side, access)
     }
 
     fn last() -> usize {

@@ -14,14 +14,13 @@ use crate::parts::Part;
 use crate::run_names::{NamedTable, RunNames, StepShare};
 use crate::seen::{meet, note};
 use crate::thread_side::ThreadSide;
-use crate::turn::{CommandTurn, TaggedAccess};
+use crate::turn::{CommandFollow, CommandLook, TaggedAccess};
 use cache_core::{Cache, SliceEntry, What};
 use run_law::TreeEntry;
 use schedule_law::{accesses, commands};
 use seen_journal::{Journal, Pass};
 use std::marker::{Model, PhantomData};
 use step_world::{Reached, access_of, enact, entry, reach};
-use tree_law::Follow;
 
 /// What lies under the lock of slice I: its cache, its journal, a pass of the tree's journal, and the share that has the journal as a
 /// part of the machine of steps.
@@ -94,21 +93,23 @@ impl<N: RunNames, T: NamedTable, const I: usize> SliceCell<N, T, I> {
         &mut self,
         history: &mut Journal<TreeEntry>,
         side: &mut ThreadSide<N>,
-        turn: CommandTurn,
-        rmid: u16,
+        look: CommandLook,
     ) -> u64
-        requires may { MayLook N.script N.tree I turn.number turn.epoch rmid history.old side.old.seen }
-        requires next { IsNextCount N.script T.table I turn.number rmid history.old side.old.seen side.old.share }
+        requires may { MayLook N.script N.tree I look.number look.epoch look.rmid history.old side.old.seen }
+        requires next { IsNextCount N.script T.table I look.number look.rmid history.old side.old.seen side.old.share }
         ensures few { result ≤ 2097152 }
         ensures history { history.new ≡ history.old }
         ensures tree { side.new.seen.tree ≡ side.old.seen.tree }
-        ensures added { HasAdded I (entry_of side.old.seen.thread turn.number turn.epoch (Look rmid result)) side.old.seen side.new.seen }
-        ensures worker { HasStepped (happenings.Look (entry_of side.old.seen.thread turn.number turn.epoch (Look rmid result))) side.old.share side.new.share }
+        ensures added { HasAdded I (entry_of side.old.seen.thread look.number look.epoch (Look look.rmid result)) side.old.seen side.new.seen }
+        ensures worker { HasStepped (happenings.Look (entry_of side.old.seen.thread look.number look.epoch (Look look.rmid result))) side.old.share side.new.share }
     {
         history.show(&mut self.tree);
-        let lines = self.cache.look(rmid);
-        let what = What::Look { rmid, lines };
-        let entry = entry(side.seen.thread(), turn.number, turn.epoch, what);
+        let lines = self.cache.look(look.rmid);
+        let what = What::Look {
+            rmid: look.rmid,
+            lines,
+        };
+        let entry = entry(side.seen.thread(), look.number, look.epoch, what);
         note::<N, I>(&mut self.journal, &mut side.seen, entry);
         commands::look(&mut self.share, &mut side.share, I, entry);
         lines
@@ -119,22 +120,20 @@ impl<N: RunNames, T: NamedTable, const I: usize> SliceCell<N, T, I> {
         &mut self,
         history: &mut Journal<TreeEntry>,
         side: &mut ThreadSide<N>,
-        turn: CommandTurn,
-        follow: Follow,
-        last: bool,
+        step: CommandFollow,
     )
-        requires may { MayFollow N.script N.tree I turn.number turn.epoch follow history.old side.old.seen }
-        requires next { IsNextFollow N.script T.table I turn.number turn.epoch follow last history.old side.old.seen side.old.share }
+        requires may { MayFollow N.script N.tree I step.number step.epoch step.follow history.old side.old.seen }
+        requires next { IsNextFollow N.script T.table I step.number step.epoch step.follow step.is_last history.old side.old.seen side.old.share }
         ensures history { history.new ≡ history.old }
         ensures tree { side.new.seen.tree ≡ side.old.seen.tree }
-        ensures followed { HasFollowed I turn.number turn.epoch follow side.old.seen side.new.seen }
-        ensures worker { HasFollowedOn last side.old.share side.new.share }
+        ensures followed { HasFollowed I step.number step.epoch step.follow side.old.seen side.new.seen }
+        ensures worker { HasFollowedOn step.is_last side.old.share side.new.share }
     {
         history.show(&mut self.tree);
-        let what = enact(&mut self.cache, turn.epoch, follow);
-        let entry = entry(side.seen.thread(), turn.number, turn.epoch, what);
+        let what = enact(&mut self.cache, step.epoch, step.follow);
+        let entry = entry(side.seen.thread(), step.number, step.epoch, what);
         note::<N, I>(&mut self.journal, &mut side.seen, entry);
-        commands::follow(&mut self.share, &mut side.share, I, entry, last);
+        commands::follow(&mut self.share, &mut side.share, I, entry, step.is_last);
     }
 
     /// Makes the access of a tag, and notes it, unless the tag is stale; then the thread has seen a longer history of the tree.
@@ -150,7 +149,12 @@ impl<N: RunNames, T: NamedTable, const I: usize> SliceCell<N, T, I> {
         ensures cached { side.new.cached ≡ side.old.cached }
         ensures worker { HasReached side.old.seen.thread access.now.number access.now.tag access.now.line result side.old.share side.new.share }
     {
-        let TaggedAccess { number, tag, line } = access;
+        let TaggedAccess {
+            slice: _,
+            number,
+            tag,
+            line,
+        } = access;
         meet(&mut self.tree, &mut side.seen);
         if tag.epoch < self.cache.floor() {
             accesses::tag_again(&mut self.share, &mut side.share, I);

@@ -7,13 +7,12 @@ use crate::run_names::{NamedTable, RunNames};
 use crate::slice::SliceCell;
 use crate::slice_slots::SliceSlots;
 use crate::thread_side::ThreadSide;
-use crate::turn::{CommandTurn, TaggedAccess};
+use crate::turn::{CommandFollow, CommandLook, TaggedAccess};
 use run_law::TreeEntry;
 use seen_journal::Journal;
 use std::marker::Model;
 use std::sync::{Mutex, Wait};
 use step_world::Reached;
-use tree_law::Follow;
 
 /// The slot of slice I, whose cell is there where the machine has the slice. Contracts see its number.
 #[derive(Drop)]
@@ -42,39 +41,33 @@ impl<N: RunNames, T: NamedTable, const I: usize> SliceSlots<N, T> for SliceSlot<
     fn look<R: Wait>(
         &self,
         rt: &R,
-        _i: usize,
         history: &mut Journal<TreeEntry>,
         side: &mut ThreadSide<N>,
-        turn: CommandTurn,
-        rmid: u16,
+        look: CommandLook,
     ) -> u64 {
         let Some(cell) = &self.cell else {
             unreachable!()
         };
-        cell.lock(rt).look(history, side, turn, rmid)
+        cell.lock(rt).look(history, side, look)
     }
 
     fn follow<R: Wait>(
         &self,
         rt: &R,
-        _i: usize,
         history: &mut Journal<TreeEntry>,
         side: &mut ThreadSide<N>,
-        turn: CommandTurn,
-        follow: Follow,
-        is_last: bool,
+        step: CommandFollow,
     ) {
         let Some(cell) = &self.cell else {
             unreachable!()
         };
-        cell.lock(rt).follow(history, side, turn, follow, is_last);
+        cell.lock(rt).follow(history, side, step);
     }
 
     fn touch<R: Wait, H: Hold>(
         &self,
         rt: &R,
         hold: &H,
-        _i: usize,
         side: &mut ThreadSide<N>,
         access: &TaggedAccess,
     ) -> Option<Reached> {

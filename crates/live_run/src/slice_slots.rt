@@ -11,12 +11,11 @@ ghost use Rattle.schedule_law.specs.declared.part.Happening.TheVariants as happe
 use crate::access::Hold;
 use crate::run_names::{NamedTable, RunNames};
 use crate::thread_side::ThreadSide;
-use crate::turn::{CommandTurn, TaggedAccess};
+use crate::turn::{CommandFollow, CommandLook, TaggedAccess};
 use run_law::TreeEntry;
 use seen_journal::Journal;
 use std::sync::Wait;
 use step_world::Reached;
-use tree_law::Follow;
 
 /// Slots for slices, by their numbers over all domains, each under a lock of its own. Those past the machine's slices are empty.
 pub trait SliceSlots<N: RunNames, T: NamedTable> {
@@ -33,62 +32,56 @@ pub trait SliceSlots<N: RunNames, T: NamedTable> {
     fn look<R: Wait>(
         &self,
         rt: &R,
-        i: usize,
         history: &mut Journal<TreeEntry>,
         side: &mut ThreadSide<N>,
-        turn: CommandTurn,
-        rmid: u16,
+        look: CommandLook,
     ) -> u64
         requires joined { joined }
-        requires from { first ≤ i }
-        requires to { i ≤ last }
-        requires number { i < slice_count N.script.machine }
-        requires may { MayLook N.script N.tree i turn.number turn.epoch rmid history.old side.old.seen }
-        requires next { IsNextCount N.script T.table i turn.number rmid history.old side.old.seen side.old.share }
+        requires from { first ≤ look.slice }
+        requires to { look.slice ≤ last }
+        requires number { look.slice < slice_count N.script.machine }
+        requires may { MayLook N.script N.tree look.slice look.number look.epoch look.rmid history.old side.old.seen }
+        requires next { IsNextCount N.script T.table look.slice look.number look.rmid history.old side.old.seen side.old.share }
         ensures few { result ≤ 2097152 }
         ensures history { history.new ≡ history.old }
         ensures tree { side.new.seen.tree ≡ side.old.seen.tree }
-        ensures added { HasAdded i (entry_of side.old.seen.thread turn.number turn.epoch (Look rmid result)) side.old.seen side.new.seen }
-        ensures worker { HasStepped (happenings.Look (entry_of side.old.seen.thread turn.number turn.epoch (Look rmid result))) side.old.share side.new.share };
+        ensures added { HasAdded look.slice (entry_of side.old.seen.thread look.number look.epoch (Look look.rmid result)) side.old.seen side.new.seen }
+        ensures worker { HasStepped (happenings.Look (entry_of side.old.seen.thread look.number look.epoch (Look look.rmid result))) side.old.share side.new.share };
 
     /// Does what follows the command that holds the tree, in the slice of a number.
     fn follow<R: Wait>(
         &self,
         rt: &R,
-        i: usize,
         history: &mut Journal<TreeEntry>,
         side: &mut ThreadSide<N>,
-        turn: CommandTurn,
-        follow: Follow,
-        is_last: bool,
+        step: CommandFollow,
     )
         requires joined { joined }
-        requires from { first ≤ i }
-        requires to { i ≤ last }
-        requires number { i < slice_count N.script.machine }
-        requires may { MayFollow N.script N.tree i turn.number turn.epoch follow history.old side.old.seen }
-        requires next { IsNextFollow N.script T.table i turn.number turn.epoch follow is_last history.old side.old.seen side.old.share }
+        requires from { first ≤ step.slice }
+        requires to { step.slice ≤ last }
+        requires number { step.slice < slice_count N.script.machine }
+        requires may { MayFollow N.script N.tree step.slice step.number step.epoch step.follow history.old side.old.seen }
+        requires next { IsNextFollow N.script T.table step.slice step.number step.epoch step.follow step.is_last history.old side.old.seen side.old.share }
         ensures history { history.new ≡ history.old }
         ensures tree { side.new.seen.tree ≡ side.old.seen.tree }
-        ensures followed { HasFollowed i turn.number turn.epoch follow side.old.seen side.new.seen }
-        ensures worker { HasFollowedOn is_last side.old.share side.new.share };
+        ensures followed { HasFollowed step.slice step.number step.epoch step.follow side.old.seen side.new.seen }
+        ensures worker { HasFollowedOn step.is_last side.old.share side.new.share };
 
     /// Makes the access of a tag in the slice of a number, unless the tag is stale.
     fn touch<R: Wait, H: Hold>(
         &self,
         rt: &R,
         hold: &H,
-        i: usize,
         side: &mut ThreadSide<N>,
         access: &TaggedAccess,
     ) -> Option<Reached>
         requires joined { joined }
-        requires from { first ≤ i }
-        requires to { i ≤ last }
-        requires number { i < slice_count N.script.machine }
-        requires may { MayTouch N.script i access.now.number access.now.tag access.now.line side.old.seen }
-        requires tagged { IsTagged N.script T.table i access.now.number access.now.tag access.now.line side.old.seen side.old.share }
-        ensures touched { HasTouched i access.now.number access.now.tag access.now.line side.old.seen side.new.seen result }
+        requires from { first ≤ access.now.slice }
+        requires to { access.now.slice ≤ last }
+        requires number { access.now.slice < slice_count N.script.machine }
+        requires may { MayTouch N.script access.now.slice access.now.number access.now.tag access.now.line side.old.seen }
+        requires tagged { IsTagged N.script T.table access.now.slice access.now.number access.now.tag access.now.line side.old.seen side.old.share }
+        ensures touched { HasTouched access.now.slice access.now.number access.now.tag access.now.line side.old.seen side.new.seen result }
         ensures cached { side.new.cached ≡ side.old.cached }
         ensures worker { HasReached side.old.seen.thread access.now.number access.now.tag access.now.line result side.old.share side.new.share };
 

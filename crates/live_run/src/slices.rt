@@ -18,13 +18,12 @@ use crate::run_names::{NamedTable, RunNames};
 use crate::slice_slots::SliceSlots;
 use crate::slot_pair::SlotPair;
 use crate::thread_side::ThreadSide;
-use crate::turn::{CommandTurn, TaggedAccess};
+use crate::turn::{CommandFollow, CommandLook, TaggedAccess};
 use run_law::TreeEntry;
 use seen_journal::Journal;
 use std::marker::Model;
 use std::sync::Wait;
 use step_world::Reached;
-use tree_law::Follow;
 
 // The slots of slices 0 to 15, and of 16 to 31.
 type LowerSlots<N, T> = SlotPair<
@@ -115,45 +114,39 @@ impl<N: RunNames, T: NamedTable> Slices<N, T> {
     pub(crate) fn look(
         &self,
         rt: &impl Wait,
-        i: usize,
         history: &mut Journal<TreeEntry>,
         side: &mut ThreadSide<N>,
-        turn: CommandTurn,
-        rmid: u16,
+        look: CommandLook,
     ) -> u64
-        requires number { i < slice_count N.script.machine }
-        requires may { MayLook N.script N.tree i turn.number turn.epoch rmid history.old side.old.seen }
-        requires next { IsNextCount N.script T.table i turn.number rmid history.old side.old.seen side.old.share }
+        requires number { look.slice < slice_count N.script.machine }
+        requires may { MayLook N.script N.tree look.slice look.number look.epoch look.rmid history.old side.old.seen }
+        requires next { IsNextCount N.script T.table look.slice look.number look.rmid history.old side.old.seen side.old.share }
         ensures few { result ≤ 2097152 }
         ensures history { history.new ≡ history.old }
         ensures tree { side.new.seen.tree ≡ side.old.seen.tree }
-        ensures added { HasAdded i (entry_of side.old.seen.thread turn.number turn.epoch (Look rmid result)) side.old.seen side.new.seen }
-        ensures worker { HasStepped (happenings.Look (entry_of side.old.seen.thread turn.number turn.epoch (Look rmid result))) side.old.share side.new.share }
+        ensures added { HasAdded look.slice (entry_of side.old.seen.thread look.number look.epoch (Look look.rmid result)) side.old.seen side.new.seen }
+        ensures worker { HasStepped (happenings.Look (entry_of side.old.seen.thread look.number look.epoch (Look look.rmid result))) side.old.share side.new.share }
     {
-        self.slots.look(rt, i, history, side, turn, rmid)
+        self.slots.look(rt, history, side, look)
     }
 
     /// Does what follows the command that holds the tree, in the slice of a number.
     pub(crate) fn follow(
         &self,
         rt: &impl Wait,
-        i: usize,
         history: &mut Journal<TreeEntry>,
         side: &mut ThreadSide<N>,
-        turn: CommandTurn,
-        follow: Follow,
-        is_last: bool,
+        step: CommandFollow,
     )
-        requires number { i < slice_count N.script.machine }
-        requires may { MayFollow N.script N.tree i turn.number turn.epoch follow history.old side.old.seen }
-        requires next { IsNextFollow N.script T.table i turn.number turn.epoch follow is_last history.old side.old.seen side.old.share }
+        requires number { step.slice < slice_count N.script.machine }
+        requires may { MayFollow N.script N.tree step.slice step.number step.epoch step.follow history.old side.old.seen }
+        requires next { IsNextFollow N.script T.table step.slice step.number step.epoch step.follow step.is_last history.old side.old.seen side.old.share }
         ensures history { history.new ≡ history.old }
         ensures tree { side.new.seen.tree ≡ side.old.seen.tree }
-        ensures followed { HasFollowed i turn.number turn.epoch follow side.old.seen side.new.seen }
-        ensures worker { HasFollowedOn is_last side.old.share side.new.share }
+        ensures followed { HasFollowed step.slice step.number step.epoch step.follow side.old.seen side.new.seen }
+        ensures worker { HasFollowedOn step.is_last side.old.share side.new.share }
     {
-        self.slots
-            .follow(rt, i, history, side, turn, follow, is_last);
+        self.slots.follow(rt, history, side, step);
     }
 
     /// Makes the access of a tag in the slice of a number, unless the tag is stale.
@@ -161,17 +154,16 @@ impl<N: RunNames, T: NamedTable> Slices<N, T> {
         &self,
         rt: &impl Wait,
         hold: &impl Hold,
-        i: usize,
         side: &mut ThreadSide<N>,
         access: &TaggedAccess,
     ) -> Option<Reached>
-        requires number { i < slice_count N.script.machine }
-        requires may { MayTouch N.script i access.now.number access.now.tag access.now.line side.old.seen }
-        requires tagged { IsTagged N.script T.table i access.now.number access.now.tag access.now.line side.old.seen side.old.share }
-        ensures touched { HasTouched i access.now.number access.now.tag access.now.line side.old.seen side.new.seen result }
+        requires number { access.now.slice < slice_count N.script.machine }
+        requires may { MayTouch N.script access.now.slice access.now.number access.now.tag access.now.line side.old.seen }
+        requires tagged { IsTagged N.script T.table access.now.slice access.now.number access.now.tag access.now.line side.old.seen side.old.share }
+        ensures touched { HasTouched access.now.slice access.now.number access.now.tag access.now.line side.old.seen side.new.seen result }
         ensures cached { side.new.cached ≡ side.old.cached }
         ensures worker { HasReached side.old.seen.thread access.now.number access.now.tag access.now.line result side.old.share side.new.share }
     {
-        self.slots.touch(rt, hold, i, side, access)
+        self.slots.touch(rt, hold, side, access)
     }
 }

@@ -7,12 +7,11 @@ use crate::parts::Part;
 use crate::run_names::{NamedTable, RunNames};
 use crate::slice_slots::SliceSlots;
 use crate::thread_side::ThreadSide;
-use crate::turn::{CommandTurn, TaggedAccess};
+use crate::turn::{CommandFollow, CommandLook, TaggedAccess};
 use run_law::TreeEntry;
 use seen_journal::Journal;
 use std::sync::Wait;
 use step_world::Reached;
-use tree_law::Follow;
 
 /// Two slots or rows of slots, the second after the first.
 #[derive(Drop)]
@@ -45,35 +44,28 @@ impl<N: RunNames, T: NamedTable, A: SliceSlots<N, T>, B: SliceSlots<N, T>> Slice
     fn look<R: Wait>(
         &self,
         rt: &R,
-        i: usize,
         history: &mut Journal<TreeEntry>,
         side: &mut ThreadSide<N>,
-        turn: CommandTurn,
-        rmid: u16,
+        look: CommandLook,
     ) -> u64 {
-        if i <= A::last() {
-            self.front.look(rt, i, history, side, turn, rmid)
+        if look.slice <= A::last() {
+            self.front.look(rt, history, side, look)
         } else {
-            self.back.look(rt, i, history, side, turn, rmid)
+            self.back.look(rt, history, side, look)
         }
     }
 
     fn follow<R: Wait>(
         &self,
         rt: &R,
-        i: usize,
         history: &mut Journal<TreeEntry>,
         side: &mut ThreadSide<N>,
-        turn: CommandTurn,
-        follow: Follow,
-        is_last: bool,
+        step: CommandFollow,
     ) {
-        if i <= A::last() {
-            self.front
-                .follow(rt, i, history, side, turn, follow, is_last);
+        if step.slice <= A::last() {
+            self.front.follow(rt, history, side, step);
         } else {
-            self.back
-                .follow(rt, i, history, side, turn, follow, is_last);
+            self.back.follow(rt, history, side, step);
         }
     }
 
@@ -81,14 +73,13 @@ impl<N: RunNames, T: NamedTable, A: SliceSlots<N, T>, B: SliceSlots<N, T>> Slice
         &self,
         rt: &R,
         hold: &H,
-        i: usize,
         side: &mut ThreadSide<N>,
         access: &TaggedAccess,
     ) -> Option<Reached> {
-        if i <= A::last() {
-            self.front.touch(rt, hold, i, side, access)
+        if access.slice <= A::last() {
+            self.front.touch(rt, hold, side, access)
         } else {
-            self.back.touch(rt, hold, i, side, access)
+            self.back.touch(rt, hold, side, access)
         }
     }
 

@@ -85,12 +85,7 @@ impl<N: RunNames, T: NamedTable> TreeCell<N, T> {
     /// An access learns its tag: the thread has seen the tree's whole history, and what all its commands have made. Where the tree has
     /// taken no command since it gave the cached tag, the thread had seen both by then. No command holds the tree now, as its lock is
     /// held here.
-    pub(crate) fn tag(
-        &mut self,
-        side: &mut ThreadSide<N>,
-        task: u32,
-        cpu: u8,
-    ) -> Tag
+    pub(crate) fn tag(&mut self, side: &mut ThreadSide<N>, task: u32, cpu: u8) -> Tag
         requires task { Contains N.script.tasks task }
         requires cpu { cpu < N.script.machine.cpus }
         requires worker { IsBeforeAccess N.script T.table task cpu side.old.seen side.old.share }

@@ -101,14 +101,14 @@ follow-requires-clause-next g c =
     let made : ℕ = length (looks_of script (history_of c.args.side.now.seen.tree.seen) k c.args.op.now) + sum_by (slices_for script.machine) (take c.loop-q.q c.args.all.now) + c.loop-x.x in
     let job : Job = record { slice = slice_for script.machine it.follow c.loop-x.x; owed = record { epoch = k + 1; what = what_of it.follow } } in
     let whole = ap (λ (p : PassValue TreeEntry). p.seen) c.loop-x.invariant.tree ∙ (c.requires.whole ∙ ap (λ (j : JournalValue TreeEntry). j.entries) (sym c.loop-x.invariant.history)) in
-    let flag : c.if-q-all.last ≡ ((c.loop-q.q + 1 == length c.args.all.now) && (c.loop-x.x + 1 == c.slices_for-count.result)) =
+    let flag : c.if-q-all.is_last ≡ ((c.loop-q.q + 1 == length c.args.all.now) && (c.loop-x.x + 1 == c.slices_for-count.result)) =
     elim c.if-q-all.branch [
-      | then-q-all w ↦ last_then (c.loop-q.q + 1) (length c.args.all.now) (c.loop-x.x + 1 == c.slices_for-count.result) c.if-q-all.last w.if-q-all.true w.last-is
-      | else-q-all w ↦ last_else (c.loop-q.q + 1) (length c.args.all.now) (c.loop-x.x + 1 == c.slices_for-count.result) c.if-q-all.last w.if-q-all.false w.last-is
+      | then-q-all w ↦ last_then (c.loop-q.q + 1) (length c.args.all.now) (c.loop-x.x + 1 == c.slices_for-count.result) c.if-q-all.is_last w.if-q-all.true w.is_last-is
+      | else-q-all w ↦ last_else (c.loop-q.q + 1) (length c.args.all.now) (c.loop-x.x + 1 == c.slices_for-count.result) c.if-q-all.is_last w.if-q-all.false w.is_last-is
     ] in
-    subst (λ y. IsNextFollow script g.T.NamedTable.table c.slice_for-i.result c.args.turn.number c.args.turn.epoch y c.if-q-all.last c.loop-x.history s c.loop-x.side.share) it.is
-    (subst (λ i. IsNextFollow script g.T.NamedTable.table i c.args.turn.number c.args.turn.epoch it.follow c.if-q-all.last c.loop-x.history s c.loop-x.side.share) (sym it.number)
-    (next_follow script g.T.NamedTable.table g.N.RunNames.tree c.args.turn.number k made c.args.op.now s c.loop-x.side.share c.loop-x.invariant.at job it.job it.within c.args.turn.epoch it.follow c.if-q-all.last c.loop-x.history whole it.epoch refl (flag ∙ it.ends)))
+    subst (λ y. IsNextFollow script g.T.NamedTable.table c.slice_for-i.result c.args.turn.number c.args.turn.epoch y c.if-q-all.is_last c.loop-x.history s c.loop-x.side.share) it.is
+    (subst (λ i. IsNextFollow script g.T.NamedTable.table i c.args.turn.number c.args.turn.epoch it.follow c.if-q-all.is_last c.loop-x.history s c.loop-x.side.share) (sym it.number)
+    (next_follow script g.T.NamedTable.table g.N.RunNames.tree c.args.turn.number k made c.args.op.now s c.loop-x.side.share c.loop-x.invariant.at job it.job it.within c.args.turn.epoch it.follow c.if-q-all.is_last c.loop-x.history whole it.epoch refl (flag ∙ it.ends)))
 
 pub loop-q-init : goal.loop-q-init
 loop-q-init g c =
@@ -154,10 +154,10 @@ loop-x-preserved g c =
     let followed : HasFollowed job.slice c.args.turn.number c.args.turn.epoch it.follow s c.follow.new.side.seen =
     subst (λ i. HasFollowed i c.args.turn.number c.args.turn.epoch it.follow s c.follow.new.side.seen) it.number (subst (λ y. HasFollowed c.slice_for-i.result c.args.turn.number c.args.turn.epoch y s c.follow.new.side.seen) (sym it.is) c.follow.ensures.followed) in
     let next : made + 1 ≡ base + (c.loop-x.x + 1) = omega arith in
-    let flag : c.if-q-all.last ≡ ((c.loop-q.q + 1 == length c.args.all.now) && (c.loop-x.x + 1 == c.slices_for-count.result)) =
+    let flag : c.if-q-all.is_last ≡ ((c.loop-q.q + 1 == length c.args.all.now) && (c.loop-x.x + 1 == c.slices_for-count.result)) =
     elim c.if-q-all.branch [
-      | then-q-all w ↦ last_then (c.loop-q.q + 1) (length c.args.all.now) (c.loop-x.x + 1 == c.slices_for-count.result) c.if-q-all.last w.if-q-all.true w.last-is
-      | else-q-all w ↦ last_else (c.loop-q.q + 1) (length c.args.all.now) (c.loop-x.x + 1 == c.slices_for-count.result) c.if-q-all.last w.if-q-all.false w.last-is
+      | then-q-all w ↦ last_then (c.loop-q.q + 1) (length c.args.all.now) (c.loop-x.x + 1 == c.slices_for-count.result) c.if-q-all.is_last w.if-q-all.true w.is_last-is
+      | else-q-all w ↦ last_else (c.loop-q.q + 1) (length c.args.all.now) (c.loop-x.x + 1 == c.slices_for-count.result) c.if-q-all.is_last w.if-q-all.false w.is_last-is
     ] in
     record {
       history = c.follow.ensures.history ∙ c.loop-x.invariant.history;
@@ -165,7 +165,7 @@ loop-x-preserved g c =
       thread = followed.added.thread ∙ c.loop-x.invariant.thread;
       grown = HasGrown-through (seen_by c.args.side.now.seen) (seen_by s) (seen_by c.follow.new.side.seen) c.loop-x.invariant.grown (HasGrown-added _ _ s c.follow.new.side.seen followed.added);
       at = subst (λ n. FollowsAt script g.T.NamedTable.table c.args.turn.number k c.args.op.now n c.follow.new.side.seen c.follow.new.side.share) next
-          (has_followed script g.T.NamedTable.table g.N.RunNames.tree c.args.turn.number k made c.args.op.now s c.loop-x.side.share c.loop-x.invariant.at job it.job it.within c.args.turn.epoch it.follow c.if-q-all.last c.follow.new.side.seen c.follow.new.side.share it.epoch refl followed c.follow.ensures.tree (flag ∙ it.ends) c.follow.ensures.worker);
+          (has_followed script g.T.NamedTable.table g.N.RunNames.tree c.args.turn.number k made c.args.op.now s c.loop-x.side.share c.loop-x.invariant.at job it.job it.within c.args.turn.epoch it.follow c.if-q-all.is_last c.follow.new.side.seen c.follow.new.side.share it.epoch refl followed c.follow.ensures.tree (flag ∙ it.ends) c.follow.ensures.worker);
     }
 
 pub returns-clause-done : goal.returns-clause-done

@@ -28,12 +28,12 @@ invariant_of-self g c =
     let s = c.args.side.now.seen in
     let what = c.enact-what.result in
     let old : SliceCellValue = record { cache = c.self.inside.cache; journal = c.self.inside.journal; tree = c.self.inside.tree; share = c.self.inside.share } in
-    cell_notes g.N.RunNames.script g.T.NamedTable.table g.N.RunNames.tree (name_at g.N.RunNames.slices i) i old c.show.new.pass s c.enact-what.new.cache c.note.new.journal c.follow.new.slice c.args.turn.number c.args.turn.epoch (c.args.turn.epoch - 1) what c.entry-entry.result c.self.invariant
+    cell_notes g.N.RunNames.script g.T.NamedTable.table g.N.RunNames.tree (name_at g.N.RunNames.slices i) i old c.show.new.pass s c.enact-what.new.cache c.note.new.journal c.follow.new.slice c.args.step.number c.args.step.epoch (c.args.step.epoch - 1) what c.entry-entry.result c.self.invariant
     (subst (λ l. HasSeen c.self.inside.tree c.show.new.pass l) (sym c.requires.may.whole) c.show.ensures.seen) c.thread.ensures.threads (c.requires.may.is_epoch ∙ ap length (sym c.requires.may.whole)) (omega arith) c.requires.may.known c.requires.may.made
     (λ k h from less at. c.requires.may.last k h (omega (arith, from, less, c.requires.may.is_epoch)) (subst (λ xs. At (history_of xs) k h) c.requires.may.whole at))
-    c.enact-what.ensures.shape c.enact-what.ensures.rmids c.enact-what.ensures.adds (c.entry-entry.ensures ∙ ap (λ t. entry t c.args.turn.number c.args.turn.epoch what) c.thread.ensures.thread)
+    c.enact-what.ensures.shape c.enact-what.ensures.rmids c.enact-what.ensures.adds (c.entry-entry.ensures ∙ ap (λ t. entry t c.args.step.number c.args.step.epoch what) c.thread.ensures.thread)
     c.note.ensures.name c.note.ensures.list c.note.ensures.few c.note.ensures.prefix
-    (share_after g.N.RunNames.script g.T.NamedTable.table g.N.RunNames.tree (name_at g.N.RunNames.slices g.row.I) g.row.I old c.self.invariant c.entry-entry.result (happenings.Follow c.entry-entry.result c.args.last) c.follow.new.slice refl c.follow.ensures.table.0 c.follow.ensures.slice)
+    (share_after g.N.RunNames.script g.T.NamedTable.table g.N.RunNames.tree (name_at g.N.RunNames.slices g.row.I) g.row.I old c.self.invariant c.entry-entry.result (happenings.Follow c.entry-entry.result c.args.step.is_last) c.follow.new.slice refl c.follow.ensures.table.0 c.follow.ensures.slice)
 
 pub follow-requires-clause-table : goal.follow-requires-clause-table
 follow-requires-clause-table g c = c.self.invariant.share_is.table_is ∙ sym c.requires.next.share.table_is
@@ -47,8 +47,8 @@ pub follow-requires-clause-may : goal.follow-requires-clause-may
 follow-requires-clause-may g c =
     let old : SliceCellValue = record { cache = c.self.inside.cache; journal = c.self.inside.journal; tree = c.self.inside.tree; share = c.self.inside.share } in
     let what = c.enact-what.result in
-    may_follow_on g.N.RunNames.script g.T.NamedTable.table g.N.RunNames.tree (name_at g.N.RunNames.slices g.row.I) g.row.I old c.self.invariant c.enact-what.new.cache c.args.turn.number c.args.turn.epoch c.args.follow what c.args.history.now c.args.side.now.seen c.args.side.now.share c.entry-entry.result c.args.last c.requires.next c.requires.may.is_epoch
-    (c.entry-entry.ensures ∙ ap (λ t. entry t c.args.turn.number c.args.turn.epoch what) c.thread.ensures.thread) c.enact-what.ensures.owed c.enact-what.ensures.shape c.enact-what.ensures.adds
+    may_follow_on g.N.RunNames.script g.T.NamedTable.table g.N.RunNames.tree (name_at g.N.RunNames.slices g.row.I) g.row.I old c.self.invariant c.enact-what.new.cache c.args.step.number c.args.step.epoch c.args.step.follow what c.args.history.now c.args.side.now.seen c.args.side.now.share c.entry-entry.result c.args.step.is_last c.requires.next c.requires.may.is_epoch
+    (c.entry-entry.ensures ∙ ap (λ t. entry t c.args.step.number c.args.step.epoch what) c.thread.ensures.thread) c.enact-what.ensures.owed c.enact-what.ensures.shape c.enact-what.ensures.adds
 
 pub returns-clause-worker : goal.returns-clause-worker
 returns-clause-worker g c = (c.entry-entry.result, (c.follow.ensures.table.1, c.follow.ensures.worker))
