@@ -1,5 +1,5 @@
 -- A command up to its decision.
-use Rattle.std.proofs.Common.{◌≡◌, ℕ, ◌+◌, ◌-◌, ◌*◌, List, [], ◌∷◌, ◌++◌, length, ap, ap₂, refl, sym, ◌∙◌, subst}
+use Rattle.std.proofs.Common.{◌≡◌, ℕ, ◌*◌, List, [], ◌∷◌, ◌++◌, length, ap, ap₂, refl, sym, ◌∙◌, subst}
 use Rattle.std.specs.Prelude.{nat_lt, not}
 use Rattle.live_run.proofs.Bridges.{history_length}
 use Rattle.live_run.proofs.Decisions.{IsDecided, IsToDecide, none_follows}

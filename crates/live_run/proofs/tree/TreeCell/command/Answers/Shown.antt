@@ -1,5 +1,5 @@
 -- The text that a command shows.
-use Rattle.std.proofs.Common.{◌≡◌, ◌-◌, length, ap, sym, ◌∙◌, subst}
+use Rattle.std.proofs.Common.{◌≡◌, length, ap, sym, ◌∙◌, subst}
 use Rattle.std.specs.Prelude.{IsTrue, None}
 use Rattle.file_view.specs.Texts.{is_reading}
 use Rattle.rc_base.specs.declared.replies.Reply.TheVariants.{Ok}

@@ -1,5 +1,5 @@
 -- A command that takes the tree.
-use Rattle.std.proofs.Common.{◌≡◌, ℕ, ◌+◌, ◌-◌, List, ◌++◌, ap, sym, ◌∙◌, subst}
+use Rattle.std.proofs.Common.{◌≡◌, ℕ, List, ◌++◌, ap, sym, ◌∙◌, subst}
 use Rattle.live_run.proofs.TakenTrees.{command_looks}
 use Rattle.live_run.proofs.Trees.{tree_tasks}
 use Rattle.live_run.proofs.tree.TreeCell.command.Given.{Over}
