@@ -2,6 +2,7 @@ pub mod Commands
 pub mod Domains
 pub mod GroupValues
 pub mod Groups
+pub mod Halves
 pub mod Pieces
 pub mod Reporting
 pub mod SliceValues

@@ -13,8 +13,7 @@ use machine::Machine;
 use rc_base::NoMemory;
 use report_pieces::ReportText;
 use run_counts::{DomainLines, RunCounts};
-use run_law::Journals;
-use script_ops::Script;
+use run_replay::Run;
 use serde_json::{Value, json};
 use std::alloc::{AllocError, Global};
 
@@ -84,17 +83,16 @@ fn push_domain(
 fn push_items(
     alloc: Global,
     report: &mut ReportText,
-    script: &Script,
-    journals: &Journals,
+    run: &Run<'_>,
     counts: &RunCounts,
 ) -> Result<(), NoMemory>
-    requires { AreCountsOf script.now journals.now counts.now }
-    ensures { OnOk result (report.new ≡ report.old ++ items_told false (domain_values script.now journals.now)) }
+    requires { AreCountsOf run.now.script.now run.now.journals.now counts.now }
+    ensures { OnOk result (report.new ≡ report.old ++ items_told false (domain_values run.now.script.now run.now.journals.now)) }
 {
-    for domain in 0..script.machine().domains {
+    for domain in 0..run.script.machine().domains {
         let lines = counts.domain(domain);
         push_comma(report, domain > 0)?;
-        push_domain(alloc, report, script.machine(), domain, lines)?;
+        push_domain(alloc, report, run.script.machine(), domain, lines)?;
     }
     Ok(())
 }
@@ -105,15 +103,14 @@ pub fn push_domains(
     alloc: Global,
     report: &mut ReportText,
     later: bool,
-    script: &Script,
-    journals: &Journals,
+    run: &Run<'_>,
     counts: &RunCounts,
 ) -> Result<(), NoMemory>
-    requires { AreCountsOf script.now journals.now counts.now }
-    ensures { OnOk result (report.new ≡ report.old ++ members_told later ((codes "domains", array_of (domain_values script.now journals.now)) ∷ [])) }
+    requires { AreCountsOf run.now.script.now run.now.journals.now counts.now }
+    ensures { OnOk result (report.new ≡ report.old ++ members_told later ((codes "domains", array_of (domain_values run.now.script.now run.now.journals.now)) ∷ [])) }
 {
     push_key(report, later, "domains")?;
     report.push(b"[".as_slice())?;
-    push_items(alloc, report, script, journals, counts)?;
+    push_items(alloc, report, run, counts)?;
     report.push(b"]".as_slice())
 }

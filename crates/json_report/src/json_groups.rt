@@ -15,30 +15,27 @@ use path_names::{DirRef, PathRef};
 use rc_base::NoMemory;
 use report_pieces::ReportText;
 use run_counts::Tally;
-use run_law::Journals;
-use run_replay::MadeGroup;
-use script_ops::Script;
+use run_replay::{MadeGroup, Run};
 use std::alloc::Global;
 
 // Adds a control group that was made, after those before it.
 fn push_made_group(
     alloc: Global,
     report: &mut ReportText,
-    script: &Script,
-    journals: &Journals,
+    run: &Run<'_>,
     made: MadeGroup,
     tally: &Tally,
 ) -> Result<(), NoMemory>
-    requires known { made.name.0 < length script.now.names }
-    requires counts { IsTallyOf journals.now (slice_count script.now.machine) tally.now }
-    ensures { OnOk result (report.new ≡ report.old ++ (comma_if true ++ compact_text (group_value script.now journals.now (control_of script.now.names made)))) }
+    requires known { made.name.0 < length run.now.script.now.names }
+    requires counts { IsTallyOf run.now.journals.now (slice_count run.now.script.now.machine) tally.now }
+    ensures { OnOk result (report.new ≡ report.old ++ (comma_if true ++ compact_text (group_value run.now.script.now run.now.journals.now (control_of run.now.script.now.names made)))) }
 {
     let path = PathRef::Dir(DirRef::Ctrl(made.name));
     report.push(b",".as_slice())?;
     push_group(
         alloc,
         report,
-        script.names(),
+        run.script.names(),
         made.gid,
         path,
         tally.of(made.gid),
@@ -49,17 +46,16 @@ fn push_made_group(
 fn push_made(
     alloc: Global,
     report: &mut ReportText,
-    script: &Script,
-    journals: &Journals,
+    run: &Run<'_>,
     made: &[MadeGroup],
     tally: &Tally,
 ) -> Result<(), NoMemory>
-    requires known { AreKnownGroups script.now.names made.now }
-    requires counts { IsTallyOf journals.now (slice_count script.now.machine) tally.now }
-    ensures { OnOk result (report.new ≡ report.old ++ items_told true (map (group_value script.now journals.now) (map (control_of script.now.names) made.now))) }
+    requires known { AreKnownGroups run.now.script.now.names made.now }
+    requires counts { IsTallyOf run.now.journals.now (slice_count run.now.script.now.machine) tally.now }
+    ensures { OnOk result (report.new ≡ report.old ++ items_told true (map (group_value run.now.script.now run.now.journals.now) (map (control_of run.now.script.now.names) made.now))) }
 {
     for group in made {
-        push_made_group(alloc, report, script, journals, *group, tally)?;
+        push_made_group(alloc, report, run, *group, tally)?;
     }
     Ok(())
 }
@@ -68,34 +64,32 @@ fn push_made(
 fn push_default_group(
     alloc: Global,
     report: &mut ReportText,
-    script: &Script,
-    journals: &Journals,
+    run: &Run<'_>,
     tally: &Tally,
 ) -> Result<(), NoMemory>
-    requires { IsTallyOf journals.now (slice_count script.now.machine) tally.now }
-    ensures { OnOk result (report.new ≡ report.old ++ compact_text (group_value script.now journals.now default_control)) }
+    requires { IsTallyOf run.now.journals.now (slice_count run.now.script.now.machine) tally.now }
+    ensures { OnOk result (report.new ≡ report.old ++ compact_text (group_value run.now.script.now run.now.journals.now default_control)) }
 {
     let root = PathRef::Dir(DirRef::Root);
-    push_group(alloc, report, script.names(), 0, root, tally.of(0))
+    push_group(alloc, report, run.script.names(), 0, root, tally.of(0))
 }
 
 /// Adds the groups: the default group, and those that were made.
 pub(crate) fn push_groups(
     alloc: Global,
     report: &mut ReportText,
-    script: &Script,
-    journals: &Journals,
+    run: &Run<'_>,
     made: &[MadeGroup],
     tally: &Tally,
 ) -> Result<(), NoMemory>
-    requires counts { IsTallyOf journals.now (slice_count script.now.machine) tally.now }
-    requires known { AreKnownGroups script.now.names made.now }
-    requires made { made.now ≡ made_from script.now (opening script.now.machine script.now.tasks) journals.now.tree }
-    ensures { OnOk result (report.new ≡ report.old ++ members_told true ((codes "groups", array_of (group_values script.now journals.now)) ∷ [])) }
+    requires counts { IsTallyOf run.now.journals.now (slice_count run.now.script.now.machine) tally.now }
+    requires known { AreKnownGroups run.now.script.now.names made.now }
+    requires made { made.now ≡ made_from run.now.script.now (opening run.now.script.now.machine run.now.script.now.tasks) run.now.journals.now.tree }
+    ensures { OnOk result (report.new ≡ report.old ++ members_told true ((codes "groups", array_of (group_values run.now.script.now run.now.journals.now)) ∷ [])) }
 {
     push_key(report, true, "groups")?;
     report.push(b"[".as_slice())?;
-    push_default_group(alloc, report, script, journals, tally)?;
-    push_made(alloc, report, script, journals, made, tally)?;
+    push_default_group(alloc, report, run, tally)?;
+    push_made(alloc, report, run, made, tally)?;
     report.push(b"]".as_slice())
 }

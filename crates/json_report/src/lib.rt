@@ -19,7 +19,7 @@ mod windows;
 pub use domains::push_domains;
 pub use groups::push_group;
 pub use members::{push_comma, push_key, push_number};
-pub use report::text;
+pub use report::{finish, head, text};
 pub use slices::push_journal_part;
 pub use texts::{push_result_text, push_text_lines, push_words_text};
 pub use totals::push_total;

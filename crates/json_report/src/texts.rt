@@ -14,7 +14,7 @@ use crate::strings::push_string;
 use path_names::Names;
 use rc_base::NoMemory;
 use report_pieces::{ReportText, push_result, push_words};
-use run_law::{Journals, TreeEntry};
+use run_replay::CommandAt;
 use script_ops::{OpAt, next_line};
 use std::alloc::Global;
 
@@ -48,16 +48,15 @@ pub fn push_text_lines(report: &mut ReportText, text: &[u8]) -> Result<(), NoMem
 pub fn push_result_text(
     alloc: Global,
     report: &mut ReportText,
-    journals: &Journals,
-    entry: &TreeEntry,
+    command: &CommandAt<'_>,
     op: &Option<OpAt<'_>>,
     hit: Option<bool>,
 ) -> Result<(), NoMemory>
-    requires { TellsTouch journals.now (entry_value entry.now) hit }
-    ensures { OnOk result (report.new ≡ report.old ++ members_told true ((codes "result", string (result_by journals.now (entry_value entry.now) op.now)) ∷ [])) }
+    requires { TellsTouch command.now.run.journals.now (entry_value command.now.entry.now) hit }
+    ensures { OnOk result (report.new ≡ report.old ++ members_told true ((codes "result", string (result_by command.now.run.journals.now (entry_value command.now.entry.now) op.now)) ∷ [])) }
 {
     let mut text = ReportText::create(alloc)?;
-    push_result(&mut text, journals, entry, op, hit)?;
+    push_result(&mut text, command.run.journals, command.entry, op, hit)?;
     push_text(report, "result", &text.into_bytes())
 }
 

@@ -3,3 +3,4 @@ pub mod CountTexts
 pub mod DomainCounts
 pub mod GroupLines
 pub mod SliceTexts
+pub mod laws

@@ -2,6 +2,7 @@ pub mod Commands
 pub mod Counts
 pub mod Domains
 pub mod Groups
+pub mod Halves
 pub mod Reporting
 pub mod SliceLines
 pub mod Totals

@@ -14,7 +14,7 @@ mod windows;
 
 pub use domains::push_domains;
 pub use groups::push_group;
-pub use report::text;
+pub use report::{finish, head, text};
 pub use slice_lines::push_journal;
 pub use totals::push_total;
 pub use windows::push_windows;

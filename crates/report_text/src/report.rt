@@ -1,7 +1,9 @@
 //! The report of a run.
-ghost use Rattle.std.specs.Prelude.{◌≡◌, ◌++◌, IfOk, OnOk};
+ghost use Rattle.std.specs.Prelude.{◌≡◌, ◌++◌, IfOk, OnOk, length};
+ghost use Rattle.report_text.specs.Halves.{head_of, tail_of};
 ghost use Rattle.report_text.specs.Reporting.{commands_part, report_of};
 ghost use Rattle.run_law.specs.Runs.{IsRun};
+ghost use Rattle.run_replay.specs.Playbacks.{HasTakenBefore};
 
 use crate::commands::push_commands;
 use crate::text_groups::push_groups;
@@ -10,47 +12,95 @@ use rc_base::NoMemory;
 use report_pieces::ReportText;
 use run_counts::RunCounts;
 use run_law::{Flags, Journals, Window};
-use run_replay::made_groups;
+use run_replay::{Playback, Replay, Run, made_groups};
 use script_ops::Script;
 use std::alloc::Global;
 
 // Adds the lines of the commands, but not to a quiet report.
-fn push_commands_part(
+fn push_commands_part<R: Playback>(
     alloc: Global,
     report: &mut ReportText,
-    script: &Script,
-    journals: &Journals,
+    run: &Run<'_>,
     quiet: bool,
+    replay: &mut R,
 ) -> Result<(), NoMemory>
-    requires run { IsRun script.now journals.now }
-    ensures text { OnOk result (report.new ≡ report.old ++ commands_part script.now journals.now quiet) }
+    requires run { IsRun run.now.script.now run.now.journals.now }
+    requires taken { HasTakenBefore run.now.script.now run.now.journals.now.tree 0 (R.played replay.old) }
+    requires notes { R.notes run.now.script.now run.now.journals.now replay.old }
+    ensures text { OnOk result (report.new ≡ report.old ++ commands_part run.now.script.now run.now.journals.now quiet) }
+    ensures taken { OnOk result (HasTakenBefore run.now.script.now run.now.journals.now.tree (length run.now.journals.now.tree) (R.played replay.new)) }
+    ensures notes { OnOk result (R.notes run.now.script.now run.now.journals.now replay.new) }
 {
     if quiet {
         return Ok(());
     }
-    push_commands(alloc, report, script, journals)
+    push_commands(alloc, report, run, replay)
 }
 
-// Adds the whole report.
-fn push_report(
+/// The first part of the report of a run (this project's profile): a line for each command, with what an accepted read gave,
+/// unless it is to be quiet, and a line for each entry of each slice, where the flags ask for the journal. The tree that is lent
+/// is taken as far as the last accepted read or list, and nowhere for a quiet report.
+pub fn head<R: Playback>(
+    alloc: Global,
+    run: &Run<'_>,
+    flags: Flags,
+    replay: &mut R,
+) -> Result<ReportText, NoMemory>
+    requires run { IsRun run.now.script.now run.now.journals.now }
+    requires taken { HasTakenBefore run.now.script.now run.now.journals.now.tree 0 (R.played replay.old) }
+    requires notes { R.notes run.now.script.now run.now.journals.now replay.old }
+    ensures text { IfOk result (λ report. report ≡ head_of run.now.script.now run.now.journals.now flags) }
+    ensures taken { OnOk result (HasTakenBefore run.now.script.now run.now.journals.now.tree (length run.now.journals.now.tree) (R.played replay.new)) }
+    ensures notes { OnOk result (R.notes run.now.script.now run.now.journals.now replay.new) }
+{
+    let mut report = ReportText::create(alloc)?;
+    push_commands_part(alloc, &mut report, run, flags.quiet, replay)?;
+    push_journal(&mut report, flags.journal, run.script, run.journals)?;
+    Ok(report)
+}
+
+// The same by a tree of its own.
+fn own_head(alloc: Global, run: &Run<'_>, flags: Flags) -> Result<ReportText, NoMemory>
+    requires run { IsRun run.now.script.now run.now.journals.now }
+    ensures { IfOk result (λ report. report ≡ head_of run.now.script.now run.now.journals.now flags) }
+{
+    let mut replay = Replay::create(alloc, run.script, run.journals)?;
+    head(alloc, run, flags, &mut replay)
+}
+
+// Adds all lines after the first part.
+fn push_tail(
     alloc: Global,
     report: &mut ReportText,
-    script: &Script,
-    journals: &Journals,
+    run: &Run<'_>,
     flags: Flags,
     windows: &[Window],
 ) -> Result<(), NoMemory>
-    requires run { IsRun script.now journals.now }
-    ensures { OnOk result (report.new ≡ report.old ++ report_of script.now journals.now flags windows.now) }
+    requires run { IsRun run.now.script.now run.now.journals.now }
+    ensures { OnOk result (report.new ≡ report.old ++ tail_of run.now.script.now run.now.journals.now flags windows.now) }
 {
-    push_commands_part(alloc, report, script, journals, flags.quiet)?;
-    push_journal(report, flags.journal, script, journals)?;
     push_windows(report, flags.windows, windows)?;
-    let made = made_groups(alloc, script, journals)?;
-    let counts = RunCounts::of(alloc, script, journals)?;
-    push_groups(report, script, journals, &made, counts.tally())?;
-    push_domains(report, script, journals, &counts)?;
-    push_total(report, script, journals, counts.tally())
+    let made = made_groups(alloc, run.script, run.journals)?;
+    let counts = RunCounts::of(alloc, run.script, run.journals)?;
+    push_groups(report, run.script, run.journals, &made, counts.tally())?;
+    push_domains(report, run.script, run.journals, &counts)?;
+    push_total(report, run.script, run.journals, counts.tally())
+}
+
+/// A report with its other lines after its first part: a line for each of these windows, where the flags ask for windows; a line
+/// for each control group and for each domain, and a last line. Every number is counted from the journals.
+pub fn finish(
+    alloc: Global,
+    mut head: ReportText,
+    run: &Run<'_>,
+    flags: Flags,
+    windows: &[Window],
+) -> Result<Vec<u8>, NoMemory>
+    requires run { IsRun run.now.script.now run.now.journals.now }
+    ensures { IfOk result (λ bytes. bytes.items ≡ head ++ tail_of run.now.script.now run.now.journals.now flags windows.now) }
+{
+    push_tail(alloc, &mut head, run, flags, windows)?;
+    Ok(head.into_bytes())
 }
 
 /// The report of a run (this project's profile): a line for each command, with what an accepted read gave, unless it is to be
@@ -67,7 +117,7 @@ pub fn text(
     requires run { IsRun script.now journals.now }
     ensures { IfOk result (λ bytes. bytes.items ≡ report_of script.now journals.now flags windows.now) }
 {
-    let mut report = ReportText::create(alloc)?;
-    push_report(alloc, &mut report, script, journals, flags, windows)?;
-    Ok(report.into_bytes())
+    let run = Run { script, journals };
+    let head = own_head(alloc, &run, flags)?;
+    finish(alloc, head, &run, flags, windows)
 }

@@ -1,52 +1,97 @@
 //! The report that the flags of a form ask for.
-ghost use Rattle.std.specs.Prelude.{◌≡◌, IfOk};
-ghost use Rattle.resctrl_top.specs.Outputs.{AreWindowsDue, IsOutput, output_of};
+ghost use Rattle.std.specs.Prelude.{◌≡◌, ◌++◌, IfOk, OnOk, [], length};
+ghost use Rattle.resctrl_top.specs.Halves.{IsWithWindows, output_head, output_tail};
+ghost use Rattle.resctrl_top.specs.Outputs.{IsOutput, output_of};
 ghost use Rattle.run_law.specs.Runs.{IsRun};
+ghost use Rattle.run_replay.specs.Playbacks.{HasTakenBefore};
 ghost use Rattle.script_ops.specs.Values.{IsLawful};
 
 use rc_base::NoMemory;
+use report_pieces::ReportText;
 use run_law::{Flags, Journals, Window};
-use run_windows::windows;
+use run_replay::{Playback, Run};
+use run_windows::{FollowedReplay, windows_after};
 use script_ops::Script;
 use std::alloc::Global;
 
-// The windows that are due.
-fn due_windows(
+// The first part of the report, in JSON, or in lines.
+fn head<R: Playback>(
     alloc: Global,
-    script: &Script,
-    journals: &Journals,
-    asked: bool,
-) -> Result<Vec<Window>, NoMemory>
-    requires lawful { IsLawful script.now }
-    requires run { IsRun script.now journals.now }
-    ensures { IfOk result (λ windows. AreWindowsDue asked script.now journals.now windows.items) }
+    run: &Run<'_>,
+    flags: Flags,
+    replay: &mut R,
+) -> Result<ReportText, NoMemory>
+    requires run { IsRun run.now.script.now run.now.journals.now }
+    requires taken { HasTakenBefore run.now.script.now run.now.journals.now.tree 0 (R.played replay.old) }
+    requires notes { R.notes run.now.script.now run.now.journals.now replay.old }
+    ensures text { IfOk result (λ head. head ≡ output_head run.now.script.now run.now.journals.now flags) }
+    ensures taken { OnOk result (HasTakenBefore run.now.script.now run.now.journals.now.tree (length run.now.journals.now.tree) (R.played replay.new)) }
+    ensures notes { OnOk result (R.notes run.now.script.now run.now.journals.now replay.new) }
 {
-    if asked {
-        windows(alloc, script, journals)
+    if flags.json {
+        json_report::head(alloc, run, flags, replay)
     } else {
-        Ok(Vec::new(alloc))
+        report_text::head(alloc, run, flags, replay)
     }
 }
 
-// The report in JSON, or in lines.
-fn text_of(
+// A report with the rest after its first part.
+fn finish(
+    alloc: Global,
+    head: ReportText,
+    run: &Run<'_>,
+    flags: Flags,
+    windows: &[Window],
+) -> Result<Vec<u8>, NoMemory>
+    requires { IsRun run.now.script.now run.now.journals.now }
+    ensures { IfOk result (λ text. text.items ≡ head ++ output_tail run.now.script.now run.now.journals.now flags windows.now) }
+{
+    if flags.json {
+        json_report::finish(alloc, head, run, flags, windows)
+    } else {
+        report_text::finish(alloc, head, run, flags, windows)
+    }
+}
+
+// The report with its windows. The tree is taken through its history once for both: what is left of it after the last text is
+// played for the windows.
+fn with_windows(
     alloc: Global,
     script: &Script,
     journals: &Journals,
     flags: Flags,
-    windows: &[Window],
+) -> Result<Vec<u8>, NoMemory>
+    requires lawful { IsLawful script.now }
+    requires run { IsRun script.now journals.now }
+    ensures { IfOk result (λ text. IsWithWindows script.now journals.now flags text.items) }
+{
+    let run = Run { script, journals };
+    let mut followed = FollowedReplay::create(alloc, script, journals)?;
+    let head = head(alloc, &run, flags, &mut followed)?;
+    let windows = windows_after(alloc, &run, followed)?;
+    let text = finish(alloc, head, &run, flags, &windows)?;
+    Ok(text)
+}
+
+// The report without windows, in JSON, or in lines.
+fn without_windows(
+    alloc: Global,
+    script: &Script,
+    journals: &Journals,
+    flags: Flags,
 ) -> Result<Vec<u8>, NoMemory>
     requires { IsRun script.now journals.now }
-    ensures { IfOk result (λ text. text.items ≡ output_of script.now journals.now flags windows.now) }
+    ensures { IfOk result (λ text. text.items ≡ output_of script.now journals.now flags []) }
 {
     if flags.json {
-        json_report::text(alloc, script, journals, flags, windows)
+        json_report::text(alloc, script, journals, flags, &[])
     } else {
-        report_text::text(alloc, script, journals, flags, windows)
+        report_text::text(alloc, script, journals, flags, &[])
     }
 }
 
-/// The report of a run, whoever made its journals: in JSON or in lines, with the windows of these journals, as the flags ask for them.
+/// The report of a run, whoever made its journals: in JSON or in lines, with the windows of these journals, as the flags ask for
+/// them. The tree is taken through its history once more at most, for the texts of accepted reads and lists and for the windows.
 pub fn report(
     alloc: Global,
     script: &Script,
@@ -57,6 +102,10 @@ pub fn report(
     requires run { IsRun script.now journals.now }
     ensures { IfOk result (λ text. IsOutput script.now journals.now flags text.items) }
 {
-    let windows = due_windows(alloc, script, journals, flags.windows)?;
-    text_of(alloc, script, journals, flags, &windows)
+    let asked = flags.windows;
+    if asked {
+        with_windows(alloc, script, journals, flags)
+    } else {
+        without_windows(alloc, script, journals, flags)
+    }
 }

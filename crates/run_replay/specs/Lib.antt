@@ -1,3 +1,4 @@
+pub mod CommandsOfRuns
 pub mod GroupHistories
 pub mod Made
 pub mod Playbacks

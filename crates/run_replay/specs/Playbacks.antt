@@ -29,11 +29,6 @@ pub record HasTakenBefore (script : ScriptValue) (tree : List TreeEntryValue) (p
   pub taken : HasTaken script tree t
   pub before : t.epoch ≤ position
 
--- (For proofs.) the tree, and the text that was asked for last
-pub record GivenTextsValue : Type 0 where
-  pub tree : TreeValue
-  pub latest : List ℕ
-
 -- the text that an accepted read or list gives in this state, by its op; no other command gives one
 abbrev pub given_by : ScriptValue → State → List ℕ → Reply → Option Op → Option (List ℕ)
 given_by script s looks replies.Ok (Some op) = if is_reading op then Some (text_of script.machine s script.names op looks) else None

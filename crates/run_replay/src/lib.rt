@@ -3,13 +3,19 @@
 //! itself is asked for, and only as far. A call that runs out of memory answers NoMemory.
 #![tactic(auto)]
 
+mod command_at;
 mod group_history;
 mod made_group;
+mod playback;
 mod replay;
+mod run;
 mod taken;
 mod texts;
 
+pub use command_at::CommandAt;
 pub use group_history::made_groups;
 pub use made_group::MadeGroup;
+pub use playback::Playback;
 pub use replay::Replay;
+pub use run::Run;
 pub use texts::GivenTexts;

@@ -1,5 +1,5 @@
 //! The tree, taken through its history once more.
-ghost use Rattle.std.specs.Prelude.{◌≡◌, ◌+◌, ◌<◌, ◌≤◌, IfOk, length};
+ghost use Rattle.std.specs.Prelude.{◌≡◌, ◌+◌, ◌<◌, ◌≤◌, IfOk, length, ⊤};
 ghost use Rattle.run_law.specs.Runs.{IsRun};
 ghost use Rattle.run_replay.specs.Playbacks.{HasTaken, HasTakenBefore};
 ghost use Rattle.script_ops.specs.Fits.{Fits};
@@ -7,6 +7,7 @@ ghost use Rattle.script_ops.specs.declared.limits.TheConstants.{MOST_WEIGHT};
 ghost use Rattle.tree_law.specs.State.{tasks_of};
 ghost use Rattle.tree_law.specs.Steps.{needs, next};
 
+use crate::playback::Playback;
 use crate::taken::take;
 use rc_base::NoMemory;
 use run_law::Journals;
@@ -60,8 +61,8 @@ impl Replay {
         self.tree.apply(op, looks);
     }
 
-    // Takes the command at a position once more, which is the next.
-    fn take_next(&mut self, script: &Script, journals: &Journals, position: usize)
+    /// Takes the command at a position once more, which is the next.
+    pub fn take_next(&mut self, script: &Script, journals: &Journals, position: usize)
         requires taken { HasTaken script.now journals.now.tree self.old }
         requires next { self.old.epoch ≡ position }
         requires within { position < length journals.now.tree }
@@ -84,5 +85,25 @@ impl Replay {
         for next in first..position {
             self.take_next(script, journals, next);
         }
+    }
+}
+
+impl Playback for Replay {
+    ghost played = { λ r. r };
+
+    ghost notes = { λ script j r. ⊤ };
+
+    fn tree(&self) -> &Tree {
+        &self.tree
+    }
+
+    fn play_to(
+        &mut self,
+        script: &Script,
+        journals: &Journals,
+        position: usize,
+    ) -> Result<(), NoMemory> {
+        self.reach(script, journals, position);
+        Ok(())
     }
 }

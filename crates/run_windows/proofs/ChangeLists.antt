@@ -2,17 +2,14 @@
 use Rattle.std.proofs.Common.{◌≡◌, ℕ, ◌+◌, ◌-◌, ◌<◌, List, [], ◌∷◌, ◌++◌, length, map, filter, get_or, Option, None, Some, inl, inr, sym, subst, ap, ◌∙◌, arith}
 use Rattle.std.specs.Prelude.{IfSome, IsSomeAnd, slice_get}
 use Rattle.std.proofs.lemmas.Bool.{cases_lt}
-use Rattle.std.proofs.lemmas.List.{get_or-map, length-append, length-map}
+use Rattle.std.proofs.lemmas.List.{length-append}
 use Rattle.std.proofs.lemmas.List.Elements.{All-append}
 use Rattle.std.proofs.lemmas.Option.{slice_get-get_or, slice_get_past, slice_get_within}
 use Rattle.group_tree.specs.Records.{has_mode}
 use Rattle.lists.proofs.Pairs.{AllPairs-append, AllPairs-one}
 use Rattle.lists.proofs.Tests.{All-one}
 use Rattle.rc_base.specs.declared.names.Mode.TheVariants.{Exclusive}
-use Rattle.run_law.specs.Entries.{entry_value}
-use Rattle.run_law.specs.Journals.{At, JournalsValue}
-use Rattle.run_law.specs.TreeHistory.{TreeEntryValue}
-use Rattle.run_law.specs.declared.journals.TreeEntry.{TreeEntry}
+use Rattle.run_law.specs.Journals.{JournalsValue}
 use Rattle.run_windows.specs.Changes.{AreChanges, IsReplayed, logged}
 use Rattle.run_windows.specs.Edits.{Change, changes_of, edited}
 use Rattle.run_windows.specs.Epochs.{state_at}
@@ -170,11 +167,3 @@ module _ (script : ScriptValue) (j : JournalsValue) where
           let old : c.exclusive ≡ exclusive_in t.state.groups = subst (λ (s : State). c.exclusive ≡ exclusive_in s.groups) (sym before.state) are in
           let new : c.exclusive ≡ exclusive_in u.state.groups = old ∙ ap (map exclusive_of) (sym kept) in
           subst (λ n. AreAt n c) epoch (AreAt-tree u c after new)
-
--- an entry of the tree's history by its position
-pub At-entry_value : (es : List TreeEntry) (tree : List TreeEntryValue) (k n : ℕ) (e : TreeEntry) → map entry_value es ≡ tree → n ≡ k → k < length es → e ≡ get_or es k e → At tree n (entry_value e)
-At-entry_value es tree k n e whole same within is =
-    let len = length-map es entry_value in
-    let here : At (map entry_value es) k (entry_value e) =
-    slice_get-get_or (map entry_value es) k (entry_value e) (omega (arith, within, len)) ∙ ap (λ (x : TreeEntryValue). Some x) (get_or-map entry_value es k e (entry_value e) within ∙ ap entry_value (sym is)) in
-    subst (λ (t : List TreeEntryValue). At t n (entry_value e)) whole (subst (λ i. At (map entry_value es) i (entry_value e)) (sym same) here)

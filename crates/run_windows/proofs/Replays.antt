@@ -1,60 +1,44 @@
 -- A tree that takes the commands of a run once more.
-use Rattle.std.proofs.Common.{◌≡◌, ℕ, ◌+◌, length, None, Some, sym, subst, ap, ◌∙◌, arith}
-use Rattle.std.specs.Prelude.{IsTrue}
-use Rattle.std.proofs.lemmas.Option.{same_Some, slice_get_within}
+use Rattle.std.proofs.Common.{◌≡◌, ℕ, ◌+◌, ◌≤◌, List, length, Option, None, Some, refl, sym, subst, ap, ◌∙◌, arith}
+use Rattle.std.proofs.lemmas.Option.{slice_get_within}
+use Rattle.machine.specs.declared.parameters.Parameters.{Parameters}
 use Rattle.run_law.specs.Journals.{At, JournalsValue}
-use Rattle.run_law.specs.Ops.{is_command}
-use Rattle.run_law.specs.Runs.{IsRun}
-use Rattle.run_law.specs.TreeHistory.{TreeEntryValue, tree_after}
-use Rattle.run_windows.proofs.Epochs.{Fits-state_at, state_at-suc}
-use Rattle.run_windows.specs.Epochs.{state_at}
-use Rattle.run_windows.specs.Changes.{IsReplayed}
-use Rattle.script_ops.specs.Fits.{Fits}
-use Rattle.script_ops.specs.Values.{IsLawful, ScriptValue, op_at}
+use Rattle.run_law.specs.TreeHistory.{TreeEntryValue, state_after, tree_after}
+use Rattle.run_replay.proofs.laws.Steps.{state_before-suc}
+use Rattle.run_replay.specs.Playbacks.{HasTaken, state_before}
+use Rattle.run_windows.proofs.OtherGroups.{AreKeptBut-next}
+use Rattle.run_windows.specs.Changes.{AreKeptBut, IsReplayed, changed_by}
+use Rattle.script_ops.specs.Values.{ScriptValue, op_at}
 use Rattle.script_ops.specs.declared.op.Op.{Op}
 use Rattle.tree_core.specs.Values.{TreeValue}
-use Rattle.tree_law.specs.State.{opening, tasks_of}
-use Rattle.tree_law.specs.Steps.{needs, next}
-use Rattle.run_law.proofs.laws.SoundHistories.{Fits-op_at, IsTaken-at}
+use Rattle.tree_law.specs.State.{State}
 
--- at first
-pub IsReplayed-opening : (script : ScriptValue) (j : JournalsValue) (t : TreeValue) → t.machine ≡ script.machine → t.state ≡ opening script.machine script.tasks → t.epoch ≡ 0 → IsReplayed script j t
-unfolding tree_after
-IsReplayed-opening script j t machine state epoch = record {
-  machine = machine;
-  state = state ∙ sym (ap (state_at script j) epoch);
-  known = omega (arith, epoch);
-}
+-- a command, where there is one, leaves all exclusive groups but one
+AreKeptBut-after : (m : Parameters) (s : State) (looks : List ℕ) (op : Option Op) → AreKeptBut (changed_by s op) s (state_after m s looks op)
+AreKeptBut-after m s looks None = refl
+AreKeptBut-after m s looks (Some op) = AreKeptBut-next m s op looks
 
--- an entry is not without an op
-pub op_at-none : (script : ScriptValue) (j : JournalsValue) (k : ℕ) (h : TreeEntryValue) → IsRun script j → At j.tree k h → None ≡ op_at script h.thread h.op → ⊥
-op_at-none script j k h run there none = let is : None ≡ Some (IsTaken-at script j.tree k h run.tree_legal there).op = none ∙ (IsTaken-at script j.tree k h run.tree_legal there).is in absurd cc
+module _ (script : ScriptValue) (j : JournalsValue) where
+  -- the tree is that of its epoch
+  pub IsReplayed-taken : (t : TreeValue) → HasTaken script j.tree t → t.epoch ≤ length j.tree → IsReplayed script j t
+  unfolding tree_after
+  IsReplayed-taken t taken known = record { machine = taken.replay.machine; state = taken.state; known = known }
 
-module _ (script : ScriptValue) (j : JournalsValue) (lawful : IsLawful script) (run : IsRun script j) (t : TreeValue) (h : TreeEntryValue) (op : Op) (replayed : IsReplayed script j t) (there : At j.tree t.epoch h) (is : Some op ≡ op_at script h.thread h.op) where
-  same : (IsTaken-at script j.tree t.epoch h run.tree_legal there).op ≡ op
-  same = same_Some (IsTaken-at script j.tree t.epoch h run.tree_legal there).op op (sym (IsTaken-at script j.tree t.epoch h run.tree_legal there).is ∙ sym is)
+  -- so it is before a command
+  pub IsReplayed-at : (t : TreeValue) (k : ℕ) (h : TreeEntryValue) → HasTaken script j.tree t → t.epoch ≡ k → At j.tree k h → IsReplayed script j t
+  IsReplayed-at t k h taken at there = IsReplayed-taken t taken (let within = slice_get_within j.tree k h there in omega (arith, at, within))
 
-  -- its op is a command
-  pub is_command-taken : IsTrue (is_command op)
-  is_command-taken = subst (λ c. IsTrue (is_command c)) same (IsTaken-at script j.tree t.epoch h run.tree_legal there).command
+  -- and after it
+  pub IsReplayed-past : (t : TreeValue) (k : ℕ) (h : TreeEntryValue) → HasTaken script j.tree t → t.epoch ≡ k + 1 → At j.tree k h → IsReplayed script j t
+  IsReplayed-past t k h taken at there = IsReplayed-taken t taken (let within = slice_get_within j.tree k h there in omega (arith, at, within))
 
-  -- that was given its counts
-  pub length-looks_taken : length h.looks ≡ length (needs t.machine t.state op)
-  length-looks_taken =
-      subst (λ m. length h.looks ≡ length (needs m t.state op)) (sym replayed.machine)
-      (subst (λ s. length h.looks ≡ length (needs script.machine s op)) (sym replayed.state)
-      (subst (λ c. length h.looks ≡ length (needs script.machine (state_at script j t.epoch) c)) same (IsTaken-at script j.tree t.epoch h run.tree_legal there).looks))
-
-  -- and fits
-  pub Fits-taken : Fits t.machine (tasks_of t.state) op
-  Fits-taken =
-      subst (λ m. Fits m (tasks_of t.state) op) (sym replayed.machine)
-      (subst (λ s. Fits script.machine (tasks_of s) op) (sym replayed.state) (Fits-state_at script j t.epoch op (Fits-op_at script h.thread h.op op lawful (sym is))))
-
-  -- after it the tree is that of the next epoch
-  pub IsReplayed-next : (new : TreeValue) → new.machine ≡ t.machine → new.state ≡ (next t.machine t.state op h.looks).state → new.epoch ≡ t.epoch + 1 → IsReplayed script j new
-  IsReplayed-next new machine state epoch = record {
-    machine = machine ∙ replayed.machine;
-    state = state ∙ (ap (λ m. (next m t.state op h.looks).state) replayed.machine ∙ (ap (λ s. (next script.machine s op h.looks).state) replayed.state ∙ (sym (state_at-suc script j t.epoch h op there (sym is)) ∙ sym (ap (state_at script j) epoch))));
-    known = let within = slice_get_within j.tree t.epoch h there in omega (arith, within, epoch);
-  }
+  -- the command at a position leaves all exclusive groups but the one that it may change
+  pub AreKeptBut-taken : (t u : TreeValue) (k : ℕ) (h : TreeEntryValue) → HasTaken script j.tree t → t.epoch ≡ k → HasTaken script j.tree u → u.epoch ≡ k + 1 → At j.tree k h
+      → AreKeptBut (changed_by t.state (op_at script h.thread h.op)) t.state u.state
+  AreKeptBut-taken t u k h before at after past there =
+      let was : t.state ≡ state_before script j.tree k = before.state ∙ ap (state_before script j.tree) at in
+      let is : u.state ≡ state_after script.machine t.state h.looks (op_at script h.thread h.op) =
+      after.state
+      ∙ (ap (state_before script j.tree) past
+      ∙ (state_before-suc script j.tree k h there ∙ ap (λ (s : State). state_after script.machine s h.looks (op_at script h.thread h.op)) (sym was))) in
+      subst (AreKeptBut (changed_by t.state (op_at script h.thread h.op)) t.state) (sym is) (AreKeptBut-after script.machine t.state h.looks (op_at script h.thread h.op))

@@ -2,6 +2,7 @@ pub mod AllWindows
 pub mod Changes
 pub mod Edits
 pub mod Epochs
+pub mod Followed
 pub mod Fronts
 pub mod LockRows
 pub mod OneGroup

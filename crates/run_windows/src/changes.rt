@@ -1,21 +1,22 @@
 //! The changes of the groups that are exclusive.
-ghost use Rattle.std.specs.Prelude.{◌≡◌, ◌+◌, ◌∷◌, [], ◌++◌, IfOk, OnOk, length};
+ghost use Rattle.std.specs.Prelude.{◌≡◌, ◌+◌, ◌≤◌, ◌∷◌, [], ◌++◌, IfOk, OnOk, length};
 ghost use Rattle.run_law.specs.Entries.{entry_value};
 ghost use Rattle.run_law.specs.Journals.{At};
 ghost use Rattle.run_law.specs.Runs.{IsRun};
-ghost use Rattle.run_windows.specs.Changes.{AreChanges, AreKeptBut, IsReplayed, changed_gid, logged, removed_gid, written_gid};
+ghost use Rattle.run_replay.specs.Playbacks.{HasTaken, HasTakenBefore};
+ghost use Rattle.run_windows.specs.Changes.{AreChanges, AreKeptBut, HasNoted, IsReplayed, changed_by, changed_gid, logged, removed_gid, written_gid};
 ghost use Rattle.run_windows.specs.Edits.{changes_of};
 ghost use Rattle.run_windows.specs.OneGroup.{AreInOrder, others};
 ghost use Rattle.run_windows.specs.Stays.{exclusive_in};
-ghost use Rattle.script_ops.specs.Values.{IsLawful};
+ghost use Rattle.script_ops.specs.Values.{IsLawful, op_at};
 
 use crate::edit::{Edit, edit_one};
 use crate::exclusive_group::{ExclusiveGroup, exclusive_group};
-use crate::run::Run;
 use path_names::{FileKind, PathRef};
 use rc_base::{Gid, NoMemory};
 use run_law::TreeEntry;
-use script_ops::Op;
+use run_replay::{Replay, Run};
+use script_ops::{Op, Script};
 use std::alloc::Global;
 use tree_core::Tree;
 
@@ -70,29 +71,32 @@ fn changed_gid(tree: &Tree, op: &Op) -> Option<Gid>
     }
 }
 
-// Takes the next command of a run, and answers the one group that may now be exclusive or not, or on other masks.
-fn take(tree: &mut Tree, run: &Run<'_>, entry: &TreeEntry) -> Option<Gid>
-    requires lawful { IsLawful run.now.script.now }
-    requires run { IsRun run.now.script.now run.now.journals.now }
-    requires replayed { IsReplayed run.now.script.now run.now.journals.now tree.old }
-    requires next { At run.now.journals.now.tree tree.old.epoch (entry_value entry.now) }
-    ensures replayed { IsReplayed run.now.script.now run.now.journals.now tree.new }
-    ensures epoch { tree.new.epoch ≡ tree.old.epoch + 1 }
-    ensures kept { AreKeptBut result tree.old.state tree.new.state }
+// The group that the command of an entry may change so.
+fn changed_by(tree: &Tree, script: &Script, entry: &TreeEntry) -> Option<Gid>
+    ensures { result ≡ changed_by tree.now.state (op_at script.now entry.now.thread entry.now.op) }
 {
-    match run.script.op(entry.thread, entry.op) {
-        Some(op) => {
-            let op = op.get();
-            let gid = changed_gid(tree, op);
-            tree.apply(op, entry.looks.items());
-            gid
-        }
-        None => unreachable!(),
+    match script.op(entry.thread, entry.op) {
+        Some(op) => changed_gid(tree, op.get()),
+        None => None,
     }
 }
 
-// The log of a tree that has taken no command yet, in which no group is exclusive.
-fn first_log(alloc: Global) -> Log
+// Takes the next command of a run, and answers the one group that may now be exclusive or not, or on other masks.
+fn take(replay: &mut Replay, run: &Run<'_>, position: usize, entry: &TreeEntry) -> Option<Gid>
+    requires taken { HasTaken run.now.script.now run.now.journals.now.tree replay.old }
+    requires next { replay.old.epoch ≡ position }
+    requires entry { At run.now.journals.now.tree position (entry_value entry.now) }
+    ensures taken { HasTaken run.now.script.now run.now.journals.now.tree replay.new }
+    ensures epoch { replay.new.epoch ≡ position + 1 }
+    ensures kept { AreKeptBut result replay.old.state replay.new.state }
+{
+    let gid = changed_by(replay.tree(), run.script, entry);
+    replay.take_next(run.script, run.journals, position);
+    gid
+}
+
+/// The log of a tree that has taken no command yet, in which no group is exclusive.
+pub(crate) fn first_log(alloc: Global) -> Log
     ensures { (result.pasts.items ≡ []) × (result.from ≡ 0) × (result.latest.items ≡ []) }
 {
     Log {
@@ -126,24 +130,53 @@ fn push_changed(run: &Run<'_>, tree: &Tree, gid: Gid, log: &mut Log) -> Result<(
 }
 
 // Takes the next command of a run, and adds what it did to the exclusive groups, where it changed one of them or its masks.
-fn step(run: &Run<'_>, entry: &TreeEntry, tree: &mut Tree, log: &mut Log) -> Result<(), NoMemory>
+fn step(
+    run: &Run<'_>,
+    position: usize,
+    entry: &TreeEntry,
+    replay: &mut Replay,
+    log: &mut Log,
+) -> Result<(), NoMemory>
     requires lawful { IsLawful run.now.script.now }
     requires run { IsRun run.now.script.now run.now.journals.now }
-    requires replayed { IsReplayed run.now.script.now run.now.journals.now tree.old }
-    requires next { At run.now.journals.now.tree tree.old.epoch (entry_value entry.now) }
-    requires changes { AreChanges run.now.script.now run.now.journals.now (tree.old.epoch + 1) (logged log.old) }
-    ensures replayed { IsReplayed run.now.script.now run.now.journals.now tree.new }
-    ensures epoch { tree.new.epoch ≡ tree.old.epoch + 1 }
-    ensures changes { OnOk result (AreChanges run.now.script.now run.now.journals.now (tree.new.epoch + 1) (logged log.new)) }
+    requires taken { HasTaken run.now.script.now run.now.journals.now.tree replay.old }
+    requires next { replay.old.epoch ≡ position }
+    requires entry { At run.now.journals.now.tree position (entry_value entry.now) }
+    requires changes { AreChanges run.now.script.now run.now.journals.now (replay.old.epoch + 1) (logged log.old) }
+    ensures taken { HasTaken run.now.script.now run.now.journals.now.tree replay.new }
+    ensures epoch { replay.new.epoch ≡ position + 1 }
+    ensures changes { OnOk result (AreChanges run.now.script.now run.now.journals.now (replay.new.epoch + 1) (logged log.new)) }
 {
-    match take(tree, run, entry) {
-        Some(gid) => push_changed(run, tree, gid, log),
+    match take(replay, run, position, entry) {
+        Some(gid) => push_changed(run, replay.tree(), gid, log),
         None => Ok(()),
     }
 }
 
-// All changes of a log, the last of which makes the latest groups of none.
-fn closed(run: &Run<'_>, log: Log) -> Result<Vec<Past>, NoMemory>
+/// Takes all commands before a position, from where the tree is, and adds what they did to the exclusive groups.
+pub(crate) fn follow(
+    run: &Run<'_>,
+    replay: &mut Replay,
+    log: &mut Log,
+    position: usize,
+) -> Result<(), NoMemory>
+    requires taken { HasTakenBefore run.now.script.now run.now.journals.now.tree position replay.old }
+    requires within { position ≤ length run.now.journals.now.tree }
+    requires noted { HasNoted run.now.script.now run.now.journals.now replay.old log.old }
+    ensures taken { OnOk result (HasTaken run.now.script.now run.now.journals.now.tree replay.new) }
+    ensures epoch { OnOk result (replay.new.epoch ≡ position) }
+    ensures noted { OnOk result (HasNoted run.now.script.now run.now.journals.now replay.new log.new) }
+{
+    let entries = run.journals.tree();
+    let first = replay.tree().epoch() as usize;
+    for next in first..position {
+        step(run, next, &entries[next], replay, log)?;
+    }
+    Ok(())
+}
+
+/// All changes of a log, the last of which makes the latest groups of none.
+pub(crate) fn closed(run: &Run<'_>, log: Log) -> Result<Vec<Past>, NoMemory>
     requires { AreChanges run.now.script.now run.now.journals.now (length run.now.journals.now.tree + 1) (logged log) }
     ensures { IfOk result (λ pasts. AreChanges run.now.script.now run.now.journals.now (length run.now.journals.now.tree + 1) (changes_of [] pasts.items)) }
 {
@@ -157,19 +190,4 @@ fn closed(run: &Run<'_>, log: Log) -> Result<Vec<Past>, NoMemory>
         edit: Edit::Whole(latest),
     })?;
     Ok(pasts)
-}
-
-/// What makes the groups that are exclusive at first, and after each command that changes them or a mask of theirs, of those of
-/// the next change, and the last of none. The tree is played once more for it.
-pub(crate) fn changes(alloc: Global, run: &Run<'_>) -> Result<Vec<Past>, NoMemory>
-    requires lawful { IsLawful run.now.script.now }
-    requires run { IsRun run.now.script.now run.now.journals.now }
-    ensures { IfOk result (λ pasts. AreChanges run.now.script.now run.now.journals.now (length run.now.journals.now.tree + 1) (changes_of [] pasts.items)) }
-{
-    let mut tree = Tree::create(alloc, run.script.machine(), run.script.tasks())?;
-    let mut log = first_log(alloc);
-    for entry in run.journals.tree() {
-        step(run, entry, &mut tree, &mut log)?;
-    }
-    closed(run, log)
 }

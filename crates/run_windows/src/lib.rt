@@ -7,15 +7,16 @@ mod changes;
 mod counting;
 mod edit;
 mod exclusive_group;
+mod followed;
 pub mod listing;
 mod opened;
 mod opening;
 mod places;
 mod quiet;
-mod run;
 mod sweep;
 pub mod theorems;
 mod timeline;
 pub mod worked_rows;
 
-pub use listing::windows;
+pub use followed::FollowedReplay;
+pub use listing::{windows, windows_after};

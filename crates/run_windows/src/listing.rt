@@ -6,21 +6,24 @@ ghost use Rattle.machine.specs.Slices.{slice_number};
 ghost use Rattle.run_law.specs.Journals.{At, slice_at};
 ghost use Rattle.run_law.specs.Runs.{IsRun};
 ghost use Rattle.run_windows.specs.AllWindows.{AreWindowsBefore, AreWindowsOf};
+ghost use Rattle.run_replay.specs.Playbacks.{HasTakenBefore};
 ghost use Rattle.run_windows.specs.Changes.{AreChanges};
 ghost use Rattle.run_windows.specs.Edits.{changes_of};
+ghost use Rattle.run_windows.specs.Followed.{HasFollowed, followed_tree};
 ghost use Rattle.run_windows.specs.Timelines.{IsTimeline};
 ghost use Rattle.script_ops.specs.Values.{IsLawful};
 
-use crate::changes::{Past, changes};
+use crate::changes::Past;
 use crate::counting::empties;
+use crate::followed::{FollowedReplay, changes_after};
 use crate::opened::push_opened;
 use crate::opening::Opening;
 use crate::quiet::has_exclusive_write;
-use crate::run::Run;
 use crate::timeline::{Timeline, stays_at, timeline_of};
 use cache_core::SliceEntry;
 use rc_base::NoMemory;
 use run_law::{Journals, Window};
+use run_replay::Run;
 use script_ops::Script;
 use std::alloc::Global;
 
@@ -94,6 +97,20 @@ fn push_domain(
     Ok(())
 }
 
+// All windows of a run, by the changes of its exclusive groups.
+fn list(alloc: Global, run: &Run<'_>, changes: &[Past]) -> Result<Vec<Window>, NoMemory>
+    requires lawful { IsLawful run.now.script.now }
+    requires run { IsRun run.now.script.now run.now.journals.now }
+    requires changes { AreChanges run.now.script.now run.now.journals.now (length run.now.journals.now.tree + 1) (changes_of [] changes.now) }
+    ensures { IfOk result (λ windows. AreWindowsOf run.now.script.now run.now.journals.now windows.items) }
+{
+    let mut windows: Vec<Window> = Vec::new(alloc);
+    for domain in 0..run.script.machine().domains {
+        push_domain(alloc, run, domain, changes, &mut windows)?;
+    }
+    Ok(windows)
+}
+
 /// The windows of a run in which a control group stays exclusive on one mask after a flush or a lock, each with at least one
 /// access of the group: by domain, by slice, by the position of the flush or lock, and by group in order of creation (this
 /// project's profile).
@@ -108,14 +125,29 @@ pub fn windows(alloc: Global, script: &Script, journals: &Journals) -> Result<Ve
     requires run { IsRun script.now journals.now }
     ensures { IfOk result (λ windows. AreWindowsOf script.now journals.now windows.items) }
 {
-    let mut windows: Vec<Window> = Vec::new(alloc);
     if !has_exclusive_write(script, journals) {
-        return Ok(windows);
+        return Ok(Vec::new(alloc));
     }
     let run = Run { script, journals };
-    let changes = changes(alloc, &run)?;
-    for domain in 0..script.machine().domains {
-        push_domain(alloc, &run, domain, &changes, &mut windows)?;
+    let followed = FollowedReplay::create(alloc, script, journals)?;
+    let changes = changes_after(&run, followed)?;
+    list(alloc, &run, &changes)
+}
+
+/// The same windows, where the tree was taken through its history so far already: only the rest of it is played for them, and
+/// nothing where no command asks for the mode `exclusive`.
+pub fn windows_after(
+    alloc: Global,
+    run: &Run<'_>,
+    followed: FollowedReplay,
+) -> Result<Vec<Window>, NoMemory>
+    requires taken { HasTakenBefore run.now.script.now run.now.journals.now.tree (length run.now.journals.now.tree) (followed_tree followed) }
+    requires noted { HasFollowed run.now.script.now run.now.journals.now followed }
+    ensures { IfOk result (λ windows. AreWindowsOf run.now.script.now run.now.journals.now windows.items) }
+{
+    if !has_exclusive_write(run.script, run.journals) {
+        return Ok(Vec::new(alloc));
     }
-    Ok(windows)
+    let changes = changes_after(run, followed)?;
+    list(alloc, run, &changes)
 }

@@ -16,11 +16,11 @@ ghost use Rattle.script_ops.specs.Values.{IsLawful};
 
 use crate::counting::{empties, window_of};
 use crate::opening::Opening;
-use crate::run::Run;
 use cache_core::SliceEntry;
 use private_lru::{ExclusiveSpan, WindowCounts, counts_of};
 use rc_base::NoMemory;
 use run_law::Window;
+use run_replay::Run;
 use std::alloc::Global;
 
 // Adds a window in which its group has an access.

@@ -12,10 +12,10 @@ ghost use Rattle.run_windows.specs.declared.timeline.TheConstants.{STEP};
 ghost use Rattle.script_ops.specs.Values.{IsLawful};
 
 use crate::changes::Past;
-use crate::run::Run;
 use crate::sweep::{Sweep, same_sweep, sweep_over};
 use private_lru::ExclusiveSpan;
 use rc_base::NoMemory;
+use run_replay::Run;
 use std::alloc::Global;
 
 /// After how many changes a sweep is kept: as many as there are ways at most, so that no domain has more exclusive groups.

@@ -17,8 +17,8 @@ push_domain-requires c =
 
 pub loop-domain-preserved : goal.loop-domain-preserved
 loop-domain-preserved c =
-    let script = c.args.script.now in
-    let j = c.args.journals.now in
+    let script = c.args.run.now.script.now in
+    let j = c.args.run.now.journals.now in
     let f = domain_value script j in
     let domain = c.loop-domain.domain in
     let told = c.domain-lines.result.now in

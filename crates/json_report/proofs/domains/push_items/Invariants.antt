@@ -5,4 +5,4 @@ use Rattle.json_report.specs.Pieces.{items_told}
 use Rattle.json_report.proofs.domains.push_items.Given as goal
 
 abbrev pub invariant-loop-domain : goal.invariant-loop-domain
-invariant-loop-domain l = l.report ≡ l.initial.report ++ items_told false (map (domain_value l.script l.journals) (range_with_len 0 l.domain))
+invariant-loop-domain l = l.report ≡ l.initial.report ++ items_told false (map (domain_value l.run.script.now l.run.journals.now) (range_with_len 0 l.domain))

@@ -11,8 +11,8 @@ use Rattle.json_report.proofs.json_groups.push_groups.Goals as goal
 
 pub returns : goal.returns
 returns c =
-    let f = group_value c.args.script.now c.args.journals.now in
-    let g = control_of c.args.script.now.names in
+    let f = group_value c.args.run.now.script.now c.args.run.now.journals.now in
+    let g = control_of c.args.run.now.script.now.names in
     let first = compact_text (f default_control) in
     let items = c.in_ok-push_made.ensures ∙ (ap (λ t. t ++ items_told true (map f (map g c.args.made.now))) c.in_ok-push_default_group.ensures ∙ append_assoc c.push.new.self first (items_told true (map f (map g c.args.made.now)))) in
     let items_all = items ∙ ap (λ made. c.push.new.self ++ (first ++ items_told true (map f (map g made)))) c.requires.made in

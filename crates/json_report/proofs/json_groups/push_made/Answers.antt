@@ -8,8 +8,8 @@ use Rattle.json_report.proofs.json_groups.push_made.Goals as goal
 
 pub loop-group-preserved : goal.loop-group-preserved
 loop-group-preserved c =
-    let f = group_value c.args.script.now c.args.journals.now in
-    let g = control_of c.args.script.now.names in
+    let f = group_value c.args.run.now.script.now c.args.run.now.journals.now in
+    let g = control_of c.args.run.now.script.now.names in
     let all = c.args.made.now in
     let k = c.loop-group.group-index in
     items_told-next_later (map f (map g (take k all))) (map f (map g (take (k + 1) all))) _ c.args.report.now c.loop-group.report c.push_made_group.new.report

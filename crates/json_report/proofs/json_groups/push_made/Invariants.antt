@@ -5,4 +5,4 @@ use Rattle.run_replay.specs.Made.{control_of}
 use Rattle.json_report.proofs.json_groups.push_made.Given as goal
 
 abbrev pub invariant-loop-group : goal.invariant-loop-group
-invariant-loop-group l = l.report ≡ l.initial.report ++ items_told true (map (group_value l.script l.journals) (map (control_of l.script.names) (take l.group-index l.made)))
+invariant-loop-group l = l.report ≡ l.initial.report ++ items_told true (map (group_value l.run.script.now l.run.journals.now) (map (control_of l.run.script.now.names) (take l.group-index l.made)))

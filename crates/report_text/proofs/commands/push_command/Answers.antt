@@ -9,12 +9,12 @@ use Rattle.script_ops.specs.declared.op.Op.{Op}
 use Rattle.report_text.proofs.commands.push_command.Goals as goal
 
 pub returns-clause-text : goal.returns-clause-text
-returns-clause-text c =
-    let script = c.args.script.now in
-    let j = c.args.journals.now in
-    let h : TreeEntryValue = entry_value c.args.entry.now in
+returns-clause-text g c =
+    let script = c.args.command.now.run.script.now in
+    let j = c.args.command.now.run.journals.now in
+    let h : TreeEntryValue = entry_value c.args.command.now.entry.now in
     let words = c.in_ok-push_words.ensures ∙ ap₂ (λ (names : List (List ℕ)) (op : Option Op). c.push_place.new.report ++ words_by names op) c.names.ensures c.op-op.ensures.op in
     let result = c.in_ok-push_result.ensures ∙ ap (λ (op : Option Op). c.push.new.self ++ result_by j h op) c.op-op.ensures.op in
-    OnOk-map c.push_given_lines.result (λ lines. command_line-parts script j (state_before script j.tree c.args.k) c.args.k h c.args.report.now c.push_place.new.report c.push_words.new.report c.push.new.self
+    OnOk-map c.push_given_lines.result (λ lines. command_line-parts script j (state_before script j.tree c.args.command.now.position) c.args.command.now.position h c.args.report.now c.push_place.new.report c.push_words.new.report c.push.new.self
     c.push_result.new.report c.push-2.new.self c.push_given_lines.new.report c.in_ok-push_place.ensures words (c.in_ok-push.ensures ∙ ap (λ t. c.push_words.new.report ++ t) c.as_slice.ensures) result
     (c.in_ok-push-2.ensures ∙ ap (λ t. c.push_result.new.report ++ t) c.as_slice-2.ensures) lines) c.push_given_lines.ensures.text

@@ -6,7 +6,8 @@ use Rattle.tree_law.specs.State.{opening}
 use Rattle.report_text.proofs.commands.push_commands.Given as goal
 
 abbrev pub invariant-loop-k : goal.invariant-loop-k
-invariant-loop-k l = record {
-  taken : HasTakenBefore l.script l.journals.tree l.k l.texts.tree;
-  text : l.report ≡ l.initial.report ++ command_lines l.script l.journals (opening l.script.machine l.script.tasks) 0 (map entry_value (take l.k l.tree));
+invariant-loop-k g l = record {
+  taken : HasTakenBefore l.run.script.now l.run.journals.now.tree l.k (g.R.Playback.played l.replay);
+  notes : g.R.Playback.notes l.run.script.now l.run.journals.now l.replay;
+  text : l.report ≡ l.initial.report ++ command_lines l.run.script.now l.run.journals.now (opening l.run.script.now.machine l.run.script.now.tasks) 0 (map entry_value (take l.k l.tree));
 }

@@ -1,47 +1,55 @@
-use Rattle.std.proofs.Common.{◌++◌, ℕ, List, ap, length, sym, ◌∙◌, ◌^◌, ◌≤◌, arith, subst}
+use Rattle.std.proofs.Common.{◌≡◌, ◌++◌, ℕ, List, ap, length, sym, ◌∙◌, ◌^◌, ◌≤◌, arith, subst}
 use Rattle.std.proofs.lemmas.Option.{slice_get_within}
 use Rattle.std.specs.List.{All}
 use Rattle.file_view.specs.Texts.{text_of}
 use Rattle.run_law.specs.Entries.{entry_value}
 use Rattle.run_replay.proofs.Entries.{HasFewLooks-position, IsAnsweredAs-op, IsAnswered-next}
-use Rattle.run_replay.specs.Playbacks.{state_before}
+use Rattle.run_replay.specs.Playbacks.{HasTaken, state_before}
+use Rattle.tree_core.specs.Values.{TreeValue}
 use Rattle.tree_law.proofs.laws.Refusals.{refusal-ok}
 use Rattle.run_replay.proofs.texts.push_reading.Goals as goal
 
-pub reach-requires-clause-within : goal.reach-requires-clause-within
-reach-requires-clause-within c = let within = slice_get_within c.args.journals.now.tree c.args.position (entry_value c.args.entry.now) c.requires.entry in omega (arith, within)
+pub play_to-requires-clause-within : goal.play_to-requires-clause-within
+play_to-requires-clause-within g c = let within = slice_get_within c.args.command.now.run.journals.now.tree c.args.command.now.position (entry_value c.args.command.now.entry.now) c.requires.entry in omega (arith, within)
 
 pub push_text-requires-clause-accepted : goal.push_text-requires-clause-accepted
-push_text-requires-clause-accepted c =
-    let script = c.args.script.now in
-    let h = entry_value c.args.entry.now in
+push_text-requires-clause-accepted g c =
+    let script = c.args.command.now.run.script.now in
+    let tree = c.args.command.now.run.journals.now.tree in
+    let h = entry_value c.args.command.now.entry.now in
     let op = c.args.op.now in
-    let there = c.reach.ensures in
-    let state = c.reach.new.self.state in
-    let answered = IsAnsweredAs-op script state h op (IsAnswered-next script c.args.journals.now.tree c.reach.new.self c.args.position h there.taken there.epoch c.requires.entry) c.requires.op in
-    refusal-ok script.machine state op h.looks (sym answered.reply ∙ c.requires.accepted)
+    let there = c.in_ok-play_to.ensures in
+    let t = c.tree.result.now in
+    let taken = subst (HasTaken script tree) (sym c.tree.ensures) there.taken in
+    let epoch : t.epoch ≡ c.args.command.now.position = ap (λ (u : TreeValue). u.epoch) c.tree.ensures ∙ there.epoch in
+    let answered = IsAnsweredAs-op script t.state h op (IsAnswered-next script tree t c.args.command.now.position h taken epoch c.requires.entry) c.requires.op in
+    refusal-ok script.machine t.state op h.looks (sym answered.reply ∙ c.requires.accepted)
 
 pub push_text-requires-clause-looks : goal.push_text-requires-clause-looks
-push_text-requires-clause-looks c =
-    let script = c.args.script.now in
-    let h = entry_value c.args.entry.now in
+push_text-requires-clause-looks g c =
+    let script = c.args.command.now.run.script.now in
+    let tree = c.args.command.now.run.journals.now.tree in
+    let h = entry_value c.args.command.now.entry.now in
     let op = c.args.op.now in
-    let there = c.reach.ensures in
-    let answered = IsAnsweredAs-op script c.reach.new.self.state h op (IsAnswered-next script c.args.journals.now.tree c.reach.new.self c.args.position h there.taken there.epoch c.requires.entry) c.requires.op in
-    ap (λ (ns : List ℕ). length ns) c.items.ensures ∙ answered.looks
+    let there = c.in_ok-play_to.ensures in
+    let t = c.tree.result.now in
+    let taken = subst (HasTaken script tree) (sym c.tree.ensures) there.taken in
+    let epoch : t.epoch ≡ c.args.command.now.position = ap (λ (u : TreeValue). u.epoch) c.tree.ensures ∙ there.epoch in
+    let answered = IsAnsweredAs-op script t.state h op (IsAnswered-next script tree t c.args.command.now.position h taken epoch c.requires.entry) c.requires.op in
+    ap (λ (ns : List ℕ). length ns) c.items-looks.ensures ∙ answered.looks
 
 pub push_text-requires-clause-counts : goal.push_text-requires-clause-counts
-push_text-requires-clause-counts c =
-    let h = entry_value c.args.entry.now in
-    subst (λ (ns : List ℕ). All (λ n. n ≤ 2 ^ 32) ns) (sym c.items.ensures) (HasFewLooks-position c.args.journals.now.tree c.args.position h c.requires.taken.taken.counts c.requires.entry)
+push_text-requires-clause-counts g c =
+    let h = entry_value c.args.command.now.entry.now in
+    subst (λ (ns : List ℕ). All (λ n. n ≤ 2 ^ 32) ns) (sym c.items-looks.ensures) (HasFewLooks-position c.args.command.now.run.journals.now.tree c.args.command.now.position h c.requires.taken.taken.counts c.requires.entry)
 
 pub returns-clause-bytes : goal.returns-clause-bytes
-returns-clause-bytes c =
-    let script = c.args.script.now in
-    let tree = c.args.journals.now.tree in
+returns-clause-bytes g c =
+    let script = c.args.command.now.run.script.now in
+    let tree = c.args.command.now.run.journals.now.tree in
     let op = c.args.op.now in
-    let there = c.reach.ensures in
+    let there = c.in_ok-play_to.ensures in
     let old = c.args.out.now.bytes in
     c.push_text.ensures.bytes
-    ∙ (ap (λ (ns : List ℕ). old ++ text_of script.machine c.reach.new.self.state script.names op ns) c.items.ensures
-    ∙ ap (λ s. old ++ text_of script.machine s script.names op c.args.entry.now.looks.numbers) (there.taken.state ∙ ap (state_before script tree) there.epoch))
+    ∙ (ap (λ (ns : List ℕ). old ++ text_of script.machine c.tree.result.now.state script.names op ns) c.items-looks.ensures
+    ∙ ap (λ s. old ++ text_of script.machine s script.names op c.args.command.now.entry.now.looks.numbers) (ap (λ (u : TreeValue). u.state) c.tree.ensures ∙ (there.taken.state ∙ ap (state_before script tree) there.epoch)))

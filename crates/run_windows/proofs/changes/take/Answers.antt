@@ -1,43 +1,19 @@
-use Rattle.std.proofs.Common.{Option, Some, length, sym, subst, ap, ◌∙◌, arith}
-use Rattle.std.proofs.lemmas.Option.{slice_get_within}
+use Rattle.std.proofs.Common.{Option, sym, subst, ap, ◌∙◌}
 use Rattle.rc_base.specs.declared.names.Gid.{Gid}
 use Rattle.run_law.specs.Entries.{entry_value}
-use Rattle.run_windows.proofs.OtherGroups.{AreKeptBut-next}
-use Rattle.run_windows.proofs.Replays.{Fits-taken, IsReplayed-next, length-looks_taken, op_at-none}
-use Rattle.run_law.proofs.laws.RunSizes.{length-commands}
-use Rattle.run_windows.specs.Changes.{AreKeptBut, changed_gid}
-use Rattle.script_ops.specs.declared.op.Op.{Op}
-use Rattle.tree_law.specs.Steps.{next}
+use Rattle.run_windows.proofs.Replays.{AreKeptBut-taken}
+use Rattle.run_windows.specs.Changes.{AreKeptBut, changed_by}
+use Rattle.script_ops.specs.Values.{op_at}
+use Rattle.tree_core.specs.Values.{TreeValue}
 use Rattle.run_windows.proofs.changes.take.Goals as goal
-
-pub apply-requires-clause-fits : goal.apply-requires-clause-fits
-apply-requires-clause-fits c = Fits-taken c.args.run.now.script.now c.args.run.now.journals.now c.requires.lawful c.requires.run c.args.tree.now (entry_value c.args.entry.now) c.get-op.result.now c.requires.replayed c.requires.next (ap (λ (o : Op). Some o) c.get-op.ensures ∙ c.in-Some.ensures.op)
-
-pub apply-requires-clause-looks : goal.apply-requires-clause-looks
-apply-requires-clause-looks c =
-    ap length c.items.ensures
-    ∙ length-looks_taken c.args.run.now.script.now c.args.run.now.journals.now c.requires.lawful c.requires.run c.args.tree.now (entry_value c.args.entry.now) c.get-op.result.now c.requires.replayed c.requires.next (ap (λ (o : Op). Some o) c.get-op.ensures ∙ c.in-Some.ensures.op)
-
-pub apply-requires-clause-epoch : goal.apply-requires-clause-epoch
-apply-requires-clause-epoch c =
-    let few = length-commands c.args.run.now.script.now c.args.run.now.journals.now c.requires.lawful c.requires.run in
-    let within = slice_get_within c.args.run.now.journals.now.tree c.args.tree.now.epoch (entry_value c.args.entry.now) c.requires.next in
-    omega (arith, few, within)
-
-pub unreachable-requires : goal.unreachable-requires
-unreachable-requires c = op_at-none c.args.run.now.script.now c.args.run.now.journals.now c.args.tree.now.epoch (entry_value c.args.entry.now) c.requires.run c.requires.next c.in-None.ensures.op
-
-pub returns-clause-replayed : goal.returns-clause-replayed
-returns-clause-replayed c =
-    let did = c.apply.ensures in
-    IsReplayed-next c.args.run.now.script.now c.args.run.now.journals.now c.requires.lawful c.requires.run c.args.tree.now (entry_value c.args.entry.now) c.get-op.result.now c.requires.replayed c.requires.next (ap (λ (o : Op). Some o) c.get-op.ensures ∙ c.in-Some.ensures.op)
-    c.apply.new.self did.machine (did.state ∙ ap (λ looks. (next c.args.tree.now.machine c.args.tree.now.state c.get-op.result.now looks).state) c.items.ensures) did.epoch
 
 pub returns-clause-kept : goal.returns-clause-kept
 returns-clause-kept c =
-    let m = c.args.tree.now.machine in
-    let s = c.args.tree.now.state in
-    let op = c.get-op.result.now in
-    let looks = c.items.result.now in
-    subst (λ (gid : Option Gid). AreKeptBut gid s c.apply.new.self.state) (sym c.changed_gid-gid.ensures)
-    (subst (AreKeptBut (changed_gid s op) s) (sym c.apply.ensures.state) (AreKeptBut-next m s op looks))
+    let script = c.args.run.now.script.now in
+    let e = c.args.entry.now in
+    let t = c.args.replay.now in
+    let u = c.take_next.new.self in
+    let did = c.take_next.ensures in
+    let gid = c.changed_by-gid.ensures ∙ ap (λ (v : TreeValue). changed_by v.state (op_at script e.thread e.op)) c.tree.ensures in
+    subst (λ (o : Option Gid). AreKeptBut o t.state u.state) (sym gid)
+    (AreKeptBut-taken script c.args.run.now.journals.now t u c.args.position (entry_value e) c.requires.taken c.requires.next did.taken did.epoch c.requires.entry)

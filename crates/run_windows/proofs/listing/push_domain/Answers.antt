@@ -3,7 +3,7 @@ use Rattle.machine.specs.declared.parameters.Parameters.{Parameters}
 use Rattle.run_windows.proofs.SiteOrder.{site}
 use Rattle.run_windows.proofs.WindowSteps.{AreWindowsBefore-domain}
 use Rattle.run_windows.specs.AllWindows.{AreWindowsBefore}
-use Rattle.run_windows.specs.declared.run.Run.{Run}
+use Rattle.run_replay.specs.declared.run.Run.{Run}
 use Rattle.run_windows.proofs.listing.push_domain.Goals as goal
 
 pub loop-slice-init : goal.loop-slice-init

@@ -5,7 +5,7 @@ use script_ops::Script;
 
 /// A run.
 #[derive(Clone, Copy)]
-pub(crate) struct Run<'a> {
+pub struct Run<'a> {
     /// Its script.
     pub script: &'a Script,
     /// Its journals.

@@ -1,0 +1,5 @@
+use Rattle.std.proofs.Common.{arith}
+use Rattle.report_text.proofs.report.push_commands_part.Goals as goal
+
+pub returns-then-quiet-clause-taken : goal.returns-then-quiet-clause-taken
+returns-then-quiet-clause-taken g c = record { taken = c.requires.taken.taken; before = let first = c.requires.taken.before in omega (arith, first) }
