@@ -1,5 +1,7 @@
 mod Arguments
 pub mod BadInputs
+mod BeginningDivisions
+mod BeginningLines
 mod Commands
 pub mod Divisions
 mod Entries
@@ -10,6 +12,7 @@ mod KeptParts
 mod Numbers
 mod Runs
 mod SchemataArguments
+mod ScriptBeginnings
 mod SmallReasons
 mod Tags
 mod TextArguments

@@ -1,4 +1,5 @@
 pub mod BadInputs
+pub mod Beginnings
 pub mod Division
 pub mod Exports
 pub mod Forms

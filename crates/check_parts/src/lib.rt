@@ -5,6 +5,7 @@
 #![tactic(auto)]
 
 pub mod bad_input;
+pub mod beginnings;
 pub mod division;
 mod expected_journals;
 pub mod exports;
@@ -18,6 +19,7 @@ pub mod words;
 pub mod written_runs;
 
 pub use bad_input::{BadInput, bad_line_of};
+pub use beginnings::fault_of_beginning;
 pub use division::{Division, divide};
 pub use exports::export_text;
 pub use form::{Form, Play};
