@@ -20,6 +20,7 @@ mod reasons;
 mod slices;
 mod taking;
 pub mod theorems;
+mod weighed_script;
 mod weight;
 mod whats;
 

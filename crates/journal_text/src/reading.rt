@@ -9,6 +9,7 @@ use crate::fault::ReadError;
 use crate::keeper::Keeper;
 use crate::kept_journals::KeptJournals;
 use crate::reader::Reader;
+use crate::weighed_script::WeighedScript;
 use crate::weight::script_weight;
 use num_text::cut;
 use rc_base::NoMemory;
@@ -45,12 +46,13 @@ pub fn read_with<K: Keeper + Drop>(
     ensures { ReadsWith (λ kept. K.keeps kept script.now) script.now text.now result }
 {
     let weight = script_weight(script);
+    let weighed = WeighedScript { script, weight };
     let mut reader = Reader::create(keeper);
     let mut left = text;
     let mut number: u32 = 0;
     'lines: while let Some((line, rest)) = whole_line(left) {
         number += 1;
-        match reader.take(alloc, script, weight, line) {
+        match reader.take(alloc, &weighed, line) {
             Ok(true) => left = rest,
             Ok(false) => return Err(ReadError::Bad { line: number }),
             Err(NoMemory) => return Err(ReadError::NoMemory),

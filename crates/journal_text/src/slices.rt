@@ -7,26 +7,25 @@ ghost use Rattle.script_ops.specs.Values.{total_weight};
 
 use crate::count_of_line;
 use crate::line_position::LinePosition;
+use crate::weighed_script::WeighedScript;
 use rc_base::is_text;
-use script_ops::Script;
 
 /// Where a line leads that stands after so many slices: into the next slice, or after the last one to the end. None where it may
-/// not stand there. `weight` is what the script weighs.
+/// not stand there.
 pub(crate) fn after_slices(
-    script: &Script,
-    weight: u64,
+    weighed: &WeighedScript<'_>,
     slices: u32,
     line: &[u8],
 ) -> Option<LinePosition>
-    requires weight { weight ≡ total_weight script.now }
-    requires few { slices ≤ slice_count script.now.machine }
+    requires weight { weighed.now.weight ≡ total_weight weighed.now.script.now }
+    requires few { slices ≤ slice_count weighed.now.script.now.machine }
     ensures { MatchOption result
-        ((next : LinePosition) → LeadsFromSlices script.now slices line.now next → ⊥)
-        (LeadsFromSlices script.now slices line.now) }
+        ((next : LinePosition) → LeadsFromSlices weighed.now.script.now slices line.now next → ⊥)
+        (LeadsFromSlices weighed.now.script.now slices line.now) }
 {
-    let machine = script.machine();
+    let machine = weighed.script.machine();
     if slices < u32::from(machine.slice_count()) {
-        let left = count_of_line(line, machine, slices, weight)?;
+        let left = count_of_line(line, machine, slices, weighed.weight)?;
         return Some(LinePosition::InSlice {
             slice: slices as u8,
             left,

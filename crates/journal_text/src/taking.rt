@@ -9,6 +9,7 @@ use crate::keeper::Keeper;
 use crate::line_position::LinePosition;
 use crate::reader::Reader;
 use crate::slices::after_slices;
+use crate::weighed_script::WeighedScript;
 use crate::{command_of_line, entry_of_line};
 use rc_base::{NoMemory, is_text};
 use script_ops::Script;
@@ -29,12 +30,12 @@ impl<K: Keeper + Drop> Reader<K> {
     }
 
     // Takes a line and says true, if it may stand after the commands.
-    fn leave_tree(&mut self, script: &Script, weight: u64, line: &[u8]) -> bool
-        requires weight { weight ≡ total_weight script.now }
+    fn leave_tree(&mut self, weighed: &WeighedScript<'_>, line: &[u8]) -> bool
+        requires weight { weighed.now.weight ≡ total_weight weighed.now.script.now }
         requires position { self.old.position ≡ InTree }
-        ensures { LeavesTree script.now line.now self.old.position (K.keeps self.old.keeper script.now) self.new.position (K.keeps self.new.keeper script.now) result }
+        ensures { let script = weighed.now.script.now in LeavesTree script line.now self.old.position (K.keeps self.old.keeper script) self.new.position (K.keeps self.new.keeper script) result }
     {
-        match after_slices(script, weight, 0, line) {
+        match after_slices(weighed, 0, line) {
             Some(next) => {
                 self.position = next;
                 true
@@ -47,20 +48,19 @@ impl<K: Keeper + Drop> Reader<K> {
     fn take_command(
         &mut self,
         alloc: Global,
-        script: &Script,
-        weight: u64,
+        weighed: &WeighedScript<'_>,
         line: &[u8],
     ) -> Result<bool, NoMemory>
-        requires weight { weight ≡ total_weight script.now }
+        requires weight { weighed.now.weight ≡ total_weight weighed.now.script.now }
         requires position { self.old.position ≡ InTree }
-        ensures { IfOk result (TakesLine script.now line.now self.old.position (K.keeps self.old.keeper script.now) self.new.position (K.keeps self.new.keeper script.now)) }
+        ensures { let script = weighed.now.script.now in IfOk result (TakesLine script line.now self.old.position (K.keeps self.old.keeper script) self.new.position (K.keeps self.new.keeper script)) }
     {
-        match command_of_line(alloc, line, weight)? {
+        match command_of_line(alloc, line, weighed.weight)? {
             Some(entry) => {
-                self.keeper.add_command(script, entry)?;
+                self.keeper.add_command(weighed.script, entry)?;
                 Ok(true)
             }
-            None => Ok(self.leave_tree(script, weight, line)),
+            None => Ok(self.leave_tree(weighed, line)),
         }
     }
 
@@ -94,19 +94,18 @@ impl<K: Keeper + Drop> Reader<K> {
     fn leave_slice(
         &mut self,
         alloc: Global,
-        script: &Script,
-        weight: u64,
+        weighed: &WeighedScript<'_>,
         slice: u8,
         line: &[u8],
     ) -> Result<bool, NoMemory>
-        requires weight { weight ≡ total_weight script.now }
+        requires weight { weighed.now.weight ≡ total_weight weighed.now.script.now }
         requires position { self.old.position ≡ InSlice slice 0 }
-        requires there { slice < slice_count script.now.machine }
-        ensures { IfOk result (TakesLine script.now line.now self.old.position (K.keeps self.old.keeper script.now) self.new.position (K.keeps self.new.keeper script.now)) }
+        requires there { slice < slice_count weighed.now.script.now.machine }
+        ensures { let script = weighed.now.script.now in IfOk result (TakesLine script line.now self.old.position (K.keeps self.old.keeper script) self.new.position (K.keeps self.new.keeper script)) }
     {
-        match after_slices(script, weight, u32::from(slice) + 1, line) {
+        match after_slices(weighed, u32::from(slice) + 1, line) {
             Some(next) => {
-                self.keeper.end_slice(alloc, script)?;
+                self.keeper.end_slice(alloc, weighed.script)?;
                 self.position = next;
                 Ok(true)
             }
@@ -115,25 +114,26 @@ impl<K: Keeper + Drop> Reader<K> {
     }
 
     /// Takes a line and says true, if it may stand after those that were taken. Nothing is promised of the reader after another
-    /// answer. `weight` is what the script weighs.
+    /// answer.
     pub(crate) fn take(
         &mut self,
         alloc: Global,
-        script: &Script,
-        weight: u64,
+        weighed: &WeighedScript<'_>,
         line: &[u8],
     ) -> Result<bool, NoMemory>
-        requires weight { weight ≡ total_weight script.now }
-        requires there { IsThere script.now self.old.position }
-        ensures { IfOk result (TakesLine script.now line.now self.old.position (K.keeps self.old.keeper script.now) self.new.position (K.keeps self.new.keeper script.now)) }
+        requires weight { weighed.now.weight ≡ total_weight weighed.now.script.now }
+        requires there { IsThere weighed.now.script.now self.old.position }
+        ensures { let script = weighed.now.script.now in IfOk result (TakesLine script line.now self.old.position (K.keeps self.old.keeper script) self.new.position (K.keeps self.new.keeper script)) }
     {
         match self.position {
-            LinePosition::Start => Ok(self.take_first(script, line)),
-            LinePosition::InTree => self.take_command(alloc, script, weight, line),
+            LinePosition::Start => Ok(self.take_first(weighed.script, line)),
+            LinePosition::InTree => self.take_command(alloc, weighed, line),
             LinePosition::InSlice { slice, left: 0 } => {
-                self.leave_slice(alloc, script, weight, slice, line)
+                self.leave_slice(alloc, weighed, slice, line)
             }
-            LinePosition::InSlice { slice, left } => self.take_entry(script, slice, left, line),
+            LinePosition::InSlice { slice, left } => {
+                self.take_entry(weighed.script, slice, left, line)
+            }
             LinePosition::Over => Ok(false),
         }
     }

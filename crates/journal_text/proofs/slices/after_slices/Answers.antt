@@ -11,9 +11,9 @@ at_most {m} {p} {n} {k} {slices} machine count from le = subst (λ (q : Paramete
 
 pub returns-then-is_text : goal.returns-then-is_text
 returns-then-is_text c = record {
-  all = let e : c.args.slices ≡ slice_count c.args.script.now.machine = omega (arith, at_most c.machine-machine.ensures c.slice_count.ensures.count c.from.ensures c.if-slices-from.false, c.requires.few) in e;
+  all = let e : c.args.slices ≡ slice_count c.args.weighed.now.script.now.machine = omega (arith, at_most c.machine-machine.ensures c.slice_count.ensures.count c.from.ensures c.if-slices-from.false, c.requires.few) in e;
   same = sym (is_text-same c.args.line.now (codes "end") (sym c.is_text.ensures ∙ c.if-is_text.true));
 }
 
 pub returns-else-is_text : goal.returns-else-is_text
-returns-else-is_text c = LeadsFromSlices-none c.args.script.now c.args.slices c.args.line.now (at_most c.machine-machine.ensures c.slice_count.ensures.count c.from.ensures c.if-slices-from.false) (last_line-other c.args.line.now (sym c.is_text.ensures ∙ c.if-is_text.false))
+returns-else-is_text c = LeadsFromSlices-none c.args.weighed.now.script.now c.args.slices c.args.line.now (at_most c.machine-machine.ensures c.slice_count.ensures.count c.from.ensures c.if-slices-from.false) (last_line-other c.args.line.now (sym c.is_text.ensures ∙ c.if-is_text.false))

@@ -6,7 +6,7 @@ use Rattle.journal_text.proofs.reader.Reader.leave_slice.Goals as goal
 
 pub returns-in_ok-end_slice-in-Some : goal.returns-in_ok-end_slice-in-Some
 returns-in_ok-end_slice-in-Some g c =
-    let script = c.args.script.now in
+    let script = c.args.weighed.now.script.now in
     let line = c.args.line.now in
     let from = c.args.self.now.position in
     let next = c.in-Some.next in

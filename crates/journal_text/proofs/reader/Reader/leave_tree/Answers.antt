@@ -5,7 +5,7 @@ use Rattle.journal_text.proofs.reader.Reader.leave_tree.Goals as goal
 
 pub returns-in-Some : goal.returns-in-Some
 returns-in-Some g c =
-    let script = c.args.script.now in
+    let script = c.args.weighed.now.script.now in
     let line = c.args.line.now in
     let from = c.args.self.now.position in
     let keeps = g.K.Keeper.keeps c.args.self.now.keeper script in

@@ -9,11 +9,11 @@ use Rattle.journal_text.proofs.reader.Reader.take_command.Goals as goal
 
 pub returns-in_ok-add_command-in-Some : goal.returns-in_ok-add_command-in-Some
 returns-in_ok-add_command-in-Some g c =
-    let script = c.args.script.now in
+    let script = c.args.weighed.now.script.now in
     let line = c.args.line.now in
     let from = c.args.self.now.position in
     let e = entry_value c.in-Some.entry in
-    let found : IsWritableCommand c.args.weight e × (command_line e ≡ line) = rw c.in-Some.is at c.in_ok-entry.ensures in
+    let found : IsWritableCommand c.args.weighed.now.weight e × (command_line e ≡ line) = rw c.in-Some.is at c.in_ok-entry.ensures in
     let writable : IsWritableCommand (total_weight script) e = subst (λ (w : ℕ). IsWritableCommand w e) c.requires.weight found.0 in
     TakesLine-step script line from (g.K.Keeper.keeps c.args.self.now.keeper script) from (g.K.Keeper.keeps c.add_command.new.self script) (λ parts. with_command parts e) c.in_ok-add_command-in-Some.ensures
     (λ parts. HasTaken-command script line (state_at from parts) (state_at from (with_command parts e)) e c.requires.position writable found.1 c.requires.position refl)
