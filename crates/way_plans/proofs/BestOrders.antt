@@ -13,7 +13,8 @@ use Rattle.way_plans.proofs.BestSpans.{within-free}
 use Rattle.way_plans.proofs.Lefts.{left_at-all, states_of-some}
 use Rattle.way_plans.proofs.Homes.{given_of, run_at-ends, taken-le}
 use Rattle.way_plans.proofs.RunLists.{AreRuns, AreRuns-below, IsInSome, IsInSome-runs, within-runs}
-use Rattle.way_plans.proofs.StateRows.{Tells, Tells-rows, length-rows}
+use Rattle.way_plans.proofs.RowBounds.{length-rows}
+use Rattle.way_plans.proofs.StateRows.{Tells, Tells-rows}
 use Rattle.way_plans.proofs.Takings.{IsGiven, given_misses}
 
 -- ---- what a division takes of the runs

@@ -28,6 +28,7 @@ mod PlanMasks
 mod PlannedEntries
 mod PlannedMasks
 pub mod Powers
+pub mod RowBounds
 pub mod RunLists
 mod SharedGroups
 mod Stages

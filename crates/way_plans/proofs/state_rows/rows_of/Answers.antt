@@ -2,7 +2,7 @@ use Rattle.std.proofs.Common.{ℕ, ◌+◌, ◌-◌, ◌^◌, ◌≡◌, ◌≤�
 use Rattle.std.proofs.lemmas.List.{get_or_default}
 use Rattle.std.proofs.lemmas.List.Elements.{All-drop}
 use Rattle.way_plans.specs.Placings.{AreStateRows, first_row}
-use Rattle.way_plans.proofs.StateRows.{AreStateRows-cons, length-first, length-rows, misses-few}
+use Rattle.way_plans.proofs.RowBounds.{AreStateRows-cons, length-first, length-rows, misses-few}
 use Rattle.way_plans.proofs.state_rows.rows_of.Goals as goal
 
 pub index-requires : goal.index-requires
