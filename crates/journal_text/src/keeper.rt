@@ -1,5 +1,5 @@
 //! What becomes of journals while their text is read.
-ghost use Rattle.std.specs.Prelude.{OnOk};
+ghost use Rattle.std.specs.Prelude.{◌≡◌, [], OnOk};
 ghost use Rattle.journal_text.specs.States.{PartsRead, with_command, with_entry, with_slice};
 ghost use Rattle.run_law.specs.Entries.{entry_value};
 ghost use Rattle.script_ops.specs.Values.{ScriptValue};
@@ -16,9 +16,9 @@ pub trait Keeper {
     /// What is kept is what is kept of these parts of journals of the script.
     ghost keeps: { Self → ScriptValue → PartsRead → Type 0 };
 
-    /// Takes the next command of the tree.
+    /// Takes the next command of the tree. No slice was read before it.
     fn add_command(&mut self, script: &Script, entry: TreeEntry) -> Result<(), NoMemory>
-        ensures { OnOk result ((parts : PartsRead) → keeps self.old script.now parts → keeps self.new script.now (with_command parts (entry_value entry))) };
+        ensures { OnOk result ((parts : PartsRead) → parts.slices ≡ [] → keeps self.old script.now parts → keeps self.new script.now (with_command parts (entry_value entry))) };
 
     /// Takes the next entry of the slice that is being read.
     fn add_entry(&mut self, script: &Script, entry: SliceEntry) -> Result<(), NoMemory>

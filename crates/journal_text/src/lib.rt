@@ -21,7 +21,7 @@ mod slices;
 mod taking;
 pub mod theorems;
 mod weighed_script;
-mod weight;
+pub mod weight;
 mod whats;
 
 pub use commands::command_of_line;
@@ -32,3 +32,4 @@ pub use keeper::Keeper;
 pub use kept_journals::KeptJournals;
 pub use printing::print;
 pub use reading::{read, read_with};
+pub use weight::script_weight;
