@@ -1,41 +1,47 @@
 -- What is kept of journals until a command comes that no run goes on with, and the verdict on an input.
 -- (For functions and proofs: no promise of the program stands on it.)
-use Rattle.std.specs.Prelude.{◌≡◌, ℕ, List, length, Option, Some, None, Result, Ok, Err}
+use Rattle.std.specs.Prelude.{◌≡◌, ℕ, List, [], length, Option, Some, None, Result, Ok, Err}
 use Rattle.check_parts.specs.BadInputs.{IsBad}
 use Rattle.check_parts.specs.Inputs.{HoldsJournals}
 use Rattle.check_parts.specs.declared.expected_journals.ExpectedJournals.{ExpectedJournals}
+use Rattle.check_parts.specs.LeftJournals.{KeepsLeft, kept_in}
 use Rattle.check_parts.specs.declared.form.Form.TheVariants.{Check}
 use Rattle.check_parts.specs.declared.input.InputError.{InputError}
 use Rattle.check_parts.specs.declared.input.InputError.TheVariants as errors
+use Rattle.check_parts.specs.declared.left_journals.LeftJournals.{LeftJournals}
 use Rattle.journal_check.specs.CommandCounts.{AreCountsToTwo, HasUnexpected}
 use Rattle.journal_check.specs.Verdicts.{IsVerdict}
 use Rattle.journal_check.specs.declared.verdict.Verdict.{Verdict}
-use Rattle.journal_text.specs.Kept.{parts_in}
-use Rattle.journal_text.specs.States.{PartsRead, journals_in}
-use Rattle.journal_text.specs.declared.kept_journals.KeptJournals.{KeptJournals}
+use Rattle.journal_text.specs.States.{PartsRead, journals_in, with_command}
 use Rattle.machine.specs.Slices.{slice_count}
 use Rattle.run_law.specs.Journals.{JournalsValue}
+use Rattle.run_law.specs.TreeHistory.{TreeEntryValue}
 use Rattle.script_ops.specs.Values.{IsLawful, ScriptValue}
 
--- all of these parts is kept, or nothing, where a command among them is not expected
-abbrev pub KeepsAll : ScriptValue → Option KeptJournals → PartsRead → Type 0
-KeepsAll script (Some kept) parts = parts ≡ parts_in kept
+-- what is left of these parts is kept, or nothing, where a command among them is not expected
+abbrev pub KeepsAll : ScriptValue → Option LeftJournals → PartsRead → Type 0
+KeepsAll script (Some left) parts = KeepsLeft left script parts
 KeepsAll script None parts = HasUnexpected script parts.tree
 
 -- so much is kept of these parts of journals of the script, and their commands are counted
 pub record KeepsExpected (kept : ExpectedJournals) (script : ScriptValue) (parts : PartsRead) : Type 0 where
   pub counts : AreCountsToTwo script kept.counts parts.tree
-  pub all : KeepsAll script kept.kept parts
+  pub all : KeepsAll script kept.left parts
 
--- where all is kept, there is a list for each slice of the machine
-abbrev pub HasSlices : ScriptValue → Option KeptJournals → Type 0
-HasSlices script (Some kept) = length (parts_in kept).slices ≡ slice_count script.machine
+-- where anything is kept, there is a list for each slice of the machine
+abbrev pub HasSlices : ScriptValue → Option LeftJournals → Type 0
+HasSlices script (Some left) = length (kept_in left).slices ≡ slice_count script.machine
 HasSlices script None = Unit {0}
 
 -- what was kept is kept with one part more, and where nothing was kept nothing is
-abbrev pub KeepsToo : Option KeptJournals → Option KeptJournals → (PartsRead → PartsRead) → Type 0
-KeepsToo (Some old) new more = (kept : KeptJournals) × (new ≡ Some kept) × (parts_in kept ≡ more (parts_in old))
-KeepsToo None new more = new ≡ None
+abbrev pub KeepsToo : ScriptValue → Option LeftJournals → Option LeftJournals → (PartsRead → PartsRead) → Type 0
+KeepsToo script (Some old) new more = (left : LeftJournals) × (new ≡ Some left) × ((parts : PartsRead) → KeepsLeft old script parts → KeepsLeft left script (more parts))
+KeepsToo script None new more = new ≡ None
+
+-- the same with one command more, where no slice was read
+abbrev pub KeepsCommand : ScriptValue → Option LeftJournals → Option LeftJournals → TreeEntryValue → Type 0
+KeepsCommand script (Some old) new h = (left : LeftJournals) × (new ≡ Some left) × ((parts : PartsRead) → parts.slices ≡ [] → KeepsLeft old script parts → KeepsLeft left script (with_command parts h))
+KeepsCommand script None new h = new ≡ None
 
 -- an input holds a lawful script and journals, and this is the verdict on them
 pub record HasVerdict (bytes : List ℕ) (verdict : Verdict) : Type 0 where

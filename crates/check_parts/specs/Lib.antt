@@ -1,10 +1,14 @@
 pub mod BadInputs
 pub mod Beginnings
+pub mod CrowdedSlices
 pub mod Division
 pub mod Exports
 pub mod Forms
 pub mod Inputs
+pub mod JudgedSlices
 pub mod Judging
 pub mod Law
 pub mod Laws
+pub mod LeftJournals
+pub mod NotedLooks
 pub mod VerdictLines

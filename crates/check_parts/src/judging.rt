@@ -46,7 +46,7 @@ fn expected_in(
 // The verdict on what was kept.
 fn verdict_on(alloc: Global, script: &Script, kept: ExpectedJournals) -> Result<Verdict, InputError>
     requires table { IsTableOf script.now kept.counts }
-    requires slices { HasSlices script.now kept.kept }
+    requires slices { HasSlices script.now kept.left }
     ensures { (bytes : List ℕ) → ReadsExpected bytes script.now (Ok kept) → ReadsVerdict bytes result }
 {
     // A script that was read is lawful.
@@ -80,8 +80,9 @@ fn verdict_after(
 }
 
 /// The verdict on the journals of an input of a check, or what is wrong with the input. Of journals with a command that no run goes on
-/// with nothing is kept from that command on, and each op has a number; so what is kept is bounded by the script, and not by the
-/// commands of the input. The bytes are let go of.
+/// with nothing is kept from that command on, and each op has a number. Slices that have together more entries than the script weighs
+/// are judged and let go of, but for the first looks of commands. So what is kept is bounded by the script, and not by the input. The
+/// bytes are let go of.
 pub fn verdict_in(alloc: Global, bytes: Vec<u8>) -> Result<Verdict, InputError>
     requires { length bytes.items ≤ MOST_CHECK_BYTES }
     ensures { ReadsVerdict bytes.items result }

@@ -6,13 +6,17 @@
 
 pub mod bad_input;
 pub mod beginnings;
+mod clause_order;
 pub mod division;
 mod expected_journals;
 pub mod exports;
 pub mod form;
 pub mod input;
+mod judged_slices;
 pub mod judging;
+mod left_journals;
 pub mod limits;
+mod look_lists;
 pub mod theorems;
 pub mod verdicts;
 pub mod words;

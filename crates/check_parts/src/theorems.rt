@@ -1,5 +1,6 @@
-//! The limit by its number, and a law of bad inputs.
+//! The limit by its number, and laws of bad inputs and of journals that are let go of.
 ghost use Rattle.std.specs.Prelude.{◌≡◌};
+ghost use Rattle.check_parts.specs.CrowdedSlices.{MoreEntriesFail};
 ghost use Rattle.check_parts.specs.Laws.{BadInputsAreOne};
 ghost use Rattle.check_parts.specs.declared.limits.TheConstants.{MOST_CHECK_BYTES};
 
@@ -16,3 +17,9 @@ pub fn bad_inputs_are_one()
 {
     bad_lines_are_one();
 }
+
+/// Of slices that have together more entries than the script weighs, the entries of some op do not stand there just as it makes them.
+/// So of such slices it has to be known only whether the clauses before that one hold.
+pub fn more_entries_fail()
+    ensures { MoreEntriesFail }
+{}

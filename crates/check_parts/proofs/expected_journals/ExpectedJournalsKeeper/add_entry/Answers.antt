@@ -7,5 +7,5 @@ pub returns : goal.returns
 returns c =
     let old = c.args.self.now in
     OnOk-map c.keep_entry.result
-    (λ too parts keeps. KeepsExpected-part c.args.script.now old (record old { kept = c.keep_entry.new.kept }) (λ p. with_entry p c.args.entry) parts refl refl too keeps)
+    (λ too parts keeps. KeepsExpected-part c.args.script.now old (record old { left = c.keep_entry.new.left }) (λ p. with_entry p c.args.entry) parts refl refl too keeps)
     c.keep_entry.ensures
