@@ -2,6 +2,7 @@
 
 mod calls;
 mod checks;
+mod crowded;
 mod inputs;
 mod journal_texts;
 mod runs;

@@ -87,8 +87,8 @@ const CHECKS: [(&str, CheckStatus, &str); 12] = [
     ),
 ];
 
-// What a check writes that hands back no journals.
-fn judged(alloc: Global, bytes: Vec<u8>) -> Result<Vec<u8>, NoMemory>
+/// What a check writes that hands back no journals.
+pub(crate) fn judged(alloc: Global, bytes: Vec<u8>) -> Result<Vec<u8>, NoMemory>
     requires { length bytes.items ≤ MOST_CHECK_BYTES }
 {
     match verdict_in(alloc, bytes) {
