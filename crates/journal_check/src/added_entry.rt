@@ -7,9 +7,9 @@ ghost use Rattle.journal_check.specs.RmidCounts.{count_at};
 ghost use Rattle.journal_check.specs.Slots.{place_at, rmid_of};
 
 use crate::cached_line::CachedLine;
-use crate::outcome::Outcome;
 use crate::region::Region;
 use crate::replay::Replay;
+use crate::victims::Outcome;
 use cache_core::{SliceEntry, What};
 
 // The RMID of a place.

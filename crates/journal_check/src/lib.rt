@@ -27,7 +27,6 @@ pub mod needs;
 pub mod op_kinds;
 pub mod op_table;
 mod other_entries;
-pub mod outcome;
 mod owed;
 mod payments;
 mod phases;

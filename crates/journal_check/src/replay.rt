@@ -5,10 +5,9 @@ ghost use Rattle.cache_core.specs.History.{MayHappen, floor_of, held, lines_of, 
 ghost use Rattle.machine.specs.Maps.{parameters_of};
 ghost use Rattle.journal_check.specs.Replays.{StandsFor};
 
-use crate::outcome::Outcome;
 use crate::rmid_counts::RmidCounts;
 use crate::slots::Slots;
-use crate::victims::{is_outcome, is_place};
+use crate::victims::{Outcome, is_outcome, is_place};
 use cache_core::{SliceEntry, What};
 use machine::Machine;
 use rc_base::NoMemory;

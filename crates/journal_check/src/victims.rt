@@ -4,9 +4,16 @@ ghost use Rattle.cbm.specs.Masks.{has_way};
 ghost use Rattle.journal_check.specs.Outcomes.{AreFull, AreNotOlder, IsMissing, IsNotOlder, IsOutcomeAt, IsPlaceAt, IsVictimAt};
 ghost use Rattle.journal_check.specs.Slots.{place_at};
 
-use crate::outcome::Outcome;
 use crate::slots::Slots;
 use cbm::has_way;
+
+/// What the set of a line answered to an access: a hit in the way that held the line, or a fill of the way that it took.
+#[derive(Clone, Copy, Debug, PartialEq, Eq)]
+pub struct Outcome {
+    pub line: u64,
+    pub hit: bool,
+    pub way: u8,
+}
 
 /// Whether no way of a set holds a line.
 pub(crate) fn is_missing(slots: &Slots, set: u32, line: u64) -> bool
