@@ -51,6 +51,11 @@ def div_one_set(script, count):
     script.writelines(f"sweep {at % 63 + 1} 0 {at % 63 << 40} 40 64\n" for at in range(count // 40))
 
 
+def bad_first_line(script, count):
+    """Accesses after a machine that is none."""
+    script.write("machine ways=0\ntasks 1\nphase\nthread\n" + "access 1 0 0\n" * count)
+
+
 def tree_lines(script, count):
     """Commands that a journal tells and its script does not have."""
     script.write("machine sets=1 ways=4\ntasks 1\nphase\nthread\nflush\naccess 1 0 0\njournal 1\n")
@@ -164,6 +169,7 @@ ROWS = (
     Row("div_sets", "resctrl_plan", ["divide"], MOST_WEIGHT - 1_000, div_sets),
     Row("div_one_set", "resctrl_plan", ["divide"], MOST_WEIGHT - 1_000, div_one_set),
     *planned(named(trees.ROWS, "setup_refused", "setup_tasks", "rmdir_tasks")),
+    Row("check_bad_first_line", "resctrl_check", ["check"], 8_000_000, bad_first_line),
     Row("check_tree_lines", "resctrl_check", ["check"], 58_000_000, tree_lines),
     Row("check_tree_flushes", "resctrl_check", ["check"], 68_000_000, tree_flushes),
     Row("check_slice_lines", "resctrl_check", ["check"], 85_000_000, slice_lines),

@@ -17,7 +17,7 @@ use crate::ended::{CheckEnded, checked, judged};
 use crate::exporting::run_bytes;
 use crate::programs::{CheckProgram, ExportProgram, JudgeProgram};
 use crate::status::CheckStatus;
-use call_rim::{ReadError, Status, call, read_all, tell, usage, without_outcome};
+use call_rim::{ReadError, Status, call, call_early, read_all, tell, usage, without_outcome};
 use check_parts::{Form, Play, form_of, usage_bytes};
 use rc_stream::{Gate, Sink, Source};
 use script_ops::MOST_SCRIPT_BYTES;
@@ -88,7 +88,7 @@ fn check_source<S: Source, K: Sink>(alloc: Global, source: &mut S, sink: &mut K)
         (reading_of S.left S.faults source.old source.new)
         (writing_of K.taken K.held K.faults sink.old sink.new) result }
 {
-    checked(call(alloc, &CheckProgram, source, sink))
+    checked(call_early(alloc, &CheckProgram, source, sink))
 }
 
 /// Does what `check` does with the source, and hands back nothing of the journals: of commands that no run goes on with none is kept.
@@ -103,7 +103,7 @@ pub(crate) fn judge_source<S: Source, K: Sink>(
         (reading_of S.left S.faults source.old source.new)
         (writing_of K.taken K.held K.faults sink.old sink.new) (code_of result) }
 {
-    judged(call(alloc, &JudgeProgram, source, sink))
+    judged(call_early(alloc, &JudgeProgram, source, sink))
 }
 
 // Writes the usage line, and calls no source.

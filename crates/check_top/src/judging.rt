@@ -1,5 +1,6 @@
 //! Checks journals, and hands back the verdict alone.
-ghost use Rattle.std.specs.Prelude.{◌≤◌, List, ℕ, length};
+ghost use Rattle.std.specs.Prelude.{◌≤◌, IfOk, List, ℕ, length};
+ghost use Rattle.call_rim.specs.Beginnings.{RefusesAll};
 ghost use Rattle.call_rim.specs.Performing.{Performs};
 ghost use Rattle.check_parts.specs.Judging.{HasVerdict};
 ghost use Rattle.check_parts.specs.declared.form.Form.TheVariants.{Check};
@@ -10,7 +11,9 @@ ghost use Rattle.check_top.specs.Judgements.{IsJudged};
 use crate::exporting::refuse;
 use crate::theorems::runs_isolate;
 use call_rim::Performed;
-use check_parts::{InputError, verdict_in, verdict_line};
+use check_parts::{
+    BadInput, InputError, bad_line_of, fault_of_beginning, verdict_in, verdict_line,
+};
 use journal_check::Verdict;
 use journal_text::theorems::texts_read_back;
 use rc_base::NoMemory;
@@ -42,5 +45,19 @@ pub(crate) fn judge_bytes(alloc: Global, bytes: Vec<u8>) -> Performed<Verdict>
         Ok(verdict) => tell_judgement(alloc, verdict),
         Err(InputError::Bad(bad)) => refuse(alloc, bad),
         Err(InputError::NoMemory) => Performed::NoMemory,
+    }
+}
+
+/// The line that refuses every input that begins with these bytes and is not too large. None where what follows may decide.
+pub(crate) fn refuse_beginning(alloc: Global, bytes: &[u8]) -> Result<Option<Vec<u8>>, NoMemory>
+    requires { length bytes.now ≤ MOST_CHECK_BYTES }
+    ensures { IfOk result (λ found. RefusesAll MOST_CHECK_BYTES (Refuses Check) bytes.now found) }
+{
+    match fault_of_beginning(alloc, bytes)? {
+        Some(fault) => {
+            let line = bad_line_of(alloc, BadInput::BadScript(fault))?;
+            Ok(Some(line))
+        }
+        None => Ok(None),
     }
 }

@@ -8,10 +8,11 @@ ghost use Rattle.script_ops.specs.declared.limits.TheConstants.{MOST_SCRIPT_BYTE
 use crate::checked::Checked;
 use crate::checking::check_bytes;
 use crate::exporting::step_bytes;
-use crate::judging::judge_bytes;
-use call_rim::{Performed, Program};
+use crate::judging::{judge_bytes, refuse_beginning};
+use call_rim::{EarlyProgram, Performed, Program};
 use check_parts::{MOST_CHECK_BYTES, Play};
 use journal_check::Verdict;
+use rc_base::NoMemory;
 use script_ops::MOST_SCRIPT_BYTES;
 use std::alloc::Global;
 
@@ -61,6 +62,12 @@ impl Program for CheckProgram {
     }
 }
 
+impl EarlyProgram for CheckProgram {
+    fn refuse_beginning(&self, alloc: Global, bytes: &[u8]) -> Result<Option<Vec<u8>>, NoMemory> {
+        refuse_beginning(alloc, bytes)
+    }
+}
+
 /// Does what `CheckProgram` does, and hands back the verdict alone, so it keeps no more commands of the input than a run has.
 #[derive(Drop)]
 pub(crate) struct JudgeProgram;
@@ -80,5 +87,11 @@ impl Program for JudgeProgram {
 
     fn perform(&self, alloc: Global, bytes: Vec<u8>) -> Performed<Verdict> {
         judge_bytes(alloc, bytes)
+    }
+}
+
+impl EarlyProgram for JudgeProgram {
+    fn refuse_beginning(&self, alloc: Global, bytes: &[u8]) -> Result<Option<Vec<u8>>, NoMemory> {
+        refuse_beginning(alloc, bytes)
     }
 }
