@@ -1,4 +1,5 @@
 pub mod CdpReport
+pub mod CountedCaches
 pub mod LevelReport
 pub mod LinesBefore
 pub mod MadeGroups

@@ -6,15 +6,15 @@ ghost use Rattle.pair_windows.specs.LevelJournals.{IsPlayedOnLevels, level_journ
 ghost use Rattle.machine.specs.Maps.{parameters_of};
 ghost use Rattle.pair_text.specs.Values.{side_machine};
 ghost use Rattle.pair_text.specs.declared.side.Side.TheVariants.{First, Second};
+ghost use Rattle.pair_report.specs.CountedCaches.{HasTally, HasValid, histories_of};
 ghost use Rattle.pair_report.specs.LevelReport.{domain_lines, group_line, level_domain_line, level_report_of, level_word};
 ghost use Rattle.pair_report.specs.LinesBefore.{group_made};
 ghost use Rattle.pair_report.specs.MadeGroups.{default_path, groups_of};
-ghost use Rattle.run_counts.specs.CacheCounts.{slices_alone, valid_in};
-ghost use Rattle.run_counts.specs.Tallies.{IsTallyOf};
 ghost use Rattle.run_law.specs.Entries.{entries_of};
 
 use crate::caches::counts_on;
 use crate::commands::push_commands;
+use crate::counted_caches::CountedCaches;
 use crate::counts::push_total;
 use crate::domains::push_domain;
 use crate::level_groups::push_groups;
@@ -26,7 +26,6 @@ use pair_text::{PairScript, Side};
 use pair_windows::{JointWindow, machine_on};
 use rc_base::{NoMemory, Reply};
 use report_pieces::ReportText;
-use run_counts::CacheCounts;
 use std::alloc::Global;
 
 // The level that a side is.
@@ -45,17 +44,16 @@ fn push_level_domain(
     report: &mut ReportText,
     side: Side,
     machine: &Machine,
-    caches: &[Vec<SliceEntry>],
-    counts: &CacheCounts,
+    caches: &CountedCaches<'_>,
     domain: u8,
 ) -> Result<(), NoMemory>
-    requires counts { counts.now.valid ≡ valid_in (parameters_of machine.now) (map entries_of caches.now) }
-    requires domain { domain < length caches.now }
-    ensures { OnOk result (report.new ≡ report.old ++ level_domain_line side (parameters_of machine.now) (map entries_of caches.now) domain) }
+    requires counts { HasValid (parameters_of machine.now) caches.now }
+    requires domain { domain < length caches.now.entries.now }
+    ensures { OnOk result (report.new ≡ report.old ++ level_domain_line side (parameters_of machine.now) (histories_of caches.now) domain) }
 {
     report.push(level_word(side))?;
     report.push(b" ".as_slice())?;
-    push_domain(report, machine, caches, counts, domain)
+    push_domain(report, machine, caches.entries, caches.counts, domain)
 }
 
 // Adds the lines of the domains of a level.
@@ -63,17 +61,16 @@ fn push_domains(
     report: &mut ReportText,
     script: &PairScript,
     side: Side,
-    caches: &[Vec<SliceEntry>],
-    counts: &CacheCounts,
+    caches: &CountedCaches<'_>,
 ) -> Result<(), NoMemory>
-    requires counts { counts.now.valid ≡ valid_in (side_machine script.now.machines side) (map entries_of caches.now) }
-    requires one_each { length caches.now ≡ (side_machine script.now.machines side).domains }
+    requires counts { HasValid (side_machine script.now.machines side) caches.now }
+    requires one_each { length caches.now.entries.now ≡ (side_machine script.now.machines side).domains }
     ensures { OnOk result (report.new ≡ report.old
-        ++ flat_map (level_domain_line side (side_machine script.now.machines side) (map entries_of caches.now)) (range_with_len 0 (side_machine script.now.machines side).domains)) }
+        ++ flat_map (level_domain_line side (side_machine script.now.machines side) (histories_of caches.now)) (range_with_len 0 (side_machine script.now.machines side).domains)) }
 {
     let machine = machine_on(script, side);
     for domain in 0..machine.domains {
-        push_level_domain(report, side, machine, caches, counts, domain)?;
+        push_level_domain(report, side, machine, caches, domain)?;
     }
     Ok(())
 }
@@ -82,25 +79,23 @@ fn push_domains(
 fn push_lines(
     report: &mut ReportText,
     script: &PairScript,
-    l2: &[Vec<SliceEntry>],
-    l3: &[Vec<SliceEntry>],
+    l2: &CountedCaches<'_>,
+    l3: &CountedCaches<'_>,
     made: &[MadeGroup],
-    first: &CacheCounts,
-    second: &CacheCounts,
 ) -> Result<(), NoMemory>
-    requires l2_each { length l2.now ≡ (side_machine script.now.machines First).domains }
-    requires l3_each { length l3.now ≡ (side_machine script.now.machines Second).domains }
-    requires l2_tally { IsTallyOf (slices_alone (map entries_of l2.now)) (length (map entries_of l2.now)) first.now.tally }
-    requires l3_tally { IsTallyOf (slices_alone (map entries_of l3.now)) (length (map entries_of l3.now)) second.now.tally }
-    requires l2_valid { first.now.valid ≡ valid_in (side_machine script.now.machines First) (map entries_of l2.now) }
-    requires l3_valid { second.now.valid ≡ valid_in (side_machine script.now.machines Second) (map entries_of l3.now) }
-    ensures { OnOk result (report.new ≡ report.old ++ (flat_map (group_line (map entries_of l2.now) (map entries_of l3.now)) (default_path ∷ map (group_made script.now) made.now)
-        ++ flat_map (level_domain_line First (side_machine script.now.machines First) (map entries_of l2.now)) (range_with_len 0 (side_machine script.now.machines First).domains)
-        ++ flat_map (level_domain_line Second (side_machine script.now.machines Second) (map entries_of l3.now)) (range_with_len 0 (side_machine script.now.machines Second).domains))) }
+    requires l2_each { length l2.now.entries.now ≡ (side_machine script.now.machines First).domains }
+    requires l3_each { length l3.now.entries.now ≡ (side_machine script.now.machines Second).domains }
+    requires l2_tally { HasTally l2.now }
+    requires l3_tally { HasTally l3.now }
+    requires l2_valid { HasValid (side_machine script.now.machines First) l2.now }
+    requires l3_valid { HasValid (side_machine script.now.machines Second) l3.now }
+    ensures { OnOk result (report.new ≡ report.old ++ (flat_map (group_line (histories_of l2.now) (histories_of l3.now)) (default_path ∷ map (group_made script.now) made.now)
+        ++ flat_map (level_domain_line First (side_machine script.now.machines First) (histories_of l2.now)) (range_with_len 0 (side_machine script.now.machines First).domains)
+        ++ flat_map (level_domain_line Second (side_machine script.now.machines Second) (histories_of l3.now)) (range_with_len 0 (side_machine script.now.machines Second).domains))) }
 {
-    push_groups(report, script, l2, l3, made, first.tally(), second.tally())?;
-    push_domains(report, script, Side::First, l2, first)?;
-    push_domains(report, script, Side::Second, l3, second)
+    push_groups(report, script, l2, l3, made)?;
+    push_domains(report, script, Side::First, l2)?;
+    push_domains(report, script, Side::Second, l3)
 }
 
 // Adds the lines of the groups and of the domains of both levels.
@@ -119,7 +114,15 @@ fn push_counted(
     let made = made_groups(alloc, script, replies)?;
     let first = counts_on(alloc, script, Side::First, l2)?;
     let second = counts_on(alloc, script, Side::Second, l3)?;
-    push_lines(report, script, l2, l3, &made, &first, &second)
+    let l2 = CountedCaches {
+        entries: l2,
+        counts: &first,
+    };
+    let l3 = CountedCaches {
+        entries: l3,
+        counts: &second,
+    };
+    push_lines(report, script, &l2, &l3, &made)
 }
 
 /// The report of a run with two levels and these windows of it (this project's profile): a line for each command, with what an

@@ -7,6 +7,7 @@ mod cdp_groups;
 mod cdp_window_lines;
 mod command_text;
 mod commands;
+mod counted_caches;
 mod counts;
 mod domains;
 mod groups;

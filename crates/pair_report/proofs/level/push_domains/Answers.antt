@@ -8,7 +8,7 @@ use Rattle.run_law.specs.Entries.{entries_of}
 use Rattle.pair_report.proofs.level.push_domains.Goals as goal
 
 pub push_level_domain-requires-clause-counts : goal.push_level_domain-requires-clause-counts
-push_level_domain-requires-clause-counts c = c.requires.counts ∙ ap (λ (m : Parameters). valid_in m (map entries_of c.args.caches.now)) (sym c.machine_on-machine.ensures)
+push_level_domain-requires-clause-counts c = c.requires.counts ∙ ap (λ (m : Parameters). valid_in m (map entries_of c.args.caches.now.entries.now)) (sym c.machine_on-machine.ensures)
 
 pub push_level_domain-requires-clause-domain : goal.push_level_domain-requires-clause-domain
 push_level_domain-requires-clause-domain c =
@@ -19,7 +19,7 @@ push_level_domain-requires-clause-domain c =
 
 pub loop-domain-preserved : goal.loop-domain-preserved
 loop-domain-preserved c =
-    let caches = map entries_of c.args.caches.now in
+    let caches = map entries_of c.args.caches.now.entries.now in
     let side = c.args.side in
     flat_map-range_suc (level_domain_line side (side_machine c.args.script.now.machines side) caches) c.loop-domain.domain c.args.report.now c.loop-domain.report c.push_level_domain.new.report c.loop-domain.invariant
     (c.in_ok-push_level_domain.ensures ∙ ap (λ (m : Parameters). c.loop-domain.report ++ level_domain_line side m caches c.loop-domain.domain) c.machine_on-machine.ensures)
