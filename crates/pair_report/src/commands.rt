@@ -1,5 +1,5 @@
 //! The lines of commands.
-ghost use Rattle.std.specs.Prelude.{◌≡◌, ◌+◌, ◌<◌, ◌≤◌, ◌++◌, List, ℕ, IfOk, OnOk, length};
+ghost use Rattle.std.specs.Prelude.{◌≡◌, ◌+◌, ◌<◌, ◌≤◌, ◌++◌, List, ℕ, OnOk, length};
 ghost use Rattle.pair_law.specs.Epochs.{state_at};
 ghost use Rattle.pair_text.specs.Values.{commands_of, epoch_at};
 ghost use Rattle.pair_windows.specs.Replays.{IsPlayable};
@@ -9,7 +9,9 @@ ghost use Rattle.pair_tree.specs.Reads.{text_read};
 ghost use Rattle.rc_base.specs.declared.text_buf.TheConstants.{TEXT_MAX};
 ghost use Rattle.report_pieces.specs.Pieces.{barred};
 
+use crate::answered_command::AnsweredCommand;
 use crate::command_text::push_command;
+use crate::command_walk::CommandWalk;
 use crate::counts::reply_at;
 use pair_text::{PairOp, PairScript};
 use pair_tree::PairTree;
@@ -34,111 +36,107 @@ fn push_file_text(
     report.push_barred(file.bytes())
 }
 
-// Adds the lines of the text of the read at a place, by the tree before it. What `file` held before is gone.
-fn push_text_at(
+// Adds the lines of the text of a read, by the tree before it.
+fn push_text_of(
     report: &mut ReportText,
-    replay: &mut Replay,
+    walk: &mut CommandWalk,
     script: &PairScript,
-    place: usize,
-    op: &PairOp,
-    file: &mut TextBuf,
+    command: &AnsweredCommand<'_>,
 ) -> Result<(), NoMemory>
     requires playable { IsPlayable script.now }
-    requires behind { IsBehind script.now place replay.old }
-    requires within { place < length script.now.ops }
-    requires room { TEXT_MAX ≤ file.old.spare + length file.old.bytes }
-    ensures text { OnOk result (report.new ≡ report.old ++ barred (text_read script.now.machines (state_at script.now (epoch_at script.now place)) op.now)) }
-    ensures behind { OnOk result (IsBehind script.now place replay.new) }
-    ensures room { OnOk result (file.new.spare + length file.new.bytes ≡ file.old.spare + length file.old.bytes) }
+    requires behind { IsBehind script.now command.now.place walk.old.replay }
+    requires within { command.now.place < length script.now.ops }
+    requires room { TEXT_MAX ≤ walk.old.file.spare + length walk.old.file.bytes }
+    ensures text { OnOk result (report.new ≡ report.old ++ barred (text_read script.now.machines (state_at script.now (epoch_at script.now command.now.place)) command.now.op.now)) }
+    ensures behind { OnOk result (IsBehind script.now command.now.place walk.new.replay) }
+    ensures room { OnOk result (walk.new.file.spare + length walk.new.file.bytes ≡ walk.old.file.spare + length walk.old.file.bytes) }
 {
-    replay.reach(script, place);
-    push_file_text(report, replay.tree(), op, file)?;
+    walk.replay.reach(script, command.place);
+    push_file_text(report, walk.replay.tree(), command.op, &mut walk.file)?;
     Ok(())
 }
 
-// Adds the lines of what the command at a place gave, where it was an accepted read: for no other is the tree taken there. What
-// `file` held before may be gone.
+// Adds the lines of what a command gave, where it was an accepted read: for no other is the tree taken there.
 fn push_given(
     report: &mut ReportText,
-    replay: &mut Replay,
+    walk: &mut CommandWalk,
     script: &PairScript,
-    place: usize,
-    op: &PairOp,
-    reply: Reply,
-    file: &mut TextBuf,
+    command: &AnsweredCommand<'_>,
 ) -> Result<(), NoMemory>
     requires playable { IsPlayable script.now }
-    requires behind { IsBehind script.now place replay.old }
-    requires within { place < length script.now.ops }
-    requires room { TEXT_MAX ≤ file.old.spare + length file.old.bytes }
-    ensures text { OnOk result (report.new ≡ report.old ++ given_lines script.now.machines (state_at script.now (epoch_at script.now place)) op.now reply) }
-    ensures behind { OnOk result (IsBehind script.now place replay.new) }
-    ensures room { OnOk result (file.new.spare + length file.new.bytes ≡ file.old.spare + length file.old.bytes) }
+    requires behind { IsBehind script.now command.now.place walk.old.replay }
+    requires within { command.now.place < length script.now.ops }
+    requires room { TEXT_MAX ≤ walk.old.file.spare + length walk.old.file.bytes }
+    ensures text { OnOk result (report.new ≡ report.old ++ given_lines script.now.machines (state_at script.now (epoch_at script.now command.now.place)) command.now.op.now command.now.reply) }
+    ensures behind { OnOk result (IsBehind script.now command.now.place walk.new.replay) }
+    ensures room { OnOk result (walk.new.file.spare + length walk.new.file.bytes ≡ walk.old.file.spare + length walk.old.file.bytes) }
 {
-    match (op, reply) {
-        (PairOp::Read { .. }, Reply::Ok) => push_text_at(report, replay, script, place, op, file),
+    match (command.op, command.reply) {
+        (PairOp::Read { .. }, Reply::Ok) => push_text_of(report, walk, script, command),
         _ => Ok(()),
     }
 }
 
-// Adds the line of the command at a place, with what it gave. What `file` held before may be gone.
+// Adds the line of a command, with what it gave.
 #[tactic(auto, unfolding(crate::specs::PairCommands::command_line))]
 fn push_line(
     report: &mut ReportText,
-    replay: &mut Replay,
+    walk: &mut CommandWalk,
     script: &PairScript,
-    place: usize,
-    k: usize,
-    op: &PairOp,
-    reply: Reply,
-    file: &mut TextBuf,
+    command: &AnsweredCommand<'_>,
 ) -> Result<(), NoMemory>
     requires playable { IsPlayable script.now }
-    requires behind { IsBehind script.now place replay.old }
-    requires within { place < length script.now.ops }
-    requires room { TEXT_MAX ≤ file.old.spare + length file.old.bytes }
-    ensures text { OnOk result (report.new ≡ report.old ++ command_line script.now.machines (state_at script.now (epoch_at script.now place)) k op.now reply) }
-    ensures behind { OnOk result (IsBehind script.now place replay.new) }
-    ensures room { OnOk result (file.new.spare + length file.new.bytes ≡ file.old.spare + length file.old.bytes) }
+    requires behind { IsBehind script.now command.now.place walk.old.replay }
+    requires within { command.now.place < length script.now.ops }
+    requires room { TEXT_MAX ≤ walk.old.file.spare + length walk.old.file.bytes }
+    ensures text { OnOk result (report.new ≡ report.old
+        ++ command_line script.now.machines (state_at script.now (epoch_at script.now command.now.place)) command.now.position command.now.op.now command.now.reply) }
+    ensures behind { OnOk result (IsBehind script.now command.now.place walk.new.replay) }
+    ensures room { OnOk result (walk.new.file.spare + length walk.new.file.bytes ≡ walk.old.file.spare + length walk.old.file.bytes) }
 {
-    report.push_decimal(k as u64)?;
+    report.push_decimal(command.position as u64)?;
     report.push(b" ".as_slice())?;
-    push_command(report, op)?;
+    push_command(report, command.op)?;
     report.push(b": ".as_slice())?;
-    report.push_reply(reply)?;
+    report.push_reply(command.reply)?;
     report.push(b"\n".as_slice())?;
-    push_given(report, replay, script, place, op, reply, file)
+    push_given(report, walk, script, command)
 }
 
-// Adds the line of the op at a place, before which so many commands stand, where it is a command, and returns how many stand before
-// the op after it.
+// Adds the line of the op at a place, where it is a command.
 fn push_next(
     report: &mut ReportText,
-    replay: &mut Replay,
+    walk: &mut CommandWalk,
     script: &PairScript,
     replies: &[Reply],
     place: usize,
-    k: usize,
-    file: &mut TextBuf,
-) -> Result<usize, NoMemory>
+) -> Result<(), NoMemory>
     requires playable { IsPlayable script.now }
-    requires behind { IsBehind script.now place replay.old }
+    requires behind { IsBehind script.now place walk.old.replay }
     requires within { place < length script.now.ops }
-    requires before { k ≡ epoch_at script.now place }
+    requires before { walk.old.commands ≡ epoch_at script.now place }
     requires answered { length replies.now ≡ length (commands_of script.now) }
-    requires room { TEXT_MAX ≤ file.old.spare + length file.old.bytes }
-    ensures before { IfOk result (λ next. next ≡ epoch_at script.now (place + 1)) }
+    requires room { TEXT_MAX ≤ walk.old.file.spare + length walk.old.file.bytes }
+    ensures before { OnOk result (walk.new.commands ≡ epoch_at script.now (place + 1)) }
     ensures text { OnOk result ((before : List ℕ) → report.old ≡ before ++ lines_before script.now replies.now place → report.new ≡ before ++ lines_before script.now replies.now (place + 1)) }
-    ensures behind { OnOk result (IsBehind script.now (place + 1) replay.new) }
-    ensures room { OnOk result (file.new.spare + length file.new.bytes ≡ file.old.spare + length file.old.bytes) }
+    ensures behind { OnOk result (IsBehind script.now (place + 1) walk.new.replay) }
+    ensures room { OnOk result (walk.new.file.spare + length walk.new.file.bytes ≡ walk.old.file.spare + length walk.old.file.bytes) }
 {
     let op = &script.ops()[place];
     if !is_command(op) {
-        return Ok(k);
+        return Ok(());
     }
-    let reply = reply_at(replies, k);
-    push_line(report, replay, script, place, k, op, reply, file)?;
-    Ok(k + 1)
+    let position = walk.commands;
+    let reply = reply_at(replies, position);
+    let command = AnsweredCommand {
+        place,
+        position,
+        op,
+        reply,
+    };
+    push_line(report, walk, script, &command)?;
+    walk.commands = position + 1;
+    Ok(())
 }
 
 // Adds the lines of all commands. The tree is taken through them only as far as the last accepted read.
@@ -152,11 +150,15 @@ fn push_all(
     requires answered { length replies.now ≡ length (commands_of script.now) }
     ensures { OnOk result (report.new ≡ report.old ++ lines_before script.now replies.now (length script.now.ops)) }
 {
-    let mut file = TextBuf::with_room(alloc, TEXT_MAX)?;
-    let mut replay = Replay::create(alloc, script)?;
-    let mut k = 0;
+    let file = TextBuf::with_room(alloc, TEXT_MAX)?;
+    let replay = Replay::create(alloc, script)?;
+    let mut walk = CommandWalk {
+        replay,
+        commands: 0,
+        file,
+    };
     for place in 0..script.ops().len() {
-        k = push_next(report, &mut replay, script, replies, place, k, &mut file)?;
+        push_next(report, &mut walk, script, replies, place)?;
     }
     Ok(())
 }

@@ -35,8 +35,8 @@ reply_at-reply-requires c =
     let answered = c.requires.answered in
     omega (arith, lt, epoch, answered)
 
-pub overflow_add-result : goal.overflow_add-result
-overflow_add-result c =
+pub overflow_add-walk : goal.overflow_add-walk
+overflow_add-walk c =
     let script = c.args.script.now in
     let i : ℕ = c.args.place in
     let op : PairOp = c.index-ops-place.result in
@@ -61,7 +61,7 @@ returns-clause-text c = λ before was.
     let i : ℕ = c.args.place in
     let op : PairOp = c.index-ops-place.result in
     let at : op_at script i ≡ Some op = slice_get-get_or script.ops i op c.requires.within ∙ ap Some (ap (λ (l : List PairOp). get_or l i op) (sym c.ops.ensures) ∙ sym c.index-ops-place.is) in
-    lines-command script c.args.replies.now i op at before c.args.report.now c.push_line.new.report was c.args.k c.reply_at-reply.result c.requires.before
+    lines-command script c.args.replies.now i op at before c.args.report.now c.push_line.new.report was c.args.walk.now.commands c.reply_at-reply.result c.requires.before
     (sym c.is_command.ensures ∙ c.if-not-is_command.false) c.reply_at-reply.ensures c.in_ok-push_line.ensures.text
 
 pub returns-then-not-is_command-clause-behind : goal.returns-then-not-is_command-clause-behind
