@@ -1,5 +1,6 @@
 //! Streams that fail, scripts that are cut or as large as can be, and changes beside accesses.
 
+mod beginnings;
 mod changes;
 mod cuts;
 mod endings;

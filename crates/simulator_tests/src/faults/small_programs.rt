@@ -1,6 +1,7 @@
-//! Two small programs: one has its whole input before it begins, and one takes it piece by piece.
+//! Three small programs: one has its whole input before it begins, one refuses some inputs by their beginning, and one takes its
+//! input piece by piece.
 
-use call_rim::{Performed, Program, StreamProgram, Taken};
+use call_rim::{EarlyProgram, Performed, Program, StreamProgram, Taken};
 use rc_base::NoMemory;
 use std::alloc::Global;
 
@@ -27,6 +28,48 @@ impl Program for Echo {
             outcome: bytes.len(),
             report: bytes,
         }
+    }
+}
+
+/// Counts the bytes of its input, 1,048,579 at most, and refuses one with an exclamation mark.
+pub(crate) struct Unmarked;
+
+impl Program for Unmarked {
+    ghost use Rattle.std.specs.Prelude.{◌≡◌, length, Contains};
+
+    type Outcome = usize;
+
+    ghost most = { λ p. 1048579 };
+
+    ghost refuses = { λ p bytes line. Contains bytes 33 };
+
+    ghost reports = { λ p bytes count text. count ≡ length bytes };
+
+    fn most_bytes(&self) -> usize {
+        1_048_579
+    }
+
+    fn perform(&self, alloc: Global, bytes: Vec<u8>) -> Performed<usize> {
+        let outcome = bytes.len();
+        match self.refuse_beginning(alloc, &bytes) {
+            Ok(Some(line)) => return Performed::Refused { line },
+            Ok(None) => {}
+            Err(NoMemory) => return Performed::NoMemory,
+        }
+        match Vec::from_slice(alloc, b"counted\n") {
+            Ok(report) => Performed::Reported { outcome, report },
+            Err(_) => Performed::NoMemory,
+        }
+    }
+}
+
+impl EarlyProgram for Unmarked {
+    fn refuse_beginning(&self, alloc: Global, bytes: &[u8]) -> Result<Option<Vec<u8>>, NoMemory> {
+        if !bytes.contains(&b'!') {
+            return Ok(None);
+        }
+        let line = Vec::from_slice(alloc, b"marked\n")?;
+        Ok(Some(line))
     }
 }
 
