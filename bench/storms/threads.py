@@ -1,4 +1,4 @@
-"""Storms of `run`, which needs the tree's lock for each tag."""
+"""Storms of `run`, whose threads share the tree and the slices."""
 from storms.caches import head
 from storms.limits import MOST_WEIGHT, PLACES
 from storms.row import Row
@@ -17,7 +17,7 @@ def run_one_slice(script, count):
 
 
 def run_32_slices(script, count):
-    """Sixteen threads over 32 slices, which each tag meets."""
+    """Sixteen threads over 32 slices, which a tag under the tree's lock meets."""
     machine = "machine domains=2 slices=16 sets=4096 ways=16 cpus=2"
     script.write(side_by_side(machine, "1", f"sweep 1 0 0 {count // THREADS} 64\n"))
 

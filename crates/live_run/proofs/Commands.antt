@@ -93,6 +93,7 @@ module _ (script : ScriptValue) (table : TableId) (tree : JournalName) (slices :
             (subst (λ (v : JournalsValue). IsFollowing script decided.looks.at.start s.thread n at_k op h (length decided.looks.at.found) v) (sym is_now)
             (follows_decided script table tree slices c kept s looked n op entry worker is command decided.looks));
         found = decided.looks.at.found;
+        given = decided.looks.at.given;
         share_is = decided_share script table tree slices c kept s looked n op entry worker is command decided.looks decided.last decided.made decided.made_is decided.ends new worker_now decided.new_thread (decided.seen ∙ decided.list) decided.stepped;
         last = omega (arith, history_length c.journal.entries, ap length (decided.seen ∙ decided.list), length_push c.journal.entries (looked.thread, entry));
       })

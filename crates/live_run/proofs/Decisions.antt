@@ -1,5 +1,5 @@
 -- The decision of a command: what is known then, and the parts of its thread.
-use Rattle.std.proofs.Common.{◌≡◌, ℕ, ◌+◌, ◌*◌, ◌<◌, inl, inr, Bool, List, [], ◌∷◌, ◌++◌, length, map, take, sum_by, Some, sym, ap, ap₂, ◌∙◌, subst, arith}
+use Rattle.std.proofs.Common.{◌≡◌, ℕ, ◌+◌, ◌*◌, ◌<◌, ◌^◌, inl, inr, Bool, List, [], ◌∷◌, ◌++◌, length, map, take, sum_by, Some, sym, ap, ap₂, ◌∙◌, subst, arith}
 use Rattle.std.specs.List.{flat_map}
 use Rattle.std.specs.Prelude.{◌==◌, IsTrue, nat_lt, not}
 use Rattle.std.proofs.Math.Seq.{take-length}
@@ -140,20 +140,23 @@ module _ (script : ScriptValue) (table : TableId) (tree : JournalName) (slices :
     all_found = omega (arith, made_is, looks.at.made)
 
     -- the parts of the thread
-    parts_are : (t : ℕ) → looked.thread ≡ t → worker.parts ≡ holding (list_of c.journal.entries) t n (Looking made) looks.at.found
+    parts_are : (t : ℕ) → looked.thread ≡ t → worker.parts ≡ holding (list_of c.journal.entries) t n (Looking made) looks.at.found looks.at.given
     parts_are t same =
         looks.at.share_is.parts_are
-        ∙ (ap₂ (λ (es : List (ℕ × TreeEntry)) u. holding (list_of es) u n (Looking (length looks.at.found)) looks.at.found) looks.whole same
-        ∙ ap (λ m. holding (list_of c.journal.entries) t n (Looking m) looks.at.found) (sym all_found))
+        ∙ (ap₂ (λ (es : List (ℕ × TreeEntry)) u. holding (list_of es) u n (Looking (length looks.at.found)) looks.at.found looks.at.given) looks.whole same
+        ∙ ap (λ m. holding (list_of c.journal.entries) t n (Looking m) looks.at.found looks.at.given) (sym all_found))
 
     -- by the parts at hand it may be decided
-    pub may_decide : MayDecide script worker.parts entry last made
-    may_decide = record {
+    pub may_decide : (epoch : ℕ) → epoch ≡ length c.journal.entries → epoch + 1 < 2 ^ 62 → MayDecide script worker.parts entry last made epoch
+    may_decide epoch is_epoch few = record {
+      epoch_is = is_epoch ∙ sym (length-list_of c.journal.entries);
+      few = few;
       some = kept.lawful.in_range.some_slice;
       op = op;
       history = list_of c.journal.entries;
       found = looks.at.found;
-      worker_is = parts_are entry.thread (looks.same_thread ∙ sym looks.thread) ∙ ap (λ k. holding (list_of c.journal.entries) entry.thread k (Looking made) looks.at.found) (sym looks.number);
+      given = looks.at.given;
+      worker_is = parts_are entry.thread (looks.same_thread ∙ sym looks.thread) ∙ ap (λ k. holding (list_of c.journal.entries) entry.thread k (Looking made) looks.at.found looks.at.given) (sym looks.number);
       is = op_is;
       may = entry_follows;
       made_is = all_found;
@@ -165,7 +168,7 @@ module _ (script : ScriptValue) (table : TableId) (tree : JournalName) (slices :
 
     -- after it the thread follows, or has let the tree go
     pub decided_share : (new : SeenValue) (worker_now : ShareValue Part) → new.thread ≡ looked.thread → new.tree.seen ≡ c.journal.entries ++ (looked.thread, entry) ∷ [] → HasStepped (happenings.Decide entry last made) worker worker_now
-        → IsShareOf table (following (list_of new.tree.seen) new.thread n (length looks.at.found) (length (jobs_of script (history_of new.tree.seen) (length (history_of c.journal.entries)) op)) looks.at.found) worker_now
+        → IsShareOf table (following (list_of new.tree.seen) new.thread n (length looks.at.found) (length (jobs_of script (history_of new.tree.seen) (length (history_of c.journal.entries)) op)) looks.at.found looks.at.given) worker_now
     decided_share new worker_now same seen stepped =
         let k : ℕ = length history in
         let all : ℕ = length (jobs_of script history k op) in
@@ -178,7 +181,7 @@ module _ (script : ScriptValue) (table : TableId) (tree : JournalName) (slices :
           parts_are =
               stepped.1
               ∙ (ap (parts_after after (happenings.Decide entry last made)) (parts_are new.thread (sym same))
-              ∙ (following-decide (list_of c.journal.entries) entry new.thread n made all looks.at.found last ends
-              ∙ (ap₂ (λ es m. following es new.thread n m all looks.at.found) list all_found
-              ∙ ap (λ a. following (list_of new.tree.seen) new.thread n (length looks.at.found) a looks.at.found) many)));
+              ∙ (following-decide (list_of c.journal.entries) entry new.thread n made all looks.at.found looks.at.given last ends
+              ∙ (ap₂ (λ es m. following es new.thread n m all looks.at.found looks.at.given) list all_found
+              ∙ ap (λ a. following (list_of new.tree.seen) new.thread n (length looks.at.found) a looks.at.found looks.at.given) many)));
         }

@@ -1,5 +1,5 @@
 -- The shares of a run before its first op.
-use Rattle.std.proofs.Common.{◌≡◌, ℕ, zero, suc, ◌+◌, ◌-◌, ◌<◌, ◌≤◌, inl, inr, false, Bool, List, [], ◌∷◌, ◌++◌, None, length, drop, refl, sym, ap, ◌∙◌, subst, arith}
+use Rattle.std.proofs.Common.{◌≡◌, ℕ, zero, suc, ◌+◌, ◌-◌, ◌<◌, ◌≤◌, inl, inr, false, Bool, List, [], ◌∷◌, ◌++◌, None, length, drop, refl, sym, ap, ◌∙◌, subst, arith, Option}
 use Rattle.std.specs.Prelude.{slice_index_or}
 use Rattle.std.proofs.lemmas.Bool.{cases_lt}
 use Rattle.std.proofs.lemmas.List.{get_or_append_left, get_or_push, length_push}
@@ -8,6 +8,7 @@ use Rattle.live_run.specs.Openings.{AreFirstShares, AreNumbered, AreSplit}
 use Rattle.live_run.specs.Sharing.{IsAtPhase, IsResting, IsShareOf, begun_in}
 use Rattle.live_run.proofs.NumberedParts.{AreApart-numbered, rest_of-drop, AreNumbered-threads, parts_left, AreNumbered-left, AreNumbered-turn, AreNumbered-first, slices_fit, first_of-slices}
 use Rattle.machine.specs.Slices.{slice_count}
+use Rattle.schedule_law.specs.declared.part.GivenTag.{GivenTag}
 use Rattle.schedule_law.specs.LiveParts.{first, first_slices, first_threads, live_phase, live_slice, live_tree, resting_thread}
 use Rattle.schedule_law.specs.declared.part.Part.{Part}
 use Rattle.script_ops.specs.Values.{ScriptValue, threads_of}
@@ -102,31 +103,32 @@ module _ (table : TableId) (n m : ℕ) (shares rest : List (ShareValue Part)) (o
 -- ---- the threads'
 
 -- the next thread's part is the first of those that are left
-pub first_threads-next : (t n : ℕ) → t < n → first_threads t (n - t) ≡ resting_thread t 0 false [] ∷ first_threads (t + 1) (n - (t + 1))
+pub first_threads-next : (t n : ℕ) → t < n → first_threads t (n - t) ≡ resting_thread t 0 false [] None ∷ first_threads (t + 1) (n - (t + 1))
 first_threads-next t n low =
     let more : n - t ≡ suc (n - (t + 1)) = omega (arith, low) in
     ap (first_threads t) more
 
 module _ (table : TableId) (t n : ℕ) (share : ShareValue Part) (low : t < n) (is : IsShareOf table (first_threads t (n - t)) share) where
-  threads_now : IsShareOf table (resting_thread t 0 false [] ∷ first_threads (t + 1) (n - (t + 1))) share
+  threads_now : IsShareOf table (resting_thread t 0 false [] None ∷ first_threads (t + 1) (n - (t + 1))) share
   threads_now = subst (λ xs. IsShareOf table xs share) (first_threads-next t n low) is
 
   pub next_apart : AreApart (first_of share.parts) (rest_of share.parts)
   next_apart = share_apart table (first_threads t (n - t)) share is (AreNumbered-threads t (n - t))
 
-  pub next_share : (one : ShareValue Part) → one.table ≡ share.table → one.parts ≡ first_of share.parts → IsShareOf table (resting_thread t 0 false [] ∷ []) one
-  next_share = first_share table (resting_thread t 0 false []) (first_threads (t + 1) (n - (t + 1))) share threads_now
+  pub next_share : (one : ShareValue Part) → one.table ≡ share.table → one.parts ≡ first_of share.parts → IsShareOf table (resting_thread t 0 false [] None ∷ []) one
+  next_share = first_share table (resting_thread t 0 false [] None) (first_threads (t + 1) (n - (t + 1))) share threads_now
 
   pub next_left : (left : ShareValue Part) → left.table ≡ share.table → left.parts ≡ rest_of share.parts → IsShareOf table (first_threads (t + 1) (n - (t + 1))) left
-  next_left = rest_share table (resting_thread t 0 false []) (first_threads (t + 1) (n - (t + 1))) share threads_now
+  next_left = rest_share table (resting_thread t 0 false [] None) (first_threads (t + 1) (n - (t + 1))) share threads_now
 
 -- ---- a thread between two ops
 
 -- by whether its phase is known to have begun
-pub IsResting-known : (table : TableId) (t n : ℕ) (begun : Bool) (found : List ℕ) (share : ShareValue Part) → IsShareOf table (resting_thread t n begun found ∷ []) share → IsResting table t n (begun_in share.parts) share
-IsResting-known table t n begun found share is = record {
+pub IsResting-known : (table : TableId) (t n : ℕ) (begun : Bool) (found : List ℕ) (given : Option GivenTag) (share : ShareValue Part) → IsShareOf table (resting_thread t n begun found given ∷ []) share → IsResting table t n (begun_in share.parts) share
+IsResting-known table t n begun found given share is = record {
   found = found;
-  is = subst (λ b. IsShareOf table (resting_thread t n b found ∷ []) share) (sym (ap begun_in is.parts_are)) is;
+  given = given;
+  is = subst (λ b. IsShareOf table (resting_thread t n b found given ∷ []) share) (sym (ap begun_in is.parts_are)) is;
 }
 
 -- ---- all of them

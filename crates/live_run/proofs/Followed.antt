@@ -85,10 +85,11 @@ module _ (script : ScriptValue) (table : TableId) (tree : JournalName) (n k made
         made = made;
         position = k;
         found = at.found;
+        given = at.given;
         share = record {
           table_is = at.share_is.table_is;
           words = at.share_is.words;
-          parts_are = at.share_is.parts_are ∙ following-more (list_of s.tree.seen) s.thread n made (length jobs) at.found more;
+          parts_are = at.share_is.parts_are ∙ following-more (list_of s.tree.seen) s.thread n made (length jobs) at.found at.given more;
         };
         is = at.is.holds.is_op;
         decided = is_epoch;
@@ -114,14 +115,15 @@ module _ (script : ScriptValue) (table : TableId) (tree : JournalName) (n k made
             (subst (λ t. IsFollowing script at.start t n k c at.h (made + 1) (record { tree = history_of s.tree.seen; slices = lists_of new.slices })) (sym added.thread) is);
         last = at.last ∙ ap (λ (p : PassValue TreeEntry). length p.seen) (sym same);
         found = at.found;
+        given = at.given;
         share_is = record {
           table_is = stepped.1.0 ∙ at.share_is.table_is;
           words = at.share_is.words;
           parts_are =
               stepped.1.1
-              ∙ (ap (parts_after after (happenings.Follow stepped.0 last)) (at.share_is.parts_are ∙ following-more (list_of s.tree.seen) s.thread n made (length (jobs_of script (history_of s.tree.seen) k c)) at.found more)
-              ∙ (following-follow (list_of s.tree.seen) stepped.0 s.thread n made (length (jobs_of script (history_of s.tree.seen) k c)) at.found last ends
-              ∙ ap₂ (λ (p : PassValue TreeEntry) t. following (list_of p.seen) t n (made + 1) (length (jobs_of script (history_of p.seen) k c)) at.found) (sym same) (sym added.thread)));
+              ∙ (ap (parts_after after (happenings.Follow stepped.0 last)) (at.share_is.parts_are ∙ following-more (list_of s.tree.seen) s.thread n made (length (jobs_of script (history_of s.tree.seen) k c)) at.found at.given more)
+              ∙ (following-follow (list_of s.tree.seen) stepped.0 s.thread n made (length (jobs_of script (history_of s.tree.seen) k c)) at.found at.given last ends
+              ∙ ap₂ (λ (p : PassValue TreeEntry) t. following (list_of p.seen) t n (made + 1) (length (jobs_of script (history_of p.seen) k c)) at.found at.given) (sym same) (sym added.thread)));
         };
       }
     where

@@ -23,6 +23,7 @@ pub mod PhaseEnds
 pub mod PhaseParts
 pub mod PhaseTurns
 pub mod Readings
+mod Recalls
 pub mod Room
 pub mod Rooms
 pub mod RunEnds

@@ -90,6 +90,7 @@ module _ (script : ScriptValue) (table : TableId) (tree : JournalName) (n : ℕ)
       (record {
         op = c;
         found = at.found;
+        given = at.given;
         share = at.share_is;
         is = at.is.holds.is_op;
         distinct = distinct_pairs script.machine (needs script.machine (tree_after script history) c) distinct;
@@ -112,6 +113,7 @@ module _ (script : ScriptValue) (table : TableId) (tree : JournalName) (n : ℕ)
         start = at.start;
         ended = subst (λ t. AreEnded script at.start t) (sym added.thread) at.ended;
         found = found;
+        given = at.given;
         is = subst (λ (v : JournalsValue). IsLooking script at.start new.thread n c found v) (sym seen)
             (subst (λ t. IsLooking script at.start t n c found (record { tree = history; slices = lists_of new.slices })) (sym added.thread) is);
         made = omega (arith, many, at.made);
@@ -128,8 +130,8 @@ module _ (script : ScriptValue) (table : TableId) (tree : JournalName) (n : ℕ)
           parts_are =
               stepped.1
               ∙ (ap (parts_after after (happenings.Look e)) at.share_is.parts_are
-              ∙ (ap (λ m. holding (list_of s.tree.seen) s.thread n (Looking m) found) many
-              ∙ ap₂ (λ (p : PassValue TreeEntry) t. holding (list_of p.seen) t n (Looking (length found)) found) (sym same) (sym added.thread)));
+              ∙ (ap (λ m. holding (list_of s.tree.seen) s.thread n (Looking m) found at.given) many
+              ∙ ap₂ (λ (p : PassValue TreeEntry) t. holding (list_of p.seen) t n (Looking (length found)) found at.given) (sym same) (sym added.thread)));
         };
       }
     where
@@ -145,6 +147,7 @@ has_counted script table n c q lines numbers s worker limit at = record {
   start = at.start;
   ended = at.ended;
   found = at.found;
+  given = at.given;
   is = at.is;
   made = (let one : (q + 1) * script.machine.slices ≡ q * script.machine.slices + script.machine.slices = omega arith in omega (arith, at.made, one));
   count = omega (arith, length_push numbers lines, at.count);

@@ -1,5 +1,5 @@
 -- Parts of different numbers, and the first parts of a run.
-use Rattle.std.proofs.Common.{◌≡◌, ℕ, zero, suc, ◌+◌, ◌<◌, ◌≤◌, ◌==◌, inl, inr, false, List, [], ◌∷◌, ◌++◌, length, drop, refl, sym, ap, ◌∙◌, subst, arith}
+use Rattle.std.proofs.Common.{◌≡◌, ℕ, zero, suc, ◌+◌, ◌<◌, ◌≤◌, ◌==◌, inl, inr, false, List, None, [], ◌∷◌, ◌++◌, length, drop, refl, sym, ap, ◌∙◌, subst, arith}
 use Rattle.std.proofs.lemmas.Bool.{ne_eqb, true≢false}
 use Rattle.std.proofs.lemmas.List.{length-append}
 use Rattle.live_run.specs.Openings.{AreNumbered}
@@ -37,7 +37,7 @@ has-none k x xs other none = has-later k x xs other ∙ none
 
 has-threads : (k t n : ℕ) → ((u : ℕ) → t ≤ u → (number_of_thread u == k) ≡ false) → has k (first_threads t n) ≡ false
 has-threads k t zero others = refl
-has-threads k t (suc n) others = has-none k (resting_thread t 0 false []) (first_threads (t + 1) n) (others t (omega arith)) (has-threads k (t + 1) n (λ u from. others u (omega (arith, from))))
+has-threads k t (suc n) others = has-none k (resting_thread t 0 false [] None) (first_threads (t + 1) n) (others t (omega arith)) (has-threads k (t + 1) n (λ u from. others u (omega (arith, from))))
 
 has-slices : (k i n : ℕ) (xs : List (ℕ × Part)) → ((j : ℕ) → i ≤ j → (number_of_slice j == k) ≡ false) → has k xs ≡ false → has k (first_slices i n ++ xs) ≡ false
 has-slices k i zero xs others none = none

@@ -16,7 +16,7 @@ use Rattle.live_run.specs.Names.{PassesValue, SeenValue, seen_by}
 use Rattle.live_run.specs.Passes.{PassesAreKept}
 use Rattle.live_run.specs.Sharing.{IsResting, begun_in}
 use Rattle.live_run.specs.Steps.{HasTaken}
-use Rattle.live_run.specs.declared.cached_tag.CachedTag.{CachedTag}
+use Rattle.schedule_law.specs.declared.part.GivenTag.{GivenTag}
 use Rattle.rc_base.specs.Buffers.{Looks, Roomy}
 use Rattle.rc_base.specs.declared.replies.Reply.{Reply}
 use Rattle.run_law.proofs.laws.ReadyLists.{rooms_of-access, rooms_of-command}
@@ -36,7 +36,7 @@ pub still_ended : (script : ScriptValue) (old new : JournalsValue) (t now : ℕ)
 still_ended script old new t now grown same ended = subst (AreEnded script new) (sym same) (AreEnded-grown script old new t grown ended)
 
 -- they have seen more, and added nothing
-pub passes_handed : (script : ScriptValue) (table : TableId) (old new : SeenValue) (n : ℕ) (lists : List Looks) (shown : Roomy) (share : ShareValue Part) (cached : Option CachedTag) → HasTaken old new → PassesAreKept script table old n lists shown share cached → PassesAreKept script table new n lists shown share cached
+pub passes_handed : (script : ScriptValue) (table : TableId) (old new : SeenValue) (n : ℕ) (lists : List Looks) (shown : Roomy) (share : ShareValue Part) (cached : Option GivenTag) → HasTaken old new → PassesAreKept script table old n lists shown share cached → PassesAreKept script table new n lists shown share cached
 passes_handed script table old new n lists shown share cached taken kept = record {
   keep = subst (λ t. PassesKeep script t n (seen_by new)) (sym taken.thread) (PassesKeep-more script old.thread n (seen_by old) (seen_by new) taken.sees kept.keep);
   lists_are = subst (λ t. AreReady (rooms_of script.machine (drop n (ops_of script t))) lists) (sym taken.thread) kept.lists_are;
@@ -44,6 +44,7 @@ passes_handed script table old new n lists shown share cached taken kept = recor
   share_is = subst (λ t. IsResting table t n (begun_in share.parts) share) (sym taken.thread) kept.share_is;
   ended = λ begun. still_ended script (seen_by old) (seen_by new) old.thread new.thread (HasGrown-more old.thread (seen_by old) (seen_by new) taken.sees) taken.thread (kept.ended begun);
   cached_is = HoldsCached-grown script old new cached (HasGrown-more old.thread (seen_by old) (seen_by new) taken.sees) kept.cached_is;
+  noted = kept.noted;
 }
 
 -- whether the phase of a thread is known to have begun stands in its share
@@ -56,7 +57,7 @@ resting_after table t now n share same resting =
     subst (λ u. IsResting table u n (begun_in share.parts) share) (sym same) (subst (λ b. IsResting table t n b share) (sym (resting_begun table t n true share resting)) resting)
 
 -- and before it
-pub resting_before : (script : ScriptValue) (table : TableId) (s : SeenValue) (n : ℕ) (lists : List Looks) (shown : Roomy) (share : ShareValue Part) (cached : Option CachedTag) → PassesAreKept script table s n lists shown share cached → begun_in share.parts ≡ true → IsResting table s.thread n true share
+pub resting_before : (script : ScriptValue) (table : TableId) (s : SeenValue) (n : ℕ) (lists : List Looks) (shown : Roomy) (share : ShareValue Part) (cached : Option GivenTag) → PassesAreKept script table s n lists shown share cached → begun_in share.parts ≡ true → IsResting table s.thread n true share
 resting_before script table s n lists shown share cached kept begun = subst (λ b. IsResting table s.thread n b share) begun kept.share_is
 
 -- a reply does not hang on whether the phase is known to have begun

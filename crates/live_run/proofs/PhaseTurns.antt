@@ -9,12 +9,13 @@ use Rattle.live_run.proofs.laws.Phases.{in_phase-before}
 use Rattle.live_run.specs.Names.{PassesValue, SeenValue, seen_by}
 use Rattle.live_run.specs.Passes.{PassesAreKept}
 use Rattle.live_run.specs.Phases.{AreBegun, AreEndedIn, AreOfPhase, HaveEnded, IsEndedIn, IsOfPhase, no_passes, passes_at}
-use Rattle.live_run.specs.Sharing.{IsAtPhase, IsShareOf, begun_in}
-use Rattle.live_run.specs.declared.cached_tag.CachedTag.{CachedTag}
+use Rattle.live_run.proofs.CachedTags.{IsNoted-same}
+use Rattle.live_run.specs.Sharing.{given_in, IsAtPhase, IsShareOf, begun_in}
+use Rattle.schedule_law.specs.declared.part.GivenTag.{GivenTag}
 use Rattle.rc_base.specs.Buffers.{Looks, Roomy}
 use Rattle.run_law.specs.Ops.{phase_in}
 use Rattle.schedule_law.specs.LiveParts.{after, live_phase, resting_thread}
-use Rattle.schedule_law.specs.LiveSteps.{MayBegin, MayEnd, MayPass}
+use Rattle.schedule_law.specs.LivePhases.{MayBegin, MayEnd, MayPass}
 use Rattle.schedule_law.specs.declared.part.Happening.TheVariants as happenings
 use Rattle.schedule_law.specs.declared.part.Part.{Part}
 use Rattle.script_ops.specs.Values.{ScriptValue, first_thread}
@@ -27,7 +28,7 @@ share_is_same a b table parts = λ j. record { table = table j; parts = parts j 
 
 -- ---- one thread
 
-module _ (script : ScriptValue) (table : TableId) (s : SeenValue) (n : ℕ) (lists : List Looks) (shown : Roomy) (share turn : ShareValue Part) (cached : Option CachedTag) (kept : PassesAreKept script table s n lists shown share cached) where
+module _ (script : ScriptValue) (table : TableId) (s : SeenValue) (n : ℕ) (lists : List Looks) (shown : Roomy) (share turn : ShareValue Part) (cached : Option GivenTag) (kept : PassesAreKept script table s n lists shown share cached) where
   abbrev pub passes_now : PassesValue
   passes_now = record { seen = s; next = n; shown = shown.bytes; begun = begun_in share.parts }
 
@@ -47,13 +48,14 @@ module _ (script : ScriptValue) (table : TableId) (s : SeenValue) (n : ℕ) (lis
     n = n;
     begun = begun_in share.parts;
     found = kept.share_is.found;
+    given = kept.share_is.given;
     phase_is = of.share.parts_are;
     worker_is = kept.share_is.is.parts_are;
     low = of.low;
   }
 
   module _ (now : ShareValue Part) (same : now.table ≡ share.table) (stepped : now.parts ≡ parts_after after happenings.Begin share.parts) where
-    begun_parts : now.parts ≡ resting_thread s.thread n true kept.share_is.found ∷ []
+    begun_parts : now.parts ≡ resting_thread s.thread n true kept.share_is.found kept.share_is.given ∷ []
     begun_parts = stepped ∙ ap (parts_after after happenings.Begin) kept.share_is.is.parts_are
 
     pub is_begun : begun_in now.parts ≡ true
@@ -64,9 +66,10 @@ module _ (script : ScriptValue) (table : TableId) (s : SeenValue) (n : ℕ) (lis
       keep = kept.keep;
       lists_are = kept.lists_are;
       room = kept.room;
-      share_is = IsResting-known table s.thread n true kept.share_is.found now (record { table_is = same ∙ kept.share_is.is.table_is; words = kept.share_is.is.words; parts_are = begun_parts });
+      share_is = IsResting-known table s.thread n true kept.share_is.found kept.share_is.given now (record { table_is = same ∙ kept.share_is.is.table_is; words = kept.share_is.is.words; parts_are = begun_parts });
       ended = λ begun. ended;
       cached_is = kept.cached_is;
+      noted = IsNoted-same share now cached (ap given_in begun_parts ∙ sym (ap given_in kept.share_is.is.parts_are)) kept.noted;
     }
 
   -- or it has the same part
@@ -80,8 +83,9 @@ module _ (script : ScriptValue) (table : TableId) (s : SeenValue) (n : ℕ) (lis
     t = s.thread;
     begun = begun_in share.parts;
     found = kept.share_is.found;
+    given = kept.share_is.given;
     phase_is = ended.share.parts_are;
-    worker_is = kept.share_is.is.parts_are ∙ ap (λ m. resting_thread s.thread m (begun_in share.parts) kept.share_is.found ∷ []) ended.at_end;
+    worker_is = kept.share_is.is.parts_are ∙ ap (λ m. resting_thread s.thread m (begun_in share.parts) kept.share_is.found kept.share_is.given ∷ []) ended.at_end;
   }
 
 pub HaveEnded-one : (old new : ShareValue Part) → new.table ≡ old.table → new.parts ≡ parts_after after happenings.End old.parts → HaveEnded 1 old new

@@ -1,5 +1,5 @@
 -- What a thread knows of the parts at hand when it steps in a slice.
-use Rattle.std.proofs.Common.{◌≡◌, ℕ, ◌<◌, ◌≤◌, false, Bool, [], ◌∷◌, ◌++◌, length, refl, sym, ap, ◌∙◌, subst, arith}
+use Rattle.std.proofs.Common.{◌≡◌, ℕ, ◌^◌, ◌<◌, ◌≤◌, false, Bool, [], ◌∷◌, ◌++◌, length, refl, sym, ap, ◌∙◌, subst, arith}
 use Rattle.atomic_table.specs.Seated.{TableId}
 use Rattle.cache_core.specs.History.{IsLegal, Shape, floor_of}
 use Rattle.cache_core.specs.Places.{CacheValue}
@@ -59,6 +59,7 @@ module _ (script : ScriptValue) (table : TableId) (tree slice : JournalName) (i 
         op = next.op;
         history = list_of history.entries;
         found = next.found;
+        given = next.given;
         worker_is = next.share.parts_are;
         is = next.is;
         distinct = next.distinct;
@@ -70,8 +71,8 @@ module _ (script : ScriptValue) (table : TableId) (tree slice : JournalName) (i 
 
   -- it follows
   pub may_follow_on : (cache : CacheValue) (n epoch : ℕ) (f : Follow) (what : What) (history : JournalValue TreeEntry) (s : SeenValue) (worker : ShareValue Part) (e : SliceEntry) (last : Bool) → IsNextFollow script table i n epoch f last history s worker → epoch ≡ length history.entries
-      → e ≡ entry s.thread n epoch what → undecided what ≡ what_of f → cache.shape ≡ c.cache.shape → Adds c.cache cache epoch what → MayFollow script c.share.parts worker.parts e last
-  may_follow_on cache n epoch f what history s worker e last next is_epoch is owed shape adds =
+      → e ≡ entry s.thread n epoch what → undecided what ≡ what_of f → cache.shape ≡ c.cache.shape → Adds c.cache cache epoch what → epoch < 2 ^ 62 → MayFollow script c.share.parts worker.parts e last
+  may_follow_on cache n epoch f what history s worker e last next is_epoch is owed shape adds few =
       subst (λ (x : SliceEntry). MayFollow script c.share.parts worker.parts x last) (sym is)
       (record {
         some = kept.lawful.in_range.some_slice;
@@ -80,10 +81,13 @@ module _ (script : ScriptValue) (table : TableId) (tree slice : JournalName) (i 
         op = next.op;
         history = list_of history.entries;
         found = next.found;
+        given = next.given;
         job = record { slice = i; owed = record { epoch = epoch; what = what_of f } };
         worker_is = next.share.parts_are;
         is = next.is;
         decided = length-list_of history.entries ∙ (sym is_epoch ∙ next.decided);
+        epoch_is = is_epoch ∙ sym (length-list_of history.entries);
+        few = few;
         next = next.next;
         pays = λ j. record { epoch = epoch; what = owed j };
         ends = next.ends;
@@ -121,6 +125,7 @@ module _ (script : ScriptValue) (table : TableId) (tree slice : JournalName) (i 
         addr = tagged.addr;
         tag = tag;
         found = tagged.found;
+        given = tagged.given;
         worker_is = tagged.share.parts_are;
         is = tagged.is;
         pays = λ j. record { epoch = tag.epoch; what = whats.Access false 0 tag.owner tag.rmid tag.mask (tagged.line_is j) };
@@ -140,6 +145,7 @@ module _ (script : ScriptValue) (table : TableId) (tree slice : JournalName) (i 
     tag = tag;
     list = list_of c.journal.entries;
     found = tagged.found;
+    given = tagged.given;
     slice_is = subst (λ k. c.share.parts ≡ live_slice k (list_of c.journal.entries) ∷ []) tagged.slice_is kept.share_is.parts_are;
     worker_is = tagged.share.parts_are;
     is = tagged.is;

@@ -31,7 +31,7 @@ use Rattle.shared_parts.specs.Shares.{ShareValue}
 
 -- what a thread has seen that has seen nothing
 pub PassesAreKept-first : (script : ScriptValue) (table : TableId) (names : List JournalName) (n : ℕ) (s : SeenValue) (lists : List Looks) (shown : Roomy) (share : ShareValue Part) → s.tree.seen ≡ [] → AreNew names n s.thread s.slices
-    → AreReady (rooms_of script.machine (ops_of script s.thread)) lists → TEXT_MAX ≤ shown.spare + length shown.bytes → IsShareOf table (resting_thread s.thread 0 false [] ∷ []) share → PassesAreKept script table s 0 lists shown share None
+    → AreReady (rooms_of script.machine (ops_of script s.thread)) lists → TEXT_MAX ≤ shown.spare + length shown.bytes → IsShareOf table (resting_thread s.thread 0 false [] None ∷ []) share → PassesAreKept script table s 0 lists shown share None
 PassesAreKept-first script table names n s lists shown share none new ready room own = record {
   keep =
       PassesKeep-opening script s.thread (seen_by s) (ap history_of none)
@@ -41,9 +41,10 @@ PassesAreKept-first script table names n s lists shown share none new ready room
       ]));
   lists_are = ready;
   room = room;
-  share_is = IsResting-known table s.thread 0 false [] share own;
+  share_is = IsResting-known table s.thread 0 false [] None share own;
   ended = λ begun. absurd (false≢true (sym (ap begun_in own.parts_are) ∙ begun));
   cached_is = tt;
+  noted = tt;
 }
 
 -- one thread more is before its first op

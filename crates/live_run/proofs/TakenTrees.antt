@@ -117,6 +117,7 @@ module _ (script : ScriptValue) (table : TableId) (tree : JournalName) (slices :
     start = ready.start;
     ended = subst (λ u. AreEnded script ready.start u) (sym taken.thread) ready.ended;
     found = [];
+    given = resting.given;
     is = subst (λ u. IsLooking script ready.start u n op [] (seen_by met)) (sym taken.thread) (subst (λ (v : JournalsValue). IsLooking script ready.start s.thread n op [] v) (sym first_was) looking);
     made = omega arith;
     count = refl;
@@ -131,7 +132,7 @@ module _ (script : ScriptValue) (table : TableId) (tree : JournalName) (slices :
           stepped
           ∙ (ap (λ l. parts_after after_event (happenings.Take s.thread) (l ++ worker.parts)) kept.share_is.parts_are
           ∙ (ap (λ l. parts_after after_event (happenings.Take s.thread) (live_tree (list_of c.journal.entries) None ∷ l)) resting.is.parts_are
-          ∙ ap₂ (λ (es : List (ℕ × TreeEntry)) t. holding (list_of es) t n (Looking 0) []) (sym whole) (sym taken.thread)));
+          ∙ ap₂ (λ (es : List (ℕ × TreeEntry)) t. holding (list_of es) t n (Looking 0) [] resting.given) (sym whole) (sym taken.thread)));
     };
   }
 

@@ -1,6 +1,6 @@
 -- A command, step by step.
 -- (For functions and proofs: no promise of the program stands on it.)
-use Rattle.std.specs.Prelude.{◌≡◌, ℕ, ◌+◌, ◌*◌, ◌<◌, ◌≤◌, ◌^◌, All, slice_get, Bool, if◌then◌else◌, List, length, take, Some}
+use Rattle.std.specs.Prelude.{◌≡◌, ℕ, ◌+◌, ◌*◌, ◌<◌, ◌≤◌, ◌^◌, All, slice_get, Bool, if◌then◌else◌, List, length, take, Some, Option}
 use Rattle.atomic_table.specs.Seated.{TableId}
 use Rattle.file_view.specs.Texts.{is_reading, text_of}
 use Rattle.live_law.specs.DoneOps.{AreEnded}
@@ -13,6 +13,7 @@ use Rattle.run_law.specs.FoundLooks.{found_at}
 use Rattle.run_law.specs.Jobs.{jobs_of}
 use Rattle.run_law.specs.Journals.{At, JournalsValue}
 use Rattle.run_law.specs.TreeHistory.{TreeEntryValue, tree_after}
+use Rattle.schedule_law.specs.declared.part.GivenTag.{GivenTag}
 use Rattle.schedule_law.specs.declared.part.Part.{Part}
 use Rattle.script_ops.specs.Values.{ScriptValue}
 use Rattle.script_ops.specs.declared.op.Op.{Op}
@@ -27,6 +28,7 @@ pub record LooksAt (script : ScriptValue) (table : TableId) (n : ℕ) (c : Op) (
   pub start : JournalsValue
   pub ended : AreEnded script start s.thread
   pub found : List ℕ
+  pub given : Option GivenTag
   pub is : IsLooking script start s.thread n c found (seen_by s)
   pub made : length found ≡ q * script.machine.slices + x
   pub count : length numbers ≡ q
@@ -34,7 +36,7 @@ pub record LooksAt (script : ScriptValue) (table : TableId) (n : ℕ) (c : Op) (
   pub few : All (λ n. n ≤ 2 ^ 32) numbers
   pub lines_are : lines ≡ found_at script.machine.slices found q x
   pub bound : lines ≤ x * 2097152
-  pub share_is : IsShareOf table (holding (list_of s.tree.seen) s.thread n (Looking (length found)) found) worker
+  pub share_is : IsShareOf table (holding (list_of s.tree.seen) s.thread n (Looking (length found)) found given) worker
 
 -- A thread follows its command c, op n, which stands last in the tree's history, at position k: it has made so many entries.
 pub record FollowsAt (script : ScriptValue) (table : TableId) (n k : ℕ) (c : Op) (made : ℕ) (s : SeenValue) (worker : ShareValue Part) : Type 0 where
@@ -44,7 +46,8 @@ pub record FollowsAt (script : ScriptValue) (table : TableId) (n k : ℕ) (c : O
   pub is : IsFollowing script start s.thread n k c h made (seen_by s)
   pub last : k + 1 ≡ length s.tree.seen
   pub found : List ℕ
-  pub share_is : IsShareOf table (following (list_of s.tree.seen) s.thread n made (length (jobs_of script (history_of s.tree.seen) k c)) found) worker
+  pub given : Option GivenTag
+  pub share_is : IsShareOf table (following (list_of s.tree.seen) s.thread n made (length (jobs_of script (history_of s.tree.seen) k c)) found given) worker
 
 -- the text that is shown after a command with this reply: that of an accepted read or list, in the state before it and by the
 -- counts that it was given, and else the one that was shown before

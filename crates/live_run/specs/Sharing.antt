@@ -15,6 +15,7 @@ use Rattle.run_law.specs.Jobs.{jobs_of}
 use Rattle.run_law.specs.Journals.{At}
 use Rattle.run_law.specs.Owed.{what_of}
 use Rattle.run_law.specs.declared.journals.TreeEntry.{TreeEntry}
+use Rattle.schedule_law.specs.declared.part.GivenTag.{GivenTag}
 use Rattle.schedule_law.specs.LiveParts.{after, live_phase, live_thread, live_tree, resting_thread}
 use Rattle.schedule_law.specs.declared.part.Happening.{Happening}
 use Rattle.schedule_law.specs.declared.part.Happening.TheVariants as happenings
@@ -42,6 +43,10 @@ pub record IsShareOf (table : TableId) (own : List (ℕ × Part)) (share : Share
   pub words : table.words ≡ words_for lock_count
   pub parts_are : share.parts ≡ own
 
+-- a tag, with the task and the CPU to which it was given
+abbrev pub noted_tag : ℕ → ℕ → Tag → GivenTag
+noted_tag task cpu tag = record { task = task; cpu = cpu; tag = tag }
+
 -- an event has happened to the parts of a share
 abbrev pub HasStepped : Happening → ShareValue Part → ShareValue Part → Type 0
 HasStepped e old new = (new.table ≡ old.table) × (new.parts ≡ parts_after after e old.parts)
@@ -50,12 +55,23 @@ HasStepped e old new = (new.table ≡ old.table) × (new.parts ≡ parts_after a
 abbrev pub begun_of : Part → Bool
 begun_of (parts.Tree history holder) = false
 begun_of (parts.Slice list) = false
-begun_of (parts.Worker thread begun found) = begun
+begun_of (parts.Worker thread begun found given) = begun
 begun_of (parts.Phase number ended) = false
 
 abbrev pub begun_in : List (ℕ × Part) → Bool
 begun_in [] = false
 begun_in (x ∷ xs) = begun_of x.1
+
+-- the tag that the thread that is the first of these parts was given last
+abbrev pub given_of : Part → Option GivenTag
+given_of (parts.Tree history holder) = None
+given_of (parts.Slice list) = None
+given_of (parts.Worker thread begun found given) = given
+given_of (parts.Phase number ended) = None
+
+abbrev pub given_in : List (ℕ × Part) → Option GivenTag
+given_in [] = None
+given_in (x ∷ xs) = given_of x.1
 
 -- the share of who starts the phases: the threads of all phases before this one are at their ends
 abbrev pub IsAtPhase : ScriptValue → TableId → ℕ → ShareValue Part → Type 0
@@ -64,16 +80,17 @@ IsAtPhase script table phase share = IsShareOf table (live_phase phase (first_th
 -- The share of a thread between two of its ops.
 pub record IsResting (table : TableId) (t n : ℕ) (begun : Bool) (share : ShareValue Part) : Type 0 where
   pub found : List ℕ
-  pub is : IsShareOf table (resting_thread t n begun found ∷ []) share
+  pub given : Option GivenTag
+  pub is : IsShareOf table (resting_thread t n begun found given ∷ []) share
 
 -- the parts of a thread whose command holds the tree
-abbrev pub holding : List TreeEntry → ℕ → ℕ → ThreadState → List ℕ → List (ℕ × Part)
-holding history t n place found = live_tree history (Some t) ∷ live_thread t n place found ∷ []
+abbrev pub holding : List TreeEntry → ℕ → ℕ → ThreadState → List ℕ → Option GivenTag → List (ℕ × Part)
+holding history t n place found given = live_tree history (Some t) ∷ live_thread t n place found given ∷ []
 
 -- those of one whose decided command has made so many of all entries that it owes: after the last it has let the tree go
-abbrev pub following : List TreeEntry → ℕ → ℕ → ℕ → ℕ → List ℕ → List (ℕ × Part)
-following history t n made all found =
-    if nat_lt made all then holding history t n (Following made) found else live_tree history None ∷ resting_thread t (n + 1) true found ∷ []
+abbrev pub following : List TreeEntry → ℕ → ℕ → ℕ → ℕ → List ℕ → Option GivenTag → List (ℕ × Part)
+following history t n made all found given =
+    if nat_lt made all then holding history t n (Following made) found given else live_tree history None ∷ resting_thread t (n + 1) true found given ∷ []
 
 -- the next op of a thread after a turn of its access
 abbrev pub op_after : ℕ → Result Reached ℕ → ℕ
@@ -91,7 +108,8 @@ pub record IsBeforeAccess (script : ScriptValue) (table : TableId) (task cpu : �
 pub record IsNextCount (script : ScriptValue) (table : TableId) (i n rmid : ℕ) (history : JournalValue TreeEntry) (s : SeenValue) (worker : ShareValue Part) : Type 0 where
   pub op : Op
   pub found : List ℕ
-  pub share : IsShareOf table (holding (list_of history.entries) s.thread n (Looking (length found)) found) worker
+  pub given : Option GivenTag
+  pub share : IsShareOf table (holding (list_of history.entries) s.thread n (Looking (length found)) found given) worker
   pub is : op_at script s.thread n ≡ Some op
   pub distinct : AreDistinct (pairs_for script (history_of history.entries) op)
   pub next : At (pairs_for script (history_of history.entries) op) (length found) (i, rmid)
@@ -102,7 +120,8 @@ pub record IsNextFollow (script : ScriptValue) (table : TableId) (i n epoch : �
   pub made : ℕ
   pub position : ℕ
   pub found : List ℕ
-  pub share : IsShareOf table (holding (list_of history.entries) s.thread n (Following made) found) worker
+  pub given : Option GivenTag
+  pub share : IsShareOf table (holding (list_of history.entries) s.thread n (Following made) found given) worker
   pub is : op_at script s.thread n ≡ Some op
   pub decided : epoch ≡ position + 1
   pub next : At (jobs_of script (history_of history.entries) position op) made (record { slice = i; owed = record { epoch = epoch; what = what_of f } })
@@ -114,7 +133,8 @@ pub record IsTagged (script : ScriptValue) (table : TableId) (i n : ℕ) (tag : 
   pub cpu : ℕ
   pub addr : ℕ
   pub found : List ℕ
-  pub share : IsShareOf table (live_thread s.thread n (Tagged tag) found ∷ []) worker
+  pub given : Option GivenTag
+  pub share : IsShareOf table (live_thread s.thread n (Tagged tag) found given ∷ []) worker
   pub is : op_at script s.thread n ≡ Some (Access task cpu addr)
   pub line_is : line ≡ line_of addr
   pub slice_is : i ≡ slice_of_line script.machine tag.domain (line_of addr)

@@ -1,5 +1,5 @@
 //! The threads before their first ops.
-ghost use Rattle.std.specs.Prelude.{◌≤◌, IfOk, length, ◌≡◌, ℕ, ◌<◌, [], ◌∷◌, false};
+ghost use Rattle.std.specs.Prelude.{◌≤◌, IfOk, length, ◌≡◌, ℕ, ◌<◌, [], ◌∷◌, None, false};
 ghost use Rattle.live_run.specs.Logs.{log_at};
 ghost use Rattle.live_run.specs.Openings.{AreNumbered, AreSplit, AreFirst, AreGivenTo, AreNew, AreOfSlices, HaveGiven, IsFirst};
 ghost use Rattle.live_run.specs.Quotas.{HaveQuotas};
@@ -71,7 +71,7 @@ fn first<N: RunNames, T: NamedTable>(
     requires commands { commands ≡ commands_of (ops_of N.script thread) }
     requires tree { tree ≡ new_pass N.tree thread }
     requires slices { AreNew N.slices (slice_count N.script.machine) thread slices.items }
-    requires share { IsShareOf T.table (resting_thread thread 0 false [] ∷ []) share }
+    requires share { IsShareOf T.table (resting_thread thread 0 false [] None ∷ []) share }
     ensures { IfOk result (λ p. IsFirst thread p) }
 {
     let looks = LookLists::create(alloc, script.machine(), script.ops(thread), commands)?;

@@ -3,10 +3,10 @@ ghost use Rattle.std.specs.Prelude.{◌≡◌, ◌+◌, ◌<◌, ◌≤◌, ◌^
 ghost use Rattle.live_law.specs.SeenJournals.{HasGrown};
 ghost use Rattle.live_law.specs.Stages.{HoldsTag, IsReady};
 ghost use Rattle.live_run.specs.Commands.{HasReplied};
-ghost use Rattle.live_run.specs.CachedTags.{HoldsCached};
+ghost use Rattle.live_run.specs.CachedTags.{HoldsCached, IsNoted};
 ghost use Rattle.live_run.specs.Names.{seen_by};
 ghost use Rattle.live_run.specs.Openings.{AreNew};
-ghost use Rattle.live_run.specs.Sharing.{HasStepped, IsBeforeAccess, IsResting, IsShareOf};
+ghost use Rattle.live_run.specs.Sharing.{HasStepped, IsBeforeAccess, IsResting, IsShareOf, noted_tag};
 ghost use Rattle.live_run.specs.Steps.{HasTaken};
 ghost use Rattle.machine.specs.Slices.{slice_count};
 ghost use Rattle.rc_base.specs.declared.text_buf.TheConstants.{TEXT_MAX};
@@ -16,7 +16,7 @@ ghost use Rattle.schedule_law.specs.LiveParts.{live_tree};
 ghost use Rattle.schedule_law.specs.declared.part.Happening.TheVariants as happenings;
 ghost use Rattle.script_ops.specs.Values.{IsLawful, op_at, threads_of};
 
-use crate::cached_tag::{CachedTag, current_tag, tag_of};
+use crate::cached_tag::{current_tag, tag_of};
 use crate::command::{follow_all, look_all, show};
 use crate::run_names::{NamedTable, RunNames, StepShare, TREE_LOCK};
 use crate::seen::{decide, release, take, take_unless};
@@ -26,7 +26,7 @@ use crate::turn::CommandTurn;
 use cache_core::SliceEntry;
 use rc_base::{LookList, NoMemory, Reply, Tag, TextBuf};
 use run_law::TreeEntry;
-use schedule_law::{accesses, commands};
+use schedule_law::{GivenTag, accesses, commands};
 use script_ops::{Op, Script};
 use seen_journal::{Journal, Pass};
 use std::alloc::Global;
@@ -91,13 +91,14 @@ impl<N: RunNames, T: NamedTable> TreeCell<N, T> {
         requires worker { IsBeforeAccess N.script T.table task cpu side.old.seen side.old.share }
         requires cached { HoldsCached N.script side.old.seen side.old.cached }
         ensures cached_now { HoldsCached N.script side.new.seen side.new.cached }
+        ensures noted_now { IsNoted side.new.share side.new.cached }
         ensures taken { HasTaken side.old.seen side.new.seen }
         ensures tag { HoldsTag N.script (seen_by side.new.seen) task cpu result }
         ensures fresh { length side.old.seen.tree.seen ≤ result.epoch }
         ensures most { result.epoch ≤ command_count N.script }
         ensures known { result.rmid < N.script.machine.rmids }
         ensures valid { (0 < result.mask) × (result.mask < 2 ^ N.script.machine.ways) }
-        ensures worker { HasStepped (happenings.Label result) side.old.share side.new.share }
+        ensures worker { HasStepped (happenings.Label (noted_tag task cpu result)) side.old.share side.new.share }
     {
         let current = current_tag(&side.cached, &self.tree);
         take_unless(
@@ -107,8 +108,9 @@ impl<N: RunNames, T: NamedTable> TreeCell<N, T> {
             &mut side.seen,
         );
         let tag = tag_of(&self.tree, &current, task, cpu);
-        side.cached = Some(CachedTag { task, cpu, tag });
-        accesses::tag(&mut self.share, &mut side.share, TREE_LOCK, &tag);
+        let given = GivenTag { task, cpu, tag };
+        side.cached = Some(given);
+        accesses::tag(&mut self.share, &mut side.share, TREE_LOCK, given);
         tag
     }
 
@@ -142,15 +144,15 @@ impl<N: RunNames, T: NamedTable> TreeCell<N, T> {
         ensures worker { IsResting T.table side.old.seen.thread (number + 1) true side.new.share }
     {
         take(&mut self.journal, &mut self.slices, &mut side.seen);
+        let before = self.tree.epoch();
         commands::take(
             &mut self.share,
             &mut side.share,
-            TREE_LOCK,
+            before,
             u64::from(side.seen.thread()),
         );
         let m = script.machine();
         let counts = self.tree.counts(op);
-        let before = self.tree.epoch();
         look_all(
             slices,
             rt,
@@ -174,7 +176,7 @@ impl<N: RunNames, T: NamedTable> TreeCell<N, T> {
             looks,
         };
         let made = counts.len() as u64 * u64::from(m.slices);
-        let entry = commands::decide(&mut side.share, TREE_LOCK, entry, after.is_empty(), made);
+        let entry = commands::decide(&mut side.share, before, entry, after.is_empty(), made);
         decide(&mut self.journal, &mut side.seen, entry);
         let epoch = self.tree.epoch();
         follow_all(

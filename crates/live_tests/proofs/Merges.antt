@@ -5,8 +5,8 @@ use Rattle.std.proofs.lemmas.List.Elements.{filter-append}
 use Rattle.std.proofs.lemmas.Bool.{cases_Bool, cond-true, cond-false, eqb-true, eqb-false, eq-eqb, ne_eqb, or_left, or_right, or_from}
 use Rattle.live_tests.specs.declared.entry.Entry.{Entry}
 use Rattle.live_tests.specs.declared.entry.Part.{Part}
-use Rattle.live_tests.specs.Merged.{IsMerged, is_by, is_in, added, opening, part_of_list, part_of_thread}
-use Rattle.shared_parts.specs.Parts.{Fits, MayHappen, has, state_after}
+use Rattle.live_tests.specs.Merged.{IsMerged, is_by, is_in, added, opening, part_of_list, part_of_thread, shown}
+use Rattle.shared_parts.specs.Parts.{Fits, IsQuiet, MayHappen, has, state_after}
 use Rattle.shared_parts.proofs.laws.Parts.{has-head, has-tail}
 
 -- a filter of a list with one more
@@ -57,8 +57,13 @@ MayHappen-added e xs of_list of_thread at m fit = record {
 }
 
 -- the parts at the start are those of no entry
-pub opening_is_merged : (at : ℕ → Part) × IsMerged at × Fits at opening
-opening_is_merged = ((λ k. record { entries = [] }), record { all = []; lists = λ i. refl; threads = λ t. refl }, (refl, (refl, (refl, (refl, tt)))))
+pub opening_is_merged : (at : ℕ → Part) × IsMerged at × Fits at opening × (shown (at 0) ≡ 0)
+opening_is_merged = ((λ k. record { entries = [] }), record { all = []; lists = λ i. refl; threads = λ t. refl }, (refl, (refl, (refl, (refl, tt)))), refl)
+
+-- an entry shows nothing
+pub entry_is_quiet : (e : Entry) (xs : List (ℕ × Part)) → IsQuiet shown added e xs
+entry_is_quiet e [] = tt
+entry_is_quiet e (x ∷ xs) = ((λ _. refl), entry_is_quiet e xs)
 
 -- an entry may be added to list i by thread t
 pub MayHappen-entry : (e : Entry) (i t : ℕ) (list own : List Entry) (xs ys : List (ℕ × Part)) → e.list ≡ i → e.thread ≡ t

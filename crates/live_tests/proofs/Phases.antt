@@ -10,7 +10,7 @@ use Rattle.live_tests.proofs.Threads.{first_earlier, second_phase, third_phase}
 use Rattle.live_tests.specs.Turns.{IsInTurns, IsReady}
 use Rattle.run_law.specs.Ops.{phase_in}
 use Rattle.schedule_law.specs.LiveParts.{after, live_phase}
-use Rattle.schedule_law.specs.LiveSteps.{MayPass}
+use Rattle.schedule_law.specs.LivePhases.{MayPass}
 use Rattle.schedule_law.specs.declared.part.Happening.TheVariants as happenings
 use Rattle.schedule_law.specs.declared.part.Part.{Part}
 use Rattle.script_ops.specs.Values.{ScriptValue, first_thread}

@@ -40,6 +40,10 @@ pub record IsMerged (at : ℕ → Part) : Type 0 where
 abbrev pub added : Entry → ℕ → Part → Part
 added e number part = if (2 * e.list == number) || (2 * e.thread + 1 == number) then record { entries = part.entries ++ e ∷ [] } else part
 
+-- nothing of the first list is shown
+abbrev pub shown : Part → ℕ
+shown part = 0
+
 -- the parts before the first entry: two lists, and two threads
 abbrev pub opening : List (ℕ × Part)
 opening = part_of_list 0 [] ∷ part_of_list 1 [] ∷ part_of_thread 0 [] ∷ part_of_thread 1 [] ∷ []

@@ -1,5 +1,5 @@
 //! The state that the threads share: one list of all entries.
-ghost use Rattle.live_tests.specs.Merged.{IsMerged, added, opening};
+ghost use Rattle.live_tests.specs.Merged.{IsMerged, added, opening, shown};
 
 use crate::entry::{Entry, Part};
 use shared_parts::{Machine, Share};
@@ -13,6 +13,8 @@ impl Machine<Entry, Part> for Merged {
     ghost after = { added };
 
     ghost first = { opening };
+
+    ghost shown = { shown };
 }
 
 /// A share of the state.

@@ -23,11 +23,11 @@ use Rattle.schedule_law.proofs.PartSets.{HasTurn-op, same_journals, same_op, sli
 
 -- a command takes the tree
 pub take_may_happen : (script : ScriptValue) → 0 < script.machine.slices → TakeMayHappen script
-take_may_happen script some t n op hs found is command at r fit =
+take_may_happen script some t n op hs found given is command at r fit =
     let s = r.state in
     let v : Thread = record { next = n; state = Ready } in
     let e : HappeningValue = Take t in
-    let turn = HasTurn-op script some at r t v op found fit.1.0 is in
+    let turn = HasTurn-op script some at r t v op found given fit.1.0 is in
     let tree = tree-part script at r hs None fit.0 in
     let now : MachineValue = next_state e t 0 s in
     let row : Takes t s now = record {
@@ -35,21 +35,21 @@ take_may_happen script some t n op hs found is command at r fit =
       holder = refl;
       moves = Moves-next_state e t 0 s (record { next = (thread_at s t).next; state = Looking 0 }) turn.within refl;
     } in
-    AreReached-state_after script some e t 0 op (tree_part hs None ∷ thread_part t v true found ∷ []) at r
-    (AreStepParts-tree e t 0 hs None v true found (λ b. refl) (λ es. refl)) turn.is turn.within (inr (λ es. refl))
+    AreReached-state_after script some e t 0 op (tree_part hs None ∷ thread_part t v true found given ∷ []) at r
+    (AreStepParts-tree e t 0 hs None v true found given (λ b. refl) (λ es. refl)) turn.is turn.within (inr (λ es. refl)) (λ x last_is. inl last_is)
     (step_takes script t op s now turn.phase turn.is command turn.place tree.1 row)
     (λ other made place is_other. take_looked script t other s now turn.place tree.1 row (so_far script s some r.reached))
 
 -- it looks
 pub look_may_happen : (script : ScriptValue) → 0 < script.machine.slices → LookMayHappen script
-look_may_happen script some t n op hs found job list x is distinct next pays low may at r fit =
+look_may_happen script some t n op hs found given job list x is distinct next pays low may at r fit =
     let s = r.state in
     let i : ℕ = job.slice in
     let made : ℕ = length found in
     let v : Thread = record { next = n; state = Looking made } in
     let e : HappeningValue = Look x in
-    let here = thread_at-part script at r t v true found fit.1.1.0 in
-    let turn = HasTurn-op script some at r t v op found fit.1.1.0 is in
+    let here = thread_at-part script at r t v true found given fit.1.1.0 in
+    let turn = HasTurn-op script some at r t v op found given fit.1.1.0 is in
     let tree = tree-part script at r hs (Some t) fit.1.0 in
     let there : slice_at s.journals i ≡ list = slice_at-part script at r i list fit.0 in
     let within : i < length s.journals.slices = slice_within script some at r i low in
@@ -67,8 +67,8 @@ look_may_happen script some t n op hs found job list x is distinct next pays low
       moves = Moves-next_state e t i s (record { next = (thread_at s t).next; state = Looking (made + 1) }) turn.within
           (ap (λ (y : Thread). thread_after e y) here.0 ∙ ap (λ (m : ℕ). record { next = m; state = Looking (made + 1) }) (sym turn.next));
     } in
-    AreReached-state_after script some e t i op (slice_part i list ∷ tree_part hs (Some t) ∷ thread_part t v true found ∷ []) at r
-    (AreStepParts-both e t i list hs (Some t) v true found (λ b. refl)) turn.is turn.within (inl within)
+    AreReached-state_after script some e t i op (slice_part i list ∷ tree_part hs (Some t) ∷ thread_part t v true found given ∷ []) at r
+    (AreStepParts-both e t i list hs (Some t) v true found given (λ b. refl)) turn.is turn.within (inl within) (λ x last_is. inl last_is)
     (step_looks script t made op s now turn.phase turn.is turn.place (slice_get_within (looks_of script s.journals.tree (length s.journals.tree) op) made job job_is) row)
     (λ other m place is_other.
     let had : HasLooked script s t op found = subst (λ l. HasLooked script s t op l) here.2 (r.looked t made op turn.place turn.is) in
@@ -102,13 +102,13 @@ holder_behind-last t made all last is = elim (cases_Bool (nat_lt made all)) [
 
 -- it is decided
 pub decide_may_happen : (script : ScriptValue) → 0 < script.machine.slices → DecideMayHappen script
-decide_may_happen script some t n op hs found h last is looked thread number may all count each ends at r fit =
+decide_may_happen script some t n op hs found given h last is looked thread number may all count each ends at r fit =
     let s = r.state in
     let made : ℕ = length found in
     let v : Thread = record { next = n; state = Looking made } in
     let e : HappeningValue = Decide h last made in
-    let here = thread_at-part script at r t v true found fit.1.0 in
-    let turn = HasTurn-op script some at r t v op found fit.1.0 is in
+    let here = thread_at-part script at r t v true found given fit.1.0 in
+    let turn = HasTurn-op script some at r t v op found given fit.1.0 is in
     let tree = tree-part script at r hs (Some t) fit.0 in
     let now : MachineValue = next_state e t 0 s in
     let jobs : ℕ = length (jobs_of script s.journals.tree (length s.journals.tree) op) in
@@ -127,20 +127,20 @@ decide_may_happen script some t n op hs found h last is looked thread number may
       holder = ap (λ (o : Option ℕ). if last then None else o) tree.1 ∙ holder_behind-last t made jobs last ends_here;
       moves = Moves-next_state e t 0 s (place_behind (thread_at s t).next made jobs) turn.within (place_behind-last (thread_at s t).next (thread_at s t).next made jobs last ends_here refl);
     } in
-    AreReached-state_after script some e t 0 op (tree_part hs (Some t) ∷ thread_part t v true found ∷ []) at r
-    (AreStepParts-tree e t 0 hs (Some t) v true found (λ b. refl) (λ es. refl)) turn.is turn.within (inr (λ es. refl))
+    AreReached-state_after script some e t 0 op (tree_part hs (Some t) ∷ thread_part t v true found given ∷ []) at r
+    (AreStepParts-tree e t 0 hs (Some t) v true found given (λ b. refl) (λ es. refl)) turn.is turn.within (inr (λ es. refl)) (λ x last_is. inl last_is)
     (step_decides script t made op s now turn.phase turn.is turn.place (subst (λ (l : List TreeEntryValue). length (looks_of script l (length l) op) ≤ made) (sym tree.0) looked) row)
     (λ other m place is_other. absurd (place_behind-not_looking (thread_at s t).next made jobs m (ap (λ (y : Thread). y.state) (sym row.moves.there) ∙ place)))
 
 -- what follows it is done
 pub follow_may_happen : (script : ScriptValue) → 0 < script.machine.slices → FollowMayHappen script
-follow_may_happen script some t n made position op hs job list x last found is decided next pays low may ends at r fit =
+follow_may_happen script some t n made position op hs job list x last found given is decided next pays low may ends at r fit =
     let s = r.state in
     let i : ℕ = job.slice in
     let v : Thread = record { next = n; state = Following made } in
     let e : HappeningValue = Follow x last in
-    let here = thread_at-part script at r t v true found fit.1.1.0 in
-    let turn = HasTurn-op script some at r t v op found fit.1.1.0 is in
+    let here = thread_at-part script at r t v true found given fit.1.1.0 in
+    let turn = HasTurn-op script some at r t v op found given fit.1.1.0 is in
     let tree = tree-part script at r hs (Some t) fit.1.0 in
     let there : slice_at s.journals i ≡ list = slice_at-part script at r i list fit.0 in
     let within : i < length s.journals.slices = slice_within script some at r i low in
@@ -161,7 +161,7 @@ follow_may_happen script some t n made position op hs job list x last found is d
       moves = Moves-next_state e t i s (place_behind (thread_at s t).next (made + 1) jobs) turn.within
           (ap (λ (y : Thread). thread_after e y) here.0 ∙ place_behind-last n (thread_at s t).next (made + 1) jobs last ends_here (sym turn.next));
     } in
-    AreReached-state_after script some e t i op (slice_part i list ∷ tree_part hs (Some t) ∷ thread_part t v true found ∷ []) at r
-    (AreStepParts-both e t i list hs (Some t) v true found (λ b. refl)) turn.is turn.within (inl within)
+    AreReached-state_after script some e t i op (slice_part i list ∷ tree_part hs (Some t) ∷ thread_part t v true found given ∷ []) at r
+    (AreStepParts-both e t i list hs (Some t) v true found given (λ b. refl)) turn.is turn.within (inl within) (λ x last_is. inl last_is)
     (step_follows script t made op s now turn.phase turn.is turn.place row)
     (λ other m place is_other. absurd (place_behind-not_looking (thread_at s t).next (made + 1) jobs m (ap (λ (y : Thread). y.state) (sym row.moves.there) ∙ place)))

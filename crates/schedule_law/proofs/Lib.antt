@@ -1,6 +1,7 @@
 pub mod AccessHappenings
 pub mod CommandHappenings
 pub mod Events
+pub mod GivenTags
 pub mod Happenings
 pub mod LiveAccesses
 pub mod LiveApart
@@ -13,6 +14,7 @@ pub mod LivePlaces
 pub mod PartNumbers
 pub mod PartSets
 pub mod PhaseHappenings
+pub mod QuietSteps
 pub mod ReachedParts
 pub mod ScheduledPlays
 pub mod StepStates

@@ -13,6 +13,7 @@ use Rattle.script_ops.specs.Values.{ScriptValue, op_at, threads_of}
 use Rattle.script_ops.specs.declared.op.Op.{Op}
 use Rattle.step_world.specs.Machine.{MachineValue, thread_at}
 use Rattle.step_world.specs.declared.thread_state.Thread.{Thread}
+use Rattle.schedule_law.specs.declared.part.GivenTag.{GivenTag}
 use Rattle.schedule_law.specs.Parts.{AreReached, HappeningValue, PartValue, Slice, Tree, Worker, begun_after, history_after, holder_after, number_of_slice, number_of_thread, list_after, slice_part, thread_part, tree_part}
 use Rattle.schedule_law.proofs.PartNumbers.{slice_not_phase, slice_not_thread, slice_not_tree, slice_same, thread_not_phase, thread_not_slice, thread_same, tree_not_slice, tree_not_thread}
 use Rattle.shared_parts.proofs.laws.Parts.{has-first, has-later}
@@ -27,12 +28,12 @@ has-only k x = elim (cases_Bool (x.0 == k)) [
 ]
 
 -- the parts of a slice and of a thread: the tree is as it was
-pub AreStepParts-slice : (e : HappeningValue) (t i : ℕ) (list : List SliceEntry) (v : Thread) (b : Bool) (f : List ℕ) → ((x : Bool) → begun_after e x ≡ x)
+pub AreStepParts-slice : (e : HappeningValue) (t i : ℕ) (list : List SliceEntry) (v : Thread) (b : Bool) (f : List ℕ) (g : Option GivenTag) → ((x : Bool) → begun_after e x ≡ x)
     → ((hs : List TreeEntryValue) (holder : Option ℕ) → (history_after e hs ≡ hs) × (holder_after e holder ≡ holder))
-    → AreStepParts e t i (slice_part i list ∷ thread_part t v b f ∷ [])
-AreStepParts-slice e t i list v b f begun tree =
+    → AreStepParts e t i (slice_part i list ∷ thread_part t v b f g ∷ [])
+AreStepParts-slice e t i list v b f g begun tree =
     let first = slice_part i list in
-    let last = thread_part t v b f in
+    let last = thread_part t v b f g in
     record {
       tree = λ _. tree;
       no_phase = has-later 1 first (last ∷ []) (slice_not_phase i) ∙ (has-only 1 last ∙ thread_not_phase t);
@@ -46,11 +47,11 @@ AreStepParts-slice e t i list v b f begun tree =
     }
 
 -- the parts of the tree and of a thread: the slices are as they were
-pub AreStepParts-tree : (e : HappeningValue) (t i : ℕ) (hs : List TreeEntryValue) (holder : Option ℕ) (v : Thread) (b : Bool) (f : List ℕ) → ((x : Bool) → begun_after e x ≡ x) → ((es : List SliceEntry) → list_after e es ≡ es)
-    → AreStepParts e t i (tree_part hs holder ∷ thread_part t v b f ∷ [])
-AreStepParts-tree e t i hs holder v b f begun lists =
+pub AreStepParts-tree : (e : HappeningValue) (t i : ℕ) (hs : List TreeEntryValue) (holder : Option ℕ) (v : Thread) (b : Bool) (f : List ℕ) (g : Option GivenTag) → ((x : Bool) → begun_after e x ≡ x) → ((es : List SliceEntry) → list_after e es ≡ es)
+    → AreStepParts e t i (tree_part hs holder ∷ thread_part t v b f g ∷ [])
+AreStepParts-tree e t i hs holder v b f g begun lists =
     let first = tree_part hs holder in
-    let last = thread_part t v b f in
+    let last = thread_part t v b f g in
     record {
       tree = λ h. absurd (true≢false (sym (has-first 0 first (last ∷ []) refl) ∙ h));
       no_phase = has-later 1 first (last ∷ []) refl ∙ (has-only 1 last ∙ thread_not_phase t);
@@ -61,12 +62,12 @@ AreStepParts-tree e t i hs holder v b f begun lists =
     }
 
 -- the parts of a slice, of the tree and of a thread
-pub AreStepParts-both : (e : HappeningValue) (t i : ℕ) (list : List SliceEntry) (hs : List TreeEntryValue) (holder : Option ℕ) (v : Thread) (b : Bool) (f : List ℕ) → ((x : Bool) → begun_after e x ≡ x)
-    → AreStepParts e t i (slice_part i list ∷ tree_part hs holder ∷ thread_part t v b f ∷ [])
-AreStepParts-both e t i list hs holder v b f begun =
+pub AreStepParts-both : (e : HappeningValue) (t i : ℕ) (list : List SliceEntry) (hs : List TreeEntryValue) (holder : Option ℕ) (v : Thread) (b : Bool) (f : List ℕ) (g : Option GivenTag) → ((x : Bool) → begun_after e x ≡ x)
+    → AreStepParts e t i (slice_part i list ∷ tree_part hs holder ∷ thread_part t v b f g ∷ [])
+AreStepParts-both e t i list hs holder v b f g begun =
     let first = slice_part i list in
     let next = tree_part hs holder in
-    let last = thread_part t v b f in
+    let last = thread_part t v b f g in
     record {
       tree = λ h. absurd (true≢false (sym (has-later 0 first (next ∷ last ∷ []) (slice_not_tree i) ∙ has-first 0 next (last ∷ []) refl) ∙ h));
       no_phase = has-later 1 first (next ∷ last ∷ []) (slice_not_phase i) ∙ (has-later 1 next (last ∷ []) refl ∙ (has-only 1 last ∙ thread_not_phase t));
@@ -81,8 +82,8 @@ AreStepParts-both e t i list hs holder v b f begun =
 
 -- What the state has.
 
-pub thread_at-part : (script : ScriptValue) (at : ℕ → PartValue) (r : AreReached script at) (t : ℕ) (v : Thread) (b : Bool) (f : List ℕ) → at (number_of_thread t) ≡ Worker v b f → (thread_at r.state t ≡ v) × (r.begun t ≡ b) × (r.found t ≡ f)
-thread_at-part script at r t v b f fit = let there = r.threads t in (cc, cc, cc)
+pub thread_at-part : (script : ScriptValue) (at : ℕ → PartValue) (r : AreReached script at) (t : ℕ) (v : Thread) (b : Bool) (f : List ℕ) (g : Option GivenTag) → at (number_of_thread t) ≡ Worker v b f g → (thread_at r.state t ≡ v) × (r.begun t ≡ b) × (r.found t ≡ f) × (r.given t ≡ g)
+thread_at-part script at r t v b f g fit = let there = r.threads t in (cc, cc, cc, cc)
 
 pub slice_at-part : (script : ScriptValue) (at : ℕ → PartValue) (r : AreReached script at) (i : ℕ) (list : List SliceEntry) → at (number_of_slice i) ≡ Slice list → slice_at r.state.journals i ≡ list
 slice_at-part script at r i list fit = let there = r.slices i in cc
@@ -98,9 +99,9 @@ pub record HasTurn (script : ScriptValue) (s : MachineValue) (t : ℕ) (v : Thre
   pub place : (thread_at s t).state ≡ v.state
   pub next : (thread_at s t).next ≡ v.next
 
-pub HasTurn-op : (script : ScriptValue) → 0 < script.machine.slices → (at : ℕ → PartValue) (r : AreReached script at) (t : ℕ) (v : Thread) (op : Op) (f : List ℕ) → at (number_of_thread t) ≡ Worker v true f → op_at script t v.next ≡ Some op → HasTurn script r.state t v op
-HasTurn-op script some at r t v op f fit is =
-    let here = thread_at-part script at r t v true f fit in
+pub HasTurn-op : (script : ScriptValue) → 0 < script.machine.slices → (at : ℕ → PartValue) (r : AreReached script at) (t : ℕ) (v : Thread) (op : Op) (f : List ℕ) (g : Option GivenTag) → at (number_of_thread t) ≡ Worker v true f g → op_at script t v.next ≡ Some op → HasTurn script r.state t v op
+HasTurn-op script some at r t v op f g fit is =
+    let here = thread_at-part script at r t v true f g fit in
     let op_is : op_at script t (thread_at r.state t).next ≡ Some op = ap (λ (x : Thread). op_at script t x.next) here.0 ∙ is in
     record {
       within = subst (λ n. t < n) (sym r.count) (thread_within (threads_of script) t v.next (subst (λ (o : Option Op). IsSome o) (sym is) refl));

@@ -1,5 +1,5 @@
 -- A phase begins, for a thread and for all.
-use Rattle.std.proofs.Common.{◌≡◌, inl, inr, ℕ, ◌+◌, ◌≤◌, ◌==◌, true, Bool, List, [], ◌∷◌, ◌++◌, refl, sym, ◌∙◌, ap, subst, arith}
+use Rattle.std.proofs.Common.{◌≡◌, inl, inr, ℕ, ◌+◌, ◌≤◌, ◌==◌, true, Bool, List, [], ◌∷◌, ◌++◌, Option, refl, sym, ◌∙◌, ap, subst, arith}
 use Rattle.std.specs.Prelude.{if◌then◌else◌}
 use Rattle.std.proofs.lemmas.Bool.{cases_Bool, cases_lt, cond-true, cond-false, eqb-true}
 use Rattle.run_law.specs.Journals.{slice_at}
@@ -8,6 +8,7 @@ use Rattle.script_ops.specs.Values.{ScriptValue}
 use Rattle.step_world.specs.Machine.{MachineValue, thread_at}
 use Rattle.step_world.specs.Schedules.{GoesOn, HasEnded, Next}
 use Rattle.step_world.specs.declared.thread_state.Thread.{Thread}
+use Rattle.schedule_law.specs.declared.part.GivenTag.{GivenTag}
 use Rattle.schedule_law.specs.Law.{BeginMayHappen, EndMayHappen, PassMayHappen}
 use Rattle.schedule_law.specs.Parts.{Begin, End, HappeningValue, PartValue, Pass, Phase, Slice, Tree, Worker, number_of_slice, number_of_thread, part_after, phase_part, thread_part}
 use Rattle.schedule_law.proofs.PartNumbers.{phase_not_thread, thread_same}
@@ -24,20 +25,20 @@ state_after-same e xs at k p is same = elim (cases_Bool (has k xs)) [
 ]
 
 -- the parts of a phase and of a thread
-module _ (p ended t : ℕ) (v : Thread) (begun : Bool) (found : List ℕ) where
+module _ (p ended t : ℕ) (v : Thread) (begun : Bool) (found : List ℕ) (given : Option GivenTag) where
   abbrev both : List (ℕ × PartValue)
-  both = phase_part p ended ∷ thread_part t v begun found ∷ []
+  both = phase_part p ended ∷ thread_part t v begun found given ∷ []
 
   has_thread : (u : ℕ) → has (number_of_thread u) both ≡ (t == u)
   has_thread u =
-      has-later (number_of_thread u) (phase_part p ended) (thread_part t v begun found ∷ []) (phase_not_thread u)
-      ∙ (has-only (number_of_thread u) (thread_part t v begun found) ∙ thread_same t u)
+      has-later (number_of_thread u) (phase_part p ended) (thread_part t v begun found given ∷ []) (phase_not_thread u)
+      ∙ (has-only (number_of_thread u) (thread_part t v begun found given) ∙ thread_same t u)
 
 -- the phase of a thread has begun
 pub begin_may_happen : (script : ScriptValue) → BeginMayHappen script
-begin_may_happen script p ended t v begun found low at r fit =
+begin_may_happen script p ended t v begun found given low at r fit =
     let s = r.state in
-    let xs : List (ℕ × PartValue) = phase_part p ended ∷ thread_part t v begun found ∷ [] in
+    let xs : List (ℕ × PartValue) = phase_part p ended ∷ thread_part t v begun found given ∷ [] in
     let phase : s.phase ≡ p = (let is = r.phase in let its = fit.0 in cc) in
     record {
       state = s;
@@ -45,17 +46,19 @@ begin_may_happen script p ended t v begun found low at r fit =
       count = r.count;
       begun = λ u. if t == u then true else r.begun u;
       found = r.found;
+      given = r.given;
+      gave = r.gave;
       ended = r.ended;
       tree = state_after-same Begin xs at 0 (Tree s.journals.tree s.holder) r.tree refl;
       phase = state_after-same Begin xs at 1 (Phase s.phase r.ended) r.phase refl;
       slices = λ i. state_after-same Begin xs at (number_of_slice i) (Slice (slice_at s.journals i)) (r.slices i) refl;
       threads = λ u. elim (cases_Bool (t == u)) [
         | inl h ↦
-            state_after-there part_after Begin xs at (number_of_thread u) (has_thread p ended t v begun found u ∙ h)
-            ∙ (ap (part_after Begin (number_of_thread u)) (r.threads u) ∙ ap (λ (b : Bool). Worker (thread_at s u) b (r.found u)) (sym (cond-true (t == u) true (r.begun u) h)))
+            state_after-there part_after Begin xs at (number_of_thread u) (has_thread p ended t v begun found given u ∙ h)
+            ∙ (ap (part_after Begin (number_of_thread u)) (r.threads u) ∙ ap (λ (b : Bool). Worker (thread_at s u) b (r.found u) (r.given u)) (sym (cond-true (t == u) true (r.begun u) h)))
         | inr h ↦
-            state_after-else part_after Begin xs at (number_of_thread u) (has_thread p ended t v begun found u ∙ h)
-            ∙ (r.threads u ∙ ap (λ (b : Bool). Worker (thread_at s u) b (r.found u)) (sym (cond-false (t == u) true (r.begun u) h)))
+            state_after-else part_after Begin xs at (number_of_thread u) (has_thread p ended t v begun found given u ∙ h)
+            ∙ (r.threads u ∙ ap (λ (b : Bool). Worker (thread_at s u) b (r.found u) (r.given u)) (sym (cond-false (t == u) true (r.begun u) h)))
       ];
       begins = λ u is. elim (cases_Bool (t == u)) [
         | inl h ↦ subst (λ n. phase_in script.phases n ≤ s.phase) (eqb-true t u h) (omega (arith, low, phase))
@@ -67,9 +70,9 @@ begin_may_happen script p ended t v begun found low at r fit =
 
 -- a thread is at its end
 pub end_may_happen : (script : ScriptValue) → EndMayHappen script
-end_may_happen script p t v begun found over at r fit =
+end_may_happen script p t v begun found given over at r fit =
     let s = r.state in
-    let xs : List (ℕ × PartValue) = phase_part p t ∷ thread_part t v begun found ∷ [] in
+    let xs : List (ℕ × PartValue) = phase_part p t ∷ thread_part t v begun found given ∷ [] in
     let ended : r.ended ≡ t = (let is = r.phase in let its = fit.0 in cc) in
     let there : v ≡ thread_at s t = (let is = r.threads t in let its = fit.1.0 in cc) in
     record {
@@ -78,11 +81,13 @@ end_may_happen script p t v begun found over at r fit =
       count = r.count;
       begun = r.begun;
       found = r.found;
+      given = r.given;
+      gave = r.gave;
       ended = r.ended + 1;
       tree = state_after-same End xs at 0 (Tree s.journals.tree s.holder) r.tree refl;
-      phase = state_after-there part_after End xs at 1 (has-first 1 (phase_part p t) (thread_part t v begun found ∷ []) refl) ∙ ap (part_after End 1) r.phase;
+      phase = state_after-there part_after End xs at 1 (has-first 1 (phase_part p t) (thread_part t v begun found given ∷ []) refl) ∙ ap (part_after End 1) r.phase;
       slices = λ i. state_after-same End xs at (number_of_slice i) (Slice (slice_at s.journals i)) (r.slices i) refl;
-      threads = λ u. state_after-same End xs at (number_of_thread u) (Worker (thread_at s u) (r.begun u) (r.found u)) (r.threads u) refl;
+      threads = λ u. state_after-same End xs at (number_of_thread u) (Worker (thread_at s u) (r.begun u) (r.found u) (r.given u)) (r.threads u) refl;
       begins = r.begins;
       ends = λ u low. elim (cases_lt u r.ended) [
         | inl before ↦ r.ends u before
@@ -119,11 +124,13 @@ pass_may_happen script p ended all at r fit =
       count = r.count;
       begun = r.begun;
       found = r.found;
+      given = r.given;
+      gave = r.gave;
       ended = r.ended;
       tree = state_after-same Pass xs at 0 (Tree s.journals.tree s.holder) r.tree refl;
       phase = state_after-there part_after Pass xs at 1 (has-first 1 (phase_part p ended) [] refl) ∙ ap (part_after Pass 1) r.phase;
       slices = λ i. state_after-same Pass xs at (number_of_slice i) (Slice (slice_at s.journals i)) (r.slices i) refl;
-      threads = λ u. state_after-same Pass xs at (number_of_thread u) (Worker (thread_at s u) (r.begun u) (r.found u)) (r.threads u) refl;
+      threads = λ u. state_after-same Pass xs at (number_of_thread u) (Worker (thread_at s u) (r.begun u) (r.found u) (r.given u)) (r.threads u) refl;
       begins = λ u is. (let low = r.begins u is in omega (arith, low));
       ends = r.ends;
       looked = λ u made op place is. let l = r.looked u made op place is in record { place = l.place; numbers = l.numbers };

@@ -34,23 +34,23 @@ first_state script = record {
 
 -- and its parts
 unfoldable pub first_part : ℕ → PartValue
-first_part k = if k == 0 then Tree [] None else if k == 1 then Phase 0 0 else if k % 2 == 0 then Slice [] else Worker opening_thread false []
+first_part k = if k == 0 then Tree [] None else if k == 1 then Phase 0 0 else if k % 2 == 0 then Slice [] else Worker opening_thread false [] None
 
 first_part-slice : (i : ℕ) → first_part (number_of_slice i) ≡ Slice []
 unfolding first_part
 first_part-slice i =
     let k : ℕ = number_of_slice i in
-    cond-false (k == 0) (Tree [] None) (if k == 1 then Phase 0 0 else if k % 2 == 0 then Slice [] else Worker opening_thread false []) (ne_eqb k 0 (λ h. omega (arith, h)))
-    ∙ (cond-false (k == 1) (Phase 0 0) (if k % 2 == 0 then Slice [] else Worker opening_thread false []) (ne_eqb k 1 (λ h. omega (arith, h)))
-    ∙ cond-true (k % 2 == 0) (Slice []) (Worker opening_thread false []) (eq-eqb (k % 2) 0 (omega arith)))
+    cond-false (k == 0) (Tree [] None) (if k == 1 then Phase 0 0 else if k % 2 == 0 then Slice [] else Worker opening_thread false [] None) (ne_eqb k 0 (λ h. omega (arith, h)))
+    ∙ (cond-false (k == 1) (Phase 0 0) (if k % 2 == 0 then Slice [] else Worker opening_thread false [] None) (ne_eqb k 1 (λ h. omega (arith, h)))
+    ∙ cond-true (k % 2 == 0) (Slice []) (Worker opening_thread false [] None) (eq-eqb (k % 2) 0 (omega arith)))
 
-first_part-thread : (t : ℕ) → first_part (number_of_thread t) ≡ Worker opening_thread false []
+first_part-thread : (t : ℕ) → first_part (number_of_thread t) ≡ Worker opening_thread false [] None
 unfolding first_part
 first_part-thread t =
     let k : ℕ = number_of_thread t in
-    cond-false (k == 0) (Tree [] None) (if k == 1 then Phase 0 0 else if k % 2 == 0 then Slice [] else Worker opening_thread false []) (ne_eqb k 0 (λ h. omega (arith, h)))
-    ∙ (cond-false (k == 1) (Phase 0 0) (if k % 2 == 0 then Slice [] else Worker opening_thread false []) (ne_eqb k 1 (λ h. omega (arith, h)))
-    ∙ cond-false (k % 2 == 0) (Slice []) (Worker opening_thread false []) (ne_eqb (k % 2) 0 (λ h. omega (arith, h))))
+    cond-false (k == 0) (Tree [] None) (if k == 1 then Phase 0 0 else if k % 2 == 0 then Slice [] else Worker opening_thread false [] None) (ne_eqb k 0 (λ h. omega (arith, h)))
+    ∙ (cond-false (k == 1) (Phase 0 0) (if k % 2 == 0 then Slice [] else Worker opening_thread false [] None) (ne_eqb k 1 (λ h. omega (arith, h)))
+    ∙ cond-false (k % 2 == 0) (Slice []) (Worker opening_thread false [] None) (ne_eqb (k % 2) 0 (λ h. omega (arith, h))))
 
 first_part-tree : first_part 0 ≡ Tree [] None
 unfolding first_part
@@ -78,13 +78,15 @@ AreReached-first_part script =
       count = length-replicate (length (threads_of script)) opening_thread;
       begun = λ t. false;
       found = λ t. [];
+      given = λ t. None;
       ended = 0;
       tree = first_part-tree;
       phase = first_part-phase;
       slices = λ i. first_part-slice i ∙ ap Slice (sym (slice i));
-      threads = λ t. first_part-thread t ∙ ap (λ (v : Thread). Worker v false []) (sym (thread t));
+      threads = λ t. first_part-thread t ∙ ap (λ (v : Thread). Worker v false [] None) (sym (thread t));
       begins = λ t wrong. absurd (true≢false (sym wrong));
       ends = λ t low. absurd (omega (arith, low));
+      gave = λ t g is. absurd (let none = is in cc);
       looked = λ t made op place is. absurd (let there = thread t in cc);
     }
 

@@ -25,10 +25,12 @@ use Rattle.step_world.specs.Moments.{IsRunSoFar, progress_by}
 use Rattle.step_world.specs.declared.thread_state.ThreadState.{ThreadState}
 use Rattle.step_world.specs.declared.thread_state.ThreadState.TheVariants.{Ready, Looking, Following, Tagged}
 use Rattle.step_world.specs.declared.thread_state.Thread.{Thread}
-use Rattle.schedule_law.specs.Parts.{AreReached, HappeningValue, IsReached, PartValue, Slice, Tree, Worker, begun_after, found_after, history_after, holder_after, number_of_slice, number_of_thread, list_after, part_after, thread_after}
+use Rattle.schedule_law.specs.declared.part.GivenTag.{GivenTag}
+use Rattle.schedule_law.specs.Parts.{AreReached, HappeningValue, IsReached, PartValue, Slice, Tree, WasGiven, Worker, begun_after, found_after, given_after, history_after, holder_after, number_of_slice, number_of_thread, list_after, part_after, thread_after}
 use Rattle.shared_parts.proofs.laws.Parts.{state_after-else, state_after-there}
 use Rattle.shared_parts.specs.Parts.{has, state_after}
 use Rattle.schedule_law.proofs.Events.{Plays-push}
+use Rattle.schedule_law.proofs.GivenTags.{WasGiven-after}
 
 -- what is so far
 pub so_far : (script : ScriptValue) (s : MachineValue) → 0 < script.machine.slices → IsReached script s → IsRunSoFar script s
@@ -58,16 +60,18 @@ same_slices e i s id = ap (λ l. set s.journals.slices i l) (id (slice_at s.jour
 
 -- where the machine takes that step, the parts after it are those of a state that is reached
 pub AreReached-state_after : (script : ScriptValue) → 0 < script.machine.slices → (e : HappeningValue) (t i : ℕ) (op : Op) (xs : List (ℕ × PartValue)) (at : ℕ → PartValue) (r : AreReached script at) → AreStepParts e t i xs
-    → op_at script t (thread_at r.state t).next ≡ Some op → t < length r.state.threads → ((i < length r.state.journals.slices) ⊎ ((es : List SliceEntry) → list_after e es ≡ es)) → Steps script t r.state (next_state e t i r.state)
+    → op_at script t (thread_at r.state t).next ≡ Some op → t < length r.state.threads → ((i < length r.state.journals.slices) ⊎ ((es : List SliceEntry) → list_after e es ≡ es)) → ((g : GivenTag) → given_after e (r.given t) ≡ Some g → (r.given t ≡ Some g) ⊎ WasGiven script r.state.journals.tree g) → Steps script t r.state (next_state e t i r.state)
     → ((op : Op) (made : ℕ) → (thread_at (next_state e t i r.state) t).state ≡ Looking made → op_at script t (thread_at (next_state e t i r.state) t).next ≡ Some op → HasLooked script (next_state e t i r.state) t op (found_after e (r.found t)))
     → AreReached script (state_after part_after e xs at)
-AreReached-state_after script some e t i op xs at r of is there within step own =
+AreReached-state_after script some e t i op xs at r of is there within gift step own =
     let s = r.state in
     let now : MachineValue = next_state e t i s in
     let found : ℕ → List ℕ = λ u. if t == u then found_after e (r.found u) else r.found u in
+    let given : ℕ → Option GivenTag = λ u. if t == u then given_after e (r.given u) else r.given u in
     record {
       state = now;
       found = found;
+      given = given;
       reached = record {
         events = r.reached.events ++ Step t ∷ [];
         first = r.reached.first;
@@ -108,11 +112,11 @@ AreReached-state_after script some e t i op xs at r of is there within step own 
                 let eq : t ≡ u = eqb-true t u same in
                 let now_at : thread_at now u ≡ thread_after e v = subst (λ n. thread_at now n ≡ thread_after e (thread_at s n)) eq (get_or-set_same s.threads t (thread_after e (thread_at s t)) opening_thread there) in
                 state_after-there part_after e xs at (number_of_thread u) (of.thread u ∙ same)
-                ∙ (ap (part_after e (number_of_thread u)) (r.threads u) ∙ (λ j. Worker (sym now_at j) (of.begun (r.begun u) j) (sym (cond-true (t == u) (found_after e (r.found u)) (r.found u) same) j)))
+                ∙ (ap (part_after e (number_of_thread u)) (r.threads u) ∙ (λ j. Worker (sym now_at j) (of.begun (r.begun u) j) (sym (cond-true (t == u) (found_after e (r.found u)) (r.found u) same) j) (sym (cond-true (t == u) (given_after e (r.given u)) (r.given u) same) j)))
             | inr other ↦
                 let now_at : thread_at now u ≡ v = get_or-set_other s.threads t u (thread_after e (thread_at s t)) opening_thread (λ same. eqb-false t u other (sym same)) in
                 state_after-else part_after e xs at (number_of_thread u) (of.thread u ∙ other)
-                ∙ (r.threads u ∙ (λ j. Worker (sym now_at j) (r.begun u) (sym (cond-false (t == u) (found_after e (r.found u)) (r.found u) other) j)))
+                ∙ (r.threads u ∙ (λ j. Worker (sym now_at j) (r.begun u) (sym (cond-false (t == u) (found_after e (r.found u)) (r.found u) other) j) (sym (cond-false (t == u) (given_after e (r.given u)) (r.given u) other) j)))
           ];
       begins = r.begins;
       ended = r.ended;
@@ -126,6 +130,13 @@ AreReached-state_after script some e t i op xs at r of is there within step own 
                 let now_at : thread_at now u ≡ thread_at s u = get_or-set_other s.threads t u (thread_after e (thread_at s t)) opening_thread (λ same. eqb-false t u other (sym same)) in
                 subst (λ (v : Thread). HasEnded script u v) (sym now_at) (r.ends u low)
           ];
+      gave = λ u g its.
+          WasGiven-after script e s.journals.tree g
+          (elim (cases_Bool (t == u)) [
+            | inl same ↦
+                elim (gift g (subst (λ n. given_after e (r.given n) ≡ Some g) (sym (eqb-true t u same)) (sym (cond-true (t == u) (given_after e (r.given u)) (r.given u) same) ∙ its))) [ inl old ↦ r.gave t g old | inr new ↦ new ]
+            | inr other ↦ r.gave u g (sym (cond-false (t == u) (given_after e (r.given u)) (r.given u) other) ∙ its)
+          ]);
       looked = λ u made its place is_its.
           elim (cases_Bool (t == u)) [
             | inl same ↦

@@ -1,15 +1,16 @@
 -- The parts of the machine's state, and what happens to them.
-use Rattle.std.specs.Prelude.{List, None, Option, Some, true, false, Bool, [], if◌then◌else◌, length, ℕ, zero, suc, ◌++◌, ◌+◌, ◌*◌, ◌<◌, ◌∷◌, ◌≡◌, ◌≤◌}
+use Rattle.std.specs.Prelude.{List, None, Option, Some, true, false, Bool, [], if◌then◌else◌, length, take, ℕ, zero, suc, ◌++◌, ◌+◌, ◌*◌, ◌<◌, ◌∷◌, ◌≡◌, ◌≤◌}
 use Rattle.cache_core.specs.declared.entry.SliceEntry.{SliceEntry}
 use Rattle.cache_core.specs.declared.entry.What.{What}
 use Rattle.cache_core.specs.declared.entry.What.TheVariants as whats
-use Rattle.rc_base.specs.declared.names.Tag.{Tag}
 use Rattle.machine.specs.Slices.{slice_count}
+use Rattle.run_law.specs.Growth.{tag_of}
 use Rattle.run_law.specs.Journals.{slice_at}
 use Rattle.run_law.specs.Ops.{phase_in}
-use Rattle.run_law.specs.TreeHistory.{TreeEntryValue}
+use Rattle.run_law.specs.TreeHistory.{TreeEntryValue, tree_after}
 use Rattle.script_ops.specs.Values.{ScriptValue, op_at, threads_of}
 use Rattle.script_ops.specs.declared.op.Op.{Op}
+use Rattle.schedule_law.specs.declared.part.GivenTag.{GivenTag}
 use Rattle.step_world.specs.Looked.{HasLooked}
 use Rattle.step_world.specs.Machine.{MachineValue, opening_thread, thread_at}
 use Rattle.step_world.specs.Schedules.{Event, HasEnded, IsOpening, Plays}
@@ -21,7 +22,7 @@ use Rattle.step_world.specs.declared.thread_state.Thread.{Thread}
 pub data PartValue : Type 0 where
   Tree : List TreeEntryValue → Option ℕ → PartValue  -- the tree's journal, and who holds the tree
   Slice : List SliceEntry → PartValue  -- the journal of a slice
-  Worker : Thread → Bool → List ℕ → PartValue  -- where a thread is, whether its phase is known to have begun, and what its looks found
+  Worker : Thread → Bool → List ℕ → Option GivenTag → PartValue  -- where a thread is, whether its phase is known to have begun, what its looks found, and the tag that it was given last
   Phase : ℕ → ℕ → PartValue  -- the number of the present phase, and of the first thread that is not known to be at its end
 
 -- what happens; where the flag is set nothing follows the command
@@ -30,7 +31,7 @@ pub data HappeningValue : Type 0 where
   Look : SliceEntry → HappeningValue
   Decide : TreeEntryValue → Bool → ℕ → HappeningValue
   Follow : SliceEntry → Bool → HappeningValue
-  Label : Tag → HappeningValue
+  Label : GivenTag → HappeningValue
   Touch : SliceEntry → HappeningValue
   Again : HappeningValue
   Begin : HappeningValue
@@ -51,21 +52,28 @@ pub record IsReached (script : ScriptValue) (s : MachineValue) : Type 0 where
   pub opening : IsOpening script first
   pub plays : Plays script events first s
 
+-- A tag is what the tree gave to this task on this CPU when it had taken as many commands as the tag's epoch says.
+pub record WasGiven (script : ScriptValue) (history : List TreeEntryValue) (g : GivenTag) : Type 0 where
+  pub early : g.tag.epoch ≤ length history
+  pub is : g.tag ≡ tag_of script.machine (tree_after script (take g.tag.epoch history)) g.tag.epoch g.task g.cpu
+
 -- A state that can be reached, in parts. Where a thread's phase is said to have begun it has, where its command looks it has found
--- these numbers, and the threads that are said to be at their ends are there.
+-- these numbers, the tag that it is said to have was given to it, and the threads that are said to be at their ends are there.
 pub record AreReached (script : ScriptValue) (at : ℕ → PartValue) : Type 0 where
   pub state : MachineValue
   pub reached : IsReached script state
   pub count : length state.threads ≡ length (threads_of script)
   pub begun : ℕ → Bool
   pub found : ℕ → List ℕ
+  pub given : ℕ → Option GivenTag
   pub ended : ℕ
   pub tree : at 0 ≡ Tree state.journals.tree state.holder
   pub phase : at 1 ≡ Phase state.phase ended
   pub slices : (i : ℕ) → at (number_of_slice i) ≡ Slice (slice_at state.journals i)
-  pub threads : (t : ℕ) → at (number_of_thread t) ≡ Worker (thread_at state t) (begun t) (found t)
+  pub threads : (t : ℕ) → at (number_of_thread t) ≡ Worker (thread_at state t) (begun t) (found t) (given t)
   pub begins : (t : ℕ) → begun t ≡ true → phase_in script.phases t ≤ state.phase
   pub ends : (t : ℕ) → t < ended → HasEnded script t (thread_at state t)
+  pub gave : (t : ℕ) (g : GivenTag) → given t ≡ Some g → WasGiven script state.journals.tree g
   pub looked : (t made : ℕ) (op : Op) → (thread_at state t).state ≡ Looking made → op_at script t (thread_at state t).next ≡ Some op → HasLooked script state t op (found t)
 
 -- ---- what happens to a part
@@ -88,7 +96,7 @@ thread_after (Take t) v = moved v (Looking 0)
 thread_after (Look e) v = moved v (one_more v.state)
 thread_after (Decide h last made) v = if last then done v else moved v (Following made)
 thread_after (Follow e last) v = if last then done v else moved v (one_more v.state)
-thread_after (Label tag) v = moved v (Tagged tag)
+thread_after (Label g) v = moved v (Tagged g.tag)
 thread_after (Touch e) v = done v
 thread_after Again v = moved v Ready
 thread_after Begin v = v
@@ -128,6 +136,11 @@ found_after (Take t) found = []
 found_after (Look e) found = found ++ lines_in e.what ∷ []
 found_after e found = found
 
+-- the tag that a thread was given last
+abbrev pub given_after : HappeningValue → Option GivenTag → Option GivenTag
+given_after (Label g) given = Some g
+given_after e given = given
+
 abbrev pub phase_after : HappeningValue → ℕ → ℕ
 phase_after Pass n = n + 1
 phase_after e n = n
@@ -140,8 +153,22 @@ ended_after e n = n
 abbrev pub part_after : HappeningValue → ℕ → PartValue → PartValue
 part_after e k (Tree history holder) = Tree (history_after e history) (holder_after e holder)
 part_after e k (Slice list) = Slice (list_after e list)
-part_after e k (Worker thread begun found) = Worker (thread_after e thread) (begun_after e begun) (found_after e found)
+part_after e k (Worker thread begun found given) = Worker (thread_after e thread) (begun_after e begun) (found_after e found) (given_after e given)
 part_after e k (Phase number ended) = Phase (phase_after e number) (ended_after e ended)
+
+-- ---- what every thread may read of the tree
+
+-- whether a thread holds it
+abbrev pub held : Option ℕ → ℕ
+held None = 0
+held (Some t) = 1
+
+-- Twice the length of the tree's history, and one more while a command holds the tree. Of other parts nothing is shown.
+abbrev pub shown_of : PartValue → ℕ
+shown_of (Tree history holder) = 2 * length history + held holder
+shown_of (Slice list) = 0
+shown_of (Worker thread begun found given) = 0
+shown_of (Phase number ended) = 0
 
 -- a part with its number
 abbrev pub tree_part : List TreeEntryValue → Option ℕ → ℕ × PartValue
@@ -150,8 +177,8 @@ tree_part history holder = (0, Tree history holder)
 abbrev pub slice_part : ℕ → List SliceEntry → ℕ × PartValue
 slice_part i list = (number_of_slice i, Slice list)
 
-abbrev pub thread_part : ℕ → Thread → Bool → List ℕ → ℕ × PartValue
-thread_part t v begun found = (number_of_thread t, Worker v begun found)
+abbrev pub thread_part : ℕ → Thread → Bool → List ℕ → Option GivenTag → ℕ × PartValue
+thread_part t v begun found given = (number_of_thread t, Worker v begun found given)
 
 abbrev pub phase_part : ℕ → ℕ → ℕ × PartValue
 phase_part p ended = (1, Phase p ended)
@@ -165,7 +192,7 @@ slice_parts i (suc n) = slice_part i [] ∷ slice_parts (i + 1) n
 
 abbrev pub thread_parts : ℕ → ℕ → List (ℕ × PartValue)
 thread_parts t zero = []
-thread_parts t (suc n) = thread_part t opening_thread false [] ∷ thread_parts (t + 1) n
+thread_parts t (suc n) = thread_part t opening_thread false [] None ∷ thread_parts (t + 1) n
 
 -- all parts before the first step
 abbrev pub opening_parts : ScriptValue → List (ℕ × PartValue)

@@ -1,27 +1,37 @@
 //! The steps of an access, on the parts that its thread and a lock have.
 ghost use Rattle.std.specs.Prelude.{◌≡◌, ◌<◌};
 ghost use Rattle.schedule_law.specs.LiveParts.{after};
-ghost use Rattle.schedule_law.specs.LiveSteps.{MayTag, MayTagAgain, MayTouch};
+ghost use Rattle.schedule_law.specs.LiveSteps.{MayRecall, MayTag, MayTagAgain, MayTouch};
 ghost use Rattle.schedule_law.specs.declared.part.Happening.TheVariants.{Again, Label, Touch};
-ghost use Rattle.shared_parts.specs.Parts.{parts_after};
+ghost use Rattle.shared_parts.specs.Parts.{parts_after, parts_where};
 ghost use Rattle.shared_parts.specs.Words.{word_of};
 
 use crate::machine_of::NamedScript;
-use crate::part::Happening;
+use crate::part::{GivenTag, Happening};
 use crate::sharing::Parts;
 use cache_core::SliceEntry;
-use rc_base::Tag;
 
 /// The access of a thread learns its tag under the lock of the tree, which is free.
-pub fn tag<N: NamedScript>(tree: &mut Parts<N>, worker: &mut Parts<N>, lock: usize, tag: &Tag)
+pub fn tag<N: NamedScript>(tree: &mut Parts<N>, worker: &mut Parts<N>, lock: usize, given: GivenTag)
     requires table { tree.old.table ≡ worker.old.table }
     requires lock { word_of lock < worker.old.table.words }
-    requires may { MayTag N.script tree.old.parts worker.old.parts tag.now }
+    requires may { MayTag N.script tree.old.parts worker.old.parts given }
     ensures table { (tree.new.table ≡ tree.old.table) × (worker.new.table ≡ worker.old.table) }
     ensures tree { tree.new.parts ≡ tree.old.parts }
-    ensures worker { worker.new.parts ≡ parts_after after (Label tag.now) worker.old.parts }
+    ensures worker { worker.new.parts ≡ parts_after after (Label given) worker.old.parts }
 {
-    worker.step_with(lock, tree, &Happening::Label { tag: *tag });
+    worker.step_with(lock, tree, &Happening::Label { given });
+}
+
+/// It learns the tag that its thread was given last, where no command holds the tree and none was taken since; the answer says
+/// whether it does. It is one load of the word that shows that, and no lock is held. The load is the step: no command takes the tree
+/// between what it finds and the tag.
+pub fn recall<N: NamedScript>(worker: &mut Parts<N>, given: GivenTag) -> bool
+    requires may { MayRecall N.script worker.old.parts given }
+    ensures table { worker.new.table ≡ worker.old.table }
+    ensures worker { worker.new.parts ≡ parts_where after (Label given) result worker.old.parts }
+{
+    worker.step_where(2 * given.tag.epoch, &Happening::Label { given })
 }
 
 /// It touches its line under the lock of a slice, which has the entry last, and the thread is before its next op. Neither share has a

@@ -11,5 +11,5 @@ pub mod sharing;
 pub mod theorems;
 
 pub use machine_of::MachineOf;
-pub use part::{Happening, Part};
+pub use part::{GivenTag, Happening, Part};
 pub use sharing::Parts;

@@ -1,5 +1,5 @@
 //! The machine of steps, as a state that threads share.
-ghost use Rattle.schedule_law.specs.LiveParts.{after, first, reached};
+ghost use Rattle.schedule_law.specs.LiveParts.{after, first, reached, shown};
 ghost use Rattle.script_ops.specs.Values.{ScriptValue};
 
 use crate::part::{Happening, Part};
@@ -18,11 +18,13 @@ pub struct MachineOf<N> {
 }
 
 impl<N: NamedScript> Machine<Happening, Part> for MachineOf<N> {
-    ghost use Rattle.schedule_law.specs.LiveParts.{after, first, reached};
+    ghost use Rattle.schedule_law.specs.LiveParts.{after, first, reached, shown};
 
     ghost reached = { reached N.script };
 
     ghost after = { after };
 
     ghost first = { first N.script };
+
+    ghost shown = { shown };
 }

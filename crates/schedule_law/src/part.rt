@@ -5,6 +5,17 @@ use run_law::TreeEntry;
 use std::collections::LinkedList;
 use step_world::thread_state::Thread;
 
+/// The tag that the tree gave to a task on a CPU.
+#[derive(Clone, Copy, Drop)]
+pub struct GivenTag {
+    /// The task.
+    pub task: u32,
+    /// The CPU.
+    pub cpu: u8,
+    /// The tag, with the epoch of the tree that gave it.
+    pub tag: Tag,
+}
+
 /// A part of the machine's state. No value of it is made: only proofs see it.
 pub enum Part {
     /// The tree's journal, and the number of the thread that holds the tree.
@@ -16,11 +27,13 @@ pub enum Part {
     Slice {
         list: LinkedList<SliceEntry>,
     },
-    /// Where a thread is, whether its phase is known to have begun, and the lines that its command's looks found, in order.
+    /// Where a thread is, whether its phase is known to have begun, the lines that its command's looks found, in order, and the tag
+    /// that it was given last.
     Worker {
         thread: Thread,
         begun: bool,
         found: LinkedList<u64>,
+        given: Option<GivenTag>,
     },
     /// The number of the present phase, and of the first thread that is not known to be at its end.
     Phase {
@@ -53,7 +66,7 @@ pub enum Happening {
     },
     /// An access learns its tag.
     Label {
-        tag: Tag,
+        given: GivenTag,
     },
     /// It hits or fills a way of a slice, which gets this entry.
     Touch {

@@ -1,7 +1,7 @@
 //! The phases, on the parts that the threads and who starts them have.
 ghost use Rattle.std.specs.Prelude.{◌≡◌, ◌<◌};
 ghost use Rattle.schedule_law.specs.LiveParts.{after};
-ghost use Rattle.schedule_law.specs.LiveSteps.{MayBegin, MayEnd, MayPass};
+ghost use Rattle.schedule_law.specs.LivePhases.{MayBegin, MayEnd, MayPass};
 ghost use Rattle.schedule_law.specs.declared.part.Happening.TheVariants.{Begin, End, Pass};
 ghost use Rattle.shared_parts.specs.Parts.{parts_after};
 ghost use Rattle.shared_parts.specs.Words.{word_of};

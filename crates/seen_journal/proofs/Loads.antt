@@ -1,16 +1,17 @@
 -- The steps that change no word keep the rule.
-use Rattle.std.proofs.Common.{◌≡◌, inl, inr, ℕ, ◌<◌, ◌==◌, [], ◌∷◌, ◌++◌, length, set, slice_index_or, refl, sym, subst}
+use Rattle.std.proofs.Common.{◌≡◌, inl, inr, ℕ, ◌<◌, ◌≤◌, ◌==◌, [], ◌∷◌, ◌++◌, length, get_or, set, slice_index_or, refl, sym, subst}
 use Rattle.std.proofs.lemmas.List.{set-get_or}
 use mathlib.Core.Option.{some, none}
 use prog.Atomic.{either}
 use Rattle.atomic_table.specs.Table.{Me, Allows, step, keeps}
+use Rattle.atomic_table.proofs.Lists.{set_again}
 use Rattle.seen_journal.specs.declared.role.Role.TheVariants.{Pass}
 use Rattle.seen_journal.specs.declared.view.View.{View}
 use Rattle.seen_journal.specs.Prefixes.{IsPrefix}
 use Rattle.seen_journal.specs.Entries.{entries_of}
 use Rattle.seen_journal.specs.Views.{FitsList, IsKept, holds}
-use Rattle.seen_journal.specs.Kinds.{asked_more, looked}
-use Rattle.seen_journal.proofs.laws.Prefixes.{IsPrefix-self, IsPrefix-append, IsPrefix-through, IsPrefix-shorter, ArePrefixes-at, length-push_within}
+use Rattle.seen_journal.specs.Kinds.{asked_more, counted, looked}
+use Rattle.seen_journal.proofs.laws.Prefixes.{IsPrefix-self, IsPrefix-append, IsPrefix-through, IsPrefix-shorter, ArePrefixes-at, length-prefix, length-push_within}
 use Rattle.seen_journal.proofs.laws.Entries.{IsPrefix-entries_of}
 use Rattle.seen_journal.proofs.Words.{set-either}
 use Rattle.seen_journal.proofs.Views.{Asks-set, IsKept-set}
@@ -66,4 +67,16 @@ module _ {E : Type 0} where
           },
           refl,
         ),
+      )
+
+  -- a seat may count the list
+  pub Allows-count : (slots id : ℕ) (me : Me E (View E)) → Allows holds slots id me 0 (λ n. n) (counted (step slots 0 0 0 none) me)
+  Allows-count slots id me s kept len at fit =
+      let v : View E = me.0 in
+      let old : FitsList kept.next kept.quotas kept.all s.views v = kept.fits id v at in (
+        v,
+        keeps,
+        tt,
+        subst (λ ws. IsKept ws (set s.views id v)) (sym (set-get_or s.words 0 0)) (subst (λ l. IsKept s.words l) (sym (set_again s.views id v at)) kept),
+        (subst (λ ws. length v.seen ≤ get_or ws 0 0) (sym kept.count) (length-prefix v.seen kept.all old.seen), refl),
       )

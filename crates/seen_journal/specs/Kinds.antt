@@ -33,6 +33,10 @@ module _ {E : Type 0} where
   abbrev pub looked : Step E → Me E (View E) → ℕ → Me E (View E) → Type 0
   looked s me found now = Learns me.0 × (now ≡ (rested me.0, me.1))
 
+  -- load: a count of the list, which is not shorter than what was seen
+  abbrev pub counted : Step E → Me E (View E) → ℕ → Me E (View E) → Type 0
+  counted s me found now = (length me.0.seen ≤ found) × (now ≡ me)
+
   -- enrol: the journal's own view once the next pass has its number, and that pass's view
   abbrev pub enrols : View E → View E
   enrols v = record v { next = v.next + 1 }

@@ -71,6 +71,7 @@ impl<E: Drop> Journal<E> {
         ensures seen { HasSeen pass.old pass.new self.old.entries }
         ensures quota { length (own_entries pass.old) ≤ quota_of pass.old }
         ensures most { length self.old.entries ≤ sum self.old.name.quotas }
+        ensures few { length self.old.entries < 2 ^ 32 }
         ensures room { length (own_entries pass.old) < quota_of pass.old → length self.old.entries < sum self.old.name.quotas }
     {
         show_seats(&self.table.shared, &mut self.seat, &mut pass.seat);

@@ -7,7 +7,7 @@ ghost use Rattle.seen_journal.specs.Prefixes.{longer_of};
 
 use crate::exchanges::meet_seats;
 use crate::rule::JournalRule;
-use crate::steps::enrol;
+use crate::steps::{count, enrol};
 use crate::view::View;
 use atomic_table::Seat;
 use rc_base::NoMemory;
@@ -47,6 +47,15 @@ impl<E> Pass<E> {
         ensures b { HasSeen b.old b.new (longer_of a.old.seen b.old.seen) }
     {
         meet_seats(&a.table.shared, &mut a.seat, &mut b.seat);
+    }
+
+    /// How many entries the journal has at this moment: as many as the pass has seen, or more. It is one load, of a word that only
+    /// an append writes, and no lock is needed for it.
+    pub fn journal_length(&mut self) -> u64
+        ensures same { self.new ≡ self.old }
+        ensures length { length self.old.seen ≤ result }
+    {
+        count(&self.table.shared, &mut self.seat)
     }
 }
 

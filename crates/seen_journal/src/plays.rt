@@ -1,5 +1,5 @@
 //! The kinds of step, and what each tells who takes it.
-ghost use Rattle.seen_journal.specs.Kinds.{asked_more, added, looked, enrols, enrolled, note_of, told, spent};
+ghost use Rattle.seen_journal.specs.Kinds.{asked_more, added, counted, looked, enrols, enrolled, note_of, told, spent};
 
 use crate::view::View;
 use atomic_table::{Join, Play, Split};
@@ -23,6 +23,13 @@ pub struct Look;
 
 impl<E> Play<E, View<E>> for Look {
     ghost then = { looked };
+}
+
+/// A seat counts the list.
+pub struct Count;
+
+impl<E> Play<E, View<E>> for Count {
+    ghost then = { counted };
 }
 
 /// The next pass gets a seat and its number.

@@ -1,10 +1,10 @@
 //! The atomic steps of a journal's seats.
-ghost use Rattle.std.specs.Prelude.{◌≡◌, ◌<◌, ◌+◌, ◌^◌, [], ◌∷◌, ◌++◌, length, slice_index_or};
+ghost use Rattle.std.specs.Prelude.{◌≡◌, ◌<◌, ◌≤◌, ◌+◌, ◌^◌, [], ◌∷◌, ◌++◌, length, slice_index_or};
 ghost use Rattle.seen_journal.specs.declared.role.Role.TheVariants.{Own, Pass};
 ghost use Rattle.seen_journal.specs.Entries.{entries_of};
 ghost use Rattle.seen_journal.specs.Kinds.{Learns, rested, note_of, told, enrols, enrolled};
 
-use crate::plays::{Add, Ask, Enrol, Look, Tell};
+use crate::plays::{Add, Ask, Count, Enrol, Look, Tell};
 use crate::rule::JournalRule;
 use crate::view::View;
 use atomic_table::{Seat, Shared};
@@ -42,6 +42,15 @@ pub(crate) fn look<E>(board: &Board<E>, seat: &mut Seat<E, View<E>>)
     ensures learns { Learns seat.old.me.0 }
 {
     board.load::<Look>(seat, 0);
+}
+
+/// How many entries the list has: as many as the seat has seen, or more.
+pub(crate) fn count<E>(board: &Board<E>, seat: &mut Seat<E, View<E>>) -> u64
+    requires table { (seat.old.table_id ≡ board.now.table_id) × (0 < board.now.table_id.words) }
+    ensures same { (seat.new.table_id ≡ seat.old.table_id) × (seat.new.id ≡ seat.old.id) × (seat.new.me ≡ seat.old.me) }
+    ensures length { length seat.old.me.0.seen ≤ result }
+{
+    board.load::<Count>(seat, 0)
 }
 
 /// One seat tells another what it knows.

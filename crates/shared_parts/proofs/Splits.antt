@@ -12,12 +12,12 @@ use Rattle.shared_parts.specs.declared.view.View.{View}
 use Rattle.shared_parts.proofs.laws.Parts.{Fits-append, Fits-first_of, Fits-rest_of, has-append_cases, has-first_of, has-rest_of}
 use Rattle.shared_parts.proofs.Views.{get_elem-push, has-set}
 
-module _ {E P : Type 0} (reached : (ℕ → P) → Type 0) where
+module _ {E P : Type 0} (reached : (ℕ → P) → Type 0) (shown : P → ℕ) where
   -- parts of a view are cut in two
   split : (id : ℕ) (v left right : View P)
       → ((k : ℕ) → has k left.parts ≡ true → has k v.parts ≡ true) → ((k : ℕ) → has k right.parts ≡ true → has k v.parts ≡ true) → AreApart right.parts left.parts
       → ((at : ℕ → P) → Fits at v.parts → Fits at left.parts × Fits at right.parts)
-      → Splits {S = E} (λ s. IsKept reached s.views) id v left right
+      → Splits {S = E} (λ s. IsKept reached shown s.words s.views) id v left right
   split id v left right of_left of_right cut fit s kept at =
       let back : (j : ℕ) (a : View P) (k : ℕ) → get_elem? (set s.views id left) j ≡ some a → has k a.parts ≡ true → (b : View P) × (get_elem? s.views j ≡ some b) × (has k b.parts ≡ true) = has-set s.views id v left at of_left in
       let apart : (j : ℕ) (a : View P) (k : ℕ) → get_elem? (set s.views id left) j ≡ some a → has k a.parts ≡ true → has k right.parts ≡ true → ⊥ =
@@ -35,6 +35,8 @@ module _ {E P : Type 0} (reached : (ℕ → P) → Type 0) where
           ]
           | inr here ↦ subst (λ (x : View P). Fits kept.at x.parts) here.1 (fit kept.at (kept.fits id v at)).1
         ];
+        others = kept.others;
+        shows = kept.shows;
         apart = λ i j a b k ea eb ha hb. elim (get_elem-push (set s.views id left) right a i ea) [
           | inl a' ↦ elim (get_elem-push (set s.views id left) right b j eb) [
             | inl b' ↦ let p = back i a k a' ha in let q = back j b k b' hb in kept.apart i j p.0 q.0 k p.1 q.1 p.2 q.2
@@ -48,15 +50,15 @@ module _ {E P : Type 0} (reached : (ℕ → P) → Type 0) where
       }
 
   -- all parts are given
-  pub all_are_split : (id : ℕ) (v : View P) → Splits {S = E} (λ s. IsKept reached s.views) id v (no_parts v) (all_of v)
+  pub all_are_split : (id : ℕ) (v : View P) → Splits {S = E} (λ s. IsKept reached shown s.words s.views) id v (no_parts v) (all_of v)
   all_are_split id v = split id v nothing v (λ k h. absurd (true≢false (sym h))) (λ k h. h) (λ k h. refl) (λ at f. (tt, f))
 
   -- the first part is given
-  pub first_is_split : (id : ℕ) (v : View P) → AreApart (first_of v.parts) (rest_of v.parts) → Splits {S = E} (λ s. IsKept reached s.views) id v (left_over v) (first_one v)
+  pub first_is_split : (id : ℕ) (v : View P) → AreApart (first_of v.parts) (rest_of v.parts) → Splits {S = E} (λ s. IsKept reached shown s.words s.views) id v (left_over v) (first_one v)
   first_is_split id v cut = split id v (left_over v) (first_one v) (λ k h. has-rest_of k v.parts h) (λ k h. has-first_of k v.parts h) cut (λ at f. (Fits-rest_of at v.parts f, Fits-first_of at v.parts f))
 
   -- parts are taken in
-  pub all_are_joined : (id : ℕ) (v : View P) (other : ℕ) (w : View P) → Joins {S = E} (λ s. IsKept reached s.views) id v other w (joined v w) nothing
+  pub all_are_joined : (id : ℕ) (v : View P) (other : ℕ) (w : View P) → Joins {S = E} (λ s. IsKept reached shown s.words s.views) id v other w (joined v w) nothing
   all_are_joined id v other w s kept at apart there =
       let both : View P = joined v w in
       let w_at : get_elem? s.views other ≡ some w = sym (set_else s.views id other both apart) ∙ there in
@@ -78,6 +80,8 @@ module _ {E P : Type 0} (reached : (ℕ → P) → Type 0) where
             | inr old ↦ kept.fits j u old.1
           ]
         ];
+        others = kept.others;
+        shows = kept.shows;
         apart = λ i j a b k ea eb ha hb.
             elim (at_set (set s.views id both) other i nothing a ea) [
               | inl spent ↦ absurd (true≢false (sym (subst (λ (x : View P). has k x.parts ≡ true) (sym spent.1) ha)))

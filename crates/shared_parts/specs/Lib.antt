@@ -1,3 +1,4 @@
+pub mod Changes
 pub mod Kept
 pub mod Kinds
 pub mod Parts

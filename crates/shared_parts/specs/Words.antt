@@ -1,4 +1,4 @@
--- The words of a table. Word 0 is only read. Each lock has a word of its own, and no two of them lie on one cache line of 64 bytes.
+-- The words of a table. Word 0 shows the number of part 0, and only a step that changes that writes it. Each lock has a word of its own, and no two of them lie on one cache line of 64 bytes.
 use Rattle.std.specs.Prelude.{ℕ, ◌+◌, ◌*◌}
 
 -- the word on which the steps under this lock are made

@@ -2,6 +2,7 @@
 //! whole state, so all steps have one order.
 #![tactic(auto)]
 
+mod change;
 mod exchanges;
 pub mod machine;
 mod plays;

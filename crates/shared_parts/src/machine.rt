@@ -12,4 +12,7 @@ pub trait Machine<E, P> {
 
     /// The parts of the first share, each with its number and its value at the start.
     ghost first: { List (ℕ × P) };
+
+    /// The number that the first word of the table shows of part 0, to every thread. It is 0 at the start.
+    ghost shown: { P → ℕ };
 }

@@ -1,11 +1,13 @@
 //! The atomic steps of the seats.
-ghost use Rattle.std.specs.Prelude.{◌≡◌, ◌<◌, []};
+ghost use Rattle.std.specs.Prelude.{◌≡◌, ◌==◌, ◌<◌, [], Some};
 ghost use mathlib.Core.Option.{none};
 ghost use Rattle.shared_parts.specs.Kinds.{all_of, first_one, joined, known, left_over, no_parts};
-ghost use Rattle.shared_parts.specs.Parts.{AreApart, MayHappen, first_of, parts_after, rest_of};
+ghost use Rattle.shared_parts.specs.Changes.{IsChange};
+ghost use Rattle.shared_parts.specs.Parts.{AreApart, IsQuiet, MayHappen, MayHappenWhere, first_of, parts_after, parts_where, rest_of};
 
+use crate::change::Change;
 use crate::machine::Machine;
-use crate::plays::{Happen, Know, Lend, LendFirst};
+use crate::plays::{Happen, HappenWhere, Know, Lend, LendFirst, Told};
 use crate::rule::ReachedRule;
 use crate::view::View;
 use atomic_table::{Seat, Shared};
@@ -13,20 +15,38 @@ use atomic_table::{Seat, Shared};
 /// What the seats share of their table.
 pub(crate) type Board<E, P, M> = Shared<E, View<P>, (), ReachedRule<M>>;
 
-/// An event happens to the parts of a seat, by a step on this word.
+/// An event happens to the parts of a seat, by a step that writes a word so.
 pub(crate) fn happen<E, P, M: Machine<E, P>>(
     board: &Board<E, P, M>,
-    word: usize,
+    change: Change,
     seat: &mut Seat<E, View<P>>,
     event: &E,
 )
     requires table { seat.old.table_id ≡ board.now.table_id }
-    requires word { word < board.now.table_id.words }
+    requires word { change.word < board.now.table_id.words }
+    requires shown { IsChange M.shown M.after event.now change seat.old.me.0.parts }
     requires may { MayHappen M.reached M.after event.now seat.old.me.0.parts }
     ensures same { (seat.new.table_id ≡ seat.old.table_id) × (seat.new.id ≡ seat.old.id) }
     ensures parts { seat.new.me.0.parts ≡ parts_after M.after event.now seat.old.me.0.parts }
 {
-    board.compare_exchange_with::<Happen<M>>(seat, word, 0, 0, event);
+    board.compare_exchange_with::<Happen<M>>(seat, change.word, change.before, change.after, event);
+}
+
+/// Where the first word shows a number, an event happens to the parts of a seat. It is a load.
+pub(crate) fn happen_where<E, P, M: Machine<E, P>, J: Told<E>>(
+    board: &Board<E, P, M>,
+    seat: &mut Seat<E, View<P>>,
+    number: u64,
+    event: &E,
+) -> bool
+    requires told { (J.event ≡ Some event.now) × (J.number ≡ number) }
+    requires table { (seat.old.table_id ≡ board.now.table_id) × (0 < board.now.table_id.words) }
+    requires quiet { IsQuiet M.shown M.after event.now seat.old.me.0.parts }
+    requires may { MayHappenWhere M.reached M.shown M.after event.now number seat.old.me.0.parts }
+    ensures same { (seat.new.table_id ≡ seat.old.table_id) × (seat.new.id ≡ seat.old.id) }
+    ensures parts { seat.new.me.0.parts ≡ parts_where M.after event.now result seat.old.me.0.parts }
+{
+    board.load::<HappenWhere<M, J>>(seat, 0) == number
 }
 
 /// A state with the seat's parts was reached.

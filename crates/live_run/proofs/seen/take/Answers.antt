@@ -23,6 +23,7 @@ returns g c =
     record {
       journal = c.show.ensures.journal;
       most = omega (arith, c.show.ensures.most, all);
+      few = c.show.ensures.few;
       room = λ room.
           let had = room-tree g.N.RunNames.script g.N.RunNames.tree g.N.RunNames.slices s c.s.invariant (subst (HasRoomInTree g.N.RunNames.script) (sym c.s.view_is) room) in
           omega (arith, c.show.ensures.room had, all);

@@ -1,4 +1,5 @@
-use Rattle.std.proofs.Common.{◌∙◌, ap, length, sym}
+use Rattle.std.proofs.Common.{◌++◌, ◌∙◌, ap, length, refl, sym}
+use Rattle.schedule_law.proofs.QuietSteps.{quiet_step}
 use Rattle.schedule_law.proofs.LiveAccesses.{tag_apart, tag_happens}
 use Rattle.schedule_law.specs.LiveParts.{after}
 use Rattle.schedule_law.specs.declared.part.Happening.TheVariants.{Label}
@@ -9,10 +10,13 @@ pub step_with-requires-clause-one : goal.step_with-requires-clause-one
 step_with-requires-clause-one g c = ap length c.requires.may.tree_is
 
 pub step_with-requires-clause-apart : goal.step_with-requires-clause-apart
-step_with-requires-clause-apart g c = tag_apart g.N.NamedScript.script c.args.tree.now.parts c.args.worker.now.parts c.args.tag.now c.requires.may
+step_with-requires-clause-apart g c = tag_apart g.N.NamedScript.script c.args.tree.now.parts c.args.worker.now.parts c.args.given c.requires.may
 
 pub step_with-requires-clause-may : goal.step_with-requires-clause-may
-step_with-requires-clause-may g c = tag_happens g.N.NamedScript.script c.args.tree.now.parts c.args.worker.now.parts c.args.tag.now c.requires.may
+step_with-requires-clause-may g c = tag_happens g.N.NamedScript.script c.args.tree.now.parts c.args.worker.now.parts c.args.given c.requires.may
 
 pub returns-clause-tree : goal.returns-clause-tree
-returns-clause-tree g c = c.step_with.ensures.other_parts ∙ (ap (parts_after after (Label c.args.tag.now)) c.requires.may.tree_is ∙ sym c.requires.may.tree_is)
+returns-clause-tree g c = c.step_with.ensures.other_parts ∙ (ap (parts_after after (Label c.args.given)) c.requires.may.tree_is ∙ sym c.requires.may.tree_is)
+
+pub step_with-requires-clause-quiet : goal.step_with-requires-clause-quiet
+step_with-requires-clause-quiet g c = quiet_step (Label c.args.given) (λ hs. refl) (λ holder. refl) (c.args.tree.now.parts ++ c.args.worker.now.parts)

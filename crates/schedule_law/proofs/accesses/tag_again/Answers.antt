@@ -1,4 +1,5 @@
-use Rattle.std.proofs.Common.{◌∙◌, ap, length, sym}
+use Rattle.std.proofs.Common.{◌++◌, ◌∙◌, ap, length, refl, sym}
+use Rattle.schedule_law.proofs.QuietSteps.{quiet_step}
 use Rattle.schedule_law.proofs.LiveAccesses.{tag_again_apart, tag_again_happens}
 use Rattle.schedule_law.specs.LiveParts.{after}
 use Rattle.schedule_law.specs.declared.part.Happening.TheVariants.{Again}
@@ -16,3 +17,6 @@ step_with-requires-clause-may g c = tag_again_happens g.N.NamedScript.script c.a
 
 pub returns-clause-slice : goal.returns-clause-slice
 returns-clause-slice g c = c.step_with.ensures.other_parts ∙ (ap (parts_after after Again) c.requires.may.slice_is ∙ sym c.requires.may.slice_is)
+
+pub step_with-requires-clause-quiet : goal.step_with-requires-clause-quiet
+step_with-requires-clause-quiet g c = quiet_step (Again) (λ hs. refl) (λ holder. refl) (c.args.slice.now.parts ++ c.args.worker.now.parts)

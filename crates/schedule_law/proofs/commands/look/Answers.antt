@@ -1,4 +1,6 @@
-use Rattle.std.proofs.Common.{ap, length}
+use Rattle.std.proofs.Common.{◌++◌, ap, length, refl}
+use Rattle.schedule_law.specs.declared.part.Happening.TheVariants.{Look}
+use Rattle.schedule_law.proofs.QuietSteps.{quiet_step}
 use Rattle.schedule_law.proofs.LiveCommands.{look_apart, look_happens}
 use Rattle.schedule_law.proofs.commands.look.Goals as goal
 
@@ -10,3 +12,6 @@ step_with-requires-clause-apart g c = look_apart g.N.NamedScript.script c.args.s
 
 pub step_with-requires-clause-may : goal.step_with-requires-clause-may
 step_with-requires-clause-may g c = look_happens g.N.NamedScript.script c.args.slice.now.parts c.args.worker.now.parts c.args.entry c.requires.may
+
+pub step_with-requires-clause-quiet : goal.step_with-requires-clause-quiet
+step_with-requires-clause-quiet g c = quiet_step (Look c.args.entry) (λ hs. refl) (λ holder. refl) (c.args.slice.now.parts ++ c.args.worker.now.parts)

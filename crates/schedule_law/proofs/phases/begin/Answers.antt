@@ -1,4 +1,5 @@
-use Rattle.std.proofs.Common.{◌∙◌, ap, length, sym}
+use Rattle.std.proofs.Common.{◌++◌, ◌∙◌, ap, length, refl, sym}
+use Rattle.schedule_law.proofs.QuietSteps.{quiet_step}
 use Rattle.schedule_law.proofs.LivePhases.{begin_apart, begin_happens}
 use Rattle.schedule_law.specs.LiveParts.{after}
 use Rattle.schedule_law.specs.declared.part.Happening.TheVariants.{Begin}
@@ -16,3 +17,6 @@ step_with-requires-clause-may g c = begin_happens g.N.NamedScript.script c.args.
 
 pub returns-clause-phase : goal.returns-clause-phase
 returns-clause-phase g c = c.step_with.ensures.other_parts ∙ (ap (parts_after after Begin) c.requires.may.phase_is ∙ sym c.requires.may.phase_is)
+
+pub step_with-requires-clause-quiet : goal.step_with-requires-clause-quiet
+step_with-requires-clause-quiet g c = quiet_step (Begin) (λ hs. refl) (λ holder. refl) (c.args.phase.now.parts ++ c.args.worker.now.parts)

@@ -1,4 +1,5 @@
-use Rattle.std.proofs.Common.{◌∙◌, ap, length, sym}
+use Rattle.std.proofs.Common.{◌++◌, ◌∙◌, ap, length, refl, sym}
+use Rattle.schedule_law.proofs.QuietSteps.{quiet_step}
 use Rattle.schedule_law.proofs.LivePhases.{end_apart, end_happens}
 use Rattle.schedule_law.specs.LiveParts.{after}
 use Rattle.schedule_law.specs.declared.part.Happening.TheVariants.{End}
@@ -16,3 +17,6 @@ step_with-requires-clause-may g c = end_happens g.N.NamedScript.script c.args.ph
 
 pub returns-clause-worker : goal.returns-clause-worker
 returns-clause-worker g c = c.step_with.ensures.parts ∙ (ap (parts_after after End) c.requires.may.worker_is ∙ sym c.requires.may.worker_is)
+
+pub step_with-requires-clause-quiet : goal.step_with-requires-clause-quiet
+step_with-requires-clause-quiet g c = quiet_step (End) (λ hs. refl) (λ holder. refl) (c.args.phase.now.parts ++ c.args.worker.now.parts)

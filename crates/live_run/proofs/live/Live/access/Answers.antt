@@ -21,6 +21,9 @@ reach-reached-requires-clause-room g c =
 pub reach-reached-requires-clause-cached : goal.reach-reached-requires-clause-cached
 reach-reached-requires-clause-cached g c = c.p.invariant.cached_is
 
+pub reach-reached-requires-clause-noted : goal.reach-reached-requires-clause-noted
+reach-reached-requires-clause-noted g c = c.p.invariant.noted
+
 pub reach-reached-requires-clause-worker : goal.reach-reached-requires-clause-worker
 reach-reached-requires-clause-worker g c =
     resting_before g.N.RunNames.script g.T.NamedTable.table c.p.inside.side.seen c.p.inside.next c.p.inside.looks c.p.inside.shown c.p.inside.side.share c.p.inside.side.cached c.p.invariant (ap (λ (p : PassesValue). p.begun) c.p.view_is ∙ c.requires.begun)
@@ -48,6 +51,7 @@ invariant_of-p g c =
           (HasGrown-accessed script n c.in-Access.task c.in-Access.cpu c.in-Access.addr c.reach-reached.result c.p.inside.side.seen c.reach-reached.new.side.seen c.reach-reached.ensures.accessed)
           c.reach-reached.ensures.accessed.thread ended;
       cached_is = c.reach-reached.ensures.cached_now;
+      noted = c.reach-reached.ensures.noted_now;
     }
 
 pub returns-clause-seen : goal.returns-clause-seen

@@ -59,6 +59,7 @@ invariant_of-p g c =
       share_is = resting_after g.T.NamedTable.table t c.command-reply.new.side.seen.thread (n + 1) c.command-reply.new.side.share c.command-reply.ensures.thread c.command-reply.ensures.worker;
       ended = λ begun. still_ended script (seen_by c.p.inside.side.seen) (seen_by c.command-reply.new.side.seen) t c.command-reply.new.side.seen.thread c.command-reply.ensures.seen c.command-reply.ensures.thread (c.p.invariant.ended (ap (λ (p : PassesValue). p.begun) c.p.view_is ∙ c.requires.begun));
       cached_is = tt;
+      noted = tt;
     }
 
 pub returns-clause-seen : goal.returns-clause-seen

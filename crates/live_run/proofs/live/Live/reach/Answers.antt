@@ -14,6 +14,7 @@ loop-turn-init g c = record {
   turning = turning_first g.N.RunNames.script c.args.access.number c.args.access.task c.args.access.cpu c.args.access.addr c.args.side.now.seen c.turn-turn.new.side.seen c.turn-turn.result c.turn-turn.ensures.turned;
   worker = c.turn-turn.ensures.worker;
   cached = c.turn-turn.ensures.cached_now;
+  noted = c.turn-turn.ensures.noted_now;
 }
 
 pub turn-turn-requires-in-Err-clause-op : goal.turn-turn-requires-in-Err-clause-op
@@ -44,6 +45,7 @@ loop-turn-preserved g c =
       turning = (turning_more g.N.RunNames.script c.args.access.number c.args.access.task c.args.access.cpu c.args.access.addr c.in-Err.field-0 c.args.side.now.seen c.loop-turn.side.seen c.turn-turn-in-Err.new.side.seen c.turn-turn-in-Err.result was c.turn-turn-in-Err.ensures.turned).0;
       worker = subst (λ t. IsResting g.T.NamedTable.table t (op_after c.args.access.number c.turn-turn-in-Err.result) true c.turn-turn-in-Err.new.side.share) was.0.thread c.turn-turn-in-Err.ensures.worker;
       cached = c.turn-turn-in-Err.ensures.cached_now;
+      noted = c.turn-turn-in-Err.ensures.noted_now;
     }
 
 pub loop-turn-smaller : goal.loop-turn-smaller

@@ -48,7 +48,7 @@ follow-requires-clause-may g c =
     let old : SliceCellValue = record { cache = c.self.inside.cache; journal = c.self.inside.journal; tree = c.self.inside.tree; share = c.self.inside.share } in
     let what = c.enact-what.result in
     may_follow_on g.N.RunNames.script g.T.NamedTable.table g.N.RunNames.tree (name_at g.N.RunNames.slices g.row.I) g.row.I old c.self.invariant c.enact-what.new.cache c.args.step.number c.args.step.epoch c.args.step.follow what c.args.history.now c.args.side.now.seen c.args.side.now.share c.entry-entry.result c.args.step.is_last c.requires.next c.requires.may.is_epoch
-    (c.entry-entry.ensures ∙ ap (λ t. entry t c.args.step.number c.args.step.epoch what) c.thread.ensures.thread) c.enact-what.ensures.owed c.enact-what.ensures.shape c.enact-what.ensures.adds
+    (c.entry-entry.ensures ∙ ap (λ t. entry t c.args.step.number c.args.step.epoch what) c.thread.ensures.thread) c.enact-what.ensures.owed c.enact-what.ensures.shape c.enact-what.ensures.adds (omega (arith, c.requires.may.is_epoch, c.show.ensures.few))
 
 pub returns-clause-worker : goal.returns-clause-worker
 returns-clause-worker g c = (c.entry-entry.result, (c.follow.ensures.table.1, c.follow.ensures.worker))

@@ -1,10 +1,9 @@
-use Rattle.std.proofs.Common.{◌≡◌, ℕ, ◌+◌, ◌-◌, ◌*◌, ◌<◌, true, List, All, length, take, ap, refl, sym, ◌∙◌, subst, arith}
+use Rattle.std.proofs.Common.{◌≡◌, ℕ, ◌+◌, ◌-◌, ◌*◌, ◌<◌, true, List, All, length, take, ap, sym, ◌∙◌, subst, arith}
 use Rattle.std.proofs.lemmas.List.{length_push}
 use Rattle.live_law.proofs.laws.OwnRoom.{command-room}
 use Rattle.live_run.proofs.Bridges.{history_length}
 use Rattle.live_run.proofs.Commands.{command_follows, decided_follows}
 use Rattle.live_run.proofs.Decisions.{may_decide}
-use Rattle.live_run.proofs.HeldTrees.{tree_lock_there}
 use Rattle.live_run.proofs.TakenTrees.{counts_few, ready-room, state_sound}
 use Rattle.live_run.proofs.tree.TreeCell.command.Answers.Decided.{has_looked, is_decided}
 use Rattle.live_run.proofs.tree.TreeCell.command.Answers.Released.{grown_now, has_let_go, kept_now, ready_now, replied_now}
@@ -65,24 +64,18 @@ look_all-requires g c =
 pub take-requires-2-clause-table : goal.take-requires-2-clause-table
 take-requires-2-clause-table g c = c.self.invariant.share_is.table_is ∙ sym c.requires.worker.is.table_is
 
-pub take-requires-2-clause-lock : goal.take-requires-2-clause-lock
-take-requires-2-clause-lock g c = tree_lock_there g.T.NamedTable.table c.args.side.now.share.parts c.args.side.now.share (record { table_is = c.requires.worker.is.table_is; words = c.requires.worker.is.words; parts_are = refl })
-
 pub take-requires-2-clause-may : goal.take-requires-2-clause-may
 take-requires-2-clause-may g c = may_take g (goal.at.take-requires-2-clause-may g c).After-from
 
-pub decide-entry-requires-clause-lock : goal.decide-entry-requires-clause-lock
-decide-entry-requires-clause-lock g c =
-    let at = c.look_all.ensures.done in
-    tree_lock_there g.T.NamedTable.table c.look_all.new.side.share.parts c.look_all.new.side.share (record { table_is = at.share_is.table_is; words = at.share_is.words; parts_are = refl })
-
-pub decide-entry-requires-clause-may : goal.decide-entry-requires-clause-may
-decide-entry-requires-clause-may g c =
+pub decide-entry-requires : goal.decide-entry-requires
+decide-entry-requires g c =
     let old : TreeCellValue = record { tree = c.self.inside.tree; journal = c.self.inside.journal; slices = c.self.inside.slices.items; share = c.self.inside.share } in
-    let looked = has_looked g (goal.at.decide-entry-requires-clause-may g c).After-is_empty in
+    let looked = has_looked g (goal.at.decide-entry-requires g c).After-is_empty in
     let entry : TreeEntry = record { thread = c.thread-2.result; op = c.args.number; reply = c.apply-reply.result.0; looks = c.look_all.new.looks } in
-    may_decide g.N.RunNames.script g.T.NamedTable.table g.N.RunNames.tree g.N.RunNames.slices old c.self.invariant c.args.side.now.seen c.look_all.new.side.seen c.args.number c.args.op.now entry c.look_all.new.side.share c.requires.op c.requires.command
-    looked.looks c.is_empty.result (c.len.result * c.from-2.result) looked.made looked.last
+    record {
+      may = may_decide g.N.RunNames.script g.T.NamedTable.table g.N.RunNames.tree g.N.RunNames.slices old c.self.invariant c.args.side.now.seen c.look_all.new.side.seen c.args.number c.args.op.now entry c.look_all.new.side.share c.requires.op c.requires.command
+          looked.looks c.is_empty.result (c.len.result * c.from-2.result) looked.made looked.last c.epoch-before.result (c.epoch-before.ensures ∙ c.self.invariant.epoch) (omega (arith, c.epoch-before.ensures, c.self.invariant.epoch, c.take.ensures.few));
+    }
 
 pub apply-reply-requires-clause-looks : goal.apply-reply-requires-clause-looks
 apply-reply-requires-clause-looks g c =
@@ -144,6 +137,7 @@ release-requires-2-clause-may g c =
       begun = true;
       history = list_of c.follow_all.new.side.seen.tree.seen;
       found = gone.found;
+      given = gone.given;
       tree_is = c.take-2.ensures.tree;
       worker_is = gone.is.parts_are;
     }
@@ -153,6 +147,7 @@ returns-clause-worker g c =
     let gone = has_let_go g (goal.at.returns-clause-worker g c).After-follow_all in
     record {
       found = gone.found;
+      given = gone.given;
       is = record { table_is = c.release-2.ensures.table.1 ∙ gone.is.table_is; words = gone.is.words; parts_are = c.release-2.ensures.worker ∙ ap rest_of gone.is.parts_are };
     }
 
@@ -161,7 +156,7 @@ invariant_of-self g c =
     let at = goal.at.invariant_of-self g c in
     let looked = has_looked g at.After-is_empty in
     let gone = has_let_go g at.After-follow_all in
-    kept_now g at.After-release-2 (is_decided g at.After-decide looked.looks looked.made looked.last) gone.found gone.is
+    kept_now g at.After-release-2 (is_decided g at.After-decide looked.looks looked.made looked.last) gone.found gone.given gone.is
 
 pub returns-clause-seen : goal.returns-clause-seen
 returns-clause-seen g c =

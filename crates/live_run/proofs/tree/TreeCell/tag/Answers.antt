@@ -1,4 +1,4 @@
-use Rattle.std.proofs.Common.{ℕ, Contains, List, length, ap, refl, sym, ◌∙◌, subst, arith}
+use Rattle.std.proofs.Common.{ℕ, ◌≤◌, Contains, List, length, ap, refl, sym, ◌∙◌, subst, arith}
 use Rattle.live_law.proofs.laws.Prefixes.{IsPrefix-no_more}
 use Rattle.seen_journal.proofs.laws.Prefixes.{length-prefix}
 use Rattle.live_law.specs.SeenJournals.{is_from}
@@ -9,6 +9,11 @@ use Rattle.live_run.proofs.Bridges.{history_length}
 use Rattle.live_run.proofs.tree.TreeCell.tag.Goals as goal
 use Rattle.live_run.specs.Cells.{TreeCellValue, TreeIsKept}
 use Rattle.live_run.specs.Names.{history_of}
+use Rattle.live_run.specs.Sharing.{given_in, noted_tag}
+use Rattle.run_law.specs.Quotas.{command_count}
+use Rattle.schedule_law.specs.LiveParts.{after as after_event}
+use Rattle.schedule_law.specs.declared.part.Happening.TheVariants as happenings
+use Rattle.shared_parts.specs.Parts.{parts_after}
 use Rattle.run_law.specs.declared.journals.TreeEntry.{TreeEntry}
 use Rattle.seen_journal.specs.Entries.{list_of}
 use Rattle.seen_journal.specs.Journals.{JournalValue}
@@ -51,11 +56,10 @@ tag-requires-clause-may g c =
       some = c.self.invariant.lawful.in_range.some_slice;
       t = c.args.side.now.seen.thread;
       n = its.n;
-      task = c.args.task;
-      cpu = c.args.cpu;
       addr = its.addr;
       history = list_of c.self.inside.journal.entries;
       found = its.resting.found;
+      given = its.resting.given;
       tree_is = c.self.invariant.share_is.parts_are;
       worker_is = its.resting.is.parts_are;
       is = its.is;
@@ -72,14 +76,16 @@ returns g c =
     let after = c.take_unless.new.s.tree.seen in
     let longer = length-prefix (history_of before) (history_of after) (IsPrefix-no_more (is_from c.args.side.now.seen.thread) (history_of before) (history_of after) c.take_unless.ensures.taken.sees.tree) in
     let known = HoldsCached-current g.N.RunNames.script c.args.side.now.seen c.args.side.now.cached c.current_tag-current.result c.current_tag-current.ensures.cached c.requires.cached in
+    let most : c.tag_of-tag.result.epoch ≤ command_count g.N.RunNames.script = omega (arith, c.take_unless.ensures.most, epoch, c.self.invariant.epoch) in
     let knows = caches_given g.N.RunNames.script g.T.NamedTable.table g.N.RunNames.tree g.N.RunNames.slices old c.self.invariant c.args.side.now.seen c.take_unless.new.s c.take_unless.ensures.taken c.take_unless.ensures.tree c.current_tag-current.result known c.current_tag-current.ensures.epoch
-    now c.take_unless.ensures.passes c.take_unless.ensures.grown (λ none. c.take_unless.ensures.same (c.is_some.ensures ∙ none)) c.args.task c.args.cpu c.tag_of-tag.result given in
+    now c.take_unless.ensures.passes c.take_unless.ensures.grown (λ none. c.take_unless.ensures.same (c.is_some.ensures ∙ none)) c.args.task c.args.cpu c.tag_of-tag.result given most in
     record {
       cached_now = knows;
+      noted_now = ap given_in (c.tag.ensures.worker ∙ ap (parts_after after_event (happenings.Label (noted_tag c.args.task c.args.cpu c.tag_of-tag.result))) c.requires.worker.resting.is.parts_are);
       taken = c.take_unless.ensures.taken;
       tag = knows.holds;
       fresh = omega (arith, longer, history_length before, history_length after, ap length c.take_unless.ensures.tree, epoch, c.self.invariant.epoch);
-      most = omega (arith, c.take_unless.ensures.most, epoch, c.self.invariant.epoch);
+      most = most;
       known = knows.rmid;
       worker = (c.tag.ensures.table.1, c.tag.ensures.worker);
       valid = knows.mask;

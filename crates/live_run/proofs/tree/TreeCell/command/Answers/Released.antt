@@ -1,5 +1,5 @@
 -- A command whose follow-ups are all made.
-use Rattle.std.proofs.Common.{◌≡◌, ℕ, ◌+◌, ◌-◌, true, List, [], ◌∷◌, ◌++◌, length, ap, refl, sym, ◌∙◌, subst, arith}
+use Rattle.std.proofs.Common.{◌≡◌, ℕ, ◌+◌, ◌-◌, true, List, [], ◌∷◌, ◌++◌, length, ap, refl, sym, ◌∙◌, subst, arith, Option}
 use Rattle.std.specs.Prelude.{◌≤◌, None}
 use Rattle.live_law.proofs.laws.Prefixes.{IsPrefix-no_more}
 use Rattle.live_law.proofs.laws.SeenJournals.{HasGrown-through}
@@ -16,6 +16,7 @@ use Rattle.live_run.specs.Commands.{FollowsAt, HasReplied, shown_where}
 use Rattle.live_run.specs.Sharing.{IsShareOf}
 use Rattle.run_law.specs.Jobs.{jobs_of}
 use Rattle.run_law.specs.declared.journals.TreeEntry.{TreeEntry}
+use Rattle.schedule_law.specs.declared.part.GivenTag.{GivenTag}
 use Rattle.schedule_law.specs.LiveParts.{live_tree, resting_thread}
 use Rattle.script_ops.specs.Values.{ScriptValue}
 use Rattle.seen_journal.specs.Entries.{list_of}
@@ -29,7 +30,8 @@ use Rattle.live_run.proofs.Decisions.{IsDecided}
 -- the parts of the thread when all that follows is made
 pub record HasLetGo (g : Over) (c : After-follow_all g) : Type 0 where
   pub found : List ℕ
-  pub is : IsShareOf g.T.NamedTable.table (live_tree (list_of c.follow_all.new.side.seen.tree.seen) None ∷ resting_thread c.args.side.now.seen.thread (c.args.number + 1) true found ∷ []) c.follow_all.new.side.share
+  pub given : Option GivenTag
+  pub is : IsShareOf g.T.NamedTable.table (live_tree (list_of c.follow_all.new.side.seen.tree.seen) None ∷ resting_thread c.args.side.now.seen.thread (c.args.number + 1) true found given ∷ []) c.follow_all.new.side.share
 
 pub has_let_go : (g : Over) (c : After-follow_all g) → HasLetGo g c
 has_let_go g c =
@@ -40,7 +42,8 @@ has_let_go g c =
     let thread : c.follow_all.new.side.seen.thread ≡ c.args.side.now.seen.thread = c.follow_all.ensures.thread ∙ (c.decide.ensures.thread ∙ (c.look_all.ensures.thread ∙ c.take.ensures.taken.thread)) in
     record {
       found = done.found;
-      is = subst (λ t. IsShareOf g.T.NamedTable.table (live_tree (list_of c.follow_all.new.side.seen.tree.seen) None ∷ resting_thread t (c.args.number + 1) true done.found ∷ []) c.follow_all.new.side.share) thread
+      given = done.given;
+      is = subst (λ t. IsShareOf g.T.NamedTable.table (live_tree (list_of c.follow_all.new.side.seen.tree.seen) None ∷ resting_thread t (c.args.number + 1) true done.found done.given ∷ []) c.follow_all.new.side.share) thread
           (let_go script g.T.NamedTable.table c.args.number k c.args.op.now c.follow_all.new.side.seen c.follow_all.new.side.share done);
     }
 
@@ -61,9 +64,9 @@ done_at g c its =
     subst (λ q. FollowsAt script g.T.NamedTable.table c.args.number q c.args.op.now (length (jobs_of script (history_of c.decide.new.s.tree.seen) q c.args.op.now)) c.follow_all.new.side.seen c.follow_all.new.side.share) position c.follow_all.ensures.done
 
 -- the cell keeps what it keeps
-pub kept_now : (g : Over) (c : After-release-2 g) → WasDecided g c → (found : List ℕ) → IsShareOf g.T.NamedTable.table (live_tree (list_of c.follow_all.new.side.seen.tree.seen) None ∷ resting_thread c.args.side.now.seen.thread (c.args.number + 1) true found ∷ []) c.follow_all.new.side.share
+pub kept_now : (g : Over) (c : After-release-2 g) → WasDecided g c → (found : List ℕ) (given : Option GivenTag) → IsShareOf g.T.NamedTable.table (live_tree (list_of c.follow_all.new.side.seen.tree.seen) None ∷ resting_thread c.args.side.now.seen.thread (c.args.number + 1) true found given ∷ []) c.follow_all.new.side.share
     → TreeIsKept g.N.RunNames.script g.T.NamedTable.table g.N.RunNames.tree g.N.RunNames.slices (record { tree = c.apply-reply.new.self; journal = c.follow_all.new.history; slices = c.release.new.slices.items; share = c.release-2.new.tree })
-kept_now g c its found gone =
+kept_now g c its found given gone =
     let script = g.N.RunNames.script in
     let old : TreeCellValue = record { tree = c.self.inside.tree; journal = c.self.inside.journal; slices = c.self.inside.slices.items; share = c.self.inside.share } in
     let entry : TreeEntry = record { thread = c.thread-2.result; op = c.args.number; reply = c.apply-reply.result.0; looks = c.look_all.new.looks } in

@@ -1,5 +1,5 @@
 -- A command that takes the tree.
-use Rattle.std.proofs.Common.{◌≡◌, ℕ, List, ◌++◌, ap, sym, ◌∙◌, subst}
+use Rattle.std.proofs.Common.{◌≡◌, ℕ, List, ◌++◌, ap, sym, ◌∙◌, subst, arith}
 use Rattle.live_run.proofs.TakenTrees.{command_looks}
 use Rattle.live_run.proofs.Trees.{tree_tasks}
 use Rattle.live_run.proofs.tree.TreeCell.command.Given.{Over}
@@ -13,6 +13,7 @@ use Rattle.schedule_law.specs.LiveParts.{after as after_event}
 use Rattle.schedule_law.specs.LiveSteps.{MayTake}
 use Rattle.schedule_law.specs.declared.part.Happening.TheVariants as happenings
 use Rattle.script_ops.specs.Fits.{Fits}
+use Rattle.seen_journal.proofs.laws.Entries.{length-list_of}
 use Rattle.seen_journal.specs.Entries.{list_of}
 use Rattle.shared_parts.specs.Parts.{parts_after}
 use Rattle.tree_law.specs.State.{State, tasks_of}
@@ -35,18 +36,21 @@ counts_are g c =
     ∙ ap (λ (x : State). needs g.N.RunNames.script.machine x c.args.op.now) c.self.invariant.keeps.state_is)
 
 -- by the parts at hand it may take the tree
-pub may_take : (g : Over) (c : After-from g) → MayTake g.N.RunNames.script c.self.inside.share.parts c.args.side.now.share.parts c.from.result
+pub may_take : (g : Over) (c : After-from g) → MayTake g.N.RunNames.script c.self.inside.share.parts c.args.side.now.share.parts c.from.result c.epoch-before.result
 may_take g c =
     let taker : c.from.result ≡ c.args.side.now.seen.thread = c.from.ensures ∙ (c.thread.ensures.thread ∙ c.take.ensures.taken.thread) in
-    subst (λ t. MayTake g.N.RunNames.script c.self.inside.share.parts c.args.side.now.share.parts t) (sym taker)
+    subst (λ t. MayTake g.N.RunNames.script c.self.inside.share.parts c.args.side.now.share.parts t c.epoch-before.result) (sym taker)
     (record {
       some = c.self.invariant.lawful.in_range.some_slice;
       n = c.args.number;
       op = c.args.op.now;
       history = list_of c.self.inside.journal.entries;
       found = c.requires.worker.found;
+      given = c.requires.worker.given;
       tree_is = c.self.invariant.share_is.parts_are;
       worker_is = c.requires.worker.is.parts_are;
+      epoch_is = c.epoch-before.ensures ∙ (c.self.invariant.epoch ∙ sym (length-list_of c.self.inside.journal.entries));
+      few = omega (arith, c.epoch-before.ensures, c.self.invariant.epoch, c.take.ensures.few);
       is = c.requires.op;
       command = c.requires.command;
     })
