@@ -18,6 +18,15 @@ use script_ops::Script;
 use std::alloc::Global;
 use tree_core::Tree;
 
+/// What a script leaves, for which its domains are planned.
+#[derive(Drop)]
+pub struct PlannedTree<'a> {
+    /// The tree after all commands.
+    pub tree: &'a Tree,
+    /// Those groups of it that get ways, in order of creation.
+    pub groups: &'a [Group],
+}
+
 /// What is planned for a domain.
 #[derive(Drop)]
 pub struct DomainPlan {
@@ -54,23 +63,22 @@ fn misses_in(
 /// The best plan of a domain, from 0, for the groups that a script leaves: how many of its uses each would have missed with each
 /// number of ways, and the ways side by side that each gets, so that all have the fewest misses together, in whatever order they lie,
 /// or where that would take too long in order of creation. Each gets at least as many as a mask must have (kernel documentation,
-/// `min_cbm_bits`), and none that other hardware or a region uses. `tree` is the tree after all commands, `groups` those of it that get
-/// ways. NoMemory where the allocator gives no room for a curve, the rows or the spans.
+/// `min_cbm_bits`), and none that other hardware or a region uses. NoMemory where the allocator gives no room for a curve, the rows
+/// or the spans.
 pub fn plan_domain(
     alloc: Global,
     script: &Script,
     journals: &Journals,
-    tree: &Tree,
-    groups: &[Group],
+    left: &PlannedTree<'_>,
     domain: u8,
 ) -> Result<DomainPlan, NoMemory>
     requires lawful { IsLawful script.now }
     requires run { IsRun script.now journals.now }
     requires domain { domain < script.now.machine.domains }
-    requires machine { tree.now.machine ≡ script.now.machine }
-    requires state { tree.now.state ≡ tree_after script.now journals.now.tree }
-    requires groups { groups.now ≡ planned tree.now.state }
-    ensures misses { IfOk result (λ plan. plan.misses.items ≡ misses_in script.now journals.now domain groups.now) }
+    requires machine { left.now.tree.now.machine ≡ script.now.machine }
+    requires state { left.now.tree.now.state ≡ tree_after script.now journals.now.tree }
+    requires groups { left.now.groups.now ≡ planned left.now.tree.now.state }
+    ensures misses { IfOk result (λ plan. plan.misses.items ≡ misses_in script.now journals.now domain left.now.groups.now) }
     ensures best { IfOk result (λ plan. IsBestIfAny script.now journals.now domain (option_map spans_of plan.spans)) }
     ensures order { IfOk result (λ plan. plan.order ≡ order_in script.now journals.now domain) }
 
@@ -78,8 +86,8 @@ pub fn plan_domain(
     ensures few_groups { IfOk result (λ plan. length plan.misses.items ≤ MOST_GROUPS) }
     ensures few_misses { IfOk result (λ plan. All (All (λ n. n ≤ MOST_MISSES)) plan.misses.items) }
 {
-    let misses = misses_in(alloc, script, journals, groups, domain)?;
-    let free = free_ways(tree, domain);
+    let misses = misses_in(alloc, script, journals, left.groups, domain)?;
+    let free = free_ways(left.tree, domain);
     let division = best_division(alloc, misses.as_slice(), &free, script.machine().min)?;
     Ok(DomainPlan {
         misses,

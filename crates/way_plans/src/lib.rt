@@ -65,7 +65,7 @@ pub use comparison::Comparison;
 pub use comparisons::comparisons_of;
 pub use division::divide;
 pub use division_limits::{MOST_GROUPS, MOST_MISSES, MOST_STATES, MOST_WAYS};
-pub use domain_plan::{DomainPlan, plan_domain};
+pub use domain_plan::{DomainPlan, PlannedTree, plan_domain};
 pub use domain_uses::group_curve;
 pub use final_tree::replay_all;
 pub use groups::planned_groups;

@@ -7,13 +7,12 @@ ghost use Rattle.run_law.specs.TreeHistory.{tree_after};
 ghost use Rattle.script_ops.specs.Values.{IsLawful};
 ghost use Rattle.way_plans.specs.Plans.{planned};
 
-use crate::{DomainPlan, plan_domain, planned_groups, replay_all};
+use crate::{DomainPlan, PlannedTree, plan_domain, planned_groups, replay_all};
 use group_tree::Group;
 use rc_base::NoMemory;
 use run_law::Journals;
 use script_ops::Script;
 use std::alloc::Global;
-use tree_core::Tree;
 
 /// What is planned for a script that was played.
 #[derive(Drop)]
@@ -29,21 +28,20 @@ fn plan_domains(
     alloc: Global,
     script: &Script,
     journals: &Journals,
-    tree: &Tree,
-    groups: &[Group],
+    left: &PlannedTree<'_>,
 ) -> Result<Vec<DomainPlan>, NoMemory>
     requires lawful { IsLawful script.now }
     requires run { IsRun script.now journals.now }
-    requires machine { tree.now.machine ≡ script.now.machine }
-    requires state { tree.now.state ≡ tree_after script.now journals.now.tree }
-    requires groups { groups.now ≡ planned tree.now.state }
+    requires machine { left.now.tree.now.machine ≡ script.now.machine }
+    requires state { left.now.tree.now.state ≡ tree_after script.now journals.now.tree }
+    requires groups { left.now.groups.now ≡ planned left.now.tree.now.state }
     ensures all { IfOk result (λ plans. length plans.items ≡ script.now.machine.domains) }
     ensures each { IfOk result (λ plans. ArePartsFrom script.now journals.now 0 (parts_of plans.items)) }
     ensures small { IfOk result (λ plans. All IsSmall plans.items) }
 {
     let mut plans = Vec::new(alloc);
     for domain in 0..script.machine().domains {
-        let plan = plan_domain(alloc, script, journals, tree, groups, domain)?;
+        let plan = plan_domain(alloc, script, journals, left, domain)?;
         plans.push(plan)?;
     }
     Ok(plans)
@@ -61,6 +59,10 @@ pub fn plan_of(alloc: Global, script: &Script, journals: &Journals) -> Result<Pl
 {
     let replay = replay_all(alloc, script, journals)?;
     let groups = planned_groups(alloc, replay.tree())?;
-    let domains = plan_domains(alloc, script, journals, replay.tree(), &groups)?;
+    let left = PlannedTree {
+        tree: replay.tree(),
+        groups: &groups,
+    };
+    let domains = plan_domains(alloc, script, journals, &left)?;
     Ok(Plan { groups, domains })
 }

@@ -8,7 +8,7 @@ use crate::asked_domain::AskedDomain;
 use crate::compared::push_compared;
 use crate::domains::{is_whole, push_domains};
 use crate::plan::Plan;
-use crate::schemata::push_schemata;
+use crate::schemata::{PlannedScript, push_schemata};
 use crate::writes::{push_all_exclusive, push_all_shareable};
 use crate::{Comparison, DomainPlan};
 use group_tree::Group;
@@ -31,7 +31,8 @@ pub(crate) fn push_script_lines(
         return Ok(());
     }
     push_all_shareable(text, script.names(), groups)?;
-    push_schemata(alloc, text, script, plans, 0, groups)?;
+    let planned = PlannedScript { script, plans };
+    push_schemata(alloc, text, &planned, 0, groups)?;
     push_all_exclusive(text, script.names(), groups)
 }
 

@@ -4,7 +4,7 @@ ghost use Rattle.way_plans.specs.PlanTexts.{schemata_line, schemata_lines};
 ghost use Rattle.way_plans.specs.Values.{IsSmall, parts_of};
 ghost use Rattle.tree_core.specs.Named.{AreNamed, IsNamed};
 
-use crate::DomainPlan;
+use crate::domain_plan::DomainPlan;
 use crate::masks::push_masks;
 use crate::writes::push_write;
 use group_tree::Group;
@@ -14,6 +14,15 @@ use schemata_text::print;
 use script_ops::{GrowingText, Script};
 use std::alloc::Global;
 
+/// A script with the plans of its domains.
+#[derive(Drop)]
+pub(crate) struct PlannedScript<'a> {
+    /// The script.
+    pub script: &'a Script,
+    /// What is planned for each domain, rising from 0.
+    pub plans: &'a [DomainPlan],
+}
+
 // The most bytes of the masks of 8 domains.
 const MOST_SCHEMATA_BYTES: usize = 128;
 
@@ -21,23 +30,22 @@ const MOST_SCHEMATA_BYTES: usize = 128;
 fn push_schemata_line(
     alloc: Global,
     text: &mut GrowingText,
-    script: &Script,
-    plans: &[DomainPlan],
+    planned: &PlannedScript<'_>,
     place: usize,
     group: &Group,
 ) -> Result<(), NoMemory>
-    requires named { IsNamed script.now.names group.now }
-    requires few { length plans.now ≤ 8 }
-    requires small { All IsSmall plans.now }
-    ensures { OnOk result (text.new ≡ text.old ++ schemata_line script.now.names script.now.machine.ways (parts_of plans.now) place group.now) }
+    requires named { IsNamed planned.now.script.now.names group.now }
+    requires few { length planned.now.plans.now ≤ 8 }
+    requires small { All IsSmall planned.now.plans.now }
+    ensures { OnOk result (text.new ≡ text.old ++ schemata_line planned.now.script.now.names planned.now.script.now.machine.ways (parts_of planned.now.plans.now) place group.now) }
 {
     let mut masks = Vec::new(alloc);
-    push_masks(plans, place, 0, &mut masks)?;
+    push_masks(planned.plans, place, 0, &mut masks)?;
     let mut written = TextBuf::with_room(alloc, MOST_SCHEMATA_BYTES)?;
-    print(&masks, script.machine().ways, &mut written);
+    print(&masks, planned.script.machine().ways, &mut written);
     push_write(
         text,
-        script.names(),
+        planned.script.names(),
         group,
         FileKind::Schemata,
         written.bytes(),
@@ -48,20 +56,19 @@ fn push_schemata_line(
 pub(crate) fn push_schemata(
     alloc: Global,
     text: &mut GrowingText,
-    script: &Script,
-    plans: &[DomainPlan],
+    planned: &PlannedScript<'_>,
     place: usize,
     groups: &[Group],
 ) -> Result<(), NoMemory>
-    requires named { AreNamed script.now.names groups.now }
+    requires named { AreNamed planned.now.script.now.names groups.now }
     requires places { place + length groups.now < 2 ^ 64 }
-    requires few { length plans.now ≤ 8 }
-    requires small { All IsSmall plans.now }
-    ensures { OnOk result (text.new ≡ text.old ++ schemata_lines script.now.names script.now.machine.ways (parts_of plans.now) place groups.now) }
+    requires few { length planned.now.plans.now ≤ 8 }
+    requires small { All IsSmall planned.now.plans.now }
+    ensures { OnOk result (text.new ≡ text.old ++ schemata_lines planned.now.script.now.names planned.now.script.now.machine.ways (parts_of planned.now.plans.now) place groups.now) }
 {
     let [group, later @ ..] = groups else {
         return Ok(());
     };
-    push_schemata_line(alloc, text, script, plans, place, group)?;
-    push_schemata(alloc, text, script, plans, place + 1, later)
+    push_schemata_line(alloc, text, planned, place, group)?;
+    push_schemata(alloc, text, planned, place + 1, later)
 }

@@ -6,7 +6,7 @@ ghost use Rattle.way_plans.specs.Runs.{states_of};
 ghost use Rattle.way_plans.specs.declared.division_limits.TheConstants.{MOST_STATES};
 
 use crate::placed::Placed;
-use crate::placing::best_among;
+use crate::placing::{GroupInState, best_among};
 use crate::span::Span;
 use rc_base::NoMemory;
 use std::alloc::Global;
@@ -79,7 +79,13 @@ pub(crate) fn row_of(
 {
     let mut places = Vec::with_capacity(alloc, next.states())?;
     for state in 0..next.states() {
-        places.push(best_among(least, group, next, state, runs, 1, state))?;
+        let here = GroupInState {
+            least,
+            misses: group,
+            next,
+            state,
+        };
+        places.push(best_among(&here, runs, 1, state))?;
     }
     Ok(StateRow { places })
 }

@@ -23,7 +23,7 @@ best_division-requires-clause-few c =
     let few = length-planned script.machine (tree_after script tree) whole in
     let groups = ap length (c.requires.groups ∙ ap planned c.requires.state) in
     let rows = ap length (c.as_slice.ensures.value ∙ c.in_ok-misses.ensures.rows) in
-    let all = length-map c.args.groups.now (λ (g : Group). misses_of script.machine.sets (items_of script.machine c.args.journals.now c.args.domain g.gid.0)) in
+    let all = length-map c.args.left.now.groups.now (λ (g : Group). misses_of script.machine.sets (items_of script.machine c.args.journals.now c.args.domain g.gid.0)) in
     omega (arith, rows, all, groups, few, c.requires.lawful.in_range.class_limit)
 
 pub returns-clause-few_groups : goal.returns-clause-few_groups
@@ -35,7 +35,7 @@ returns-clause-few_groups c =
     let few = length-planned script.machine (tree_after script tree) whole in
     let groups = ap length (c.requires.groups ∙ ap planned c.requires.state) in
     let rows = ap length c.in_ok-misses.ensures.rows in
-    let all = length-map c.args.groups.now (λ (g : Group). misses_of script.machine.sets (items_of script.machine c.args.journals.now c.args.domain g.gid.0)) in
+    let all = length-map c.args.left.now.groups.now (λ (g : Group). misses_of script.machine.sets (items_of script.machine c.args.journals.now c.args.domain g.gid.0)) in
     omega (arith, rows, all, groups, few, c.requires.lawful.in_range.class_limit)
 
 pub best_division-requires-clause-counts : goal.best_division-requires-clause-counts
@@ -50,7 +50,7 @@ returns-clause-best c =
     let left : State = tree_after script j.tree in
     let least = ap (λ (p : Parameters). p.min) c.machine.ensures in
     let rows = c.as_slice.ensures.value ∙ (c.in_ok-misses.ensures.rows ∙ ap (misses_in script j domain) (c.requires.groups ∙ ap planned c.requires.state)) in
-    let free = c.free_ways-free.ensures ∙ (ap (λ (p : Parameters). free_ways p c.args.tree.now.state domain) c.requires.machine ∙ ap (λ (s : State). free_ways m s domain) c.requires.state) in
+    let free = c.free_ways-free.ensures ∙ (ap (λ (p : Parameters). free_ways p c.args.left.now.tree.now.state domain) c.requires.machine ∙ ap (λ (s : State). free_ways m s domain) c.requires.state) in
     let spans = option_map spans_of c.in_ok-division.division.spans in
     subst (λ (f : List Bool). IsBestIfAnyIn (order_of f) f m.min (misses_in script j domain (planned left)) spans) free
     (subst (λ (r : List (List ℕ)). IsBestIfAnyIn (order_of c.free_ways-free.result) c.free_ways-free.result m.min r spans) rows
@@ -61,5 +61,5 @@ returns-clause-order c =
     let script = c.args.script.now in
     let m : Parameters = script.machine in
     let domain = c.args.domain in
-    let free = c.free_ways-free.ensures ∙ (ap (λ (p : Parameters). free_ways p c.args.tree.now.state domain) c.requires.machine ∙ ap (λ (s : State). free_ways m s domain) c.requires.state) in
+    let free = c.free_ways-free.ensures ∙ (ap (λ (p : Parameters). free_ways p c.args.left.now.tree.now.state domain) c.requires.machine ∙ ap (λ (s : State). free_ways m s domain) c.requires.state) in
     c.in_ok-division.ensures.order ∙ ap order_of free

@@ -16,7 +16,7 @@ best_among-behind-requires t c =
       (
         All-behind (λ (run : Span). end run ≤ 32) runs c.requires.runs,
         (
-          steps-behind c.args.left ((front runs).count + 1) c.args.stride c.args.state c.requires.steps,
+          steps-behind c.args.left ((front runs).count + 1) c.args.stride c.args.group.now.state c.requires.steps,
           (states-behind runs c.args.stride 16384 some c.requires.few, (c.requires.count, (c.requires.own, c.requires.next))),
         ),
       ),
@@ -24,5 +24,5 @@ best_among-behind-requires t c =
 
 pub returns : goal.returns
 returns t c = rw c.fewer.ensures (
-    IsBestAmong-front c.args.least c.args.group.now c.args.next.now c.args.state c.args.runs.now c.args.stride c.args.left c.best_in-here.result c.best_among-behind.result c.in-len1-up.len_at_least
+    IsBestAmong-front c.args.group.now.least c.args.group.now.misses.now c.args.group.now.next.now c.args.group.now.state c.args.runs.now c.args.stride c.args.left c.best_in-here.result c.best_among-behind.result c.in-len1-up.len_at_least
     c.best_in-here.ensures.placed c.best_in-here.ensures.beats c.best_among-behind.ensures)

@@ -6,10 +6,10 @@ use Rattle.way_plans.proofs.placing.best_in.Goals as goal
 
 pub loop-count-preserved : goal.loop-count-preserved
 loop-count-preserved c =
-    let least = c.args.least in
-    let group = c.args.group.now in
-    let next = c.args.next.now in
-    let state = c.args.state in
+    let least = c.args.group.now.least in
+    let group = c.args.group.now.misses.now in
+    let next = c.args.group.now.next.now in
+    let state = c.args.group.now.state in
     let stride = c.args.stride in
     let run = c.args.run in
     let left = c.args.left in
