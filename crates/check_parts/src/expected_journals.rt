@@ -1,15 +1,16 @@
 //! A keeper of journals that keeps no more of the tree's history than a run of the script has.
-ghost use Rattle.std.specs.Prelude.{IfOk, OnOk};
+ghost use Rattle.std.specs.Prelude.{◌≡◌, IfOk, OnOk};
 ghost use Rattle.check_parts.specs.Judging.{HasSlices, KeepsCommand, KeepsExpected, KeepsToo};
 ghost use Rattle.journal_check.specs.Tables.{IsTableOf};
 ghost use Rattle.journal_check.specs.Verdicts.{IsVerdict};
 ghost use Rattle.journal_text.specs.States.{PartsRead, journals_in, nothing_read, with_command, with_entry, with_slice};
 ghost use Rattle.run_law.specs.Entries.{entry_value};
+ghost use Rattle.script_ops.specs.Values.{total_weight};
 
 use crate::left_journals::LeftJournals;
 use cache_core::SliceEntry;
 use journal_check::{CommandCounts, Verdict};
-use journal_text::Keeper;
+use journal_text::{Keeper, WeighedScript};
 use rc_base::NoMemory;
 use run_law::TreeEntry;
 use script_ops::Script;
@@ -52,11 +53,16 @@ fn keep_entry(
 }
 
 // Ends the slice that is being read, where all is kept.
-fn end_kept(alloc: Global, left: &mut Option<LeftJournals>, script: &Script) -> Result<(), NoMemory>
-    ensures { OnOk result (KeepsToo script.now left.old left.new with_slice) }
+fn end_kept(
+    alloc: Global,
+    left: &mut Option<LeftJournals>,
+    weighed: &WeighedScript<'_>,
+) -> Result<(), NoMemory>
+    requires weight { weighed.now.weight ≡ total_weight weighed.now.script.now }
+    ensures { OnOk result (KeepsToo weighed.now.script.now left.old left.new with_slice) }
 {
     match left {
-        Some(journals) => journals.end_slice(alloc, script),
+        Some(journals) => journals.end_slice(alloc, weighed),
         None => Ok(()),
     }
 }
@@ -107,7 +113,7 @@ impl Keeper for ExpectedJournals {
         keep_entry(&mut self.left, script, entry)
     }
 
-    fn end_slice(&mut self, alloc: Global, script: &Script) -> Result<(), NoMemory> {
-        end_kept(alloc, &mut self.left, script)
+    fn end_slice(&mut self, alloc: Global, weighed: &WeighedScript<'_>) -> Result<(), NoMemory> {
+        end_kept(alloc, &mut self.left, weighed)
     }
 }

@@ -7,12 +7,12 @@ ghost use Rattle.journal_check.specs.Verdicts.{IsVerdict};
 ghost use Rattle.journal_text.specs.States.{PartsRead, journals_in, nothing_read};
 ghost use Rattle.machine.specs.Slices.{slice_count};
 ghost use Rattle.run_law.specs.Entries.{entries_of};
-ghost use Rattle.script_ops.specs.Values.{ScriptValue};
+ghost use Rattle.script_ops.specs.Values.{ScriptValue, total_weight};
 
 use crate::judged_slices::JudgedSlices;
 use cache_core::SliceEntry;
 use journal_check::{Verdict, check};
-use journal_text::{Keeper, script_weight};
+use journal_text::{Keeper, WeighedScript};
 use rc_base::NoMemory;
 use run_law::{Journals, TreeEntry};
 use script_ops::Script;
@@ -30,14 +30,15 @@ pub(crate) struct LeftJournals {
 }
 
 // Whether these slices have together more entries than the script weighs.
-fn have_more_entries(script: &Script, slices: &[Vec<SliceEntry>]) -> bool
-    ensures { IsTrue result → HasMoreEntries script.now (map entries_of slices.now) }
+fn have_more_entries(weighed: &WeighedScript<'_>, slices: &[Vec<SliceEntry>]) -> bool
+    requires weight { weighed.now.weight ≡ total_weight weighed.now.script.now }
+    ensures { IsTrue result → HasMoreEntries weighed.now.script.now (map entries_of slices.now) }
 {
     let mut entries: u64 = 0;
     for i in 0..slices.len() {
         entries = entries.saturating_add(slices[i].len() as u64);
     }
-    script_weight(script) < entries
+    weighed.weight < entries
 }
 
 // As many slices, of which those that are added have no entries.
@@ -83,14 +84,19 @@ fn judge(alloc: Global, script: &Script, left: LeftJournals) -> Result<LeftJourn
 }
 
 // Judges the slices that are left, where these have more entries than the script weighs. No text has more slices than the machine.
-fn judge_many(alloc: Global, script: &Script, left: LeftJournals) -> Result<LeftJournals, NoMemory>
-    ensures { IfOk result (λ new. (parts : PartsRead) → KeepsLeft left script.now parts → KeepsLeft new script.now parts) }
+fn judge_many(
+    alloc: Global,
+    weighed: &WeighedScript<'_>,
+    left: LeftJournals,
+) -> Result<LeftJournals, NoMemory>
+    requires weight { weighed.now.weight ≡ total_weight weighed.now.script.now }
+    ensures { let script = weighed.now.script.now in IfOk result (λ new. (parts : PartsRead) → KeepsLeft left script parts → KeepsLeft new script parts) }
 {
-    if !have_more_entries(script, &left.slices) {
+    if !have_more_entries(weighed, &left.slices) {
         return Ok(left);
     }
-    if left.slices.len() <= usize::from(script.machine().slice_count()) {
-        judge(alloc, script, left)
+    if left.slices.len() <= usize::from(weighed.script.machine().slice_count()) {
+        judge(alloc, weighed.script, left)
     } else {
         Ok(left)
     }
@@ -142,11 +148,11 @@ impl Keeper for LeftJournals {
         Ok(())
     }
 
-    fn end_slice(&mut self, alloc: Global, script: &Script) -> Result<(), NoMemory> {
+    fn end_slice(&mut self, alloc: Global, weighed: &WeighedScript<'_>) -> Result<(), NoMemory> {
         let entries = mem::replace(&mut self.entries, Vec::new(alloc));
         self.slices.push(entries)?;
         let left = mem::replace(self, LeftJournals::create(alloc));
-        *self = judge_many(alloc, script, left)?;
+        *self = judge_many(alloc, weighed, left)?;
         Ok(())
     }
 }

@@ -2,8 +2,9 @@
 ghost use Rattle.std.specs.Prelude.{◌≡◌, [], OnOk};
 ghost use Rattle.journal_text.specs.States.{PartsRead, with_command, with_entry, with_slice};
 ghost use Rattle.run_law.specs.Entries.{entry_value};
-ghost use Rattle.script_ops.specs.Values.{ScriptValue};
+ghost use Rattle.script_ops.specs.Values.{ScriptValue, total_weight};
 
+use crate::weighed_script::WeighedScript;
 use cache_core::SliceEntry;
 use rc_base::NoMemory;
 use run_law::TreeEntry;
@@ -25,6 +26,7 @@ pub trait Keeper {
         ensures { OnOk result ((parts : PartsRead) → keeps self.old script.now parts → keeps self.new script.now (with_entry parts entry)) };
 
     /// The slice that was being read is whole.
-    fn end_slice(&mut self, alloc: Global, script: &Script) -> Result<(), NoMemory>
-        ensures { OnOk result ((parts : PartsRead) → keeps self.old script.now parts → keeps self.new script.now (with_slice parts)) };
+    fn end_slice(&mut self, alloc: Global, weighed: &WeighedScript<'_>) -> Result<(), NoMemory>
+        requires weight { weighed.now.weight ≡ total_weight weighed.now.script.now }
+        ensures { let script = weighed.now.script.now in OnOk result ((parts : PartsRead) → keeps self.old script parts → keeps self.new script (with_slice parts)) };
 }

@@ -4,6 +4,7 @@ ghost use Rattle.journal_text.specs.States.{journals_in, nothing_read};
 ghost use Rattle.journal_text.specs.Kept.{parts_in};
 
 use crate::keeper::Keeper;
+use crate::weighed_script::WeighedScript;
 use cache_core::SliceEntry;
 use rc_base::NoMemory;
 use run_law::{Journals, TreeEntry};
@@ -57,7 +58,7 @@ impl Keeper for KeptJournals {
         Ok(())
     }
 
-    fn end_slice(&mut self, alloc: Global, _script: &Script) -> Result<(), NoMemory> {
+    fn end_slice(&mut self, alloc: Global, _weighed: &WeighedScript<'_>) -> Result<(), NoMemory> {
         let entries = mem::replace(&mut self.entries, Vec::new(alloc));
         self.slices.push(entries)?;
         Ok(())

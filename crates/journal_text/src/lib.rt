@@ -20,8 +20,8 @@ mod reasons;
 mod slices;
 mod taking;
 pub mod theorems;
-mod weighed_script;
-pub mod weight;
+pub mod weighed_script;
+mod weight;
 mod whats;
 
 pub use commands::command_of_line;
@@ -32,4 +32,4 @@ pub use keeper::Keeper;
 pub use kept_journals::KeptJournals;
 pub use printing::print;
 pub use reading::{read, read_with};
-pub use weight::script_weight;
+pub use weighed_script::WeighedScript;

@@ -105,7 +105,7 @@ impl<K: Keeper + Drop> Reader<K> {
     {
         match after_slices(weighed, u32::from(slice) + 1, line) {
             Some(next) => {
-                self.keeper.end_slice(alloc, weighed.script)?;
+                self.keeper.end_slice(alloc, weighed)?;
                 self.position = next;
                 Ok(true)
             }

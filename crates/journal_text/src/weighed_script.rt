@@ -2,9 +2,9 @@
 
 use script_ops::Script;
 
-/// A script, and what all its ops weigh together.
+/// A script, and what all its ops weigh together. No list of its journals is longer than that (this project's profile).
 #[derive(Clone, Copy)]
-pub(crate) struct WeighedScript<'a> {
+pub struct WeighedScript<'a> {
     /// The script.
     pub script: &'a Script,
     /// What its ops weigh together.

@@ -22,7 +22,7 @@ fn ops_weight(m: &Machine, ops: &Ops) -> u64
 }
 
 /// What all ops of a script weigh together, at most `MOST_WEIGHT`. No list of its journals is longer than that (this project's profile).
-pub fn script_weight(script: &Script) -> u64
+pub(crate) fn script_weight(script: &Script) -> u64
     ensures weight { result ≡ total_weight script.now }
     ensures light { result ≤ MOST_WEIGHT }
 

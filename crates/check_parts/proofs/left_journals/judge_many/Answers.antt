@@ -9,7 +9,7 @@ use Rattle.check_parts.proofs.left_journals.judge_many.Goals as goal
 
 pub returns-then-len-from : goal.returns-then-len-from
 returns-then-len-from c =
-    let script = c.args.script.now in
+    let script = c.args.weighed.now.script.now in
     let old = c.args.left in
     let many : HasMoreEntries script (map entries_of old.slices.items) =
     subst (λ (slices : List (Vec SliceEntry Global)). HasMoreEntries script (map entries_of slices)) c.deref.ensures.value (c.have_more_entries.ensures c.if-not-have_more_entries.false) in

@@ -7,5 +7,5 @@ pub returns : goal.returns
 returns c =
     let old = c.args.self.now in
     OnOk-map c.end_kept.result
-    (λ too parts keeps. KeepsExpected-part c.args.script.now old (record old { left = c.end_kept.new.left }) with_slice parts refl refl too keeps)
+    (λ too parts keeps. KeepsExpected-part c.args.weighed.now.script.now old (record old { left = c.end_kept.new.left }) with_slice parts refl refl too keeps)
     c.end_kept.ensures

@@ -11,7 +11,7 @@ use Rattle.check_parts.proofs.left_journals.LeftJournalsKeeper.end_slice.Goals a
 pub returns : goal.returns
 returns c =
     λ parts left.
-    let script = c.args.script.now in
+    let script = c.args.weighed.now.script.now in
     let old = c.args.self.now in
     let kept = kept_in old in
     let whole : LeftJournals = record old { slices = c.push.new.self; entries = c.replace-entries.new.dest } in
