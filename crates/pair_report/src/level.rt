@@ -2,7 +2,7 @@
 ghost use Rattle.std.specs.Prelude.{◌≡◌, ◌<◌, ◌∷◌, ◌++◌, IfOk, OnOk, length, map};
 ghost use Rattle.std.specs.List.{flat_map, range_with_len};
 ghost use Rattle.pair_windows.specs.JointWindows.{joint_windows};
-ghost use Rattle.pair_windows.specs.LevelJournals.{IsPlayedOnLevels, level_journals};
+ghost use Rattle.pair_windows.specs.LevelJournals.{IsPlayedOnLevels, journals_in};
 ghost use Rattle.machine.specs.Maps.{parameters_of};
 ghost use Rattle.pair_text.specs.Values.{side_machine};
 ghost use Rattle.pair_text.specs.declared.side.Side.TheVariants.{First, Second};
@@ -10,7 +10,6 @@ ghost use Rattle.pair_report.specs.CountedCaches.{HasTally, HasValid, histories_
 ghost use Rattle.pair_report.specs.LevelReport.{domain_lines, group_line, level_domain_line, level_report_of, level_word};
 ghost use Rattle.pair_report.specs.LinesBefore.{group_made};
 ghost use Rattle.pair_report.specs.MadeGroups.{default_path, groups_of};
-ghost use Rattle.run_law.specs.Entries.{entries_of};
 
 use crate::caches::counts_on;
 use crate::commands::push_commands;
@@ -20,11 +19,10 @@ use crate::domains::push_domain;
 use crate::level_groups::push_groups;
 use crate::level_window_lines::push_windows;
 use crate::made::{MadeGroup, made_groups};
-use cache_core::SliceEntry;
 use machine::Machine;
 use pair_text::{PairScript, Side};
-use pair_windows::{JointWindow, machine_on};
-use rc_base::{NoMemory, Reply};
+use pair_windows::{JointWindow, LevelJournalsRef, machine_on};
+use rc_base::NoMemory;
 use report_pieces::ReportText;
 use std::alloc::Global;
 
@@ -103,23 +101,21 @@ fn push_counted(
     alloc: Global,
     report: &mut ReportText,
     script: &PairScript,
-    replies: &[Reply],
-    l2: &[Vec<SliceEntry>],
-    l3: &[Vec<SliceEntry>],
+    journals: &LevelJournalsRef<'_>,
 ) -> Result<(), NoMemory>
-    requires { IsPlayedOnLevels script.now (level_journals replies.now l2.now l3.now) }
-    ensures { OnOk result (report.new ≡ report.old ++ (flat_map (group_line (map entries_of l2.now) (map entries_of l3.now)) (groups_of script.now replies.now)
-        ++ domain_lines script.now (level_journals replies.now l2.now l3.now) First ++ domain_lines script.now (level_journals replies.now l2.now l3.now) Second)) }
+    requires { IsPlayedOnLevels script.now (journals_in journals.now) }
+    ensures { OnOk result (report.new ≡ report.old ++ (flat_map (group_line (journals_in journals.now).l2 (journals_in journals.now).l3) (groups_of script.now journals.now.replies.now)
+        ++ domain_lines script.now (journals_in journals.now) First ++ domain_lines script.now (journals_in journals.now) Second)) }
 {
-    let made = made_groups(alloc, script, replies)?;
-    let first = counts_on(alloc, script, Side::First, l2)?;
-    let second = counts_on(alloc, script, Side::Second, l3)?;
+    let made = made_groups(alloc, script, journals.replies)?;
+    let first = counts_on(alloc, script, Side::First, journals.l2)?;
+    let second = counts_on(alloc, script, Side::Second, journals.l3)?;
     let l2 = CountedCaches {
-        entries: l2,
+        entries: journals.l2,
         counts: &first,
     };
     let l3 = CountedCaches {
-        entries: l3,
+        entries: journals.l3,
         counts: &second,
     };
     push_lines(report, script, &l2, &l3, &made)
@@ -128,26 +124,22 @@ fn push_counted(
 /// The report of a run with two levels and these windows of it (this project's profile): a line for each command, with what an
 /// accepted read gave, unless it is to be quiet; a line for each window in which a group uses lines; a line for each group that ever
 /// was and for each domain of each level, and a last line. Every number is counted from the entries.
-///
-/// `replies` are those to the commands of the script, in order, and `l2` and `l3` the entries of each domain's caches.
 #[tactic(auto, unfolding(crate::specs::LevelReport::level_report_of))]
 pub fn level_report(
     alloc: Global,
     script: &PairScript,
-    replies: &[Reply],
-    l2: &[Vec<SliceEntry>],
-    l3: &[Vec<SliceEntry>],
+    journals: &LevelJournalsRef<'_>,
     windows: &[JointWindow],
     quiet: bool,
 ) -> Result<Vec<u8>, NoMemory>
-    requires played { IsPlayedOnLevels script.now (level_journals replies.now l2.now l3.now) }
-    requires windows { windows.now ≡ joint_windows script.now (level_journals replies.now l2.now l3.now) }
-    ensures { IfOk result (λ bytes. bytes.items ≡ level_report_of script.now (level_journals replies.now l2.now l3.now) quiet) }
+    requires played { IsPlayedOnLevels script.now (journals_in journals.now) }
+    requires windows { windows.now ≡ joint_windows script.now (journals_in journals.now) }
+    ensures { IfOk result (λ bytes. bytes.items ≡ level_report_of script.now (journals_in journals.now) quiet) }
 {
     let mut report = ReportText::create(alloc)?;
-    push_commands(alloc, &mut report, script, replies, quiet)?;
+    push_commands(alloc, &mut report, script, journals.replies, quiet)?;
     push_windows(&mut report, windows)?;
-    push_counted(alloc, &mut report, script, replies, l2, l3)?;
-    push_total(&mut report, replies)?;
+    push_counted(alloc, &mut report, script, journals)?;
+    push_total(&mut report, journals.replies)?;
     Ok(report.into_bytes())
 }

@@ -8,7 +8,7 @@ use cdp_masks::CdpJournals;
 use l2_level::LevelJournals;
 use pair_report::{cdp_report, level_report};
 use pair_text::{PairKind, PairScript};
-use pair_windows::joint_windows;
+use pair_windows::{LevelJournalsRef, joint_windows};
 use rc_base::NoMemory;
 use std::alloc::Global;
 
@@ -114,7 +114,8 @@ impl PairJournals for LevelJournals {
         let replies = self.replies();
         let l2 = self.l2_histories();
         let l3 = self.l3_histories();
-        let windows = joint_windows(alloc, script, replies, l2, l3)?;
-        level_report(alloc, script, replies, l2, l3, &windows, quiet)
+        let journals = LevelJournalsRef { replies, l2, l3 };
+        let windows = joint_windows(alloc, script, &journals)?;
+        level_report(alloc, script, &journals, &windows, quiet)
     }
 }

@@ -8,7 +8,7 @@ ghost use Rattle.pair_law.specs.LevelRuns.{LevelJournalsValue};
 ghost use Rattle.pair_windows.specs.DomainWalks.{Each, HasFound, IsFresh};
 ghost use Rattle.pair_windows.specs.Hits.{AreHits};
 ghost use Rattle.pair_windows.specs.JointWindows.{joint_windows};
-ghost use Rattle.pair_windows.specs.LevelJournals.{IsPlayedOnLevels, level_journals};
+ghost use Rattle.pair_windows.specs.LevelJournals.{IsPlayedOnLevels, journals_in};
 ghost use Rattle.pair_windows.specs.Replays.{HasTaken, IsPlayable};
 ghost use Rattle.pair_windows.specs.Segments.{CanWalk, IsSegment};
 ghost use Rattle.pair_windows.specs.declared.domain_walks.DomainWalk.{DomainWalk as DomainWalkValue};
@@ -18,13 +18,13 @@ use crate::domain_walks::{DomainWalk, fresh_walks};
 use crate::hits::hits_on;
 use crate::joint_counted::close_all;
 use crate::joint_window::JointWindow;
+use crate::level_journals_ref::LevelJournalsRef;
 use crate::level_spans::has_exclusive;
 use crate::level_walks::take_segment;
 use crate::quiet::has_exclusive_write;
 use crate::segments::{Hits, is_end};
-use cache_core::SliceEntry;
 use pair_text::{PairScript, Side};
-use rc_base::{NoMemory, Reply};
+use rc_base::NoMemory;
 use std::alloc::Global;
 
 // Takes the ops up to the next flush.
@@ -141,18 +141,16 @@ fn find_windows(
 pub fn joint_windows(
     alloc: Global,
     script: &PairScript,
-    replies: &[Reply],
-    l2: &[Vec<SliceEntry>],
-    l3: &[Vec<SliceEntry>],
+    journals: &LevelJournalsRef<'_>,
 ) -> Result<Vec<JointWindow>, NoMemory>
-    requires { IsPlayedOnLevels script.now (level_journals replies.now l2.now l3.now) }
-    ensures { IfOk result (λ windows. windows.items ≡ joint_windows script.now (level_journals replies.now l2.now l3.now)) }
+    requires { IsPlayedOnLevels script.now (journals_in journals.now) }
+    ensures { IfOk result (λ windows. windows.items ≡ joint_windows script.now (journals_in journals.now)) }
 {
     if !has_exclusive_write(script) {
         return Ok(Vec::new(alloc));
     }
-    let l2 = hits_on(alloc, script, Side::First, l2)?;
-    let l3 = hits_on(alloc, script, Side::Second, l3)?;
+    let l2 = hits_on(alloc, script, Side::First, journals.l2)?;
+    let l3 = hits_on(alloc, script, Side::Second, journals.l3)?;
     let hits = Hits { l2, l3 };
     let mut walks = fresh_walks(alloc, script.machine().domains)?;
     let windows = find_windows(alloc, script, &hits, &mut walks)?;
