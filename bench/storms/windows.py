@@ -74,6 +74,12 @@ def masks_among_many(script, count):
         script.write(f"write /tenant{at % 63}/schemata L3:{text}\n")
 
 
+def masks_before_a_read(script, count):
+    """The same before a read: the tree is played once more up to it, and no group is ever exclusive."""
+    masks_among_many(script, count)
+    script.write("read /mode\n")
+
+
 def one_tenant(script, sets):
     """An exclusive group with one of two ways, after a flush."""
     script.write(f"machine sets={sets} ways=2\ntasks 1\nphase\nthread\nwrite /schemata L3:0=2\nmkdir /tenant\n")
@@ -127,6 +133,7 @@ ROWS = (
     windows("win_modes", 4 * ((MOST_WEIGHT - HEAD) // 10), win_modes),
     windows("reads_of_mode", MOST_WEIGHT - EXCLUSIVE, reads_of_mode),
     windows("masks_among_many", MOST_WEIGHT // 10, masks_among_many),
+    windows("masks_before_a_read", MOST_WEIGHT // 10 - 1, masks_before_a_read),
     windows("window_of_many", MOST_WEIGHT - EXCLUSIVE, window_of_many),
     windows("win_scatter", MOST_WEIGHT - EXCLUSIVE, win_scatter),
     windows("win_scatter_1set", MOST_WEIGHT - EXCLUSIVE, win_scatter_1set),

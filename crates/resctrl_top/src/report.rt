@@ -1,5 +1,5 @@
 //! The report that the flags of a form ask for.
-ghost use Rattle.std.specs.Prelude.{◌≡◌, ◌++◌, IfOk, OnOk, [], length};
+ghost use Rattle.std.specs.Prelude.{◌≡◌, ◌++◌, IfOk, OnOk, length};
 ghost use Rattle.resctrl_top.specs.Halves.{IsWithWindows, output_head, output_tail};
 ghost use Rattle.resctrl_top.specs.Outputs.{IsOutput, output_of};
 ghost use Rattle.run_law.specs.Runs.{IsRun};
@@ -10,7 +10,7 @@ use rc_base::NoMemory;
 use report_pieces::ReportText;
 use run_law::{Flags, Journals, Window};
 use run_replay::{Playback, Run};
-use run_windows::{FollowedReplay, windows_after};
+use run_windows::{FollowedReplay, has_exclusive_write, windows, windows_after};
 use script_ops::Script;
 use std::alloc::Global;
 
@@ -55,7 +55,7 @@ fn finish(
 
 // The report with its windows. The tree is taken through its history once for both: what is left of it after the last text is
 // played for the windows.
-fn with_windows(
+fn with_followed(
     alloc: Global,
     script: &Script,
     journals: &Journals,
@@ -73,20 +73,55 @@ fn with_windows(
     Ok(text)
 }
 
-// The report without windows, in JSON, or in lines.
-fn without_windows(
+// The report with these windows, in JSON, or in lines.
+fn with_given(
+    alloc: Global,
+    script: &Script,
+    journals: &Journals,
+    flags: Flags,
+    windows: &[Window],
+) -> Result<Vec<u8>, NoMemory>
+    requires { IsRun script.now journals.now }
+    ensures { IfOk result (λ text. text.items ≡ output_of script.now journals.now flags windows.now) }
+{
+    if flags.json {
+        json_report::text(alloc, script, journals, flags, windows)
+    } else {
+        report_text::text(alloc, script, journals, flags, windows)
+    }
+}
+
+// The report with its windows, of a run in which no group is ever exclusive: so nothing is followed while the texts are played.
+fn with_none(
     alloc: Global,
     script: &Script,
     journals: &Journals,
     flags: Flags,
 ) -> Result<Vec<u8>, NoMemory>
-    requires { IsRun script.now journals.now }
-    ensures { IfOk result (λ text. text.items ≡ output_of script.now journals.now flags []) }
+    requires lawful { IsLawful script.now }
+    requires run { IsRun script.now journals.now }
+    ensures { IfOk result (λ text. IsWithWindows script.now journals.now flags text.items) }
 {
-    if flags.json {
-        json_report::text(alloc, script, journals, flags, &[])
+    let windows = windows(alloc, script, journals)?;
+    let text = with_given(alloc, script, journals, flags, &windows)?;
+    Ok(text)
+}
+
+// The report with its windows.
+fn with_windows(
+    alloc: Global,
+    script: &Script,
+    journals: &Journals,
+    flags: Flags,
+) -> Result<Vec<u8>, NoMemory>
+    requires lawful { IsLawful script.now }
+    requires run { IsRun script.now journals.now }
+    ensures { IfOk result (λ text. IsWithWindows script.now journals.now flags text.items) }
+{
+    if has_exclusive_write(script, journals) {
+        with_followed(alloc, script, journals, flags)
     } else {
-        report_text::text(alloc, script, journals, flags, &[])
+        with_none(alloc, script, journals, flags)
     }
 }
 
@@ -106,6 +141,6 @@ pub fn report(
     if asked {
         with_windows(alloc, script, journals, flags)
     } else {
-        without_windows(alloc, script, journals, flags)
+        with_given(alloc, script, journals, flags, &[])
     }
 }

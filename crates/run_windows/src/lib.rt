@@ -12,7 +12,7 @@ pub mod listing;
 mod opened;
 mod opening;
 mod places;
-mod quiet;
+pub mod quiet;
 mod sweep;
 pub mod theorems;
 mod timeline;
@@ -20,3 +20,4 @@ pub mod worked_rows;
 
 pub use followed::FollowedReplay;
 pub use listing::{windows, windows_after};
+pub use quiet::has_exclusive_write;

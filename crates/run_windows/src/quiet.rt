@@ -48,8 +48,9 @@ fn has_asking(script: &Script, entries: &[TreeEntry]) -> bool
     entries.iter().any(|entry| asks_in(script, entry))
 }
 
-/// Whether a command of a run asks that a group be exclusive. Where none does, no group ever is.
-pub(crate) fn has_exclusive_write(script: &Script, journals: &Journals) -> bool
+/// Whether a command of a run asks that a group be exclusive. Where none does, no group ever is, and the run has no windows
+/// (kernel documentation, resctrl, section "mode": a group is exclusive by a write alone).
+pub fn has_exclusive_write(script: &Script, journals: &Journals) -> bool
     ensures { result ≡ list_any (asks_in script.now) journals.now.tree }
 {
     has_asking(script, journals.tree())

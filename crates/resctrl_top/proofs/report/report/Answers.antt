@@ -16,4 +16,4 @@ returns-else-asked c =
     let run = c.args.journals.now in
     let flags = c.args.flags in
     let not_asked : flags.windows ≡ false = c.if-asked.false in
-    IfOk-map _ _ c.without_windows.result (λ text is. IsOutput-without script run flags text.items not_asked is) c.without_windows.ensures
+    IfOk-map _ _ c.with_given.result (λ text is. IsOutput-without script run flags text.items not_asked is) c.with_given.ensures

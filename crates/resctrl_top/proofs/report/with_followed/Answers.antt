@@ -2,7 +2,7 @@ use Rattle.std.proofs.Common.{ℕ, List, ◌++◌, sym, ap, ◌∙◌}
 use Rattle.resctrl_top.proofs.OutputHalves.{output_of-halves}
 use Rattle.resctrl_top.specs.Halves.{output_tail}
 use Rattle.run_law.specs.declared.window.Window.{Window}
-use Rattle.resctrl_top.proofs.report.with_windows.Goals as goal
+use Rattle.resctrl_top.proofs.report.with_followed.Goals as goal
 
 pub returns : goal.returns
 returns c =
