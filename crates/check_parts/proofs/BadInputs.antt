@@ -1,7 +1,7 @@
 -- One thing is wrong with an input at most.
-use Rattle.std.proofs.Common.{◌≡◌, ℕ, ◌+◌, ◌≤◌, ◌<◌, List, Some, None, Ok, Err, length, refl, sym, ap, subst, ◌∙◌, arith}
+use Rattle.std.proofs.Common.{◌≡◌, ℕ, ◌+◌, List, Err, refl, sym, ap, subst, ◌∙◌, arith}
 use Rattle.check_parts.specs.BadInputs.{HasBadJournals, HasScript, IsBad, LacksJournals, script_bytes}
-use Rattle.check_parts.specs.Division.{division_of, journal_part}
+use Rattle.check_parts.specs.Division.{journal_part}
 use Rattle.check_parts.specs.declared.bad_input.BadInput.{BadInput}
 use Rattle.check_parts.specs.declared.bad_input.BadInput.TheVariants.{BadJournal, BadScript, NoJournal, TooLarge}
 use Rattle.check_parts.specs.declared.division.Division.{Division}
