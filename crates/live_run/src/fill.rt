@@ -5,7 +5,7 @@ ghost use Rattle.live_run.specs.Openings.{AreParts, AreSettled};
 ghost use Rattle.machine.specs.Slices.{slice_count};
 
 use crate::parts::Part;
-use crate::run_names::{NamedTable, RunNames, StepShare};
+use crate::run_names::{NamedTable, RunNames};
 use run_law::TreeEntry;
 use seen_journal::Journal;
 

@@ -55,27 +55,34 @@ fn take_each(
     Ok(passes)
 }
 
+// The passes of a thread that has seen nothing: that of the tree's journal, and that of each slice's.
+#[derive(Drop)]
+struct FreshPasses {
+    tree: Pass<TreeEntry>,
+    slices: Vec<Pass<SliceEntry>>,
+}
+
 // A thread before its first op, which has so many commands.
 fn first<N: RunNames, T: NamedTable>(
     alloc: Global,
     script: &Script,
     thread: u32,
     commands: u64,
-    tree: Pass<TreeEntry>,
-    slices: Vec<Pass<SliceEntry>>,
+    passes: FreshPasses,
     share: StepShare<N>,
 ) -> Result<Passes<N, T>, NoMemory>
     requires script { script.now ≡ N.script }
     requires quotas { HaveQuotas N.script N.tree N.slices }
     requires thread { thread < length (threads_of N.script) }
     requires commands { commands ≡ commands_of (ops_of N.script thread) }
-    requires tree { tree ≡ new_pass N.tree thread }
-    requires slices { AreNew N.slices (slice_count N.script.machine) thread slices.items }
+    requires tree { passes.tree ≡ new_pass N.tree thread }
+    requires slices { AreNew N.slices (slice_count N.script.machine) thread passes.slices.items }
     requires share { IsShareOf T.table (resting_thread thread 0 false [] None ∷ []) share }
     ensures { IfOk result (λ p. IsFirst thread p) }
 {
     let looks = LookLists::create(alloc, script.machine(), script.ops(thread), commands)?;
     let shown = TextBuf::with_room(alloc, TEXT_MAX)?;
+    let FreshPasses { tree, slices } = passes;
     let seen = Seen {
         thread,
         tree,
@@ -117,13 +124,16 @@ fn all_first<N: RunNames, T: NamedTable>(
     let mut all = Vec::new(alloc);
     for t in 0..script.threads() {
         let own = take_each(alloc, slices)?;
+        let passes = FreshPasses {
+            tree: tree.take(),
+            slices: own,
+        };
         all.push(first(
             alloc,
             script,
             t,
             counts[t as usize],
-            tree.take(),
-            own,
+            passes,
             workers.split()?,
         )?)?;
     }

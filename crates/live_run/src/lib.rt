@@ -2,6 +2,8 @@
 #![tactic(auto)]
 
 mod access;
+mod around_tree;
+mod asked_command;
 mod cached_tag;
 mod close;
 mod closing_room;

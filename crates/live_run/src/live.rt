@@ -11,9 +11,11 @@ ghost use Rattle.run_law.specs.Ops.{ByKind, is_command};
 ghost use Rattle.script_ops.specs.Values.{op_at};
 
 use crate::access::SliceGate;
+use crate::around_tree::AroundTree;
+use crate::asked_command::AskedCommand;
 use crate::closing_room::Closing;
 use crate::passes::Passes;
-use crate::run_names::{NamedTable, RunNames, StepShare};
+use crate::run_names::{NamedTable, RunNames};
 use crate::seen::hand;
 use crate::slices::Slices;
 use crate::tree::TreeCell;
@@ -90,17 +92,20 @@ impl<N: RunNames, T: NamedTable> Live<N, T> {
         ensures begun { p.new.begun ≡ true }
     {
         let looks = p.looks.take();
-        let reply = self.tree.lock(rt).command(
+        let around = AroundTree {
             rt,
-            &self.slices,
+            slices: &self.slices,
             script,
-            &mut p.side,
-            p.next,
+        };
+        let command = AskedCommand {
             op,
-            asked,
-            looks,
-            &mut p.shown,
-        );
+            number: p.next,
+            is_text_asked: asked,
+        };
+        let reply = self
+            .tree
+            .lock(rt)
+            .command(&around, &mut p.side, &command, looks, &mut p.shown);
         p.side.cached = None;
         p.next += 1;
         reply

@@ -16,18 +16,19 @@ ghost use Rattle.schedule_law.specs.LiveParts.{live_tree};
 ghost use Rattle.schedule_law.specs.declared.part.Happening.TheVariants as happenings;
 ghost use Rattle.script_ops.specs.Values.{IsLawful, op_at, threads_of};
 
+use crate::around_tree::AroundTree;
+use crate::asked_command::AskedCommand;
 use crate::cached_tag::{current_tag, tag_of};
 use crate::command::{follow_all, look_all, show};
 use crate::run_names::{NamedTable, RunNames, StepShare, TREE_LOCK};
 use crate::seen::{decide, release, take, take_unless};
-use crate::slices::Slices;
 use crate::thread_side::ThreadSide;
 use crate::turn::CommandTurn;
 use cache_core::SliceEntry;
 use rc_base::{LookList, NoMemory, Reply, Tag, TextBuf};
 use run_law::TreeEntry;
 use schedule_law::{GivenTag, accesses, commands};
-use script_ops::{Op, Script};
+use script_ops::Script;
 use seen_journal::{Journal, Pass};
 use std::alloc::Global;
 use std::marker::{Model, PhantomData};
@@ -116,32 +117,28 @@ impl<N: RunNames, T: NamedTable> TreeCell<N, T> {
 
     /// A command: it looks in the slices for the counts that it needs, is decided, and is let go when all that follows it is entered.
     /// The text of a read or list is made only where it is asked for.
-    pub(crate) fn command(
+    pub(crate) fn command<R: Wait>(
         &mut self,
-        rt: &impl Wait,
-        slices: &Slices<N, T>,
-        script: &Script,
+        around: &AroundTree<'_, R, N, T>,
         side: &mut ThreadSide<N>,
-        number: u32,
-        op: &Op,
-        asked: bool,
+        command: &AskedCommand<'_>,
         mut looks: LookList,
         shown: &mut TextBuf,
     ) -> Reply
-        requires script { script.now ≡ N.script }
-        requires op { op_at N.script side.old.seen.thread number ≡ Some op.now }
-        requires command { IsTrue (is_command op.now) }
+        requires script { around.now.script.now ≡ N.script }
+        requires op { op_at N.script side.old.seen.thread command.now.number ≡ Some command.now.op.now }
+        requires command { IsTrue (is_command command.now.op.now) }
         requires looks { looks.numbers ≡ [] }
-        requires list { most_counts N.script.machine op.now ≤ looks.spare }
+        requires list { most_counts N.script.machine command.now.op.now ≤ looks.spare }
         requires room { TEXT_MAX ≤ shown.old.spare + length shown.old.bytes }
-        requires ready { IsReady N.script side.old.seen.thread number (seen_by side.old.seen) }
-        requires worker { IsResting T.table side.old.seen.thread number true side.old.share }
+        requires ready { IsReady N.script side.old.seen.thread command.now.number (seen_by side.old.seen) }
+        requires worker { IsResting T.table side.old.seen.thread command.now.number true side.old.share }
         ensures thread { side.new.seen.thread ≡ side.old.seen.thread }
         ensures seen { HasGrown (seen_by side.old.seen) (seen_by side.new.seen) }
-        ensures ready { IsReady N.script side.old.seen.thread (number + 1) (seen_by side.new.seen) }
-        ensures reply { HasReplied N.script asked op.now result (record { seen = side.old.seen; next = number; shown = shown.old.bytes; begun = true }) (record { seen = side.new.seen; next = number + 1; shown = shown.new.bytes; begun = true }) }
+        ensures ready { IsReady N.script side.old.seen.thread (command.now.number + 1) (seen_by side.new.seen) }
+        ensures reply { HasReplied N.script command.now.is_text_asked command.now.op.now result (record { seen = side.old.seen; next = command.now.number; shown = shown.old.bytes; begun = true }) (record { seen = side.new.seen; next = command.now.number + 1; shown = shown.new.bytes; begun = true }) }
         ensures room { shown.new.spare + length shown.new.bytes ≡ shown.old.spare + length shown.old.bytes }
-        ensures worker { IsResting T.table side.old.seen.thread (number + 1) true side.new.share }
+        ensures worker { IsResting T.table side.old.seen.thread (command.now.number + 1) true side.new.share }
     {
         take(&mut self.journal, &mut self.slices, &mut side.seen);
         let before = self.tree.epoch();
@@ -151,27 +148,26 @@ impl<N: RunNames, T: NamedTable> TreeCell<N, T> {
             before,
             u64::from(side.seen.thread()),
         );
-        let m = script.machine();
-        let counts = self.tree.counts(op);
-        look_all(
-            slices,
-            rt,
-            m,
-            &mut self.journal,
-            side,
-            CommandTurn {
-                number,
-                epoch: before,
-            },
-            op,
-            &counts,
-            &mut looks,
+        let m = around.script.machine();
+        let counts = self.tree.counts(command.op);
+        let turn = CommandTurn {
+            op: command.op,
+            number: command.number,
+            epoch: before,
+        };
+        look_all(around, &mut self.journal, side, &turn, &counts, &mut looks);
+        let (reply, after) = self.tree.apply(command.op, looks.items());
+        show(
+            &self.tree,
+            around.script,
+            command,
+            looks.items(),
+            reply,
+            shown,
         );
-        let (reply, after) = self.tree.apply(op, looks.items());
-        show(&self.tree, script, op, looks.items(), reply, asked, shown);
         let entry = TreeEntry {
             thread: side.seen.thread(),
-            op: number,
+            op: command.number,
             reply,
             looks,
         };
@@ -179,16 +175,8 @@ impl<N: RunNames, T: NamedTable> TreeCell<N, T> {
         let entry = commands::decide(&mut side.share, before, entry, after.is_empty(), made);
         decide(&mut self.journal, &mut side.seen, entry);
         let epoch = self.tree.epoch();
-        follow_all(
-            slices,
-            rt,
-            m,
-            &mut self.journal,
-            side,
-            CommandTurn { number, epoch },
-            op,
-            after.as_slice(),
-        );
+        let turn = CommandTurn { epoch, ..turn };
+        follow_all(around, &mut self.journal, side, &turn, after.as_slice());
         release(&mut self.slices, &mut side.seen);
         commands::release(&mut self.share, &mut side.share);
         reply

@@ -1,11 +1,14 @@
 //! What the steps of one op have in common, and what they do in a slice.
 
 use rc_base::Tag;
+use script_ops::Op;
 use tree_law::Follow;
 
 /// The command that holds the tree.
 #[derive(Clone, Copy)]
-pub(crate) struct CommandTurn {
+pub(crate) struct CommandTurn<'a> {
+    /// The op.
+    pub(crate) op: &'a Op,
     /// The number of the op in its thread, from 0.
     pub(crate) number: u32,
     /// How many commands the tree has taken, this one too once it is decided.

@@ -7,7 +7,7 @@ ghost use Rattle.script_ops.specs.Values.{op_at};
 
 use crate::live::Live;
 use crate::passes::Passes;
-use crate::run_names::{NamedTable, RunNames, StepShare};
+use crate::run_names::{NamedTable, RunNames};
 use rc_stream::{Gate, Point};
 use script_ops::{Op, Script};
 use std::sync::Wait;

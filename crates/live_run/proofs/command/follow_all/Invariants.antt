@@ -12,7 +12,7 @@ invariant-loop-q g l = record {
   tree : l.side.seen.tree ≡ l.fn.side.seen.tree;
   thread : l.side.seen.thread ≡ l.fn.side.seen.thread;
   grown : HasGrown (seen_by l.fn.side.seen) (seen_by l.side.seen);
-  at : FollowsAt g.N.RunNames.script g.T.NamedTable.table l.turn.number (l.turn.epoch - 1) l.op (length (looks_of g.N.RunNames.script (history_of l.fn.side.seen.tree.seen) (l.turn.epoch - 1) l.op) + sum_by (slices_for g.N.RunNames.script.machine) (take l.q l.all)) l.side.seen l.side.share;
+  at : FollowsAt g.N.RunNames.script g.T.NamedTable.table l.turn.number (l.turn.epoch - 1) l.turn.op.now (length (looks_of g.N.RunNames.script (history_of l.fn.side.seen.tree.seen) (l.turn.epoch - 1) l.turn.op.now) + sum_by (slices_for g.N.RunNames.script.machine) (take l.q l.all)) l.side.seen l.side.share;
 }
 
 abbrev pub invariant-loop-x : goal.invariant-loop-x
@@ -21,5 +21,5 @@ invariant-loop-x g l = record {
   tree : l.side.seen.tree ≡ l.fn.side.seen.tree;
   thread : l.side.seen.thread ≡ l.fn.side.seen.thread;
   grown : HasGrown (seen_by l.fn.side.seen) (seen_by l.side.seen);
-  at : FollowsAt g.N.RunNames.script g.T.NamedTable.table l.turn.number (l.turn.epoch - 1) l.op (length (looks_of g.N.RunNames.script (history_of l.fn.side.seen.tree.seen) (l.turn.epoch - 1) l.op) + sum_by (slices_for g.N.RunNames.script.machine) (take l.q l.all) + l.x) l.side.seen l.side.share;
+  at : FollowsAt g.N.RunNames.script g.T.NamedTable.table l.turn.number (l.turn.epoch - 1) l.turn.op.now (length (looks_of g.N.RunNames.script (history_of l.fn.side.seen.tree.seen) (l.turn.epoch - 1) l.turn.op.now) + sum_by (slices_for g.N.RunNames.script.machine) (take l.q l.all) + l.x) l.side.seen l.side.share;
 }

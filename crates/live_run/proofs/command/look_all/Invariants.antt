@@ -11,7 +11,7 @@ invariant-loop-q g l = record {
   thread : l.side.seen.thread ≡ l.fn.side.seen.thread;
   grown : HasGrown (seen_by l.fn.side.seen) (seen_by l.side.seen);
   room : length l.counts ≤ l.looks.spare + l.q;
-  at : LooksAt g.N.RunNames.script g.T.NamedTable.table l.turn.number l.op l.q 0 0 l.looks.numbers l.side.seen l.side.share;
+  at : LooksAt g.N.RunNames.script g.T.NamedTable.table l.turn.number l.turn.op.now l.q 0 0 l.looks.numbers l.side.seen l.side.share;
 }
 
 abbrev pub invariant-loop-x : goal.invariant-loop-x
@@ -20,5 +20,5 @@ invariant-loop-x g l = record {
   tree : l.side.seen.tree ≡ l.fn.side.seen.tree;
   thread : l.side.seen.thread ≡ l.fn.side.seen.thread;
   grown : HasGrown (seen_by l.fn.side.seen) (seen_by l.side.seen);
-  at : LooksAt g.N.RunNames.script g.T.NamedTable.table l.turn.number l.op l.q l.x l.lines l.looks.numbers l.side.seen l.side.share;
+  at : LooksAt g.N.RunNames.script g.T.NamedTable.table l.turn.number l.turn.op.now l.q l.x l.lines l.looks.numbers l.side.seen l.side.share;
 }

@@ -13,7 +13,7 @@ use Rattle.seen_journal.specs.Passes.{PassValue}
 pub invariant_of-result : goal.invariant_of-result
 invariant_of-result g c =
     let script = g.N.RunNames.script in
-    let s : SeenValue = record { thread = c.args.thread; tree = c.args.tree; slices = c.args.slices.items } in
+    let s : SeenValue = record { thread = c.args.thread; tree = c.args.passes.tree; slices = c.args.passes.slices.items } in
     let lists = c.in_ok-looks.looks in
     let own : ScriptValue = c.args.script.now in
     let machine = c.machine.ensures ∙ ap (λ (x : ScriptValue). x.machine) c.requires.script in
