@@ -23,7 +23,7 @@ from collections import namedtuple
 import accesses
 import commands
 import pairs
-from timing import HEAD, measure_words, row
+from timing import HEAD, measure_words, row, write_apart
 
 THREADS = 4
 TASKS = 64
@@ -101,9 +101,7 @@ def built(folder, program):
 
 def write_input(load, folder, count, path):
     """Writes the input of a load with so many things."""
-    with open(path, "w") as script:
-        if load.write:
-            load.write(script, count)
+    write_apart(path, lambda script: load.write and load.write(script, count))
     if load.made_by:
         program, *words = load.made_by
         given = path + ".given"

@@ -23,7 +23,7 @@ import tempfile
 
 from storms import caches, programs, search, threads, trees, windows
 from storms.row import SMALL
-from timing import HEAD, measure_words, row
+from timing import HEAD, measure_words, row, write_apart
 
 ROWS = [*caches.ROWS, *trees.ROWS, *windows.ROWS, *threads.ROWS, *programs.ROWS]
 # A script is played, told to be too large once it was read, or no run.
@@ -35,8 +35,7 @@ CRATES = os.path.join(os.path.dirname(os.path.abspath(__file__)), "..", "crates"
 def play(storm, part, built, folder):
     """Writes the input of a storm, plays it, and prints its row."""
     path, count = os.path.join(folder, "input"), max(storm.count // part, 1)
-    with open(path, "w") as script:
-        storm.write(script, count)
+    write_apart(path, lambda script: storm.write(script, count))
     if storm.export:
         with open(path) as script, open(path + ".journals", "w") as journals:
             subprocess.run([built("resctrl_check"), *storm.export], stdin=script, stdout=journals, check=True)

@@ -13,7 +13,7 @@ import os
 import sys
 import tempfile
 
-from timing import HEAD, measure_words, row
+from timing import HEAD, measure_words, row, write_apart
 
 USES = 2_000_000
 
@@ -61,8 +61,7 @@ def main(words):
         cdp, l2 = words[1:]
         for program, write in (cdp, trace), (l2, accesses), (cdp, quiet_trace), (l2, quiet):
             path = os.path.join(folder, write.__name__)
-            with open(path, "w") as script:
-                write(script)
+            write_apart(path, write)
             it = measure_words([program, "--quiet"], path)
             print(row(write.__name__, USES, os.path.getsize(path), it), flush=True)
             if it.status:

@@ -1,4 +1,5 @@
 """What the benchmarks share: a script is written, played, and told as a row of a table."""
+import multiprocessing
 import os
 import re
 import subprocess
@@ -23,6 +24,22 @@ def count_instructions(command, path):
         return None
     found = re.search(r"^(\d+),", told, re.MULTILINE)
     return int(found[1]) / 1e6 if found else None
+
+
+def write_apart(path, write):
+    """Has a process of its own write a file by what writes to it. The system counts the memory that this process once had as that of each
+    program which it starts, so nothing large may ever be made here.
+    """
+
+    def written():
+        with open(path, "w") as file:
+            write(file)
+
+    apart = multiprocessing.get_context("fork").Process(target=written)
+    apart.start()
+    apart.join()
+    if apart.exitcode:
+        sys.exit(f"{path}: it is not written")
 
 
 def measure(program, path, flags=()):
@@ -64,8 +81,7 @@ def table(usage, rows, statuses=(0,)):
     with tempfile.TemporaryDirectory() as folder:
         path = os.path.join(folder, "script")
         for name, count, write, *flags in rows:
-            with open(path, "w") as script:
-                write(script, count)
+            write_apart(path, lambda script: write(script, count))
             it = measure(sys.argv[1], path, flags)
             print(row(name, count, os.path.getsize(path), it), flush=True)
             if it.status not in statuses:
