@@ -18,7 +18,7 @@ use Rattle.replay_top.specs.declared.form.ReplayForm.{ReplayForm}
 use Rattle.replay_top.specs.declared.form.ReplayForm.TheVariants as forms
 use Rattle.replay_top.specs.declared.outcome.Replayed.{Replayed}
 use Rattle.replay_top.specs.declared.outcome.Replayed.TheVariants as outcomes
-use Rattle.resctrl_top.specs.Isolation.{BeginsGroupWindows, BeginsLockWindows, HoldsRegions, IsolatesGroups}
+use Rattle.run_windows.specs.Isolation.{BeginsGroupWindows, BeginsLockWindows, HoldsRegions, IsolatesGroups}
 use Rattle.resctrl_top.specs.Outputs.{IsOutput}
 use Rattle.run_law.specs.Journals.{JournalsValue}
 use Rattle.run_law.specs.Runs.{IsRun}

@@ -4,6 +4,7 @@ pub mod Edits
 pub mod Epochs
 pub mod Followed
 pub mod Fronts
+pub mod Isolation
 pub mod LockRows
 pub mod OneGroup
 pub mod Quiet

@@ -56,7 +56,7 @@ SIMULATOR = (
         "isolation", "Isolation",
         """That every window of a run isolates its group, that locked regions hold, and where windows begin. A report of `resctrl_sim` and
         a `yes` of `resctrl_check` promise this and the layer above of their journals.""",
-        ("resctrl_top/specs/Isolation",), (RUN,),
+        ("run_windows/specs/Isolation",), (RUN,),
     ),
     Layer(
         "play", "The play by order lists",
