@@ -1,6 +1,8 @@
 -- Resource monitoring ids: how many there are, which are taken, and which wait in limbo.
 -- (For functions and proofs: no promise of the program stands on it.)
-use Rattle.std.specs.Prelude.{◌≡◌, ℕ, ◌<◌, false, IsTrue, nat_lt, List, filter, map, zip, if◌then◌else◌}
+use Rattle.std.specs.Prelude.{◌≡◌, ◌≢◌, ℕ, ◌<◌, false, IsTrue, nat_lt, List, [], filter, map, zip, if◌then◌else◌}
+use Rattle.hw_ids.specs.declared.rmids.NoRmid.{NoRmid}
+use Rattle.hw_ids.specs.declared.rmids.NoRmid.TheVariants.{Spent, Limbo}
 use Rattle.hw_ids.specs.Ids.{contains, with_id, without}
 
 -- the number of RMIDs, the taken ones and those in limbo, both in rising order, and the threshold in bytes
@@ -25,6 +27,11 @@ pub record ArePart (ids : MonitoringIds) : Type 0 where
 -- none is free
 abbrev pub NoneFree : MonitoringIds → Type 0
 NoneFree ids = (rmid : ℕ) → ¬ IsFree ids rmid
+
+-- none can be taken, and this is why
+abbrev pub IsRefused : MonitoringIds → NoRmid → Type 0
+IsRefused ids Spent = NoneFree ids × (ids.limbo ≡ [])
+IsRefused ids Limbo = NoneFree ids × (ids.limbo ≢ [])
 
 -- a free RMID, and none below it is free
 pub record IsLowestFree (ids : MonitoringIds) (rmid : ℕ) : Type 0 where

@@ -26,12 +26,14 @@ pub struct Rmids {
     uses: [Use; 256],
     count: u16,
     threshold: u64,
+    // Why none could be taken last, where none was given up or tested since.
+    refused: Option<NoRmid>,
 }
 
 impl Model for Rmids {
-    ghost use Rattle.std.specs.Prelude.{◌≤◌, length, take};
+    ghost use Rattle.std.specs.Prelude.{◌≤◌, IfSome, length, take};
     ghost use Rattle.hw_ids.specs.Ids.{places};
-    ghost use Rattle.hw_ids.specs.MonitoringIds.{MonitoringIds};
+    ghost use Rattle.hw_ids.specs.MonitoringIds.{IsRefused, MonitoringIds};
     ghost use Rattle.hw_ids.specs.Uses.{is_limbo, is_taken};
 
     ghost Value = { MonitoringIds };
@@ -43,7 +45,12 @@ impl Model for Rmids {
       threshold = r.threshold;
     } };
 
-    ghost invariant = { λ r. (r.count ≤ 256) × (r.count ≤ length r.uses) };
+    ghost invariant = { λ r. (r.count ≤ 256) × (r.count ≤ length r.uses) × IfSome r.refused (IsRefused (record {
+      count = r.count;
+      taken = places is_taken 0 (take r.count r.uses);
+      limbo = places is_limbo 0 (take r.count r.uses);
+      threshold = r.threshold;
+    })) };
 }
 
 impl Rmids {
@@ -59,11 +66,31 @@ impl Rmids {
             uses,
             count: n,
             threshold,
+            refused: None,
         }
     }
 
-    /// Takes the lowest RMID that is free.
+    /// Takes the lowest RMID that is free. Where none could be taken, it is not looked for again until one is given up or tested.
     pub fn take(&mut self) -> Result<u16, NoRmid>
+        ensures lowest { IfOk result (IsLowestFree self.old) }
+        ensures taken { IfOk result (λ rmid. self.new ≡ record self.old { taken = with_id rmid self.old.taken }) }
+
+        ensures spent { (result ≡ Err NoRmid.Spent) ↔ (NoneFree self.old × (self.old.limbo ≡ [])) }
+        ensures limbo { (result ≡ Err NoRmid.Limbo) ↔ (NoneFree self.old × (self.old.limbo ≢ [])) }
+        ensures unchanged { OnErr result (self.new ≡ self.old) }
+    {
+        if let Some(why) = self.refused {
+            return Err(why);
+        }
+        let found = self.search();
+        if let Err(why) = found {
+            self.refused = Some(why);
+        }
+        found
+    }
+
+    // Takes the lowest RMID that is free, looking for it.
+    fn search(&mut self) -> Result<u16, NoRmid>
         ensures lowest { IfOk result (IsLowestFree self.old) }
         ensures taken { IfOk result (λ rmid. self.new ≡ record self.old { taken = with_id rmid self.old.taken }) }
 
@@ -74,6 +101,7 @@ impl Rmids {
         match lowest_free(&self.uses[..self.count as usize]) {
             Some(rmid) => {
                 self.uses[rmid] = Use::Taken;
+                self.refused = None;
                 Ok(rmid as u16)
             }
             None if self.limbo_len() == 0 => Err(NoRmid::Spent),
@@ -88,6 +116,7 @@ impl Rmids {
         ensures { self.new ≡ after_free self.old rmid bytes }
     {
         self.uses[rmid as usize] = use_after(self.threshold, bytes);
+        self.refused = None;
     }
 
     /// Tests each RMID in limbo, in rising order, by how many bytes of its lines the fullest cache holds. It becomes free where they are at most the threshold.
@@ -97,6 +126,7 @@ impl Rmids {
     {
         let count = self.count as usize;
         release(&mut self.uses, count, self.threshold, bytes);
+        self.refused = None;
     }
 
     /// How many RMIDs are in limbo.

@@ -5,12 +5,12 @@ use Rattle.hw_ids.specs.declared.uses.Use.TheVariants.{Taken}
 use Rattle.hw_ids.specs.Ids.{with_id}
 use Rattle.hw_ids.specs.Uses.{is_free}
 use Rattle.hw_ids.proofs.FreeRmids.{seen, IsLowestFree-found, NoneFree-none, seen-taken}
-use Rattle.hw_ids.proofs.rmids.Rmids.take.Goals as goal
+use Rattle.hw_ids.proofs.rmids.Rmids.search.Goals as goal
 
-position-is_free : (c : goal.After-way_told-1) → position is_free (take c.self.inside.count c.self.inside.uses) ≡ Some c.in-Some.rmid
+position-is_free : (c : goal.After-self-1) → position is_free (take c.self.inside.count c.self.inside.uses) ≡ Some c.in-Some.rmid
 position-is_free c = sym c.lowest_free.ensures ∙ c.in-Some.is
 
-IsLowestFree-place : (c : goal.After-way_told-1) → IsLowestFree c.args.self.now c.in-Some.rmid
+IsLowestFree-place : (c : goal.After-self-1) → IsLowestFree c.args.self.now c.in-Some.rmid
 IsLowestFree-place c = subst (λ (s : MonitoringIds). IsLowestFree s c.in-Some.rmid) c.self.view_is
     (IsLowestFree-found c.self.inside.count c.self.inside.uses c.self.inside.threshold c.in-Some.rmid c.self.invariant.1 (position-is_free c))
 
