@@ -8,3 +8,4 @@ pub mod Loads
 pub mod Places
 pub mod RmidCounts
 pub mod Stands
+pub mod Whats

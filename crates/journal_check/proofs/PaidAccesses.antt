@@ -8,7 +8,7 @@ use Rattle.cache_core.specs.declared.entry.What.TheVariants as whats
 use Rattle.journal_check.specs.Asks.{AreAsks, IsAnswered, IsAsked, IsAskOf, IsPaid}
 use Rattle.journal_check.specs.CheckReplays.{IsReplayed}
 use Rattle.journal_check.specs.Tags.{IsTagOf, access_of}
-use Rattle.journal_check.specs.Traces.{is_access}
+use Rattle.cache_core.specs.Whats.{is_access}
 use Rattle.journal_check.specs.declared.asks.Ask.{Ask}
 use Rattle.journal_check.proofs.laws.OpKinds.{is_access_of-some, is_access_of-true}
 use Rattle.journal_check.proofs.laws.Told.{slice_at-past}

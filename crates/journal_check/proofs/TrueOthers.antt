@@ -8,7 +8,8 @@ use Rattle.cache_core.specs.declared.entry.What.{What}
 use Rattle.cache_core.specs.declared.entry.What.TheVariants as whats
 use Rattle.journal_check.specs.Places.{ArePlaces}
 use Rattle.journal_check.specs.Tables.{AreTakenOnce, number_at}
-use Rattle.journal_check.specs.Traces.{IsStepOf, IsTrace, IsTrueOther, is_access, owed_by_step}
+use Rattle.cache_core.specs.Whats.{is_access}
+use Rattle.journal_check.specs.Traces.{IsStepOf, IsTrace, IsTrueOther, owed_by_step}
 use Rattle.journal_check.specs.declared.trace.Step.{Step}
 use Rattle.journal_check.proofs.laws.TakenPlaces.{At-filter_some}
 use Rattle.run_law.proofs.laws.OpKinds.{from_kind, of_command}

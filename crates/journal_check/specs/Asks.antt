@@ -2,7 +2,7 @@
 -- (For functions and proofs: no promise of the program stands on it.)
 use Rattle.std.specs.Prelude.{◌≡◌, ℕ, ◌<◌, ◌≤◌, All, Contains, List, Some, length, true}
 use Rattle.cache_core.specs.declared.entry.SliceEntry.{SliceEntry}
-use Rattle.journal_check.specs.Traces.{is_access}
+use Rattle.cache_core.specs.Whats.{is_access}
 use Rattle.journal_check.specs.declared.asks.Ask.{Ask}
 use Rattle.journal_check.specs.Begun.{IsSeen}
 use Rattle.journal_check.specs.OpKinds.{is_access_of}

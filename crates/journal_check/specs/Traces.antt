@@ -1,14 +1,13 @@
 -- What each command of the tree's history needed, and what followed it.
 -- (For functions and proofs: no promise of the program stands on it.)
 use Rattle.std.specs.List.{flat_map}
-use Rattle.std.specs.Prelude.{◌≡◌, ℕ, ◌+◌, ◌++◌, All, Bool, true, false, IsTrue, List, Some, length, slice_get, take}
+use Rattle.std.specs.Prelude.{◌≡◌, ℕ, ◌+◌, ◌++◌, All, false, IsTrue, List, Some, length, slice_get, take}
 use Rattle.journal_check.specs.CheckReplays.{IsAnswer, IsReplayed}
 use Rattle.journal_check.specs.declared.trace.Step.{Step}
 use Rattle.machine.specs.declared.parameters.Parameters.{Parameters}
 use Rattle.run_law.specs.Journals.{At}
 use Rattle.cache_core.specs.declared.entry.SliceEntry.{SliceEntry}
 use Rattle.cache_core.specs.declared.entry.What.{What}
-use Rattle.cache_core.specs.declared.entry.What.TheVariants.{Access}
 use Rattle.run_law.specs.Truth.{IsTrueCommand, is_of_access}
 use Rattle.run_law.specs.Owed.{Owed, follow_in, is_entered_in, look_in, what_of}
 use Rattle.run_law.specs.Ops.{is_command}
@@ -58,11 +57,6 @@ owed_by_step m i k step = flat_map (look_in m i k) step.needs ++ flat_map (follo
 -- one of these follow-ups enters this content in slice i
 abbrev pub HasFollow : Parameters → ℕ → List Follow → What → Type 0
 HasFollow m i follows what = (k : ℕ) × (f : Follow) × (slice_get follows k ≡ Some f) × IsTrue (is_entered_in m i f) × (what_of f ≡ what)
-
--- whether this is an access
-abbrev pub is_access : What → Bool
-is_access (Access hit way owner rmid mask line) = true
-is_access w = false
 
 -- an entry of slice i that is no access of an access is one that its command owes, where it is of an op of the script
 abbrev pub IsTrueOther : ScriptValue → List TreeEntryValue → ℕ → SliceEntry → Type 0

@@ -1,6 +1,7 @@
 //! Whether an entry is one that its command owes.
 ghost use Rattle.std.specs.Prelude.{◌≡◌, ℕ, ◌+◌, ◌≤◌, ◌↔◌, Contains, IsTrue, Some, false, slice_get};
-ghost use Rattle.journal_check.specs.Traces.{HasFollow, is_access, owed_by_step};
+ghost use Rattle.cache_core.specs.Whats.{is_access};
+ghost use Rattle.journal_check.specs.Traces.{HasFollow, owed_by_step};
 ghost use Rattle.machine.specs.Maps.{parameters_of};
 ghost use Rattle.machine.specs.Slices.{domain_in, slice_count, slice_of_line};
 ghost use Rattle.run_law.specs.Owed.{is_entered_in, paid_by, undecided, what_of};

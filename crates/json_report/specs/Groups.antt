@@ -2,7 +2,7 @@
 use Rattle.std.specs.Prelude.{List, map}
 use Rattle.json_report.specs.GroupValues.{group_of_counts}
 use Rattle.machine.specs.Slices.{slice_count}
-use Rattle.run_counts.specs.Counts.{is_access_of}
+use Rattle.cache_core.specs.Whats.{is_access_of}
 use Rattle.run_replay.specs.Made.{Control, controls}
 use Rattle.run_counts.specs.Tallies.{counted_in}
 use Rattle.run_law.specs.Journals.{JournalsValue}

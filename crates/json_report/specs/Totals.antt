@@ -2,7 +2,7 @@
 use Rattle.std.specs.Prelude.{ℕ, [], ◌∷◌, codes, count_by, length}
 use Rattle.json_report.specs.Values.{object_of, whole}
 use Rattle.machine.specs.Slices.{slice_count}
-use Rattle.run_counts.specs.Counts.{is_access}
+use Rattle.cache_core.specs.Whats.{is_access}
 use Rattle.run_counts.specs.Refusals.{is_refusal}
 use Rattle.run_counts.specs.Tallies.{counted_in}
 use Rattle.run_counts.specs.declared.counts.Counts.{Counts}

@@ -7,7 +7,7 @@ use Rattle.lists.specs.Sums.{sum_below}
 use Rattle.machine.specs.declared.parameters.Parameters.{Parameters}
 use Rattle.pair_law.specs.Entries.{slice_in}
 use Rattle.rc_base.specs.declared.replies.Reply.{Reply}
-use Rattle.run_counts.specs.Counts.{is_access_of, is_hit}
+use Rattle.cache_core.specs.Whats.{is_access_of, is_hit}
 use Rattle.run_counts.specs.Refusals.{is_refusal}
 use Rattle.run_counts.specs.declared.counts.Counts.{Counts}
 

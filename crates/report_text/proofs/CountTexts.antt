@@ -1,7 +1,7 @@
 -- Counts as they are told.
 use Rattle.std.proofs.Common.{◌≡◌, ap}
 use Rattle.machine.specs.Slices.{slice_count}
-use Rattle.run_counts.specs.Counts.{is_access}
+use Rattle.cache_core.specs.Whats.{is_access}
 use Rattle.run_counts.specs.Tallies.{counted_in}
 use Rattle.run_counts.specs.declared.counts.Counts.{Counts}
 use Rattle.run_law.specs.Journals.{JournalsValue}

@@ -5,7 +5,7 @@ use Rattle.path_names.specs.PathTexts.{path_text}
 use Rattle.path_names.specs.declared.dirs.DirRef.TheVariants.{Ctrl}
 use Rattle.path_names.specs.declared.path_ref.PathRef.TheVariants.{Dir}
 use Rattle.report_text.specs.Reporting.{group_line}
-use Rattle.run_counts.specs.Counts.{is_access_of}
+use Rattle.cache_core.specs.Whats.{is_access_of}
 use Rattle.run_counts.specs.Tallies.{counted_in}
 use Rattle.run_counts.specs.declared.counts.Counts.{Counts}
 use Rattle.run_law.specs.Journals.{JournalsValue}

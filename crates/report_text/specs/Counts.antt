@@ -1,7 +1,8 @@
 -- The text of counts of accesses, hits and misses.
 use Rattle.std.specs.Prelude.{ℕ, Bool, not, ◌&&◌, List, ◌++◌, codes, decimal}
 use Rattle.cache_core.specs.declared.entry.What.{What}
-use Rattle.run_counts.specs.Counts.{count_entries, is_hit}
+use Rattle.cache_core.specs.Whats.{is_hit}
+use Rattle.run_counts.specs.Counts.{count_entries}
 use Rattle.run_counts.specs.declared.counts.Counts.{Counts}
 use Rattle.run_law.specs.Journals.{JournalsValue}
 use Rattle.script_ops.specs.Values.{ScriptValue}

@@ -2,7 +2,7 @@
 use Rattle.std.specs.Prelude.{ℕ, Bool, if◌then◌else◌, List, [], ◌++◌, codes, decimal}
 use Rattle.std.specs.List.{flat_map, range_with_len}
 use Rattle.report_text.specs.Commands.{command_lines}
-use Rattle.run_counts.specs.Counts.{is_access_of}
+use Rattle.cache_core.specs.Whats.{is_access_of}
 use Rattle.run_law.specs.Journals.{JournalsValue}
 use Rattle.run_law.specs.declared.flags.Flags.{Flags}
 use Rattle.run_law.specs.declared.window.Window.{Window}

@@ -1,6 +1,6 @@
 -- The last line of a report.
 use Rattle.std.specs.Prelude.{ℕ, List, ◌++◌, length, count_by, codes, decimal}
-use Rattle.run_counts.specs.Counts.{is_access}
+use Rattle.cache_core.specs.Whats.{is_access}
 use Rattle.run_counts.specs.Refusals.{is_refusal}
 use Rattle.run_law.specs.Journals.{JournalsValue}
 use Rattle.run_law.specs.TreeHistory.{TreeEntryValue}

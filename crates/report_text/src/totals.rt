@@ -1,7 +1,7 @@
 //! The last line: all commands and all accesses.
 ghost use Rattle.std.specs.Prelude.{◌≡◌, ◌++◌, OnOk, map};
 ghost use Rattle.machine.specs.Slices.{slice_count};
-ghost use Rattle.run_counts.specs.Counts.{is_access};
+ghost use Rattle.cache_core.specs.Whats.{is_access};
 ghost use Rattle.run_counts.specs.Tallies.{IsTallyOf};
 ghost use Rattle.run_law.specs.Entries.{entry_value};
 ghost use Rattle.report_text.specs.Counts.{counts_text};

@@ -8,7 +8,7 @@ use Rattle.cache_core.specs.declared.entry.What.{What}
 use Rattle.cache_core.specs.declared.entry.What.TheVariants.{Access, Raise, Flush, Lock, Look, Drop}
 use Rattle.lists.proofs.Sums.{sum_below-suc}
 use Rattle.run_counts.proofs.CountedEntries.{drop-at}
-use Rattle.run_counts.specs.Counts.{is_access, is_access_of, is_hit}
+use Rattle.cache_core.specs.Whats.{is_access, is_access_of, is_hit}
 use Rattle.run_counts.specs.Tallies.{AreAtMost, HasTallied, IsFewWith, StreakValue, TallyValue, all_with, at_with, counted, counted_all, counted_in, nothing, with_access}
 use Rattle.run_counts.specs.declared.counts.Counts.{Counts}
 use Rattle.run_law.specs.Journals.{JournalsValue, slice_at}

@@ -18,7 +18,7 @@ use Rattle.rc_base.specs.declared.replies.Reply.{Reply}
 use Rattle.rc_base.specs.declared.replies.Reply.TheVariants as replies
 use Rattle.run_counts.proofs.TouchHits.{first_hit-run, touch_hit-append}
 use Rattle.run_counts.proofs.TouchEpochs.{AllByRecursion-cond, AllByRecursion-flat_map, ArePaid, ArePaid-run, command_at, is_access-undecided}
-use Rattle.run_counts.specs.Counts.{is_access, is_hit}
+use Rattle.cache_core.specs.Whats.{is_access, is_hit}
 use Rattle.run_counts.specs.Touches.{accesses_by, first_hit, is_accepted_touch, is_touch_in, is_touch_of, touch_hit}
 use Rattle.run_law.specs.Entries.{entry_value}
 use Rattle.run_law.specs.Journals.{At, JournalsValue}

@@ -10,7 +10,7 @@ use Rattle.cache_core.specs.declared.entry.What.{What}
 use Rattle.cache_core.specs.declared.entry.What.TheVariants as whats
 use Rattle.machine.specs.declared.parameters.Parameters.{Parameters}
 use Rattle.rc_base.proofs.laws.Histories.{EachFollows-at}
-use Rattle.run_counts.specs.Counts.{is_access}
+use Rattle.cache_core.specs.Whats.{is_access}
 use Rattle.run_law.specs.Journals.{At, JournalsValue, slice_at}
 use Rattle.run_law.specs.Ops.{ByKind, is_command}
 use Rattle.run_law.specs.Order.{Makes}

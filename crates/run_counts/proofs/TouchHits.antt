@@ -8,7 +8,7 @@ use Rattle.std.proofs.lemmas.Grind.{flat_map-append}
 use Rattle.std.proofs.lemmas.List.{append-nil, take_more}
 use Rattle.std.proofs.lemmas.Option.{slice_get-map, slice_get_read}
 use Rattle.cache_core.specs.declared.entry.SliceEntry.{SliceEntry}
-use Rattle.run_counts.specs.Counts.{is_access, is_hit}
+use Rattle.cache_core.specs.Whats.{is_access, is_hit}
 use Rattle.run_counts.specs.Touches.{Notes, accesses_by, first_hit, is_access_by, is_touch_of, touch_hit}
 use Rattle.run_counts.proofs.TouchEpochs.{IsAccessAt, is_access-undecided, AreTouchesOf, AreTouchesOf-run}
 use Rattle.run_law.specs.Entries.{entry_value}

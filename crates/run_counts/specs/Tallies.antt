@@ -5,7 +5,7 @@ use Rattle.lists.specs.Sums.{one_if, sum_below}
 use Rattle.cache_core.specs.declared.entry.SliceEntry.{SliceEntry}
 use Rattle.cache_core.specs.declared.entry.What.{What}
 use Rattle.cache_core.specs.declared.entry.What.TheVariants.{Access}
-use Rattle.run_counts.specs.Counts.{is_access, is_access_of, is_hit}
+use Rattle.cache_core.specs.Whats.{is_access, is_access_of, is_hit}
 use Rattle.run_counts.specs.declared.counts.Counts.{Counts}
 use Rattle.run_law.specs.Journals.{JournalsValue, slice_at}
 

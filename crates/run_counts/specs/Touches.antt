@@ -5,7 +5,7 @@ use Rattle.std.specs.Option.{option_map_or, option_or}
 use Rattle.cache_core.specs.declared.entry.SliceEntry.{SliceEntry}
 use Rattle.rc_base.specs.declared.replies.Reply.{Reply}
 use Rattle.rc_base.specs.declared.replies.Reply.TheVariants.{Ok}
-use Rattle.run_counts.specs.Counts.{is_access, is_hit}
+use Rattle.cache_core.specs.Whats.{is_access, is_hit}
 use Rattle.run_law.specs.Journals.{At, JournalsValue}
 use Rattle.run_law.specs.TreeHistory.{TreeEntryValue}
 use Rattle.run_law.specs.Truth.{is_made_by}

@@ -6,7 +6,7 @@ ghost use Rattle.cache_core.specs.History.{IsOwn, decided, decides, held, is_own
 ghost use Rattle.cache_core.specs.declared.entry.What.TheVariants.{Drop};
 ghost use Rattle.cbm.specs.Masks.{has_way as has};
 ghost use Rattle.machine.specs.Maps.{parameters_of};
-ghost use Rattle.run_counts.specs.Counts.{is_access};
+ghost use Rattle.cache_core.specs.Whats.{is_access};
 ghost use Rattle.run_counts.specs.Occupancies.{AddsPlaces, HasCounted, HasDecided, IsAtMost, OccupancyValue, SkipsPlaces};
 ghost use Rattle.run_counts.specs.declared.line_counts.TheConstants.{MOST_COUNT};
 ghost use Rattle.run_law.specs.Slices.{shape_in};

@@ -1,6 +1,6 @@
 //! A tally that entries are added to, one after the other.
 ghost use Rattle.std.specs.Prelude.{◌≡◌, ℕ, ◌-◌, ◌<◌, ◌^◌, false, true, length, IfOk, OnOk};
-ghost use Rattle.run_counts.specs.Counts.{is_access, is_access_of};
+ghost use Rattle.cache_core.specs.Whats.{is_access, is_access_of};
 ghost use Rattle.run_counts.specs.Tallies.{IsFewWith, all_with, at, at_with, counted, counted_all, nothing, with_access};
 
 use crate::streak::Streak;

@@ -1,7 +1,7 @@
 //! Whether the touches of commands hit.
 ghost use Rattle.std.specs.Prelude.{◌≡◌, ℕ, ◌+◌, ◌==◌, ◌&&◌, ◌<◌, ◌∷◌, [], false, length, map, IfOk, IfSome, MatchOption, None, Some, slice_index_or};
 ghost use Rattle.std.specs.List.{list_any};
-ghost use Rattle.run_counts.specs.Counts.{is_access, is_hit};
+ghost use Rattle.cache_core.specs.Whats.{is_access, is_hit};
 ghost use Rattle.run_counts.specs.Touches.{Notes, TellTouches, is_accepted_touch, is_access_by, is_at, is_touch_of, is_touch_in};
 ghost use Rattle.run_law.specs.Entries.{entry_value};
 ghost use Rattle.run_law.specs.Journals.{At};

@@ -4,7 +4,7 @@ ghost use Rattle.cache_core.specs.Filled.{empties};
 ghost use Rattle.cache_core.specs.History.{decided, held, lines_of, valid_of};
 ghost use Rattle.cache_core.specs.declared.entry.SliceEntry.{SliceEntry};
 ghost use Rattle.machine.specs.Maps.{parameters_of};
-ghost use Rattle.run_counts.specs.Counts.{is_access, is_access_of};
+ghost use Rattle.cache_core.specs.Whats.{is_access, is_access_of};
 ghost use Rattle.run_counts.specs.Occupancies.{HasCounted, HasDecided, IsAtMost, OccupancyValue, Suits, lines_told};
 ghost use Rattle.run_counts.specs.Tallies.{IsFewWith, all_with, at_with, counted, counted_all, nothing};
 ghost use Rattle.run_counts.specs.declared.line_counts.TheConstants.{MOST_COUNT};

@@ -2,7 +2,7 @@ use Rattle.std.proofs.Common.{◌≡◌, ℕ, List, ◌++◌, codes, length, map
 use Rattle.pair_report.specs.PairCounts.{sides_told}
 use Rattle.report_pieces.proofs.laws.Results.{OnOk-map}
 use Rattle.run_counts.specs.CacheCounts.{slices_alone}
-use Rattle.run_counts.specs.Counts.{is_access_of}
+use Rattle.cache_core.specs.Whats.{is_access_of}
 use Rattle.run_counts.specs.Tallies.{counted_in}
 use Rattle.run_counts.specs.declared.counts.Counts.{Counts}
 use Rattle.run_law.specs.Entries.{entries_of}

@@ -1,5 +1,5 @@
 use Rattle.std.proofs.Common.{◌≡◌, ℕ, take}
-use Rattle.run_counts.specs.Counts.{is_access, is_access_of}
+use Rattle.cache_core.specs.Whats.{is_access, is_access_of}
 use Rattle.run_counts.specs.Tallies.{all_with, at_with, counted_all}
 use Rattle.run_counts.proofs.running_tally.RunningTally.take_all.Given as goal
 

@@ -8,7 +8,7 @@ use Rattle.run_counts.proofs.CountedAccesses.{IsOfAccesses-all, IsOfAccesses-gro
 use Rattle.run_counts.proofs.CountedEntries.{HasCounted-counts, HasCounted-ended, HasCounted-from, HasCounted-valid, HasDecided-begun, HasDecided-more, IsAtMost-begun, IsAtMost-slice}
 use Rattle.run_counts.proofs.FullSlices.{HasCounted-full}
 use Rattle.run_counts.proofs.Occupancies.{IsAtMost-le}
-use Rattle.run_counts.specs.Counts.{is_access, is_access_of}
+use Rattle.cache_core.specs.Whats.{is_access, is_access_of}
 use Rattle.run_counts.specs.Occupancies.{HasCounted}
 use Rattle.run_counts.specs.Tallies.{all_with, at_with}
 use Rattle.run_law.specs.Slices.{shape_in}

@@ -1,7 +1,7 @@
 use Rattle.std.proofs.Common.{◌≡◌, ℕ, ◌≤◌, drop, length}
 use Rattle.cache_core.specs.History.{decided}
 use Rattle.machine.specs.Maps.{parameters_of}
-use Rattle.run_counts.specs.Counts.{is_access, is_access_of}
+use Rattle.cache_core.specs.Whats.{is_access, is_access_of}
 use Rattle.run_counts.specs.Occupancies.{HasDecided}
 use Rattle.run_counts.specs.Tallies.{all_with, at_with, counted_all}
 use Rattle.run_law.specs.Slices.{shape_in}

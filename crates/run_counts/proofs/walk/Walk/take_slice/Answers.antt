@@ -1,6 +1,6 @@
 use Rattle.std.proofs.Common.{refl, take}
 use Rattle.run_counts.proofs.CountedAccesses.{counted_all-take}
-use Rattle.run_counts.specs.Counts.{is_access, is_access_of}
+use Rattle.cache_core.specs.Whats.{is_access, is_access_of}
 use Rattle.run_counts.specs.Tallies.{all_with, at_with}
 use Rattle.run_counts.proofs.walk.Walk.take_slice.Goals as goal
 
