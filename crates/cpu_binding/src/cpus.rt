@@ -43,7 +43,7 @@ impl Cpus {
         ensures { result ≡ replicate cpus opening_cpu }
     {
         Cpus {
-            groups: [CpuGroups::opening(); 64],
+            groups: [CpuGroups::joined(Gid::DEFAULT); 64],
             count: cpus as usize,
         }
     }

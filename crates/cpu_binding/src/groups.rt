@@ -1,6 +1,6 @@
 //! The groups of one CPU.
 ghost use Rattle.std.specs.Prelude.{◌≡◌};
-ghost use Rattle.cpu_binding.specs.Groups.{has_control, has_monitor, opening_cpu};
+ghost use Rattle.cpu_binding.specs.Groups.{has_control, has_monitor, joined};
 
 use rc_base::Gid;
 
@@ -14,12 +14,12 @@ pub struct CpuGroups {
 }
 
 impl CpuGroups {
-    /// A CPU that is in no group but the default group.
-    pub(crate) fn opening() -> CpuGroups
-        ensures { result ≡ opening_cpu }
+    /// A CPU of this control group that is in no monitor group.
+    pub(crate) fn joined(group: Gid) -> CpuGroups
+        ensures { result ≡ joined group }
     {
         CpuGroups {
-            control: Gid::DEFAULT,
+            control: group,
             monitor: None,
         }
     }

@@ -1,65 +1,38 @@
 //! Walks over the table of the CPUs.
-ghost use Rattle.std.specs.Prelude.{◌≡◌, ◌↔◌, ◌<◌, ◌≤◌, length, take, IsTrue, Some, if◌then◌else◌};
-ghost use Rattle.cpu_binding.specs.Groups.{Changes, DropsSome, HasOthers, IsSetOf, after_control, after_monitor, has_control, has_monitor, joined, opening_cpu};
+ghost use Rattle.std.specs.Prelude.{◌≡◌, ◌↔◌, ◌≤◌, length, take, IsTrue};
+ghost use Rattle.cpu_binding.specs.Groups.{Changes, DropsSome, HasOthers, IsSetOf, after_control, after_monitor, has_control, has_monitor};
 
 use crate::groups::CpuGroups;
 use crate::sets::{has_cpu, with_cpu};
 use rc_base::Gid;
 
-/// Gives these of the first `count` CPUs to a control group.
+/// Gives these of the first `count` CPUs to a control group. Its other CPUs go to the default group.
 pub(crate) fn give_control(groups: &mut [CpuGroups; 64], count: usize, group: Gid, set: u64)
     requires { count ≤ 64 }
     ensures changes { Changes (after_control group set) (take count groups.old) (take count groups.new) }
     ensures whole { length groups.new ≡ length groups.old }
 {
     for cpu in 0..count {
-        groups[cpu] = after_control(groups[cpu], group, has_cpu(set, cpu));
-    }
-}
-
-// The groups of a CPU, after a control group took a set of CPUs that has this one or not.
-fn after_control(g: CpuGroups, group: Gid, is_in: bool) -> CpuGroups
-    ensures { result ≡ (if is_in then joined group else if has_control group g then opening_cpu else g) }
-{
-    if is_in {
-        CpuGroups {
-            control: group,
-            monitor: None,
+        if has_cpu(set, cpu) {
+            groups[cpu] = CpuGroups::joined(group);
+        } else if groups[cpu].has_control(group) {
+            groups[cpu] = CpuGroups::joined(Gid::DEFAULT);
         }
-    } else if g.has_control(group) {
-        CpuGroups::opening()
-    } else {
-        g
     }
 }
 
-/// Gives these of the first `count` CPUs to a monitor group.
+/// Gives these of the first `count` CPUs to a monitor group. Its other CPUs leave it.
 pub(crate) fn give_monitor(groups: &mut [CpuGroups; 64], count: usize, group: Gid, set: u64)
     requires { count ≤ 64 }
     ensures changes { Changes (after_monitor group set) (take count groups.old) (take count groups.new) }
     ensures whole { length groups.new ≡ length groups.old }
 {
     for cpu in 0..count {
-        groups[cpu] = after_monitor(groups[cpu], group, has_cpu(set, cpu));
-    }
-}
-
-// The groups of a CPU, after a monitor group took a set of CPUs that has this one or not.
-fn after_monitor(g: CpuGroups, group: Gid, is_in: bool) -> CpuGroups
-    ensures { result ≡ (if is_in then record { control = g.control; monitor = Some group } else if has_monitor group g then joined g.control else g) }
-{
-    if is_in {
-        CpuGroups {
-            control: g.control,
-            monitor: Some(group),
+        if has_cpu(set, cpu) {
+            groups[cpu].monitor = Some(group);
+        } else if groups[cpu].has_monitor(group) {
+            groups[cpu].monitor = None;
         }
-    } else if g.has_monitor(group) {
-        CpuGroups {
-            control: g.control,
-            monitor: None,
-        }
-    } else {
-        g
     }
 }
 
