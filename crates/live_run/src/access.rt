@@ -15,6 +15,7 @@ ghost use Rattle.script_ops.specs.Values.{op_at};
 ghost use Rattle.script_ops.specs.declared.op.Op.TheVariants.{Access};
 
 use crate::live::Live;
+use crate::locks::lock_soon;
 use crate::run_names::{NamedTable, RunNames};
 use crate::thread_side::ThreadSide;
 use crate::turn::{AccessTurn, TaggedAccess};
@@ -64,7 +65,7 @@ impl<N: RunNames, T: NamedTable> Live<N, T> {
         let _ = &self.machine;
         match side.recall::<T>(task, cpu) {
             Some(tag) => tag,
-            None => self.tree.lock(rt).tag(side, task, cpu),
+            None => lock_soon(&self.tree, rt).tag(side, task, cpu),
         }
     }
 

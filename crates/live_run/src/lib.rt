@@ -13,6 +13,7 @@ mod fill;
 mod first_passes;
 mod four_slots;
 pub mod live;
+mod locks;
 mod log;
 pub mod logs;
 mod parts;

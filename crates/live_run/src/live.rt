@@ -14,6 +14,7 @@ use crate::access::SliceGate;
 use crate::around_tree::AroundTree;
 use crate::asked_command::AskedCommand;
 use crate::closing_room::Closing;
+use crate::locks::lock_soon;
 use crate::passes::Passes;
 use crate::run_names::{NamedTable, RunNames};
 use crate::seen::hand;
@@ -102,10 +103,13 @@ impl<N: RunNames, T: NamedTable> Live<N, T> {
             number: p.next,
             is_text_asked: asked,
         };
-        let reply = self
-            .tree
-            .lock(rt)
-            .command(&around, &mut p.side, &command, looks, &mut p.shown);
+        let reply = lock_soon(&self.tree, rt).command(
+            &around,
+            &mut p.side,
+            &command,
+            looks,
+            &mut p.shown,
+        );
         p.side.cached = None;
         p.next += 1;
         reply

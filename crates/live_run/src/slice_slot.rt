@@ -2,6 +2,7 @@
 
 use crate::access::Hold;
 use crate::fill::Fill;
+use crate::locks::lock_soon;
 use crate::parts::Part;
 use crate::run_names::{NamedTable, RunNames};
 use crate::slice::SliceCell;
@@ -48,7 +49,7 @@ impl<N: RunNames, T: NamedTable, const I: usize> SliceSlots<N, T> for SliceSlot<
         let Some(cell) = &self.cell else {
             unreachable!()
         };
-        cell.lock(rt).look(history, side, look)
+        lock_soon(cell, rt).look(history, side, look)
     }
 
     fn follow<R: Wait>(
@@ -61,7 +62,7 @@ impl<N: RunNames, T: NamedTable, const I: usize> SliceSlots<N, T> for SliceSlot<
         let Some(cell) = &self.cell else {
             unreachable!()
         };
-        cell.lock(rt).follow(history, side, step);
+        lock_soon(cell, rt).follow(history, side, step);
     }
 
     fn touch<R: Wait, H: Hold>(
@@ -74,7 +75,7 @@ impl<N: RunNames, T: NamedTable, const I: usize> SliceSlots<N, T> for SliceSlot<
         let Some(cell) = &self.cell else {
             unreachable!()
         };
-        cell.lock(rt).touch(hold, side, access)
+        lock_soon(cell, rt).touch(hold, side, access)
     }
 
     fn last() -> usize {
