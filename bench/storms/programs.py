@@ -1,7 +1,7 @@
 """Storms of the planner, the checker, the program of orders, and the programs of two masks."""
 from storms import caches, trees, windows
 from storms.limits import DOMAINS, LONG_TASKS, MOST_WEIGHT, SLICES
-from storms.row import REPORT, Row
+from storms.row import Row
 
 # The limits of a script of two masks.
 COMMANDS, USES = 20_000, 2_000_000
@@ -178,11 +178,11 @@ ROWS = (
     *checked(SLOW_TREES[:1] + SLOW_WINDOWS[:1], "resctrl_replay", ("order",)),
     *checked(SLOW_WINDOWS, "resctrl_replay", ("report", "--windows")),
     *checked(named(caches.ROWS, "names"), "resctrl_replay", ("order",)),
-    Row("cdp_read_tasks", "resctrl_cdp", [], 19_990, pair_tasks, REPORT),
+    Row("cdp_read_tasks", "resctrl_cdp", [], 19_990, pair_tasks),
     Row("cdp_spread", "resctrl_cdp", ["--quiet"], USES - COMMANDS, cdp_spread),
     Row("cdp_tasks_same8", "resctrl_cdp", ["--quiet"], 16_000, pair_tasks_same8),
     Row("cdp_toggle", "resctrl_cdp", ["--quiet"], COMMANDS - 200, cdp_toggle),
-    Row("l2_read_tasks", "resctrl_l2", [], 19_990, pair_tasks, REPORT),
+    Row("l2_read_tasks", "resctrl_l2", [], 19_990, pair_tasks),
     Row("l2_tasks_same", "resctrl_l2", ["--quiet"], 16_000, pair_tasks_same),
     Row("l2_tasks_same8", "resctrl_l2", ["--quiet"], 16_000, pair_tasks_same8),
     Row("l2_scatter", "resctrl_l2", ["--quiet"], USES - COMMANDS, l2_scatter),

@@ -3,9 +3,8 @@ from collections import namedtuple
 
 from storms.limits import repeats
 
-# What bounds a play on an idle machine: seconds and memory, or the length of what it has to tell.
+# What bounds a play on an idle machine, unless its report is long: seconds and memory.
 SMALL = "3 s, 1 GB"
-REPORT = "its report"
 
 # A storm's name, the program and the words that play it, how many things are repeated, what writes the script with so many of them, what
 # bounds the play, and the words by which `resctrl_check` makes the input from the script, if it does.

@@ -1,6 +1,6 @@
 """Storms of commands beside many groups, tasks and names."""
 from storms.limits import CLASSES, CPUS, DOMAINS, LAST_TASK, LONG_TASKS, RMIDS, WAYS
-from storms.row import REPORT, repeated
+from storms.row import repeated
 from storms.states import State, crowd, groups, halves, limbo, masks, monitors, setup, tasks
 
 EIGHT = f"machine domains={DOMAINS} sets=64 ways={WAYS} classes={CLASSES} rmids={RMIDS} cpus={CPUS}"
@@ -96,7 +96,7 @@ ROWS = (
     scan("cpus_monitor_crowd", "step", crowd, ["write /g62/mon_groups/m191/cpus 1"]),
     scan("touch_crowd", "step", crowd, ["touch /none 0 1 0"]),
     scan("tasks_same", "step --json --windows", many_ids, ["write /a/tasks " + "1," * 2_047]),
-    scan("bit_usage", "step", all_letters, ["read /info/L3/bit_usage"], bound=REPORT),
-    scan("read_tasks", "step", all_tasks, ["read /tasks"], bound=REPORT)._replace(count=20_000),
-    scan("list_root", "step", groups, ["list /"], bound=REPORT)._replace(count=60_000),
+    scan("bit_usage", "step", all_letters, ["read /info/L3/bit_usage"]),
+    scan("read_tasks", "step", all_tasks, ["read /tasks"])._replace(count=20_000),
+    scan("list_root", "step", groups, ["list /"])._replace(count=60_000),
 )

@@ -1,6 +1,6 @@
 """Storms of `--windows`: exclusive groups whose masks and modes change, and lines far from one another."""
 from storms.limits import MOST_WEIGHT, WAYS
-from storms.row import REPORT, Row
+from storms.row import Row
 
 TENANTS = WAYS - 1
 FAR = 64 * 2_000
@@ -139,7 +139,7 @@ ROWS = (
     windows("win_scatter_1set", MOST_WEIGHT - EXCLUSIVE, win_scatter_1set),
     windows("win_31_scatter", MOST_WEIGHT - EXCLUSIVE, win_31_scatter),
     windows("windows_of_many", (MOST_WEIGHT - EXCLUSIVE) // 3, windows_of_many),
-    windows("long_journal_win", MOST_WEIGHT - EXCLUSIVE, window_of_many, ALL, bound=REPORT),
-    windows("win_many_json", 121_000, win_many, ALL[:3], bound=REPORT),
-    windows("win_many_all", 121_000, win_many, ALL, bound=REPORT),
+    windows("long_journal_win", MOST_WEIGHT - EXCLUSIVE, window_of_many, ALL),
+    windows("win_many_json", 121_000, win_many, ALL[:3]),
+    windows("win_many_all", 121_000, win_many, ALL),
 )
