@@ -19,7 +19,7 @@ use rc_base::NoMemory;
 use run_law::TreeEntry;
 use script_ops::{MOST_WEIGHT, Op, Script};
 use std::alloc::Global;
-use tree_core::{After, Follow, Tree};
+use tree_core::{Follow, Tree};
 
 /// What a command needed and what followed it.
 #[derive(Drop)]

@@ -25,7 +25,7 @@ pub trait Keeper {
     fn add_entry(&mut self, script: &Script, entry: SliceEntry) -> Result<(), NoMemory>
         ensures { OnOk result ((parts : PartsRead) → keeps self.old script.now parts → keeps self.new script.now (with_entry parts entry)) };
 
-    /// The slice that was being read is whole.
+    /// The slice that was being read is whole. Told is the script that all journals are of, with its weight.
     fn end_slice(&mut self, alloc: Global, weighed: &WeighedScript<'_>) -> Result<(), NoMemory>
         requires weight { weighed.now.weight ≡ total_weight weighed.now.script.now }
         ensures { let script = weighed.now.script.now in OnOk result ((parts : PartsRead) → keeps self.old script parts → keeps self.new script (with_slice parts)) };

@@ -2,7 +2,7 @@
 use Rattle.std.proofs.Common.{◌≡◌, ℕ, Bool, true, false, List, [], ◌∷◌, ◌++◌, length, drop, map, Result, Ok, Err, refl, sym, subst, ap, ◌∙◌, append_assoc}
 use Rattle.pair_law.proofs.laws.Sides.{is_same_side-true}
 use Rattle.pair_law.specs.Reading as pairs
-use Rattle.pair_law.specs.Reading.{SideMask, is_same_side, on_side, side_mask, side_of_line}
+use Rattle.pair_law.specs.Reading.{SideMask, is_same_side, on_side, side_mask}
 use Rattle.pair_text.specs.Values.{Machines, side_machine}
 use Rattle.pair_text.specs.declared.side.Side.{Side}
 use Rattle.pair_tree.proofs.SideMasks.{on_side-append, on_side-made, on_side-made_other}

@@ -1,12 +1,10 @@
 -- What the accesses among ops add to the rooms, and what the commands add.
-use Rattle.std.proofs.Common.{◌≡◌, ◌≢◌, ℕ, ◌+◌, ◌*◌, ◌^◌, ◌<◌, ◌≤◌, cond, List, [], ◌∷◌, length, get_or, Option, Some, None, refl, sym, ap, ◌∙◌, subst, arith}
+use Rattle.std.proofs.Common.{◌≡◌, ◌≢◌, ℕ, ◌+◌, ◌*◌, ◌^◌, ◌<◌, ◌≤◌, cond, List, [], ◌∷◌, length, get_or, Option, Some, refl, sym, ap, ◌∙◌, subst, arith}
 use Rattle.std.specs.Prelude.{All, not, slice_get, sum_by, unwrap_or}
 use Rattle.std.proofs.lemmas.List.Sums.{sum_by-cons}
 use Rattle.std.proofs.lemmas.Option.{slice_get-get_or}
 use Rattle.lists.proofs.Sums.{one_if-le}
 use Rattle.lists.specs.Sums.{one_if}
-use Rattle.machine.specs.Maps.{domain_of, line_of}
-use Rattle.machine.specs.Slices.{slice_of_line}
 use Rattle.machine.specs.declared.parameters.Parameters.{Parameters}
 use Rattle.run_law.specs.Ops.{is_command}
 use Rattle.run_law.specs.Quotas.{AreWithin, HaveGrown, access_quota, commands_of, line_quota, quota, quotas_of}

@@ -1,7 +1,7 @@
-use Rattle.std.proofs.Common.{◌≡◌, Bool, [], refl, subst, sym, arith}
+use Rattle.std.proofs.Common.{Bool, [], refl, subst, sym, arith}
 use Rattle.journal_text.proofs.Progress.{HasComeTo-line, IsBadLine-not_taken, IsThere-come, ReadsWith-finished}
 use Rattle.journal_text.proofs.TextLines.{HasPassed-start}
-use Rattle.journal_text.specs.States.{HasRead, IsBefore, TakesLine, nothing_read, state_at}
+use Rattle.journal_text.specs.States.{HasRead, TakesLine, nothing_read, state_at}
 use Rattle.journal_text.specs.declared.line_position.LinePosition.{LinePosition}
 use Rattle.journal_text.specs.declared.line_position.LinePosition.TheVariants.{Start}
 use Rattle.journal_text.proofs.reading.read_with.Goals as goal

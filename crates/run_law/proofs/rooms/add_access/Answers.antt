@@ -1,4 +1,4 @@
-use Rattle.std.proofs.Common.{ℕ, ◌≡◌, List, Option, Some, None, is_some, ap, arith, subst, sym, ◌∙◌}
+use Rattle.std.proofs.Common.{is_some, ap, arith, subst, sym}
 use Rattle.std.proofs.lemmas.Bool.{true≢false}
 use Rattle.machine.specs.declared.parameters.Parameters.{Parameters}
 use Rattle.run_law.proofs.AccessQuotas.{HaveGrown-access, HaveGrown-command, access_cpu-lt}

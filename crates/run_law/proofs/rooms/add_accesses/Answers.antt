@@ -1,4 +1,4 @@
-use Rattle.std.proofs.Common.{◌≡◌, ◌∙◌, ◌+◌, ◌-◌, ◌*◌, ◌^◌, ap, arith, get_or, length, refl, slice_index, subst}
+use Rattle.std.proofs.Common.{◌≡◌, ◌+◌, ◌-◌, ◌*◌, ◌^◌, ap, arith, get_or, refl, slice_index, subst}
 use Rattle.std.specs.Prelude.{sum_by}
 use Rattle.machine.specs.Ranges.{InRange}
 use Rattle.machine.specs.Slices.{slice_count}

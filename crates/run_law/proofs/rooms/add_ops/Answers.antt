@@ -1,4 +1,4 @@
-use Rattle.std.proofs.Common.{◌*◌, arith, ap, ◌∙◌, List, length, subst, sym}
+use Rattle.std.proofs.Common.{◌*◌, arith, ap, List, length, subst, sym}
 use Rattle.std.specs.Prelude.{All, not, sum_by}
 use Rattle.std.proofs.lemmas.List.Elements.{All-filter}
 use Rattle.run_law.proofs.AccessQuotas.{AreWithin-grown, HaveGrown-both, commands_of-le, length-commands_in}
