@@ -8,9 +8,9 @@ ghost use Rattle.run_law.specs.Entries.{entry_value};
 use crate::pushing::{push_command, push_entry, push_line};
 use cache_core::SliceEntry;
 use machine::Machine;
+use num_text::GrowingText;
 use rc_base::NoMemory;
 use run_law::{Journals, TreeEntry};
-use script_ops::GrowingText;
 use std::alloc::Global;
 
 // Adds the lines of commands.

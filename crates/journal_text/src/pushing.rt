@@ -4,9 +4,9 @@ ghost use Rattle.journal_text.specs.Lines.{argument_in, command_line, entry_line
 ghost use Rattle.run_law.specs.Entries.{entry_value};
 
 use cache_core::{SliceEntry, What};
+use num_text::GrowingText;
 use rc_base::{NoMemory, Reply};
 use run_law::TreeEntry;
-use script_ops::GrowingText;
 
 // Adds numbers in decimal, each after one space.
 fn push_fields(text: &mut GrowingText, numbers: &[u64]) -> Result<(), NoMemory>

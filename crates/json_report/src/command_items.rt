@@ -8,14 +8,14 @@ ghost use Rattle.run_replay.specs.CommandsOfRuns.{IsInRun, IsTreeBefore, given_a
 ghost use Rattle.serde_json.specs.Written.{compact_text};
 
 use crate::{push_number, push_result_text, push_text_lines, push_words_text};
+use num_text::GrowingText;
 use rc_base::NoMemory;
-use report_pieces::ReportText;
 use run_replay::{CommandAt, GivenTexts, Playback};
 use std::alloc::Global;
 
 // Adds the lines of what a command gave, where it was an accepted read or list.
 fn push_given_lines<R: Playback>(
-    report: &mut ReportText,
+    report: &mut GrowingText,
     replay: &mut R,
     texts: &mut GivenTexts,
     command: &CommandAt<'_>,
@@ -36,7 +36,7 @@ fn push_given_lines<R: Playback>(
 /// Adds the value of the command at a position.
 pub(crate) fn push_command<R: Playback>(
     alloc: Global,
-    report: &mut ReportText,
+    report: &mut GrowingText,
     replay: &mut R,
     texts: &mut GivenTexts,
     command: &CommandAt<'_>,

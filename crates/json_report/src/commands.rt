@@ -9,8 +9,8 @@ ghost use Rattle.tree_law.specs.State.{opening};
 
 use crate::command_items::push_command;
 use crate::{push_comma, push_key};
+use num_text::GrowingText;
 use rc_base::NoMemory;
-use report_pieces::ReportText;
 use run_counts::Touches;
 use run_replay::{CommandAt, GivenTexts, Playback, Run};
 use std::alloc::Global;
@@ -18,7 +18,7 @@ use std::alloc::Global;
 // Adds the commands.
 fn push_items<R: Playback>(
     alloc: Global,
-    report: &mut ReportText,
+    report: &mut GrowingText,
     run: &Run<'_>,
     replay: &mut R,
 ) -> Result<(), NoMemory>
@@ -48,7 +48,7 @@ fn push_items<R: Playback>(
 // Adds the member that is the list of commands, before all others.
 fn push_list<R: Playback>(
     alloc: Global,
-    report: &mut ReportText,
+    report: &mut GrowingText,
     run: &Run<'_>,
     replay: &mut R,
 ) -> Result<(), NoMemory>
@@ -68,7 +68,7 @@ fn push_list<R: Playback>(
 /// Adds the commands, but not to a quiet report. The tree that is lent is taken as far as the last text.
 pub(crate) fn push_commands_part<R: Playback>(
     alloc: Global,
-    report: &mut ReportText,
+    report: &mut GrowingText,
     quiet: bool,
     run: &Run<'_>,
     replay: &mut R,

@@ -10,8 +10,8 @@ ghost use Rattle.serde_json.specs.Written.{compact_text};
 
 use crate::members::{push_comma, push_key, push_value};
 use machine::Machine;
+use num_text::GrowingText;
 use rc_base::NoMemory;
-use report_pieces::ReportText;
 use run_counts::{DomainLines, RunCounts};
 use run_replay::Run;
 use serde_json::{Value, json};
@@ -65,7 +65,7 @@ fn value_of(
 // Adds the value of a domain whose lines were counted.
 fn push_domain(
     alloc: Global,
-    report: &mut ReportText,
+    report: &mut GrowingText,
     machine: &Machine,
     domain: u8,
     lines: &DomainLines,
@@ -82,7 +82,7 @@ fn push_domain(
 // Adds the domains.
 fn push_items(
     alloc: Global,
-    report: &mut ReportText,
+    report: &mut GrowingText,
     run: &Run<'_>,
     counts: &RunCounts,
 ) -> Result<(), NoMemory>
@@ -101,7 +101,7 @@ fn push_items(
 /// something stands before.
 pub fn push_domains(
     alloc: Global,
-    report: &mut ReportText,
+    report: &mut GrowingText,
     later: bool,
     run: &Run<'_>,
     counts: &RunCounts,

@@ -8,24 +8,24 @@ ghost use Rattle.serde_json.specs.Data.{string};
 ghost use Rattle.serde_json.specs.Written.{compact_text};
 
 use crate::members::{push_number, push_text};
-use path_names::{Names, PathRef};
+use num_text::GrowingText;
+use path_names::{Names, PathRef, push_path};
 use rc_base::NoMemory;
-use report_pieces::ReportText;
 use run_counts::Counts;
 use std::alloc::Global;
 
 // Adds the member that is a path.
-fn push_path(
+fn push_path_member(
     alloc: Global,
-    report: &mut ReportText,
+    report: &mut GrowingText,
     names: &Names,
     path: PathRef,
 ) -> Result<(), NoMemory>
     requires { AreKnown (length names.now) (path_ids path) }
     ensures { OnOk result (report.new ≡ report.old ++ members_told true ((codes "path", string (path_text names.now path)) ∷ [])) }
 {
-    let mut text = ReportText::create(alloc)?;
-    text.push_path(names, path)?;
+    let mut text = GrowingText::create(alloc)?;
+    push_path(&mut text, names, path)?;
     push_text(report, "path", &text.into_bytes())
 }
 
@@ -33,7 +33,7 @@ fn push_path(
 #[tactic(auto, unfolding(crate::specs::GroupValues::group_of_counts))]
 pub fn push_group(
     alloc: Global,
-    report: &mut ReportText,
+    report: &mut GrowingText,
     names: &Names,
     gid: u32,
     path: PathRef,
@@ -47,6 +47,6 @@ pub fn push_group(
     push_number(report, true, "gid", u64::from(gid))?;
     push_number(report, true, "hits", counts.hits)?;
     push_number(report, true, "misses", counts.misses)?;
-    push_path(alloc, report, names, path)?;
+    push_path_member(alloc, report, names, path)?;
     report.push(b"}".as_slice())
 }

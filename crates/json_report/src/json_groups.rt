@@ -11,9 +11,9 @@ ghost use Rattle.serde_json.specs.Written.{comma_if, compact_text};
 ghost use Rattle.tree_law.specs.State.{opening};
 
 use crate::{push_group, push_key};
+use num_text::GrowingText;
 use path_names::{DirRef, PathRef};
 use rc_base::NoMemory;
-use report_pieces::ReportText;
 use run_counts::Tally;
 use run_replay::{MadeGroup, Run};
 use std::alloc::Global;
@@ -21,7 +21,7 @@ use std::alloc::Global;
 // Adds a control group that was made, after those before it.
 fn push_made_group(
     alloc: Global,
-    report: &mut ReportText,
+    report: &mut GrowingText,
     run: &Run<'_>,
     made: MadeGroup,
     tally: &Tally,
@@ -45,7 +45,7 @@ fn push_made_group(
 // Adds the control groups that were made.
 fn push_made(
     alloc: Global,
-    report: &mut ReportText,
+    report: &mut GrowingText,
     run: &Run<'_>,
     made: &[MadeGroup],
     tally: &Tally,
@@ -63,7 +63,7 @@ fn push_made(
 // Adds the default group.
 fn push_default_group(
     alloc: Global,
-    report: &mut ReportText,
+    report: &mut GrowingText,
     run: &Run<'_>,
     tally: &Tally,
 ) -> Result<(), NoMemory>
@@ -77,7 +77,7 @@ fn push_default_group(
 /// Adds the groups: the default group, and those that were made.
 pub(crate) fn push_groups(
     alloc: Global,
-    report: &mut ReportText,
+    report: &mut GrowingText,
     run: &Run<'_>,
     made: &[MadeGroup],
     tally: &Tally,

@@ -7,13 +7,13 @@ ghost use Rattle.serde_json.specs.View.{view};
 ghost use Rattle.serde_json.specs.Written.{comma_if, compact_text, has_float};
 
 use crate::strings::push_string;
+use num_text::GrowingText;
 use rc_base::NoMemory;
-use report_pieces::ReportText;
 use serde_json::Value;
 use std::alloc::Global;
 
 /// Adds a comma, where something stands before.
-pub fn push_comma(report: &mut ReportText, later: bool) -> Result<(), NoMemory>
+pub fn push_comma(report: &mut GrowingText, later: bool) -> Result<(), NoMemory>
     ensures { OnOk result (report.new ≡ report.old ++ comma_if later) }
 {
     if later {
@@ -24,7 +24,7 @@ pub fn push_comma(report: &mut ReportText, later: bool) -> Result<(), NoMemory>
 }
 
 /// Adds a key with its colon, after a comma where something stands before.
-pub fn push_key(report: &mut ReportText, later: bool, key: &str) -> Result<(), NoMemory>
+pub fn push_key(report: &mut GrowingText, later: bool, key: &str) -> Result<(), NoMemory>
     ensures { OnOk result (report.new ≡ report.old ++ key_told later key.now) }
 {
     push_comma(report, later)?;
@@ -33,7 +33,7 @@ pub fn push_key(report: &mut ReportText, later: bool, key: &str) -> Result<(), N
 }
 
 /// Adds a member that is a number, after a comma where something stands before.
-pub fn push_number(report: &mut ReportText, later: bool, key: &str, n: u64) -> Result<(), NoMemory>
+pub fn push_number(report: &mut GrowingText, later: bool, key: &str, n: u64) -> Result<(), NoMemory>
     ensures { OnOk result (report.new ≡ report.old ++ members_told later ((key.now, whole n) ∷ [])) }
 {
     push_key(report, later, key)?;
@@ -41,7 +41,7 @@ pub fn push_number(report: &mut ReportText, later: bool, key: &str, n: u64) -> R
 }
 
 /// Adds a member that is a string, after others.
-pub(crate) fn push_text(report: &mut ReportText, key: &str, text: &[u8]) -> Result<(), NoMemory>
+pub(crate) fn push_text(report: &mut GrowingText, key: &str, text: &[u8]) -> Result<(), NoMemory>
     ensures { OnOk result (report.new ≡ report.old ++ members_told true ((key.now, string text.now) ∷ [])) }
 {
     push_key(report, true, key)?;
@@ -51,7 +51,7 @@ pub(crate) fn push_text(report: &mut ReportText, key: &str, text: &[u8]) -> Resu
 /// Adds a value that has no float.
 pub(crate) fn push_value(
     alloc: Global,
-    report: &mut ReportText,
+    report: &mut GrowingText,
     value: &Value,
 ) -> Result<(), NoMemory>
     requires { has_float (view value.now) ≡ false }

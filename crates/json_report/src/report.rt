@@ -8,8 +8,8 @@ ghost use Rattle.run_replay.specs.Playbacks.{HasTakenBefore};
 use crate::commands::push_commands_part;
 use crate::json_groups::push_groups;
 use crate::{push_domains, push_journal_part, push_total, push_windows_part};
+use num_text::GrowingText;
 use rc_base::NoMemory;
-use report_pieces::ReportText;
 use run_counts::RunCounts;
 use run_law::{Flags, Journals, Window};
 use run_replay::{Playback, Replay, Run, made_groups};
@@ -23,7 +23,7 @@ pub fn head<R: Playback>(
     run: &Run<'_>,
     flags: Flags,
     replay: &mut R,
-) -> Result<ReportText, NoMemory>
+) -> Result<GrowingText, NoMemory>
     requires run { IsRun run.now.script.now run.now.journals.now }
     requires taken { HasTakenBefore run.now.script.now run.now.journals.now.tree 0 (R.played replay.old) }
     requires notes { R.notes run.now.script.now run.now.journals.now replay.old }
@@ -31,14 +31,14 @@ pub fn head<R: Playback>(
     ensures taken { OnOk result (HasTakenBefore run.now.script.now run.now.journals.now.tree (length run.now.journals.now.tree) (R.played replay.new)) }
     ensures notes { OnOk result (R.notes run.now.script.now run.now.journals.now replay.new) }
 {
-    let mut report = ReportText::create(alloc)?;
+    let mut report = GrowingText::create(alloc)?;
     report.push(b"{".as_slice())?;
     push_commands_part(alloc, &mut report, flags.quiet, run, replay)?;
     Ok(report)
 }
 
 // The same by a tree of its own.
-fn own_head(alloc: Global, run: &Run<'_>, flags: Flags) -> Result<ReportText, NoMemory>
+fn own_head(alloc: Global, run: &Run<'_>, flags: Flags) -> Result<GrowingText, NoMemory>
     requires { IsRun run.now.script.now run.now.journals.now }
     ensures { IfOk result (λ report. report ≡ head_of run.now.script.now run.now.journals.now flags) }
 {
@@ -49,7 +49,7 @@ fn own_head(alloc: Global, run: &Run<'_>, flags: Flags) -> Result<ReportText, No
 // Adds all members after the commands, and closes the object.
 fn push_tail(
     alloc: Global,
-    report: &mut ReportText,
+    report: &mut GrowingText,
     run: &Run<'_>,
     flags: Flags,
     windows: &[Window],
@@ -71,7 +71,7 @@ fn push_tail(
 /// flags ask for the journal, the total, and these windows, where they ask for windows. Every number is counted from the journals.
 pub fn finish(
     alloc: Global,
-    mut head: ReportText,
+    mut head: GrowingText,
     run: &Run<'_>,
     flags: Flags,
     windows: &[Window],

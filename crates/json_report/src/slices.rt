@@ -13,15 +13,16 @@ ghost use Rattle.serde_json.specs.Written.{comma_if, compact_text};
 use crate::members::{push_comma, push_key, push_number};
 use cache_core::SliceEntry;
 use machine::Machine;
+use num_text::GrowingText;
 use rc_base::NoMemory;
-use report_pieces::{ReportText, push_entry_text};
+use report_pieces::push_entry_text;
 use run_counts::slices_of;
 use run_law::Journals;
 use script_ops::Script;
 
 // Adds an entry at a position. Its text has no byte that would have to be escaped.
 fn push_entry(
-    report: &mut ReportText,
+    report: &mut GrowingText,
     machine: &Machine,
     p: u64,
     entry: &SliceEntry,
@@ -35,7 +36,7 @@ fn push_entry(
 
 // Adds an entry, after a comma where others stand before.
 fn push_item(
-    report: &mut ReportText,
+    report: &mut GrowingText,
     machine: &Machine,
     p: u64,
     later: bool,
@@ -49,7 +50,7 @@ fn push_item(
 
 // Adds entries.
 fn push_items(
-    report: &mut ReportText,
+    report: &mut GrowingText,
     machine: &Machine,
     entries: &[SliceEntry],
 ) -> Result<(), NoMemory>
@@ -63,7 +64,7 @@ fn push_items(
 
 /// Adds a list of entries.
 pub(crate) fn push_entries(
-    report: &mut ReportText,
+    report: &mut GrowingText,
     machine: &Machine,
     entries: &[SliceEntry],
 ) -> Result<(), NoMemory>
@@ -76,7 +77,7 @@ pub(crate) fn push_entries(
 
 // Adds the members of a slice, by its number over all domains.
 fn push_members(
-    report: &mut ReportText,
+    report: &mut GrowingText,
     machine: &Machine,
     i: u32,
     entries: &[SliceEntry],
@@ -93,7 +94,7 @@ fn push_members(
 // Adds a slice, after a comma where others stand before.
 #[tactic(auto, unfolding(crate::specs::SliceValues::slice_value))]
 fn push_slice(
-    report: &mut ReportText,
+    report: &mut GrowingText,
     script: &Script,
     journals: &Journals,
     i: u32,
@@ -110,7 +111,7 @@ fn push_slice(
 
 // Adds the slices.
 fn push_slice_items(
-    report: &mut ReportText,
+    report: &mut GrowingText,
     script: &Script,
     journals: &Journals,
 ) -> Result<(), NoMemory>
@@ -124,7 +125,7 @@ fn push_slice_items(
 }
 
 // Adds the list of slices.
-fn push_list(report: &mut ReportText, script: &Script, journals: &Journals) -> Result<(), NoMemory>
+fn push_list(report: &mut GrowingText, script: &Script, journals: &Journals) -> Result<(), NoMemory>
     requires { length journals.now.slices ≡ slice_count script.now.machine }
     ensures { OnOk result (report.new ≡ report.old ++ compact_text (array_of (slice_values script.now journals.now))) }
 {
@@ -135,7 +136,7 @@ fn push_list(report: &mut ReportText, script: &Script, journals: &Journals) -> R
 
 /// Adds the entries of the slices, each as its line of the text report, where they are asked for.
 pub fn push_journal_part(
-    report: &mut ReportText,
+    report: &mut GrowingText,
     asked: bool,
     script: &Script,
     journals: &Journals,

@@ -3,8 +3,8 @@ ghost use Rattle.std.specs.Prelude.{◌≡◌, ◌/◌, ◌%◌, ◌<◌, ◌++�
 ghost use Rattle.std.specs.Char.{digit_char};
 ghost use Rattle.json.specs.Print.{escape, escape_byte, escape_letter, quoted};
 
+use num_text::GrowingText;
 use rc_base::NoMemory;
-use report_pieces::ReportText;
 
 // The letter after the backslash of a byte that has one, and else 0.
 fn letter_of(byte: u8) -> u8
@@ -34,7 +34,7 @@ fn digit_of(digit: u8) -> u8
 }
 
 // Adds a byte by its code.
-fn push_code(report: &mut ReportText, byte: u8) -> Result<(), NoMemory>
+fn push_code(report: &mut GrowingText, byte: u8) -> Result<(), NoMemory>
     requires { byte < 32 }
     ensures { OnOk result (report.new ≡ report.old ++ (92 ∷ 117 ∷ 48 ∷ 48 ∷ digit_char (byte / 16) ∷ digit_char (byte % 16) ∷ [])) }
 {
@@ -51,7 +51,7 @@ fn push_code(report: &mut ReportText, byte: u8) -> Result<(), NoMemory>
 
 // Adds a byte of a string.
 #[tactic(auto, unfolding(json::specs::Print::escape_byte))]
-fn push_byte(report: &mut ReportText, byte: u8) -> Result<(), NoMemory>
+fn push_byte(report: &mut GrowingText, byte: u8) -> Result<(), NoMemory>
     ensures { OnOk result (report.new ≡ report.old ++ escape_byte byte) }
 {
     let letter = letter_of(byte);
@@ -65,7 +65,7 @@ fn push_byte(report: &mut ReportText, byte: u8) -> Result<(), NoMemory>
 }
 
 // Adds the bytes of a string.
-fn push_bytes(report: &mut ReportText, text: &[u8]) -> Result<(), NoMemory>
+fn push_bytes(report: &mut GrowingText, text: &[u8]) -> Result<(), NoMemory>
     ensures { OnOk result (report.new ≡ report.old ++ escape text.now) }
 {
     for byte in text {
@@ -75,7 +75,7 @@ fn push_bytes(report: &mut ReportText, text: &[u8]) -> Result<(), NoMemory>
 }
 
 /// Adds a string of these bytes, in quotes.
-pub(crate) fn push_string(report: &mut ReportText, text: &[u8]) -> Result<(), NoMemory>
+pub(crate) fn push_string(report: &mut GrowingText, text: &[u8]) -> Result<(), NoMemory>
     ensures { OnOk result (report.new ≡ report.old ++ quoted text.now) }
 {
     report.push(b"\"".as_slice())?;

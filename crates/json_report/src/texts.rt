@@ -11,15 +11,16 @@ ghost use Rattle.serde_json.specs.Data.{string};
 
 use crate::members::{push_comma, push_key, push_text};
 use crate::strings::push_string;
+use num_text::GrowingText;
 use path_names::Names;
 use rc_base::NoMemory;
-use report_pieces::{ReportText, push_result, push_words};
+use report_pieces::{push_result, push_words};
 use run_replay::CommandAt;
 use script_ops::{OpAt, next_line};
 use std::alloc::Global;
 
 // Adds lines.
-fn push_lines(report: &mut ReportText, text: &[u8]) -> Result<(), NoMemory>
+fn push_lines(report: &mut GrowingText, text: &[u8]) -> Result<(), NoMemory>
     ensures { OnOk result (report.new ≡ report.old ++ items_told false (map string (lines text.now))) }
 {
     let mut left = text;
@@ -34,7 +35,7 @@ fn push_lines(report: &mut ReportText, text: &[u8]) -> Result<(), NoMemory>
 }
 
 /// Adds the member that is the lines of a text, after others.
-pub fn push_text_lines(report: &mut ReportText, text: &[u8]) -> Result<(), NoMemory>
+pub fn push_text_lines(report: &mut GrowingText, text: &[u8]) -> Result<(), NoMemory>
     ensures { OnOk result (report.new ≡ report.old ++ members_told true ((codes "text", array_of (map string (lines text.now))) ∷ [])) }
 {
     push_key(report, true, "text")?;
@@ -47,7 +48,7 @@ pub fn push_text_lines(report: &mut ReportText, text: &[u8]) -> Result<(), NoMem
 /// whether it hit.
 pub fn push_result_text(
     alloc: Global,
-    report: &mut ReportText,
+    report: &mut GrowingText,
     command: &CommandAt<'_>,
     op: &Option<OpAt<'_>>,
     hit: Option<bool>,
@@ -55,7 +56,7 @@ pub fn push_result_text(
     requires { TellsTouch command.now.run.journals.now (entry_value command.now.entry.now) hit }
     ensures { OnOk result (report.new ≡ report.old ++ members_told true ((codes "result", string (result_by command.now.run.journals.now (entry_value command.now.entry.now) op.now)) ∷ [])) }
 {
-    let mut text = ReportText::create(alloc)?;
+    let mut text = GrowingText::create(alloc)?;
     push_result(&mut text, command.run.journals, command.entry, op, hit)?;
     push_text(report, "result", &text.into_bytes())
 }
@@ -63,14 +64,14 @@ pub fn push_result_text(
 /// Adds the member that is the words of an op, after others.
 pub fn push_words_text(
     alloc: Global,
-    report: &mut ReportText,
+    report: &mut GrowingText,
     names: &Names,
     op: &Option<OpAt<'_>>,
 ) -> Result<(), NoMemory>
     requires { IfSome op.now (λ o. IsNamed (length names.now) o) }
     ensures { OnOk result (report.new ≡ report.old ++ members_told true ((codes "words", string (words_by names.now op.now)) ∷ [])) }
 {
-    let mut text = ReportText::create(alloc)?;
+    let mut text = GrowingText::create(alloc)?;
     push_words(&mut text, names, op)?;
     push_text(report, "words", &text.into_bytes())
 }

@@ -11,8 +11,8 @@ ghost use Rattle.serde_json.specs.View.{view};
 ghost use Rattle.serde_json.specs.Written.{compact_text};
 
 use crate::members::{push_key, push_value};
+use num_text::GrowingText;
 use rc_base::NoMemory;
-use report_pieces::ReportText;
 use run_counts::{Counts, Tally, count_refused};
 use run_law::{Journals, TreeEntry};
 use script_ops::Script;
@@ -36,7 +36,7 @@ fn value_of(alloc: Global, commands: u64, refused: u64, counts: Counts) -> Resul
 // Adds the value of the counts of these commands and of accesses.
 fn push_counts(
     alloc: Global,
-    report: &mut ReportText,
+    report: &mut GrowingText,
     tree: &[TreeEntry],
     counts: Counts,
 ) -> Result<(), NoMemory>
@@ -49,7 +49,7 @@ fn push_counts(
 /// Adds the total: all accesses as they were tallied, and all commands.
 pub fn push_total(
     alloc: Global,
-    report: &mut ReportText,
+    report: &mut GrowingText,
     script: &Script,
     journals: &Journals,
     tally: &Tally,

@@ -7,12 +7,12 @@ ghost use Rattle.json_report.specs.WindowValues.{first_members, last_members, wi
 ghost use Rattle.serde_json.specs.Written.{comma_if, compact_text};
 
 use crate::members::{push_comma, push_key, push_number};
+use num_text::GrowingText;
 use rc_base::NoMemory;
-use report_pieces::ReportText;
 use run_law::Window;
 
 // Adds the members of a window up to `from`.
-fn push_first_members(report: &mut ReportText, window: &Window) -> Result<(), NoMemory>
+fn push_first_members(report: &mut GrowingText, window: &Window) -> Result<(), NoMemory>
     ensures { OnOk result (report.new ≡ report.old ++ members_told false (first_members window.now)) }
 {
     push_number(report, false, "accesses", window.accesses)?;
@@ -23,7 +23,7 @@ fn push_first_members(report: &mut ReportText, window: &Window) -> Result<(), No
 }
 
 // Adds the members of a window after `from`.
-fn push_last_members(report: &mut ReportText, window: &Window) -> Result<(), NoMemory>
+fn push_last_members(report: &mut GrowingText, window: &Window) -> Result<(), NoMemory>
     ensures { OnOk result (report.new ≡ report.old ++ members_told true (last_members window.now)) }
 {
     push_number(report, true, "gid", u64::from(window.gid.0))?;
@@ -34,7 +34,7 @@ fn push_last_members(report: &mut ReportText, window: &Window) -> Result<(), NoM
 }
 
 // Adds a window.
-fn push_window(report: &mut ReportText, later: bool, window: &Window) -> Result<(), NoMemory>
+fn push_window(report: &mut GrowingText, later: bool, window: &Window) -> Result<(), NoMemory>
     ensures { OnOk result (report.new ≡ report.old ++ (comma_if later ++ compact_text (window_value window.now))) }
 {
     push_comma(report, later)?;
@@ -45,7 +45,7 @@ fn push_window(report: &mut ReportText, later: bool, window: &Window) -> Result<
 }
 
 // Adds windows.
-fn push_items(report: &mut ReportText, windows: &[Window]) -> Result<(), NoMemory>
+fn push_items(report: &mut GrowingText, windows: &[Window]) -> Result<(), NoMemory>
     ensures { OnOk result (report.new ≡ report.old ++ items_told false (map window_value windows.now)) }
 {
     for (i, window) in windows.iter().enumerate() {
@@ -55,7 +55,7 @@ fn push_items(report: &mut ReportText, windows: &[Window]) -> Result<(), NoMemor
 }
 
 // Adds a list of windows.
-fn push_list(report: &mut ReportText, windows: &[Window]) -> Result<(), NoMemory>
+fn push_list(report: &mut GrowingText, windows: &[Window]) -> Result<(), NoMemory>
     ensures { OnOk result (report.new ≡ report.old ++ compact_text (array_of (map window_value windows.now))) }
 {
     report.push(b"[".as_slice())?;
@@ -65,7 +65,7 @@ fn push_list(report: &mut ReportText, windows: &[Window]) -> Result<(), NoMemory
 
 /// Adds the windows of isolation, where they are asked for.
 pub fn push_windows_part(
-    report: &mut ReportText,
+    report: &mut GrowingText,
     asked: bool,
     windows: &[Window],
 ) -> Result<(), NoMemory>

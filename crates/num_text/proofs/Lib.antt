@@ -1,3 +1,4 @@
+pub mod DecimalPairs
 pub mod Numerals
 pub mod Prints
 pub mod Trims

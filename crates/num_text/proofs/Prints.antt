@@ -3,7 +3,7 @@ use Rattle.std.proofs.Common.{◌≡◌, ℕ, ◌+◌, ◌-◌, ◌/◌, ◌%◌
 use Rattle.std.specs.Fmt.{digit_glyph}
 use Rattle.std.proofs.Math.Nat.{div-lt_self}
 use Rattle.std.proofs.lemmas.Bool.{cases_lt}
-use Rattle.num_text.proofs.laws.Prints.{filled-last, filled-more, filled-zero, length-hexadecimal}
+use Rattle.num_text.proofs.laws.Prints.{filled-last, filled-more, filled-zero, length-decimal, length-hexadecimal}
 use Rattle.num_text.specs.Printed.{filled, hexadecimal}
 
 -- the two digits of a number below 256
@@ -75,5 +75,8 @@ length-hexadecimal_wide width n one wide narrow = ap length (hexadecimal-wide wi
 pub div-lt_number : (n : ℕ) → 256 ≤ n → n / 256 < n
 div-lt_number n h = div-lt_self (omega arith) (omega arith)
 
--- room for a number of 64 bits
+-- room for a number of 64 bits in hexadecimal
 pub ruleset hexadecimal_printed = (length-hexadecimal)
+
+-- room for a number of 64 bits in decimal
+pub ruleset decimal_printed = (length-decimal)

@@ -21,16 +21,16 @@ use crate::counts::push_total;
 use crate::domains::push_domain;
 use crate::made::{MadeGroup, made_groups};
 use cache_core::SliceEntry;
+use num_text::GrowingText;
 use pair_text::{PairScript, Side};
 use pair_windows::cdp_windows;
 use rc_base::{NoMemory, Reply};
-use report_pieces::ReportText;
 use run_counts::CacheCounts;
 use std::alloc::Global;
 
 // Adds the lines of the domains.
 fn push_domains(
-    report: &mut ReportText,
+    report: &mut GrowingText,
     script: &PairScript,
     slices: &[Vec<SliceEntry>],
     counts: &CacheCounts,
@@ -48,7 +48,7 @@ fn push_domains(
 
 // Adds the lines of the groups, of which these were made, and of the domains, by what is counted.
 fn push_lines(
-    report: &mut ReportText,
+    report: &mut GrowingText,
     script: &PairScript,
     slices: &[Vec<SliceEntry>],
     made: &[MadeGroup],
@@ -68,7 +68,7 @@ fn push_lines(
 // Adds the lines of the groups and of the domains.
 fn push_counted(
     alloc: Global,
-    report: &mut ReportText,
+    report: &mut GrowingText,
     script: &PairScript,
     replies: &[Reply],
     slices: &[Vec<SliceEntry>],
@@ -85,7 +85,7 @@ fn push_counted(
 // Adds the lines of the windows.
 fn push_found_windows(
     alloc: Global,
-    report: &mut ReportText,
+    report: &mut GrowingText,
     script: &PairScript,
     replies: &[Reply],
     slices: &[Vec<SliceEntry>],
@@ -113,7 +113,7 @@ pub fn cdp_report(
     requires { IsPlayed script.now (cdp_journals replies.now slices.now) }
     ensures { IfOk result (λ bytes. bytes.items ≡ cdp_report_of script.now (cdp_journals replies.now slices.now) quiet) }
 {
-    let mut report = ReportText::create(alloc)?;
+    let mut report = GrowingText::create(alloc)?;
     push_commands(alloc, &mut report, script, replies, quiet)?;
     push_found_windows(alloc, &mut report, script, replies, slices)?;
     push_counted(alloc, &mut report, script, replies, slices)?;

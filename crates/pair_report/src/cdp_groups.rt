@@ -16,14 +16,14 @@ use crate::counts::push_sides;
 use crate::groups::{push_gid, push_path};
 use crate::made::MadeGroup;
 use cache_core::SliceEntry;
+use num_text::GrowingText;
 use pair_text::PairScript;
 use rc_base::NoMemory;
-use report_pieces::ReportText;
 use run_counts::Tally;
 
 // Adds the counts of two owners, those of data and of code of a group.
 fn push_owners(
-    report: &mut ReportText,
+    report: &mut GrowingText,
     slices: &[Vec<SliceEntry>],
     tally: &Tally,
     first_owner: u32,
@@ -46,7 +46,7 @@ fn push_owners(
 
 // Adds the counts of a group.
 fn push_group_counts(
-    report: &mut ReportText,
+    report: &mut GrowingText,
     slices: &[Vec<SliceEntry>],
     tally: &Tally,
     gid: u32,
@@ -62,7 +62,7 @@ fn push_group_counts(
 // Adds the line of a group with this directory.
 #[tactic(auto, unfolding(crate::specs::CdpReport::group_line))]
 fn push_group_at(
-    report: &mut ReportText,
+    report: &mut GrowingText,
     slices: &[Vec<SliceEntry>],
     tally: &Tally,
     gid: u32,
@@ -80,7 +80,7 @@ fn push_group_at(
 // Adds the line of a group that was made.
 #[tactic(auto, unfolding(crate::specs::CdpReport::group_line))]
 fn push_made_group(
-    report: &mut ReportText,
+    report: &mut GrowingText,
     script: &PairScript,
     slices: &[Vec<SliceEntry>],
     made: MadeGroup,
@@ -97,7 +97,7 @@ fn push_made_group(
 
 // Adds the lines of the groups that were made.
 fn push_made(
-    report: &mut ReportText,
+    report: &mut GrowingText,
     script: &PairScript,
     slices: &[Vec<SliceEntry>],
     made: &[MadeGroup],
@@ -115,7 +115,7 @@ fn push_made(
 
 /// Adds the lines of the groups that ever were: the default group, and those that were made.
 pub(crate) fn push_groups(
-    report: &mut ReportText,
+    report: &mut GrowingText,
     script: &PairScript,
     slices: &[Vec<SliceEntry>],
     made: &[MadeGroup],

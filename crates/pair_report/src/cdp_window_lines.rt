@@ -3,10 +3,10 @@ ghost use Rattle.std.specs.Prelude.{◌≡◌, ◌++◌, OnOk};
 ghost use Rattle.std.specs.List.{flat_map};
 ghost use Rattle.pair_report.specs.CdpReport.{side_word, window_counts, window_line, window_place};
 
+use num_text::GrowingText;
 use pair_text::Side;
 use pair_windows::CdpWindow;
 use rc_base::NoMemory;
-use report_pieces::ReportText;
 
 // What a side stands for.
 fn side_word(side: Side) -> &'static [u8]
@@ -19,7 +19,7 @@ fn side_word(side: Side) -> &'static [u8]
 }
 
 // Adds where a window is.
-fn push_place(report: &mut ReportText, window: &CdpWindow) -> Result<(), NoMemory>
+fn push_place(report: &mut GrowingText, window: &CdpWindow) -> Result<(), NoMemory>
     ensures { OnOk result (report.new ≡ report.old ++ window_place window.now) }
 {
     report.push_number(b"window ".as_slice(), u64::from(window.domain))?;
@@ -32,7 +32,7 @@ fn push_place(report: &mut ReportText, window: &CdpWindow) -> Result<(), NoMemor
 }
 
 // Adds what is counted in a window.
-fn push_counts(report: &mut ReportText, window: &CdpWindow) -> Result<(), NoMemory>
+fn push_counts(report: &mut GrowingText, window: &CdpWindow) -> Result<(), NoMemory>
     ensures { OnOk result (report.new ≡ report.old ++ window_counts window.now) }
 {
     report.push_number(b"accesses ".as_slice(), window.accesses)?;
@@ -44,7 +44,7 @@ fn push_counts(report: &mut ReportText, window: &CdpWindow) -> Result<(), NoMemo
 
 // Adds the line of a window.
 #[tactic(auto, unfolding(crate::specs::CdpReport::window_line))]
-fn push_window(report: &mut ReportText, window: &CdpWindow) -> Result<(), NoMemory>
+fn push_window(report: &mut GrowingText, window: &CdpWindow) -> Result<(), NoMemory>
     ensures { OnOk result (report.new ≡ report.old ++ window_line window.now) }
 {
     push_place(report, window)?;
@@ -53,7 +53,7 @@ fn push_window(report: &mut ReportText, window: &CdpWindow) -> Result<(), NoMemo
 }
 
 /// Adds the lines of these windows.
-pub(crate) fn push_windows(report: &mut ReportText, windows: &[CdpWindow]) -> Result<(), NoMemory>
+pub(crate) fn push_windows(report: &mut GrowingText, windows: &[CdpWindow]) -> Result<(), NoMemory>
     ensures { OnOk result (report.new ≡ report.old ++ flat_map window_line windows.now) }
 {
     for window in windows {

@@ -3,13 +3,13 @@ ghost use Rattle.std.specs.Prelude.{◌≡◌, ◌++◌, OnOk, codes};
 ghost use Rattle.pair_report.specs.PairOpTexts.{command_text, file_path, group_prefix};
 ghost use Rattle.script_ops.specs.Canonical.{text_after};
 
+use num_text::GrowingText;
 use pair_text::{PairFile, PairOp};
 use rc_base::NoMemory;
-use report_pieces::ReportText;
-use script_ops::Bytes;
+use script_ops::{Bytes, push_written};
 
 // Adds a word, and after it a group's name.
-fn push_name(report: &mut ReportText, word: &[u8], name: &Bytes) -> Result<(), NoMemory>
+fn push_name(report: &mut GrowingText, word: &[u8], name: &Bytes) -> Result<(), NoMemory>
     ensures { OnOk result (report.new ≡ report.old ++ (word.now ++ name.now)) }
 {
     report.push(word)?;
@@ -17,7 +17,7 @@ fn push_name(report: &mut ReportText, word: &[u8], name: &Bytes) -> Result<(), N
 }
 
 // Adds the directory of a group, as it stands in front of a slash.
-fn push_group_prefix(report: &mut ReportText, group: &Option<Bytes>) -> Result<(), NoMemory>
+fn push_group_prefix(report: &mut GrowingText, group: &Option<Bytes>) -> Result<(), NoMemory>
     ensures { OnOk result (report.new ≡ report.old ++ group_prefix group.now) }
 {
     match group {
@@ -27,7 +27,7 @@ fn push_group_prefix(report: &mut ReportText, group: &Option<Bytes>) -> Result<(
 }
 
 // Adds the path of a file.
-fn push_file(report: &mut ReportText, file: &PairFile) -> Result<(), NoMemory>
+fn push_file(report: &mut GrowingText, file: &PairFile) -> Result<(), NoMemory>
     ensures { OnOk result (report.new ≡ report.old ++ file_path file.now) }
 {
     push_group_prefix(report, &file.group)?;
@@ -36,16 +36,16 @@ fn push_file(report: &mut ReportText, file: &PairFile) -> Result<(), NoMemory>
 }
 
 // Adds a write.
-fn push_write(report: &mut ReportText, file: &PairFile, text: &Bytes) -> Result<(), NoMemory>
+fn push_write(report: &mut GrowingText, file: &PairFile, text: &Bytes) -> Result<(), NoMemory>
     ensures { OnOk result (report.new ≡ report.old ++ (codes "write " ++ file_path file.now ++ text_after text.now)) }
 {
     report.push(b"write ".as_slice())?;
     push_file(report, file)?;
-    report.push_written(text.as_slice())
+    push_written(report, text.as_slice())
 }
 
 // Adds a read.
-fn push_read(report: &mut ReportText, file: &PairFile) -> Result<(), NoMemory>
+fn push_read(report: &mut GrowingText, file: &PairFile) -> Result<(), NoMemory>
     ensures { OnOk result (report.new ≡ report.old ++ (codes "read " ++ file_path file.now)) }
 {
     report.push(b"read ".as_slice())?;
@@ -53,7 +53,7 @@ fn push_read(report: &mut ReportText, file: &PairFile) -> Result<(), NoMemory>
 }
 
 /// Adds the canonical text of a command, and nothing for a use of a line.
-pub(crate) fn push_command(report: &mut ReportText, op: &PairOp) -> Result<(), NoMemory>
+pub(crate) fn push_command(report: &mut GrowingText, op: &PairOp) -> Result<(), NoMemory>
     ensures { OnOk result (report.new ≡ report.old ++ command_text op.now) }
 {
     match op {

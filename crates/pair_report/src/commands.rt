@@ -13,16 +13,17 @@ use crate::answered_command::AnsweredCommand;
 use crate::command_text::push_command;
 use crate::command_walk::CommandWalk;
 use crate::counts::reply_at;
+use num_text::GrowingText;
 use pair_text::{PairOp, PairScript};
 use pair_tree::PairTree;
 use pair_windows::{Replay, is_command};
 use rc_base::{NoMemory, Reply, TEXT_MAX, TextBuf};
-use report_pieces::ReportText;
+use report_pieces::{push_barred, push_reply};
 use std::alloc::Global;
 
 // Adds the lines of a file's text. What `file` held before is gone.
 fn push_file_text(
-    report: &mut ReportText,
+    report: &mut GrowingText,
     tree: &PairTree,
     op: &PairOp,
     file: &mut TextBuf,
@@ -33,12 +34,12 @@ fn push_file_text(
 {
     file.clear();
     tree.text(op, file);
-    report.push_barred(file.bytes())
+    push_barred(report, file.bytes())
 }
 
 // Adds the lines of the text of a read, by the tree before it.
 fn push_text_of(
-    report: &mut ReportText,
+    report: &mut GrowingText,
     walk: &mut CommandWalk,
     script: &PairScript,
     command: &AnsweredCommand<'_>,
@@ -58,7 +59,7 @@ fn push_text_of(
 
 // Adds the lines of what a command gave, where it was an accepted read: for no other is the tree taken there.
 fn push_given(
-    report: &mut ReportText,
+    report: &mut GrowingText,
     walk: &mut CommandWalk,
     script: &PairScript,
     command: &AnsweredCommand<'_>,
@@ -80,7 +81,7 @@ fn push_given(
 // Adds the line of a command, with what it gave.
 #[tactic(auto, unfolding(crate::specs::PairCommands::command_line))]
 fn push_line(
-    report: &mut ReportText,
+    report: &mut GrowingText,
     walk: &mut CommandWalk,
     script: &PairScript,
     command: &AnsweredCommand<'_>,
@@ -98,14 +99,14 @@ fn push_line(
     report.push(b" ".as_slice())?;
     push_command(report, command.op)?;
     report.push(b": ".as_slice())?;
-    report.push_reply(command.reply)?;
+    push_reply(report, command.reply)?;
     report.push(b"\n".as_slice())?;
     push_given(report, walk, script, command)
 }
 
 // Adds the line of the op at a place, where it is a command.
 fn push_next(
-    report: &mut ReportText,
+    report: &mut GrowingText,
     walk: &mut CommandWalk,
     script: &PairScript,
     replies: &[Reply],
@@ -142,7 +143,7 @@ fn push_next(
 // Adds the lines of all commands. The tree is taken through them only as far as the last accepted read.
 fn push_all(
     alloc: Global,
-    report: &mut ReportText,
+    report: &mut GrowingText,
     script: &PairScript,
     replies: &[Reply],
 ) -> Result<(), NoMemory>
@@ -166,7 +167,7 @@ fn push_all(
 /// Adds the lines of the commands, with what accepted reads gave, but not to a quiet report.
 pub(crate) fn push_commands(
     alloc: Global,
-    report: &mut ReportText,
+    report: &mut GrowingText,
     script: &PairScript,
     replies: &[Reply],
     quiet: bool,

@@ -3,12 +3,12 @@ ghost use Rattle.std.specs.Prelude.{◌≡◌, ◌<◌, ◌++◌, OnOk, Some, co
 ghost use Rattle.pair_report.specs.PairCounts.{counts_told, sides_told, total_line};
 ghost use Rattle.run_counts.specs.Refusals.{is_refusal};
 
+use num_text::GrowingText;
 use rc_base::{NoMemory, Reply};
-use report_pieces::ReportText;
 use run_counts::Counts;
 
 // Adds counts of accesses.
-fn push_counts(report: &mut ReportText, counts: Counts) -> Result<(), NoMemory>
+fn push_counts(report: &mut GrowingText, counts: Counts) -> Result<(), NoMemory>
     ensures { OnOk result (report.new ≡ report.old ++ counts_told counts) }
 {
     report.push_number(b"accesses ".as_slice(), counts.accesses)?;
@@ -18,7 +18,7 @@ fn push_counts(report: &mut ReportText, counts: Counts) -> Result<(), NoMemory>
 
 /// Adds the counts of a group on its two sides, each after a word.
 pub(crate) fn push_sides(
-    report: &mut ReportText,
+    report: &mut GrowingText,
     first: &[u8],
     one: Counts,
     second: &[u8],
@@ -48,7 +48,7 @@ fn count_refused(replies: &[Reply]) -> u64
 }
 
 /// Adds the last line: how many commands there were, and how many were refused.
-pub(crate) fn push_total(report: &mut ReportText, replies: &[Reply]) -> Result<(), NoMemory>
+pub(crate) fn push_total(report: &mut GrowingText, replies: &[Reply]) -> Result<(), NoMemory>
     ensures { OnOk result (report.new ≡ report.old ++ total_line replies.now) }
 {
     report.push_number(b"total: commands ".as_slice(), replies.len() as u64)?;

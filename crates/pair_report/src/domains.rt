@@ -7,13 +7,13 @@ ghost use Rattle.run_law.specs.Entries.{entries_of};
 
 use cache_core::SliceEntry;
 use machine::Machine;
+use num_text::GrowingText;
 use rc_base::NoMemory;
-use report_pieces::ReportText;
 use run_counts::CacheCounts;
 
 // Adds the number of a domain, how many lines are valid in its cache, and how many there can be.
 fn push_valid(
-    report: &mut ReportText,
+    report: &mut GrowingText,
     machine: &Machine,
     domain: u8,
     valid: u64,
@@ -31,7 +31,7 @@ fn push_valid(
 
 /// Adds the line of a domain, whose cache is one of these of this size, by what was counted in them.
 pub(crate) fn push_domain(
-    report: &mut ReportText,
+    report: &mut GrowingText,
     machine: &Machine,
     caches: &[Vec<SliceEntry>],
     counts: &CacheCounts,

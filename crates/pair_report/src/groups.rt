@@ -3,12 +3,12 @@ ghost use Rattle.std.specs.Prelude.{◌≡◌, ◌++◌, OnOk, Some, codes, deci
 ghost use Rattle.pair_text.specs.Values.{op_at};
 ghost use Rattle.pair_report.specs.LinesBefore.{path_made};
 
+use num_text::GrowingText;
 use pair_text::{PairOp, PairScript};
 use rc_base::NoMemory;
-use report_pieces::ReportText;
 
 /// Adds the beginning of the line of a group.
-pub(crate) fn push_gid(report: &mut ReportText, gid: u32) -> Result<(), NoMemory>
+pub(crate) fn push_gid(report: &mut GrowingText, gid: u32) -> Result<(), NoMemory>
     ensures { OnOk result (report.new ≡ report.old ++ (codes "group " ++ decimal gid ++ codes " ")) }
 {
     report.push_number(b"group ".as_slice(), u64::from(gid))?;
@@ -16,7 +16,7 @@ pub(crate) fn push_gid(report: &mut ReportText, gid: u32) -> Result<(), NoMemory
 }
 
 // Adds the path that an op makes, where it is a mkdir.
-fn push_path_of(report: &mut ReportText, op: &PairOp) -> Result<(), NoMemory>
+fn push_path_of(report: &mut GrowingText, op: &PairOp) -> Result<(), NoMemory>
     ensures { OnOk result (report.new ≡ report.old ++ path_made (Some op.now)) }
 {
     match op {
@@ -30,7 +30,7 @@ fn push_path_of(report: &mut ReportText, op: &PairOp) -> Result<(), NoMemory>
 
 /// Adds the path that the op at a place makes.
 pub(crate) fn push_path(
-    report: &mut ReportText,
+    report: &mut GrowingText,
     script: &PairScript,
     place: usize,
 ) -> Result<(), NoMemory>

@@ -20,10 +20,10 @@ use crate::level_groups::push_groups;
 use crate::level_window_lines::push_windows;
 use crate::made::{MadeGroup, made_groups};
 use machine::Machine;
+use num_text::GrowingText;
 use pair_text::{PairScript, Side};
 use pair_windows::{JointWindow, LevelJournalsRef, machine_on};
 use rc_base::NoMemory;
-use report_pieces::ReportText;
 use std::alloc::Global;
 
 // The level that a side is.
@@ -39,7 +39,7 @@ fn level_word(side: Side) -> &'static [u8]
 // Adds the line of a domain of a level.
 #[tactic(auto, unfolding(crate::specs::LevelReport::level_domain_line))]
 fn push_level_domain(
-    report: &mut ReportText,
+    report: &mut GrowingText,
     side: Side,
     machine: &Machine,
     caches: &CountedCaches<'_>,
@@ -56,7 +56,7 @@ fn push_level_domain(
 
 // Adds the lines of the domains of a level.
 fn push_domains(
-    report: &mut ReportText,
+    report: &mut GrowingText,
     script: &PairScript,
     side: Side,
     caches: &CountedCaches<'_>,
@@ -75,7 +75,7 @@ fn push_domains(
 
 // Adds the lines of the groups, of which these were made, and of the domains of both levels, by what is counted in each.
 fn push_lines(
-    report: &mut ReportText,
+    report: &mut GrowingText,
     script: &PairScript,
     l2: &CountedCaches<'_>,
     l3: &CountedCaches<'_>,
@@ -99,7 +99,7 @@ fn push_lines(
 // Adds the lines of the groups and of the domains of both levels.
 fn push_counted(
     alloc: Global,
-    report: &mut ReportText,
+    report: &mut GrowingText,
     script: &PairScript,
     journals: &LevelJournalsRef<'_>,
 ) -> Result<(), NoMemory>
@@ -136,7 +136,7 @@ pub fn level_report(
     requires windows { windows.now ≡ joint_windows script.now (journals_in journals.now) }
     ensures { IfOk result (λ bytes. bytes.items ≡ level_report_of script.now (journals_in journals.now) quiet) }
 {
-    let mut report = ReportText::create(alloc)?;
+    let mut report = GrowingText::create(alloc)?;
     push_commands(alloc, &mut report, script, journals.replies, quiet)?;
     push_windows(&mut report, windows)?;
     push_counted(alloc, &mut report, script, journals)?;

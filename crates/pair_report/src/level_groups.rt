@@ -11,13 +11,13 @@ use crate::counted_caches::CountedCaches;
 use crate::counts::push_sides;
 use crate::groups::{push_gid, push_path};
 use crate::made::MadeGroup;
+use num_text::GrowingText;
 use pair_text::PairScript;
 use rc_base::NoMemory;
-use report_pieces::ReportText;
 
 // Adds the counts of a group: those of the L2 caches and those of the L3 caches.
 fn push_counts(
-    report: &mut ReportText,
+    report: &mut GrowingText,
     l2: &CountedCaches<'_>,
     l3: &CountedCaches<'_>,
     gid: u32,
@@ -41,7 +41,7 @@ fn push_counts(
 // Adds the line of a group with this directory.
 #[tactic(auto, unfolding(crate::specs::LevelReport::group_line))]
 fn push_group_at(
-    report: &mut ReportText,
+    report: &mut GrowingText,
     l2: &CountedCaches<'_>,
     l3: &CountedCaches<'_>,
     gid: u32,
@@ -59,7 +59,7 @@ fn push_group_at(
 // Adds the line of a group that was made.
 #[tactic(auto, unfolding(crate::specs::LevelReport::group_line))]
 fn push_made_group(
-    report: &mut ReportText,
+    report: &mut GrowingText,
     script: &PairScript,
     l2: &CountedCaches<'_>,
     l3: &CountedCaches<'_>,
@@ -76,7 +76,7 @@ fn push_made_group(
 
 // Adds the lines of the groups that were made.
 fn push_made(
-    report: &mut ReportText,
+    report: &mut GrowingText,
     script: &PairScript,
     l2: &CountedCaches<'_>,
     l3: &CountedCaches<'_>,
@@ -94,7 +94,7 @@ fn push_made(
 
 /// Adds the lines of the groups that ever were: the default group, and those that were made.
 pub(crate) fn push_groups(
-    report: &mut ReportText,
+    report: &mut GrowingText,
     script: &PairScript,
     l2: &CountedCaches<'_>,
     l3: &CountedCaches<'_>,

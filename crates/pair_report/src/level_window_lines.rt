@@ -3,12 +3,12 @@ ghost use Rattle.std.specs.Prelude.{◌≡◌, ◌++◌, OnOk};
 ghost use Rattle.std.specs.List.{flat_map};
 ghost use Rattle.pair_report.specs.LevelReport.{l2_counts, l3_counts, window_line, window_place};
 
+use num_text::GrowingText;
 use pair_windows::JointWindow;
 use rc_base::NoMemory;
-use report_pieces::ReportText;
 
 // Adds where a window is.
-fn push_place(report: &mut ReportText, window: &JointWindow) -> Result<(), NoMemory>
+fn push_place(report: &mut GrowingText, window: &JointWindow) -> Result<(), NoMemory>
     ensures { OnOk result (report.new ≡ report.old ++ window_place window.now) }
 {
     report.push_number(b"window ".as_slice(), u64::from(window.domain))?;
@@ -18,7 +18,7 @@ fn push_place(report: &mut ReportText, window: &JointWindow) -> Result<(), NoMem
 }
 
 // Adds what the covered uses of a window did in the L2.
-fn push_l2_counts(report: &mut ReportText, window: &JointWindow) -> Result<(), NoMemory>
+fn push_l2_counts(report: &mut GrowingText, window: &JointWindow) -> Result<(), NoMemory>
     ensures { OnOk result (report.new ≡ report.old ++ l2_counts window.now) }
 {
     report.push_number(b"covered ".as_slice(), window.covered)?;
@@ -27,7 +27,7 @@ fn push_l2_counts(report: &mut ReportText, window: &JointWindow) -> Result<(), N
 }
 
 // Adds what they did in the L3.
-fn push_l3_counts(report: &mut ReportText, window: &JointWindow) -> Result<(), NoMemory>
+fn push_l3_counts(report: &mut GrowingText, window: &JointWindow) -> Result<(), NoMemory>
     ensures { OnOk result (report.new ≡ report.old ++ l3_counts window.now) }
 {
     report.push_number(b", l3 accesses ".as_slice(), window.l3_accesses)?;
@@ -37,7 +37,7 @@ fn push_l3_counts(report: &mut ReportText, window: &JointWindow) -> Result<(), N
 
 // Adds the line of a window.
 #[tactic(auto, unfolding(crate::specs::LevelReport::window_line))]
-fn push_window(report: &mut ReportText, window: &JointWindow) -> Result<(), NoMemory>
+fn push_window(report: &mut GrowingText, window: &JointWindow) -> Result<(), NoMemory>
     ensures { OnOk result (report.new ≡ report.old ++ window_line window.now) }
 {
     push_place(report, window)?;
@@ -47,7 +47,10 @@ fn push_window(report: &mut ReportText, window: &JointWindow) -> Result<(), NoMe
 }
 
 /// Adds the lines of these windows.
-pub(crate) fn push_windows(report: &mut ReportText, windows: &[JointWindow]) -> Result<(), NoMemory>
+pub(crate) fn push_windows(
+    report: &mut GrowingText,
+    windows: &[JointWindow],
+) -> Result<(), NoMemory>
     ensures { OnOk result (report.new ≡ report.old ++ flat_map window_line windows.now) }
 {
     for window in windows {

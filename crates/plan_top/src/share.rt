@@ -12,8 +12,9 @@ ghost use Rattle.plan_top.specs.Shares.{HasNoBadTurn, RefusesStream, asked_by, r
 
 use crate::share_form::{ShareForm, Wish};
 use call_rim::{Performed, StreamProgram, Taken};
+use num_text::GrowingText;
 use rc_base::{NoMemory, TextBuf};
-use script_ops::{Bytes, GrowingText};
+use script_ops::Bytes;
 use share_plans::{BadStream, MOST_STREAM_BYTES, Played, Program, Stream, share_report};
 use std::alloc::Global;
 use way_curve::{BadTrace, MOST_REFUSAL_BYTES, push_bad_line};

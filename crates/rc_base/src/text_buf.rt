@@ -1,5 +1,5 @@
 //! A text under construction, whose room is taken before it is used.
-ghost use Rattle.std.specs.Prelude.{◌≡◌, ◌+◌, ◌≤◌, ◌<◌, [], ◌∷◌, ◌++◌, length, IfOk};
+ghost use Rattle.std.specs.Prelude.{◌≡◌, ◌+◌, ◌≤◌, ◌<◌, [], ◌∷◌, ◌++◌, length, IfOk, OnOk};
 
 use crate::names::NoMemory;
 use std::alloc::Global;
@@ -33,14 +33,29 @@ impl TextBuf {
         Ok(TextBuf { text })
     }
 
+    /// Makes room for `n` bytes more. The text stays as it was. An error is out of memory.
+    #[inline]
+    pub fn reserve(&mut self, n: usize) -> Result<(), NoMemory>
+        ensures bytes { self.new.bytes ≡ self.old.bytes }
+        ensures spare { OnOk result (n ≤ self.new.spare) }
+    {
+        if self.text.capacity() - self.text.len() >= n {
+            return Ok(());
+        }
+        self.text.reserve(n)?;
+        Ok(())
+    }
+
     /// The bytes so far.
+    #[inline]
     pub fn bytes(&self) -> &[u8]
         ensures { result.now ≡ self.now.bytes }
     {
         self.text.as_slice()
     }
 
-    /// Adds one byte.
+    /// Adds one byte, for which there is room.
+    #[inline]
     pub fn push(&mut self, byte: u8)
         requires { 0 < self.old.spare }
         ensures bytes { self.new.bytes ≡ self.old.bytes ++ byte ∷ [] }
@@ -49,7 +64,7 @@ impl TextBuf {
         self.text.push_reserved(byte);
     }
 
-    /// Adds these bytes.
+    /// Adds these bytes, for which there is room.
     pub fn push_all(&mut self, piece: &[u8])
         requires { length piece.now ≤ self.old.spare }
         ensures bytes { self.new.bytes ≡ self.old.bytes ++ piece.now }
@@ -60,11 +75,26 @@ impl TextBuf {
         }
     }
 
+    /// Adds these bytes, with room taken for them where there is none. An error is out of memory, and then a part of them may have been
+    /// added.
+    pub fn append(&mut self, piece: &[u8]) -> Result<(), NoMemory>
+        ensures { OnOk result (self.new.bytes ≡ self.old.bytes ++ piece.now) }
+    {
+        self.text.extend_from_slice(piece)?;
+        Ok(())
+    }
+
     /// Empties the text. The room that it took is spare again.
     pub fn clear(&mut self)
         ensures bytes { self.new.bytes ≡ [] }
         ensures spare { self.new.spare ≡ self.old.spare + length self.old.bytes }
     {
         self.text.clear();
+    }
+    /// The bytes. It takes no memory.
+    pub fn into_bytes(self) -> Vec<u8>
+        ensures { result.items ≡ self.bytes }
+    {
+        self.text
     }
 }

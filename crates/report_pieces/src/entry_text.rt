@@ -3,14 +3,14 @@ ghost use Rattle.std.specs.Prelude.{◌≡◌, ◌++◌, OnOk, OnErr};
 ghost use Rattle.machine.specs.Maps.{parameters_of};
 ghost use Rattle.report_pieces.specs.EntryTexts.{drop_text, entry_line, entry_place, entry_text, lock_text, look_text, mask_text, owner_text, place_text, tag_text, way_text, what_text};
 
-use crate::buffer::ReportText;
 use cache_core::{SliceEntry, What};
 use machine::Machine;
+use num_text::GrowingText;
 use rc_base::NoMemory;
 use std::alloc::Global;
 
 // Adds a mask.
-fn push_mask(report: &mut ReportText, machine: &Machine, mask: u32) -> Result<(), NoMemory>
+fn push_mask(report: &mut GrowingText, machine: &Machine, mask: u32) -> Result<(), NoMemory>
     ensures { OnOk result (report.new ≡ report.old ++ mask_text (parameters_of machine.now) mask) }
 {
     report.push(b" mask ".as_slice())?;
@@ -18,7 +18,7 @@ fn push_mask(report: &mut ReportText, machine: &Machine, mask: u32) -> Result<()
 }
 
 // Adds whose an access is.
-fn push_owner(report: &mut ReportText, gid: u32, rmid: u16) -> Result<(), NoMemory>
+fn push_owner(report: &mut GrowingText, gid: u32, rmid: u16) -> Result<(), NoMemory>
     ensures { OnOk result (report.new ≡ report.old ++ owner_text gid rmid) }
 {
     report.push(b"access".as_slice())?;
@@ -28,7 +28,7 @@ fn push_owner(report: &mut ReportText, gid: u32, rmid: u16) -> Result<(), NoMemo
 
 // Adds whose an access is, and its mask.
 fn push_tag(
-    report: &mut ReportText,
+    report: &mut GrowingText,
     machine: &Machine,
     gid: u32,
     rmid: u16,
@@ -41,7 +41,7 @@ fn push_tag(
 }
 
 // Adds the way of an access, after what the access was.
-fn push_way(report: &mut ReportText, hit: bool, way: u8) -> Result<(), NoMemory>
+fn push_way(report: &mut GrowingText, hit: bool, way: u8) -> Result<(), NoMemory>
     ensures { OnOk result (report.new ≡ report.old ++ way_text hit way) }
 {
     if hit {
@@ -52,7 +52,7 @@ fn push_way(report: &mut ReportText, hit: bool, way: u8) -> Result<(), NoMemory>
 
 // Adds where an access was.
 fn push_access_place(
-    report: &mut ReportText,
+    report: &mut GrowingText,
     machine: &Machine,
     line: u64,
     hit: bool,
@@ -67,7 +67,7 @@ fn push_access_place(
 
 // Adds a lock.
 fn push_lock(
-    report: &mut ReportText,
+    report: &mut GrowingText,
     machine: &Machine,
     mask: u32,
     first_line: u64,
@@ -80,7 +80,7 @@ fn push_lock(
 }
 
 // Adds a look.
-fn push_look(report: &mut ReportText, rmid: u16, lines: u64) -> Result<(), NoMemory>
+fn push_look(report: &mut GrowingText, rmid: u16, lines: u64) -> Result<(), NoMemory>
     ensures { OnOk result (report.new ≡ report.old ++ look_text rmid lines) }
 {
     report.push_number(b"look rmid ".as_slice(), u64::from(rmid))?;
@@ -88,7 +88,7 @@ fn push_look(report: &mut ReportText, rmid: u16, lines: u64) -> Result<(), NoMem
 }
 
 // Adds a drop.
-fn push_drop(report: &mut ReportText, line: u64, way: Option<u8>) -> Result<(), NoMemory>
+fn push_drop(report: &mut GrowingText, line: u64, way: Option<u8>) -> Result<(), NoMemory>
     ensures { OnOk result (report.new ≡ report.old ++ drop_text line way) }
 {
     report.push_number(b"drop line ".as_slice(), line)?;
@@ -99,7 +99,7 @@ fn push_drop(report: &mut ReportText, line: u64, way: Option<u8>) -> Result<(), 
 }
 
 // Adds what happened.
-fn push_what(report: &mut ReportText, machine: &Machine, what: &What) -> Result<(), NoMemory>
+fn push_what(report: &mut GrowingText, machine: &Machine, what: &What) -> Result<(), NoMemory>
     ensures { OnOk result (report.new ≡ report.old ++ what_text (parameters_of machine.now) what.now) }
 {
     match what {
@@ -123,7 +123,7 @@ fn push_what(report: &mut ReportText, machine: &Machine, what: &What) -> Result<
 }
 
 // Adds the position of an entry, its thread, its op's number and its epoch.
-fn push_entry_place(report: &mut ReportText, p: u64, entry: &SliceEntry) -> Result<(), NoMemory>
+fn push_entry_place(report: &mut GrowingText, p: u64, entry: &SliceEntry) -> Result<(), NoMemory>
     ensures { OnOk result (report.new ≡ report.old ++ entry_place p entry.now) }
 {
     report.push_decimal(p)?;
@@ -136,7 +136,7 @@ fn push_entry_place(report: &mut ReportText, p: u64, entry: &SliceEntry) -> Resu
 /// Adds the text of an entry at a position: its line without the newline.
 #[tactic(auto, unfolding(crate::specs::EntryTexts::entry_text))]
 pub fn push_entry_text(
-    report: &mut ReportText,
+    report: &mut GrowingText,
     machine: &Machine,
     p: u64,
     entry: &SliceEntry,
@@ -150,7 +150,7 @@ pub fn push_entry_text(
 /// Adds the line of an entry at a position.
 #[tactic(auto, unfolding(crate::specs::EntryTexts::entry_line))]
 pub fn push_entry_line(
-    report: &mut ReportText,
+    report: &mut GrowingText,
     machine: &Machine,
     p: u64,
     entry: &SliceEntry,
@@ -174,7 +174,7 @@ pub fn push_entry(
         out.old.items ++ entry_line (parameters_of machine.now) position entry.now) }
     ensures err { OnErr result (out.new.items ≡ out.old.items) }
 {
-    let mut line = ReportText::create(alloc)?;
+    let mut line = GrowingText::create(alloc)?;
     push_entry_line(&mut line, machine, u64::from(position), entry)?;
     match out.extend_from_slice(&line.into_bytes()) {
         Ok(()) => Ok(()),

@@ -5,15 +5,16 @@ ghost use Rattle.run_counts.specs.Touches.{TellsTouch};
 ghost use Rattle.run_law.specs.Entries.{entry_value};
 ghost use Rattle.script_ops.specs.Canonical.{IsNamed};
 
-use crate::buffer::ReportText;
+use crate::replies::push_reply;
+use num_text::GrowingText;
 use path_names::Names;
 use rc_base::NoMemory;
 use run_counts::is_accepted_touch;
 use run_law::{Journals, TreeEntry};
-use script_ops::{Op, OpAt};
+use script_ops::{Op, OpAt, push_op_text};
 
 // Adds whether an access hit.
-fn push_hit(report: &mut ReportText, hit: Option<bool>) -> Result<(), NoMemory>
+fn push_hit(report: &mut GrowingText, hit: Option<bool>) -> Result<(), NoMemory>
     ensures { OnOk result (report.new ≡ report.old ++ hit_text hit) }
 {
     match hit {
@@ -25,7 +26,7 @@ fn push_hit(report: &mut ReportText, hit: Option<bool>) -> Result<(), NoMemory>
 
 // Adds the result of this op of an entry.
 fn push_result_text(
-    report: &mut ReportText,
+    report: &mut GrowingText,
     journals: &Journals,
     entry: &TreeEntry,
     op: &Op,
@@ -34,7 +35,7 @@ fn push_result_text(
     requires { TellsTouch journals.now (entry_value entry.now) hit }
     ensures { OnOk result (report.new ≡ report.old ++ result_text journals.now entry.now.thread entry.now.op op.now entry.now.reply) }
 {
-    report.push_reply(entry.reply)?;
+    push_reply(report, entry.reply)?;
     if is_accepted_touch(op, entry.reply) {
         push_hit(report, hit)
     } else {
@@ -44,7 +45,7 @@ fn push_result_text(
 
 /// Adds the canonical text of an op, and nothing where there is none.
 pub fn push_words(
-    report: &mut ReportText,
+    report: &mut GrowingText,
     names: &Names,
     op: &Option<OpAt<'_>>,
 ) -> Result<(), NoMemory>
@@ -52,7 +53,7 @@ pub fn push_words(
     ensures { OnOk result (report.new ≡ report.old ++ words_by names.now op.now) }
 {
     match op {
-        Some(op) => report.push_op(op.get(), names),
+        Some(op) => push_op_text(report, names, op.get()),
         None => Ok(()),
     }
 }
@@ -60,7 +61,7 @@ pub fn push_words(
 /// Adds the result of an entry, whose op this is: `ok`, or the error's name and the reason's text; for an accepted touch `ok hit`
 /// or `ok miss`, by its access.
 pub fn push_result(
-    report: &mut ReportText,
+    report: &mut GrowingText,
     journals: &Journals,
     entry: &TreeEntry,
     op: &Option<OpAt<'_>>,
@@ -71,6 +72,6 @@ pub fn push_result(
 {
     match op {
         Some(op) => push_result_text(report, journals, entry, op.get(), hit),
-        None => report.push_reply(entry.reply),
+        None => push_reply(report, entry.reply),
     }
 }

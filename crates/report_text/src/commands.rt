@@ -8,8 +8,9 @@ ghost use Rattle.run_replay.specs.CommandsOfRuns.{IsInRun, IsTreeBefore, given_a
 ghost use Rattle.run_replay.specs.Playbacks.{HasTakenBefore};
 ghost use Rattle.tree_law.specs.State.{opening};
 
+use num_text::GrowingText;
 use rc_base::NoMemory;
-use report_pieces::{ReportText, push_result, push_words};
+use report_pieces::{push_barred, push_result, push_words};
 use run_counts::Touches;
 use run_law::TreeEntry;
 use run_replay::{CommandAt, GivenTexts, Playback, Run};
@@ -17,7 +18,7 @@ use std::alloc::Global;
 
 // Adds the position of an entry, its thread and its op's number.
 #[tactic(auto, unfolding(crate::specs::Commands::command_place))]
-fn push_place(report: &mut ReportText, k: u64, entry: &TreeEntry) -> Result<(), NoMemory>
+fn push_place(report: &mut GrowingText, k: u64, entry: &TreeEntry) -> Result<(), NoMemory>
     ensures { OnOk result (report.new ≡ report.old ++ command_place k (entry_value entry.now)) }
 {
     report.push_decimal(k)?;
@@ -28,7 +29,7 @@ fn push_place(report: &mut ReportText, k: u64, entry: &TreeEntry) -> Result<(), 
 
 // Adds the lines of what a command gave, where it was an accepted read or list.
 fn push_given_lines<R: Playback>(
-    report: &mut ReportText,
+    report: &mut GrowingText,
     replay: &mut R,
     texts: &mut GivenTexts,
     command: &CommandAt<'_>,
@@ -43,12 +44,12 @@ fn push_given_lines<R: Playback>(
     if !texts.give(replay, command)? {
         return Ok(());
     }
-    report.push_barred(texts.latest())
+    push_barred(report, texts.latest())
 }
 
 // Adds the line of the command at a position, with what it gave.
 fn push_command<R: Playback>(
-    report: &mut ReportText,
+    report: &mut GrowingText,
     replay: &mut R,
     texts: &mut GivenTexts,
     command: &CommandAt<'_>,
@@ -76,7 +77,7 @@ fn push_command<R: Playback>(
 /// Adds the lines of the commands, with what they gave. The tree that is lent is taken as far as the last text.
 pub(crate) fn push_commands<R: Playback>(
     alloc: Global,
-    report: &mut ReportText,
+    report: &mut GrowingText,
     run: &Run<'_>,
     replay: &mut R,
 ) -> Result<(), NoMemory>

@@ -2,12 +2,12 @@
 ghost use Rattle.std.specs.Prelude.{◌≡◌, ◌++◌, OnOk};
 ghost use Rattle.report_text.specs.Counts.{counts_told};
 
+use num_text::GrowingText;
 use rc_base::NoMemory;
-use report_pieces::ReportText;
 use run_counts::Counts;
 
 /// Adds counts of accesses.
-pub(crate) fn push_counts(report: &mut ReportText, counts: Counts) -> Result<(), NoMemory>
+pub(crate) fn push_counts(report: &mut GrowingText, counts: Counts) -> Result<(), NoMemory>
     ensures { OnOk result (report.new ≡ report.old ++ counts_told counts) }
 {
     report.push(b"accesses ".as_slice())?;

@@ -7,14 +7,14 @@ ghost use Rattle.run_counts.specs.RunCounts.{AreCountsOf};
 ghost use Rattle.report_text.specs.Domains.{domain_line, domain_told, rmid_text, rmids_told};
 
 use machine::Machine;
+use num_text::GrowingText;
 use rc_base::NoMemory;
-use report_pieces::ReportText;
 use run_counts::{DomainLines, RunCounts};
 use run_law::Journals;
 use script_ops::Script;
 
 // Adds an RMID with its lines, where it has some.
-fn push_rmid(report: &mut ReportText, rmid: u16, lines: u64) -> Result<(), NoMemory>
+fn push_rmid(report: &mut GrowingText, rmid: u16, lines: u64) -> Result<(), NoMemory>
     ensures { OnOk result (report.new ≡ report.old ++ rmid_text rmid lines) }
 {
     if lines == 0 {
@@ -28,7 +28,7 @@ fn push_rmid(report: &mut ReportText, rmid: u16, lines: u64) -> Result<(), NoMem
 
 // Adds each RMID with lines.
 fn push_rmids(
-    report: &mut ReportText,
+    report: &mut GrowingText,
     machine: &Machine,
     lines: &DomainLines,
 ) -> Result<(), NoMemory>
@@ -43,7 +43,7 @@ fn push_rmids(
 
 // Adds the line of a domain.
 fn push_domain(
-    report: &mut ReportText,
+    report: &mut GrowingText,
     machine: &Machine,
     domain: u8,
     lines: &DomainLines,
@@ -63,7 +63,7 @@ fn push_domain(
 
 /// Adds the lines of the domains: what their slices hold at the end of the run, as it was counted.
 pub fn push_domains(
-    report: &mut ReportText,
+    report: &mut GrowingText,
     script: &Script,
     journals: &Journals,
     counts: &RunCounts,

@@ -5,13 +5,13 @@ ghost use Rattle.path_names.specs.PathTexts.{path_text};
 ghost use Rattle.report_text.specs.Groups.{group_told};
 
 use crate::counts::push_counts;
-use path_names::{Names, PathRef};
+use num_text::GrowingText;
+use path_names::{Names, PathRef, push_path};
 use rc_base::NoMemory;
-use report_pieces::ReportText;
 use run_counts::Counts;
 
 // Adds the beginning of the line of a group.
-fn push_gid(report: &mut ReportText, gid: u32) -> Result<(), NoMemory>
+fn push_gid(report: &mut GrowingText, gid: u32) -> Result<(), NoMemory>
     ensures { OnOk result (report.new ≡ report.old ++ (codes "group " ++ decimal gid ++ codes " ")) }
 {
     report.push(b"group ".as_slice())?;
@@ -21,7 +21,7 @@ fn push_gid(report: &mut ReportText, gid: u32) -> Result<(), NoMemory>
 
 /// Adds the line of a control group with this gid, this path and these counts.
 pub fn push_group(
-    report: &mut ReportText,
+    report: &mut GrowingText,
     names: &Names,
     gid: u32,
     path: PathRef,
@@ -31,7 +31,7 @@ pub fn push_group(
     ensures { OnOk result (report.new ≡ report.old ++ group_told gid (path_text names.now path) counts) }
 {
     push_gid(report, gid)?;
-    report.push_path(names, path)?;
+    push_path(report, names, path)?;
     report.push(b": ".as_slice())?;
     push_counts(report, counts)?;
     report.push(b"\n".as_slice())

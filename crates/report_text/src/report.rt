@@ -8,8 +8,8 @@ ghost use Rattle.run_replay.specs.Playbacks.{HasTakenBefore};
 use crate::commands::push_commands;
 use crate::text_groups::push_groups;
 use crate::{push_domains, push_journal, push_total, push_windows};
+use num_text::GrowingText;
 use rc_base::NoMemory;
-use report_pieces::ReportText;
 use run_counts::RunCounts;
 use run_law::{Flags, Journals, Window};
 use run_replay::{Playback, Replay, Run, made_groups};
@@ -19,7 +19,7 @@ use std::alloc::Global;
 // Adds the lines of the commands, but not to a quiet report.
 fn push_commands_part<R: Playback>(
     alloc: Global,
-    report: &mut ReportText,
+    report: &mut GrowingText,
     run: &Run<'_>,
     quiet: bool,
     replay: &mut R,
@@ -45,7 +45,7 @@ pub fn head<R: Playback>(
     run: &Run<'_>,
     flags: Flags,
     replay: &mut R,
-) -> Result<ReportText, NoMemory>
+) -> Result<GrowingText, NoMemory>
     requires run { IsRun run.now.script.now run.now.journals.now }
     requires taken { HasTakenBefore run.now.script.now run.now.journals.now.tree 0 (R.played replay.old) }
     requires notes { R.notes run.now.script.now run.now.journals.now replay.old }
@@ -53,14 +53,14 @@ pub fn head<R: Playback>(
     ensures taken { OnOk result (HasTakenBefore run.now.script.now run.now.journals.now.tree (length run.now.journals.now.tree) (R.played replay.new)) }
     ensures notes { OnOk result (R.notes run.now.script.now run.now.journals.now replay.new) }
 {
-    let mut report = ReportText::create(alloc)?;
+    let mut report = GrowingText::create(alloc)?;
     push_commands_part(alloc, &mut report, run, flags.quiet, replay)?;
     push_journal(&mut report, flags.journal, run.script, run.journals)?;
     Ok(report)
 }
 
 // The same by a tree of its own.
-fn own_head(alloc: Global, run: &Run<'_>, flags: Flags) -> Result<ReportText, NoMemory>
+fn own_head(alloc: Global, run: &Run<'_>, flags: Flags) -> Result<GrowingText, NoMemory>
     requires run { IsRun run.now.script.now run.now.journals.now }
     ensures { IfOk result (λ report. report ≡ head_of run.now.script.now run.now.journals.now flags) }
 {
@@ -71,7 +71,7 @@ fn own_head(alloc: Global, run: &Run<'_>, flags: Flags) -> Result<ReportText, No
 // Adds all lines after the first part.
 fn push_tail(
     alloc: Global,
-    report: &mut ReportText,
+    report: &mut GrowingText,
     run: &Run<'_>,
     flags: Flags,
     windows: &[Window],
@@ -91,7 +91,7 @@ fn push_tail(
 /// for each control group and for each domain, and a last line. Every number is counted from the journals.
 pub fn finish(
     alloc: Global,
-    mut head: ReportText,
+    mut head: GrowingText,
     run: &Run<'_>,
     flags: Flags,
     windows: &[Window],

@@ -6,14 +6,15 @@ ghost use Rattle.report_text.specs.SliceLines.{domain_slices, entry_lines, journ
 
 use cache_core::SliceEntry;
 use machine::Machine;
+use num_text::GrowingText;
 use rc_base::NoMemory;
-use report_pieces::{ReportText, push_entry_line};
+use report_pieces::push_entry_line;
 use run_counts::number_of;
 use run_law::Journals;
 use script_ops::Script;
 
 // Adds the name of a slice.
-fn push_heading(report: &mut ReportText, domain: u8, slice: u8) -> Result<(), NoMemory>
+fn push_heading(report: &mut GrowingText, domain: u8, slice: u8) -> Result<(), NoMemory>
     ensures { OnOk result (report.new ≡ report.old ++ slice_heading domain slice) }
 {
     report.push_number(b"slice ".as_slice(), u64::from(domain))?;
@@ -23,7 +24,7 @@ fn push_heading(report: &mut ReportText, domain: u8, slice: u8) -> Result<(), No
 
 // Adds the lines of entries.
 fn push_entries(
-    report: &mut ReportText,
+    report: &mut GrowingText,
     machine: &Machine,
     entries: &[SliceEntry],
 ) -> Result<(), NoMemory>
@@ -37,7 +38,7 @@ fn push_entries(
 
 // Adds the lines of a slice.
 fn push_slice(
-    report: &mut ReportText,
+    report: &mut GrowingText,
     script: &Script,
     journals: &Journals,
     domain: u8,
@@ -55,7 +56,7 @@ fn push_slice(
 
 // Adds the lines of the slices of a domain.
 fn push_domain_slices(
-    report: &mut ReportText,
+    report: &mut GrowingText,
     script: &Script,
     journals: &Journals,
     domain: u8,
@@ -73,7 +74,7 @@ fn push_domain_slices(
 // Adds the lines of all slices.
 #[tactic(auto, unfolding(crate::specs::SliceLines::slices_text))]
 fn push_slices(
-    report: &mut ReportText,
+    report: &mut GrowingText,
     script: &Script,
     journals: &Journals,
 ) -> Result<(), NoMemory>
@@ -88,7 +89,7 @@ fn push_slices(
 
 /// Adds the lines of all slices, one for each entry, where they are asked for.
 pub fn push_journal(
-    report: &mut ReportText,
+    report: &mut GrowingText,
     asked: bool,
     script: &Script,
     journals: &Journals,

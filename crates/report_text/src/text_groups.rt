@@ -9,9 +9,9 @@ ghost use Rattle.run_replay.specs.Replayed.{AreKnownGroups};
 ghost use Rattle.tree_law.specs.State.{opening};
 
 use crate::push_group;
+use num_text::GrowingText;
 use path_names::{DirRef, PathRef};
 use rc_base::NoMemory;
-use report_pieces::ReportText;
 use run_counts::Tally;
 use run_law::Journals;
 use run_replay::MadeGroup;
@@ -19,7 +19,7 @@ use script_ops::Script;
 
 // Adds the line of a control group that was made.
 fn push_made_group(
-    report: &mut ReportText,
+    report: &mut GrowingText,
     script: &Script,
     journals: &Journals,
     made: MadeGroup,
@@ -35,7 +35,7 @@ fn push_made_group(
 
 // Adds the lines of the control groups that were made.
 fn push_made(
-    report: &mut ReportText,
+    report: &mut GrowingText,
     script: &Script,
     journals: &Journals,
     made: &[MadeGroup],
@@ -53,7 +53,7 @@ fn push_made(
 
 // Adds the line of the default group.
 fn push_default_group(
-    report: &mut ReportText,
+    report: &mut GrowingText,
     script: &Script,
     journals: &Journals,
     tally: &Tally,
@@ -67,7 +67,7 @@ fn push_default_group(
 
 /// Adds the lines of the groups: the default group, and those that were made.
 pub(crate) fn push_groups(
-    report: &mut ReportText,
+    report: &mut GrowingText,
     script: &Script,
     journals: &Journals,
     made: &[MadeGroup],

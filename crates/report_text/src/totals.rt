@@ -8,14 +8,14 @@ ghost use Rattle.report_text.specs.Counts.{counts_text};
 ghost use Rattle.report_text.specs.Totals.{commands_count, total_line};
 
 use crate::counts::push_counts;
+use num_text::GrowingText;
 use rc_base::NoMemory;
-use report_pieces::ReportText;
 use run_counts::{Tally, count_refused};
 use run_law::{Journals, TreeEntry};
 use script_ops::Script;
 
 // Adds how many commands there were, and how many were refused.
-fn push_commands_count(report: &mut ReportText, tree: &[TreeEntry]) -> Result<(), NoMemory>
+fn push_commands_count(report: &mut GrowingText, tree: &[TreeEntry]) -> Result<(), NoMemory>
     ensures { OnOk result (report.new ≡ report.old ++ commands_count (map entry_value tree.now)) }
 {
     report.push(b"total: commands ".as_slice())?;
@@ -27,7 +27,7 @@ fn push_commands_count(report: &mut ReportText, tree: &[TreeEntry]) -> Result<()
 
 // Adds all accesses, hits and misses.
 fn push_all_counts(
-    report: &mut ReportText,
+    report: &mut GrowingText,
     script: &Script,
     journals: &Journals,
     tally: &Tally,
@@ -41,7 +41,7 @@ fn push_all_counts(
 /// Adds the last line: how many commands there were and how many were refused, and all accesses as they were tallied, with their
 /// hits and misses.
 pub fn push_total(
-    report: &mut ReportText,
+    report: &mut GrowingText,
     script: &Script,
     journals: &Journals,
     tally: &Tally,

@@ -4,12 +4,12 @@ ghost use Rattle.std.specs.List.{flat_map};
 ghost use Rattle.report_text.specs.WindowLines.{windows_part};
 ghost use Rattle.report_text.specs.WindowLines.{window_counts, window_line, window_place};
 
+use num_text::GrowingText;
 use rc_base::NoMemory;
-use report_pieces::ReportText;
 use run_law::Window;
 
 // Adds where a window is.
-fn push_place(report: &mut ReportText, window: &Window) -> Result<(), NoMemory>
+fn push_place(report: &mut GrowingText, window: &Window) -> Result<(), NoMemory>
     ensures { OnOk result (report.new ≡ report.old ++ window_place window.now) }
 {
     report.push_number(b"window ".as_slice(), u64::from(window.domain))?;
@@ -21,7 +21,7 @@ fn push_place(report: &mut ReportText, window: &Window) -> Result<(), NoMemory>
 }
 
 // Adds what is counted in a window.
-fn push_counts(report: &mut ReportText, window: &Window) -> Result<(), NoMemory>
+fn push_counts(report: &mut GrowingText, window: &Window) -> Result<(), NoMemory>
     ensures { OnOk result (report.new ≡ report.old ++ window_counts window.now) }
 {
     report.push_number(b"accesses ".as_slice(), window.accesses)?;
@@ -33,7 +33,7 @@ fn push_counts(report: &mut ReportText, window: &Window) -> Result<(), NoMemory>
 
 // Adds the line of a window.
 #[tactic(auto, unfolding(crate::specs::WindowLines::window_line))]
-fn push_window(report: &mut ReportText, window: &Window) -> Result<(), NoMemory>
+fn push_window(report: &mut GrowingText, window: &Window) -> Result<(), NoMemory>
     ensures { OnOk result (report.new ≡ report.old ++ window_line window.now) }
 {
     push_place(report, window)?;
@@ -42,7 +42,7 @@ fn push_window(report: &mut ReportText, window: &Window) -> Result<(), NoMemory>
 }
 
 // Adds the lines of windows.
-fn push_all(report: &mut ReportText, windows: &[Window]) -> Result<(), NoMemory>
+fn push_all(report: &mut GrowingText, windows: &[Window]) -> Result<(), NoMemory>
     ensures { OnOk result (report.new ≡ report.old ++ flat_map window_line windows.now) }
 {
     for window in windows {
@@ -53,7 +53,7 @@ fn push_all(report: &mut ReportText, windows: &[Window]) -> Result<(), NoMemory>
 
 /// Adds the lines of windows of isolation, where they are asked for.
 pub fn push_windows(
-    report: &mut ReportText,
+    report: &mut GrowingText,
     asked: bool,
     windows: &[Window],
 ) -> Result<(), NoMemory>

@@ -6,8 +6,8 @@ ghost use Rattle.run_law.specs.Runs.{IsRun};
 ghost use Rattle.run_replay.specs.Playbacks.{HasTakenBefore};
 ghost use Rattle.script_ops.specs.Values.{IsLawful};
 
+use num_text::GrowingText;
 use rc_base::NoMemory;
-use report_pieces::ReportText;
 use run_law::{Flags, Journals, Window};
 use run_replay::{Playback, Run};
 use run_windows::{FollowedReplay, has_exclusive_write, windows, windows_after};
@@ -20,7 +20,7 @@ fn head<R: Playback>(
     run: &Run<'_>,
     flags: Flags,
     replay: &mut R,
-) -> Result<ReportText, NoMemory>
+) -> Result<GrowingText, NoMemory>
     requires run { IsRun run.now.script.now run.now.journals.now }
     requires taken { HasTakenBefore run.now.script.now run.now.journals.now.tree 0 (R.played replay.old) }
     requires notes { R.notes run.now.script.now run.now.journals.now replay.old }
@@ -38,7 +38,7 @@ fn head<R: Playback>(
 // A report with the rest after its first part.
 fn finish(
     alloc: Global,
-    head: ReportText,
+    head: GrowingText,
     run: &Run<'_>,
     flags: Flags,
     windows: &[Window],

@@ -1,4 +1,3 @@
-pub mod Decimals
 pub mod FirstLine
 pub mod SlotOps
 pub mod Threads

@@ -2,7 +2,6 @@
 #![tactic(auto)]
 
 pub mod bytes;
-pub mod growing_text;
 pub mod limits;
 mod numbering;
 pub mod op;
@@ -18,7 +17,6 @@ pub mod weights;
 pub mod written;
 
 pub use bytes::Bytes;
-pub use growing_text::GrowingText;
 pub use limits::{
     MOST_ORDER, MOST_PATH_BYTES, MOST_PHASE_THREADS, MOST_PHASES, MOST_SCRIPT_BYTES, MOST_TASKS,
     MOST_TEXT_BYTES, MOST_THREADS, MOST_WEIGHT,
@@ -27,7 +25,7 @@ pub use op::Op;
 pub use op_at::OpAt;
 pub use ops::Ops;
 pub use phase::Phase;
-pub use printing::push_op;
+pub use printing::{push_op, push_op_text};
 pub use script::Script;
 pub use text_lines::next_line;
 pub use weights::weight_of;

@@ -5,10 +5,10 @@ ghost use Rattle.path_names.specs.PathTexts.{path_text};
 ghost use Rattle.script_ops.specs.Canonical.{op_ids, op_text, text_after};
 ghost use Rattle.script_ops.specs.declared.op.Op.TheVariants.{Access, Flush, Touch};
 
-use crate::growing_text::GrowingText;
 use crate::op::Op;
 use crate::written::push_written;
-use path_names::{Names, PathRef};
+use num_text::GrowingText;
+use path_names::{Names, PathRef, push_path};
 use rc_base::NoMemory;
 use std::alloc::Global;
 
@@ -23,7 +23,7 @@ fn push_command(
     ensures { OnOk result (text.new ≡ text.old ++ (word.now ++ path_text names.now path)) }
 {
     text.push(word)?;
-    text.push_path(names, path)
+    push_path(text, names, path)
 }
 
 // Adds a write.
@@ -83,42 +83,40 @@ fn push_use(text: &mut GrowingText, offset: u64, task: u32, cpu: u8) -> Result<(
     text.push_decimal(u64::from(cpu))
 }
 
-impl GrowingText {
-    /// Adds the canonical text of an op.
-    pub fn push_op(&mut self, names: &Names, op: &Op) -> Result<(), NoMemory>
-        requires { AreKnown (length names.now) (op_ids op.now) }
-        ensures { OnOk result (self.new ≡ self.old ++ op_text names.now op.now) }
-    {
-        match op {
-            Op::Mkdir { path } => push_command(self, b"mkdir ", names, *path),
-            Op::Rmdir { path } => push_command(self, b"rmdir ", names, *path),
-            Op::Write {
-                path,
-                text: written,
-            } => push_write(self, names, *path, written.as_slice()),
-            Op::Read { path } => push_command(self, b"read ", names, *path),
-            Op::List { path } => push_command(self, b"list ", names, *path),
-            Op::Flush { domain } => push_flush(self, names, *domain),
-            Op::Tick => self.push(b"tick"),
-            Op::Access { task, cpu, addr } => push_access(self, names, *task, *cpu, *addr),
-            Op::Touch {
-                path,
-                offset,
-                task,
-                cpu,
-            } => {
-                push_command(self, b"touch ", names, *path)?;
-                push_use(self, *offset, *task, *cpu)
-            }
-            Op::DropLine { addr } => {
-                self.push(b"clflush ")?;
-                self.push_decimal(*addr)
-            }
-            Op::DropRegion { path, offset } => {
-                push_command(self, b"clflush ", names, *path)?;
-                self.push(b" ")?;
-                self.push_decimal(*offset)
-            }
+/// Adds the canonical text of an op to a text that grows. An error is out of memory, after which a part of it may have been added.
+pub fn push_op_text(text: &mut GrowingText, names: &Names, op: &Op) -> Result<(), NoMemory>
+    requires { AreKnown (length names.now) (op_ids op.now) }
+    ensures { OnOk result (text.new ≡ text.old ++ op_text names.now op.now) }
+{
+    match op {
+        Op::Mkdir { path } => push_command(text, b"mkdir ", names, *path),
+        Op::Rmdir { path } => push_command(text, b"rmdir ", names, *path),
+        Op::Write {
+            path,
+            text: written,
+        } => push_write(text, names, *path, written.as_slice()),
+        Op::Read { path } => push_command(text, b"read ", names, *path),
+        Op::List { path } => push_command(text, b"list ", names, *path),
+        Op::Flush { domain } => push_flush(text, names, *domain),
+        Op::Tick => text.push(b"tick"),
+        Op::Access { task, cpu, addr } => push_access(text, names, *task, *cpu, *addr),
+        Op::Touch {
+            path,
+            offset,
+            task,
+            cpu,
+        } => {
+            push_command(text, b"touch ", names, *path)?;
+            push_use(text, *offset, *task, *cpu)
+        }
+        Op::DropLine { addr } => {
+            text.push(b"clflush ")?;
+            text.push_decimal(*addr)
+        }
+        Op::DropRegion { path, offset } => {
+            push_command(text, b"clflush ", names, *path)?;
+            text.push(b" ")?;
+            text.push_decimal(*offset)
         }
     }
 }
@@ -131,7 +129,7 @@ pub fn push_op(alloc: Global, op: &Op, names: &Names, out: &mut Vec<u8>) -> Resu
     ensures err { OnErr result (out.new.items ≡ out.old.items) }
 {
     let mut text = GrowingText::create(alloc)?;
-    text.push_op(names, op)?;
+    push_op_text(&mut text, names, op)?;
     match out.extend_from_slice(text.bytes()) {
         Ok(()) => Ok(()),
         Err(_) => Err(NoMemory),

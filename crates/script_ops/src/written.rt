@@ -3,7 +3,7 @@ ghost use Rattle.std.specs.Prelude.{◌≡◌, ◌++◌, OnOk};
 ghost use Rattle.std.specs.List.{flat_map};
 ghost use Rattle.script_ops.specs.Canonical.{escaped, text_after};
 
-use crate::growing_text::GrowingText;
+use num_text::GrowingText;
 use rc_base::NoMemory;
 
 /// Adds a written text after a space and with its escapes, and nothing where it is empty (this project's profile). An error is out of

@@ -14,4 +14,4 @@ mod usual;
 
 pub use reading::read_script;
 pub use script_lines::{LineFault, ScriptError, ScriptFault};
-pub use script_ops::{Bytes, GrowingText, Op, Script, next_line, push_op};
+pub use script_ops::{Bytes, Op, Script, next_line, push_op};

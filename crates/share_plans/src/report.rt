@@ -7,8 +7,8 @@ ghost use Rattle.share_plans.specs.Reports.{curve_text, curve_texts, row_line, v
 use crate::demand::Demand;
 use crate::division_limits::MOST_WAYS;
 use crate::program::Program;
+use num_text::GrowingText;
 use rc_base::NoMemory;
-use script_ops::GrowingText;
 
 // Adds the line of one number of ways.
 #[tactic(auto, unfolding(way_curve::specs::CurveTexts::ways_line))]

@@ -7,7 +7,6 @@ ghost use Rattle.share_plans.specs.declared.division_limits.TheConstants.{MOST_P
 ghost use Rattle.share_plans.specs.declared.program.Program.{Program as Wish};
 ghost use Rattle.share_plans.specs.declared.program_use.ProgramUse.{ProgramUse as Use};
 
-use crate::demand::Demand;
 use crate::demands::{push_demands, push_shared};
 use crate::division::divide;
 use crate::goal::Goal;
@@ -17,8 +16,8 @@ use crate::report::{push_curves, push_verdict};
 use crate::scores::is_less;
 use crate::shared_cache::SharedCache;
 use crate::totals::{push_divided, push_misses, push_shared_lines, push_totals, score_of};
+use num_text::GrowingText;
 use rc_base::NoMemory;
-use script_ops::GrowingText;
 use std::alloc::Global;
 
 // Adds what all programs miss with these ways, and whether that is better than to share.

@@ -11,8 +11,8 @@ use crate::goal::Goal;
 use crate::program::Program;
 use crate::score::Score;
 use crate::scores::{joined, score_one};
+use num_text::GrowingText;
 use rc_base::NoMemory;
-use script_ops::GrowingText;
 
 // What no program counts.
 const NO_SCORE: Score = Score { part: 0, whole: 1 };

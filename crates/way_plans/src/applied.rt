@@ -8,8 +8,9 @@ use crate::domains::is_whole;
 use crate::plan::Plan;
 use crate::report::push_script_lines;
 use group_tree::Group;
+use num_text::GrowingText;
 use rc_base::NoMemory;
-use script_ops::{GrowingText, Script};
+use script_ops::Script;
 use std::alloc::Global;
 
 // Whether the last byte is a newline.

@@ -9,8 +9,8 @@ use crate::divisions::push_misses;
 use crate::domains::push_domain;
 use crate::{Comparison, DomainPlan};
 use group_tree::Group;
+use num_text::GrowingText;
 use rc_base::NoMemory;
-use script_ops::GrowingText;
 
 // Adds the line of one thing that a domain's plan is compared with.
 fn push_line(text: &mut GrowingText, domain: u8, what: &[u8], misses: u64) -> Result<(), NoMemory>

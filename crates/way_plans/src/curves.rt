@@ -10,9 +10,10 @@ use crate::MOST_WAYS;
 use crate::asked_domain::AskedDomain;
 use crate::writes::dir_of;
 use group_tree::Group;
-use path_names::{Names, PathRef};
+use num_text::GrowingText;
+use path_names::{Names, PathRef, push_path};
 use rc_base::NoMemory;
-use script_ops::{GrowingText, Script};
+use script_ops::Script;
 
 // Adds the line of one number of ways.
 #[tactic(auto, unfolding(way_curve::specs::CurveTexts::ways_line))]
@@ -72,7 +73,7 @@ fn push_heading(
     text.push(b" group ")?;
     text.push_decimal(u64::from(group.gid.0))?;
     text.push(b" ")?;
-    text.push_path(names, path)?;
+    push_path(text, names, path)?;
     text.push(b":\n")
 }
 

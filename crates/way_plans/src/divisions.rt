@@ -6,8 +6,8 @@ ghost use Rattle.way_plans.specs.Divisions.{misses_of};
 ghost use Rattle.way_plans.specs.declared.order.Order.TheVariants.{Creation};
 
 use crate::{DomainPlan, MOST_WAYS, Order, Span};
+use num_text::GrowingText;
 use rc_base::NoMemory;
-use script_ops::GrowingText;
 
 // The misses with a number of ways.
 fn misses_with(row: &[u64; MOST_WAYS + 1], ways: u8) -> u64

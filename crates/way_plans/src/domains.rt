@@ -9,8 +9,8 @@ use crate::asked_domain::AskedDomain;
 use crate::curves::push_curves;
 use crate::divisions::push_division;
 use group_tree::Group;
+use num_text::GrowingText;
 use rc_base::NoMemory;
-use script_ops::GrowingText;
 
 /// Adds what is told of a domain, where `only_used` of it is set without the curves of groups that have no uses there.
 pub(crate) fn push_domain(

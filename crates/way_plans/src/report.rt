@@ -12,8 +12,9 @@ use crate::schemata::{PlannedScript, push_schemata};
 use crate::writes::{push_all_exclusive, push_all_shareable};
 use crate::{Comparison, DomainPlan};
 use group_tree::Group;
+use num_text::GrowingText;
 use rc_base::NoMemory;
-use script_ops::{GrowingText, Script};
+use script_ops::Script;
 use std::alloc::Global;
 
 /// Adds the lines of a script, where each domain has a division.

@@ -8,10 +8,11 @@ use crate::domain_plan::DomainPlan;
 use crate::masks::push_masks;
 use crate::writes::push_write;
 use group_tree::Group;
+use num_text::GrowingText;
 use path_names::FileKind;
 use rc_base::{NoMemory, TextBuf};
 use schemata_text::print;
-use script_ops::{GrowingText, Script};
+use script_ops::Script;
 use std::alloc::Global;
 
 /// A script with the plans of its domains.

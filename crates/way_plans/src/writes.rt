@@ -5,9 +5,10 @@ ghost use Rattle.way_plans.specs.PlanTexts.{dir_of, exclusive_line, is_exclusive
 ghost use Rattle.tree_core.specs.Named.{AreNamed, IsNamed};
 
 use group_tree::Group;
-use path_names::{DirRef, FileKind, Names, PathRef};
+use num_text::GrowingText;
+use path_names::{DirRef, FileKind, Names, PathRef, push_path};
 use rc_base::{Mode, NoMemory};
-use script_ops::{GrowingText, push_written};
+use script_ops::push_written;
 
 /// The directory of a control group.
 pub(crate) fn dir_of(group: &Group) -> DirRef
@@ -32,7 +33,7 @@ pub(crate) fn push_write(
 {
     let path = PathRef::File(dir_of(group), file);
     text.push(b"write ")?;
-    text.push_path(names, path)?;
+    push_path(text, names, path)?;
     push_written(text, written)?;
     text.push(b"\n")
 }

@@ -1,9 +1,8 @@
-//! The canonical texts of numbers.
-ghost use Rattle.std.specs.Prelude.{◌≡◌, ◌+◌, ◌/◌, ◌%◌, ◌≤◌, ◌<◌, [], ◌∷◌, ◌++◌, length, decimal, false};
+//! Numbers in hexadecimal.
+ghost use Rattle.std.specs.Prelude.{◌≡◌, ◌+◌, ◌/◌, ◌%◌, ◌≤◌, ◌<◌, [], ◌∷◌, ◌++◌, length, false};
 ghost use Rattle.std.specs.Fmt.{digit_glyph};
 ghost use Rattle.num_text.specs.Printed.{hexadecimal};
 
-use itoa::Buffer;
 use rc_base::TextBuf;
 
 fn glyph(digit: u8) -> u8
@@ -47,16 +46,6 @@ fn push_digits(n: u64, width: u8, out: &mut TextBuf)
     } else {
         out.push(glyph(n as u8));
     }
-}
-
-/// Adds a number in decimal, without leading zeros (this project's profile).
-pub fn push_dec(n: u64, out: &mut TextBuf)
-    requires { 20 ≤ out.old.spare }
-    ensures bytes { out.new.bytes ≡ out.old.bytes ++ decimal n }
-    ensures spare { out.new.spare + length (decimal n) ≡ out.old.spare }
-{
-    let mut digits = Buffer::new();
-    out.push_all(digits.format(n).as_bytes());
 }
 
 /// Adds a number in hexadecimal, in lower case, with zeros on the left up to `width` digits in

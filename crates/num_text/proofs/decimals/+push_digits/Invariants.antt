@@ -1,4 +1,4 @@
-use Rattle.script_ops.proofs.growing_text.+push_digits.Given as goal
+use Rattle.num_text.proofs.decimals.+push_digits.Given as goal
 
 abbrev pub decreases-push_digits : goal.decreases-push_digits
 decreases-push_digits l = l.n

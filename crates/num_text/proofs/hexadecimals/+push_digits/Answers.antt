@@ -2,7 +2,7 @@ use Rattle.std.proofs.Common.{◌-◌, ◌/◌, ◌%◌, arith, append_assoc}
 use Rattle.num_text.specs.Printed.{hexadecimal}
 use Rattle.num_text.proofs.Prints.{div-lt_number, hexadecimal-pairs, hexadecimal-two, hexadecimal-wide, hexadecimal-zeros, length-hexadecimal_pairs, length-hexadecimal_two, length-hexadecimal_wide, length-hexadecimal_zeros, pair_glyphs}
 use Rattle.num_text.proofs.laws.Prints.{filled-last, length-filled_last}
-use Rattle.num_text.proofs.printing.+push_digits.Goals as goal
+use Rattle.num_text.proofs.hexadecimals.+push_digits.Goals as goal
 
 -- two digits more of the number
 pub push_digits-requires : goal.push_digits-requires
