@@ -8,8 +8,8 @@ use Rattle.json_report.specs.WindowValues.{windows_part}
 use Rattle.json_report.specs.Commands.{command_values}
 use Rattle.json_report.specs.Groups.{group_values}
 use Rattle.run_law.specs.Journals.{JournalsValue}
-use Rattle.run_law.specs.declared.flags.Flags.{Flags}
-use Rattle.run_law.specs.declared.window.Window.{Window}
+use Rattle.report_pieces.specs.declared.flags.Flags.{Flags}
+use Rattle.run_counts.specs.declared.window.Window.{Window}
 use Rattle.script_ops.specs.Values.{ScriptValue}
 use Rattle.serde_json.specs.Data.{Data}
 use Rattle.serde_json.specs.Written.{compact_text}

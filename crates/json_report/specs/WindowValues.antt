@@ -1,7 +1,7 @@
 -- The values of windows of isolation.
 use Rattle.std.specs.Prelude.{ℕ, Bool, if◌then◌else◌, List, [], ◌∷◌, ◌++◌, codes, map}
 use Rattle.json_report.specs.Values.{array_of, object_of, whole}
-use Rattle.run_law.specs.declared.window.Window.{Window}
+use Rattle.run_counts.specs.declared.window.Window.{Window}
 use Rattle.serde_json.specs.Data.{Data}
 
 -- the members of a window after `accesses`, up to `from`

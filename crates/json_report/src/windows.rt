@@ -9,7 +9,7 @@ ghost use Rattle.serde_json.specs.Written.{comma_if, compact_text};
 use crate::members::{push_comma, push_key, push_number};
 use num_text::GrowingText;
 use rc_base::NoMemory;
-use run_law::Window;
+use run_counts::Window;
 
 // Adds the members of a window up to `from`.
 fn push_first_members(report: &mut GrowingText, window: &Window) -> Result<(), NoMemory>

@@ -21,7 +21,7 @@ use Rattle.replay_top.specs.declared.outcome.Replayed.TheVariants as outcomes
 use Rattle.run_law.specs.Clauses.{MeetsClauses, RunsByClauses}
 use Rattle.run_law.specs.Journals.{JournalsValue}
 use Rattle.run_law.specs.Runs.{IsRun}
-use Rattle.run_law.specs.declared.flags.Flags.{Flags}
+use Rattle.report_pieces.specs.declared.flags.Flags.{Flags}
 use Rattle.script_ops.specs.Values.{IsLawful, ScriptValue}
 
 -- an input that holds journals is not bad

@@ -22,7 +22,7 @@ use Rattle.run_windows.specs.Isolation.{BeginsGroupWindows, BeginsLockWindows, H
 use Rattle.resctrl_top.specs.Outputs.{IsOutput}
 use Rattle.run_law.specs.Journals.{JournalsValue}
 use Rattle.run_law.specs.Runs.{IsRun}
-use Rattle.run_law.specs.declared.flags.Flags.{Flags}
+use Rattle.report_pieces.specs.declared.flags.Flags.{Flags}
 use Rattle.script_ops.specs.Values.{IsLawful, ScriptValue}
 use Rattle.step_world.specs.Play.{IsPlay}
 

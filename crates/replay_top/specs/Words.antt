@@ -5,7 +5,7 @@ use Rattle.std.specs.declared.alloc.Global.{Global}
 use Rattle.rc_base.specs.Texts.{is_text}
 use Rattle.replay_top.specs.declared.form.ReplayForm.{ReplayForm}
 use Rattle.replay_top.specs.declared.form.ReplayForm.TheVariants.{Order, Report}
-use Rattle.run_law.specs.declared.flags.Flags.{Flags}
+use Rattle.report_pieces.specs.declared.flags.Flags.{Flags}
 use Rattle.top_parts.specs.Forms.{flags_in, has_flags_once, is_flag}
 
 -- the flags that these words are: those of the simulator, each at most once; None where there is another word

@@ -4,7 +4,7 @@ ghost use Rattle.std.specs.List.{list_all};
 ghost use Rattle.top_parts.specs.Forms.{flags_in as flags_among, has_flags_once as are_flags_once, is_flag as is_flag_word, is_word as is_this_word, stands_in, stands_once};
 
 use rc_base::is_text;
-use run_law::Flags;
+use report_pieces::Flags;
 
 // Whether a word is this text.
 fn is_word(word: &String, text: &[u8]) -> bool

@@ -1,6 +1,6 @@
 //! What the words after the program's name ask for.
 
-use run_law::Flags;
+use report_pieces::Flags;
 
 /// What the words after the program's name ask for. (This project's profile.)
 #[derive(Clone, Copy, Debug, PartialEq, Eq)]

@@ -5,7 +5,7 @@ ghost use Rattle.replay_top.specs.Words.{flags_of as flags_asked, form_of as for
 use crate::flags::{are_flags, flags_in, has_flags_once};
 use crate::form::ReplayForm;
 use rc_base::is_text;
-use run_law::Flags;
+use report_pieces::Flags;
 
 /// The line for a command line that is not valid.
 pub const USAGE: &str =

@@ -3,9 +3,11 @@
 #![tactic(auto)]
 
 mod entry_text;
+pub mod flags;
 mod replies;
 mod results;
 
 pub use entry_text::{push_entry, push_entry_line, push_entry_text};
+pub use flags::Flags;
 pub use replies::{push_barred, push_reply};
 pub use results::{push_result, push_words};

@@ -4,8 +4,8 @@ use Rattle.std.specs.List.{flat_map, range_with_len}
 use Rattle.report_text.specs.Commands.{command_lines}
 use Rattle.cache_core.specs.Whats.{is_access_of}
 use Rattle.run_law.specs.Journals.{JournalsValue}
-use Rattle.run_law.specs.declared.flags.Flags.{Flags}
-use Rattle.run_law.specs.declared.window.Window.{Window}
+use Rattle.report_pieces.specs.declared.flags.Flags.{Flags}
+use Rattle.run_counts.specs.declared.window.Window.{Window}
 use Rattle.run_replay.specs.Made.{Control, controls}
 use Rattle.script_ops.specs.Values.{ScriptValue}
 use Rattle.report_text.specs.Counts.{counts_text}

@@ -1,7 +1,7 @@
 -- The lines of windows of isolation in a report.
 use Rattle.std.specs.Prelude.{ℕ, Bool, if◌then◌else◌, List, [], ◌++◌, codes, decimal}
 use Rattle.std.specs.List.{flat_map}
-use Rattle.run_law.specs.declared.window.Window.{Window}
+use Rattle.run_counts.specs.declared.window.Window.{Window}
 
 -- where a window is: `window D.X group G ways W from P: `
 abbrev pub window_place : Window → List ℕ

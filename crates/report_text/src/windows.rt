@@ -6,7 +6,7 @@ ghost use Rattle.report_text.specs.WindowLines.{window_counts, window_line, wind
 
 use num_text::GrowingText;
 use rc_base::NoMemory;
-use run_law::Window;
+use run_counts::Window;
 
 // Adds where a window is.
 fn push_place(report: &mut GrowingText, window: &Window) -> Result<(), NoMemory>

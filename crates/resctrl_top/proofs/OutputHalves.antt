@@ -10,8 +10,8 @@ use Rattle.report_text.specs.Reporting.{report_of}
 use Rattle.resctrl_top.specs.Halves.{IsWithWindows, output_head, output_tail}
 use Rattle.resctrl_top.specs.Outputs.{AreWindowsDue, IsOutput, output_of}
 use Rattle.run_law.specs.Journals.{JournalsValue}
-use Rattle.run_law.specs.declared.flags.Flags.{Flags}
-use Rattle.run_law.specs.declared.window.Window.{Window}
+use Rattle.report_pieces.specs.declared.flags.Flags.{Flags}
+use Rattle.run_counts.specs.declared.window.Window.{Window}
 use Rattle.script_ops.specs.Values.{ScriptValue}
 
 -- it is its first part and the rest

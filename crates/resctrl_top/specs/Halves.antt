@@ -5,8 +5,8 @@ use Rattle.json_report.specs.Halves as json
 use Rattle.report_text.specs.Halves as lines
 use Rattle.resctrl_top.specs.Outputs.{output_of}
 use Rattle.run_law.specs.Journals.{JournalsValue}
-use Rattle.run_law.specs.declared.flags.Flags.{Flags}
-use Rattle.run_law.specs.declared.window.Window.{Window}
+use Rattle.report_pieces.specs.declared.flags.Flags.{Flags}
+use Rattle.run_counts.specs.declared.window.Window.{Window}
 use Rattle.run_windows.specs.AllWindows.{AreWindowsOf}
 use Rattle.script_ops.specs.Values.{ScriptValue}
 

@@ -3,8 +3,8 @@ use Rattle.std.specs.Prelude.{◌≡◌, ℕ, Bool, true, false, if◌then◌els
 use Rattle.json_report.specs.Reporting.{json_of}
 use Rattle.report_text.specs.Reporting.{report_of}
 use Rattle.run_law.specs.Journals.{JournalsValue}
-use Rattle.run_law.specs.declared.flags.Flags.{Flags}
-use Rattle.run_law.specs.declared.window.Window.{Window}
+use Rattle.report_pieces.specs.declared.flags.Flags.{Flags}
+use Rattle.run_counts.specs.declared.window.Window.{Window}
 use Rattle.run_windows.specs.AllWindows.{AreWindowsOf}
 use Rattle.script_ops.specs.Values.{ScriptValue}
 

@@ -8,7 +8,9 @@ ghost use Rattle.script_ops.specs.Values.{IsLawful};
 
 use num_text::GrowingText;
 use rc_base::NoMemory;
-use run_law::{Flags, Journals, Window};
+use report_pieces::Flags;
+use run_counts::Window;
+use run_law::Journals;
 use run_replay::{Playback, Run};
 use run_windows::{FollowedReplay, has_exclusive_write, windows, windows_after};
 use script_ops::Script;

@@ -15,6 +15,7 @@ mod streak;
 mod tally;
 mod touches;
 mod walk;
+pub mod window;
 
 pub use cache_counts::CacheCounts;
 pub use counts::Counts;
@@ -24,3 +25,4 @@ pub use refusals::count_refused;
 pub use run_counts::RunCounts;
 pub use tally::Tally;
 pub use touches::{Touches, is_accepted_touch};
+pub use window::Window;

@@ -2,19 +2,15 @@
 //! A call that runs out of memory answers NoMemory.
 #![tactic(auto)]
 
-pub mod flags;
 pub mod journals;
 pub mod look_lists;
 mod quotas;
 mod rooms;
 mod targets;
 pub mod theorems;
-pub mod window;
 
-pub use flags::Flags;
 pub use journals::{Journals, TreeEntry};
 pub use look_lists::LookLists;
 pub use quotas::most_counts;
 pub use rooms::{add_ops, command_counts, command_room, count_commands, slice_rooms};
 pub use targets::{slice_for, slices_for};
-pub use window::Window;

@@ -16,7 +16,7 @@ use Rattle.private_lru.specs.GroupCounts.{accesses_of, covered_private_hits, hit
 use Rattle.private_lru.specs.Covered.{covered}
 use Rattle.private_lru.specs.Isolation.{IsIsolated, between}
 use Rattle.run_law.specs.Runs.{IsRun}
-use Rattle.run_law.specs.declared.window.Window.{Window}
+use Rattle.run_counts.specs.declared.window.Window.{Window}
 use Rattle.run_windows.specs.WindowCounts.{AreCounts, IsCountedWindow}
 use Rattle.run_windows.proofs.IsolatedWindows.{IsIsolated-window}
 use Rattle.run_law.specs.Journals.{At, JournalsValue, slice_at}

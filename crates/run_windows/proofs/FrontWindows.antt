@@ -11,7 +11,7 @@ use Rattle.private_lru.specs.declared.counts.WindowCounts.{WindowCounts}
 use Rattle.private_lru.specs.Isolation.{between}
 use Rattle.run_law.specs.Journals.{At, JournalsValue, slice_at}
 use Rattle.run_law.specs.Runs.{IsRun}
-use Rattle.run_law.specs.declared.window.Window.{Window}
+use Rattle.run_counts.specs.declared.window.Window.{Window}
 use Rattle.run_windows.proofs.CountedWindows.{IsCountedWindow-from, IsWindow-from}
 use Rattle.private_lru.specs.Ends.{held_len}
 use Rattle.run_windows.specs.Fronts.{front_of}

@@ -6,7 +6,7 @@ use Rattle.cache_core.specs.declared.entry.SliceEntry.{SliceEntry}
 use Rattle.machine.specs.Slices.{slice_number}
 use Rattle.rc_base.specs.declared.names.Gid.{Gid}
 use Rattle.run_law.specs.Journals.{At, JournalsValue, slice_at}
-use Rattle.run_law.specs.declared.window.Window.{Window}
+use Rattle.run_counts.specs.declared.window.Window.{Window}
 use Rattle.run_windows.proofs.SiteOrder.{site}
 use Rattle.run_windows.specs.AllWindows.{IsOpening}
 use Rattle.run_windows.specs.Sites.{site_of}

@@ -10,7 +10,7 @@ use Rattle.machine.specs.Slices.{slice_number}
 use Rattle.private_lru.specs.GroupCounts.{accesses_of}
 use Rattle.private_lru.specs.Isolation.{between}
 use Rattle.run_law.specs.Journals.{JournalsValue, slice_at}
-use Rattle.run_law.specs.declared.window.Window.{Window}
+use Rattle.run_counts.specs.declared.window.Window.{Window}
 use Rattle.run_windows.proofs.OneWindow.{IsWindow-same}
 use Rattle.run_windows.proofs.SiteOrder.{Precedes-gid, Precedes-next, Precedes-or_not, grows-gid, site, site-same}
 use Rattle.run_windows.specs.AllWindows.{AreWindowsBefore, IsUsed, IsUsedWindow, with_used}

@@ -9,7 +9,7 @@ use Rattle.cache_core.specs.declared.entry.SliceEntry.{SliceEntry}
 use Rattle.cache_core.specs.declared.entry.What.TheVariants.{Access}
 use Rattle.machine.specs.Slices.{domain_in, slice_number}
 use Rattle.run_law.specs.Journals.{At, JournalsValue, slice_at}
-use Rattle.run_law.specs.declared.window.Window.{Window}
+use Rattle.run_counts.specs.declared.window.Window.{Window}
 use Rattle.run_windows.proofs.CountedWindows.{domain_in-slice_number}
 use Rattle.run_windows.proofs.KeptStays.{gids}
 use Rattle.run_windows.proofs.Openings.{IsOpening-entry}

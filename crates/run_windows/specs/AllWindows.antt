@@ -7,7 +7,7 @@ use Rattle.private_lru.specs.GroupCounts.{accesses_of}
 use Rattle.private_lru.specs.Isolation.{between}
 use Rattle.rc_base.specs.declared.names.Gid.{Gid}
 use Rattle.run_law.specs.Journals.{JournalsValue, slice_at}
-use Rattle.run_law.specs.declared.window.Window.{Window}
+use Rattle.run_counts.specs.declared.window.Window.{Window}
 use Rattle.run_windows.specs.WindowCounts.{IsCountedWindow}
 use Rattle.run_windows.specs.Sites.{Precedes, Site, site_of}
 use Rattle.run_windows.specs.Windows.{IsWindow}

@@ -1,6 +1,6 @@
 -- Where windows begin, and their order.
 use Rattle.std.specs.Prelude.{◌≡◌, ℕ, ◌<◌, ◌⊎◌}
-use Rattle.run_law.specs.declared.window.Window.{Window}
+use Rattle.run_counts.specs.declared.window.Window.{Window}
 
 -- a place where a window may begin: the domain, the slice in it, the position of the flush or lock, and the number of the group
 pub record Site : Type 0 where

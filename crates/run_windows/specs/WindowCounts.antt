@@ -7,7 +7,7 @@ use Rattle.private_lru.specs.GroupCounts.{accesses_of, covered_private_hits, hit
 use Rattle.private_lru.specs.Covered.{covered}
 use Rattle.private_lru.specs.Isolation.{between}
 use Rattle.run_law.specs.Journals.{JournalsValue, slice_at}
-use Rattle.run_law.specs.declared.window.Window.{Window}
+use Rattle.run_counts.specs.declared.window.Window.{Window}
 use Rattle.run_windows.specs.Windows.{IsWindow}
 use Rattle.script_ops.specs.Values.{ScriptValue}
 

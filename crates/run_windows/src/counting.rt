@@ -7,7 +7,7 @@ ghost use Rattle.cbm.specs.Masks.{ways_of};
 use crate::opening::Opening;
 use cache_core::What;
 use private_lru::{ExclusiveSpan, WindowCounts};
-use run_law::Window;
+use run_counts::Window;
 
 /// Whether this empties the slice.
 pub(crate) fn empties(what: What) -> bool

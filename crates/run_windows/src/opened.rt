@@ -19,7 +19,7 @@ use crate::opening::Opening;
 use cache_core::SliceEntry;
 use private_lru::{ExclusiveSpan, WindowCounts, counts_of};
 use rc_base::NoMemory;
-use run_law::Window;
+use run_counts::Window;
 use run_replay::Run;
 use std::alloc::Global;
 

@@ -8,7 +8,7 @@ use Rattle.rc_base.specs.Texts.{is_text}
 use Rattle.top_parts.specs.declared.command.Command.{Command}
 use Rattle.top_parts.specs.declared.command.Command.TheVariants.{Gen, Run, Step}
 use Rattle.top_parts.specs.declared.form.Form.{Form}
-use Rattle.run_law.specs.declared.flags.Flags.{Flags}
+use Rattle.report_pieces.specs.declared.flags.Flags.{Flags}
 use Rattle.trace_gen.specs.declared.making.TheConstants.{MOST_THREAD_ACCESSES}
 
 -- ---- flags

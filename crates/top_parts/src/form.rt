@@ -1,7 +1,7 @@
 //! What the words after the program's name ask for.
 
 use crate::command::Command;
-use run_law::Flags;
+use report_pieces::Flags;
 
 /// What the words after the program's name ask for. (This project's profile.)
 #[derive(Clone, Copy, Debug, PartialEq, Eq)]

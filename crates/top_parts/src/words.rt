@@ -6,7 +6,7 @@ use crate::command::Command;
 use crate::form::Form;
 use num_text::read_dec;
 use rc_base::is_text;
-use run_law::Flags;
+use report_pieces::Flags;
 use trace_gen::MOST_THREAD_ACCESSES;
 
 /// The line for a command line that is not valid.

@@ -13,8 +13,8 @@ use Rattle.json_report.specs.Totals.{total_value}
 use Rattle.json_report.specs.Values.{array_of}
 use Rattle.json_report.specs.WindowValues.{windows_part}
 use Rattle.run_law.specs.Journals.{JournalsValue}
-use Rattle.run_law.specs.declared.flags.Flags.{Flags}
-use Rattle.run_law.specs.declared.window.Window.{Window}
+use Rattle.report_pieces.specs.declared.flags.Flags.{Flags}
+use Rattle.run_counts.specs.declared.window.Window.{Window}
 use Rattle.script_ops.specs.Values.{ScriptValue}
 
 -- the first part by its parts

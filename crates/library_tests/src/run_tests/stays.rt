@@ -1,7 +1,7 @@
 //! How long groups stay exclusive on a mask.
 
 use rc_base::Gid;
-use run_law::Window;
+use run_counts::Window;
 use run_windows::windows;
 use script_text::read_script;
 use std::test::Fail;

@@ -9,8 +9,8 @@ use Rattle.report_text.specs.SliceLines.{journal_part}
 use Rattle.report_text.specs.Totals.{total_line}
 use Rattle.report_text.specs.WindowLines.{windows_part}
 use Rattle.run_law.specs.Journals.{JournalsValue}
-use Rattle.run_law.specs.declared.flags.Flags.{Flags}
-use Rattle.run_law.specs.declared.window.Window.{Window}
+use Rattle.report_pieces.specs.declared.flags.Flags.{Flags}
+use Rattle.run_counts.specs.declared.window.Window.{Window}
 use Rattle.run_replay.specs.Made.{controls}
 use Rattle.script_ops.specs.Values.{ScriptValue}
 

@@ -1,8 +1,8 @@
 //! Words that are a form, and others.
 
 use crate::tests::{told_by, words};
+use report_pieces::Flags;
 use resctrl_top::Status;
-use run_law::Flags;
 use std::test::Fail;
 use top_parts::{Command, Form, USAGE, form_of};
 

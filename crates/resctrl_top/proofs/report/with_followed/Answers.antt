@@ -1,7 +1,7 @@
 use Rattle.std.proofs.Common.{ℕ, List, ◌++◌, sym, ap, ◌∙◌}
 use Rattle.resctrl_top.proofs.OutputHalves.{output_of-halves}
 use Rattle.resctrl_top.specs.Halves.{output_tail}
-use Rattle.run_law.specs.declared.window.Window.{Window}
+use Rattle.run_counts.specs.declared.window.Window.{Window}
 use Rattle.resctrl_top.proofs.report.with_followed.Goals as goal
 
 pub returns : goal.returns

@@ -1,6 +1,6 @@
 use Rattle.std.proofs.Common.{List, ap, ◌∙◌}
 use Rattle.resctrl_top.specs.Outputs.{output_of}
-use Rattle.run_law.specs.declared.window.Window.{Window}
+use Rattle.run_counts.specs.declared.window.Window.{Window}
 use Rattle.resctrl_top.proofs.report.with_none.Goals as goal
 
 pub returns : goal.returns

@@ -1,5 +1,5 @@
 use Rattle.std.proofs.Common.{◌≡◌, List, [], rules, sym, subst, ◌∙◌, arith}
-use Rattle.run_law.specs.declared.window.Window.{Window}
+use Rattle.run_counts.specs.declared.window.Window.{Window}
 use Rattle.run_windows.proofs.QuietRuns.{AreWindowsOf-none}
 use Rattle.run_windows.specs.AllWindows.{AreWindowsOf}
 use Rattle.run_windows.proofs.listing.windows.Goals as goal
