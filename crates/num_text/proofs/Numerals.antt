@@ -1,9 +1,11 @@
 -- Digits, one more at a time.
-use Rattle.std.proofs.Common.{◌≡◌, ℕ, zero, suc, ◌+◌, ◌*◌, ◌-◌, ◌^◌, ◌<◌, ◌≤◌, true, false, cond, eqb, not, ◌&&◌, is_some, inl, inr, List, [], ◌∷◌, length, take, Option, Some, None, refl, ap, ◌∙◌, arith}
+use Rattle.std.proofs.Common.{◌≡◌, ℕ, zero, suc, ◌+◌, ◌*◌, ◌-◌, ◌^◌, ◌<◌, ◌≤◌, true, false, cond, eqb, not, ◌&&◌, is_some, inl, inr, List, [], ◌∷◌, length, take, Option, Some, None, refl, ap, ◌∙◌, arith, get_or, length-take}
 use Rattle.std.specs.List.{list_all}
 use Rattle.std.specs.Char.{is_digit, digit_value}
 use Rattle.std.specs.Str.Parse.{digits_value, digits_value_after, AllDigits}
 use Rattle.std.proofs.lemmas.Bool.{le-ltb, lt-ltb, cases_lt, ne_eqb}
+use Rattle.std.proofs.Math.Nat.{pow-le-pow_left, pow-le-pow_right}
+use Rattle.std.proofs.lemmas.Int.Digits.{digits_more, digits_value-lt, digits_value_more}
 use Rattle.num_text.specs.Numbers.{number_of, below, capped}
 
 -- digits make a number greater
@@ -38,6 +40,12 @@ below-too_great base limit k (c ∷ cs) h g =
 pub below-digits : (base limit : ℕ) (cs : List ℕ) → 0 < length cs → AllDigits base cs → digits_value base cs < limit → Some (digits_value base cs) ≡ below limit (number_of base cs)
 below-digits base limit [] h d lt = absurd (omega arith)
 below-digits base limit (c ∷ cs) h d lt = rw (list_all-digits base (c ∷ cs) d, lt-ltb (digits_value base (c ∷ cs)) limit lt) refl
+
+-- a digit more is still below 2^64, where there are few
+pub few_digits-lt : (base k : ℕ) (cs : List ℕ) → base ≤ 16 → length cs ≤ 16 → k < length cs → AllDigits base (take k cs) → digit_value (get_or cs k 0) < base → digits_value base (take k cs) * base + digit_value (get_or cs k 0) < 2 ^ 64
+few_digits-lt base k cs high few within digits digit =
+    let most : length (take (k + 1) cs) ≤ 16 = omega (arith, length-take (k + 1) cs) in
+    rw (← digits_value_more base cs k within) (omega (arith, digits_value-lt base (take (k + 1) cs) (digits_more base cs k within digits digit), pow-le-pow_left high (length (take (k + 1) cs)), pow-le-pow_right {n = 16} (omega arith) most))
 
 -- a text is a number where it is some digits and nothing else
 pub is_some-number_of : (base : ℕ) (cs : List ℕ) → is_some (number_of base cs) ≡ (not (eqb (length cs) 0) && list_all (λ b. is_digit b base) cs)

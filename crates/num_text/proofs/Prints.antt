@@ -4,7 +4,7 @@ use Rattle.std.specs.Fmt.{digit_glyph}
 use Rattle.std.proofs.Math.Nat.{div-lt_self}
 use Rattle.std.proofs.lemmas.Bool.{cases_lt}
 use Rattle.num_text.proofs.laws.Prints.{filled-last, filled-more, filled-zero, length-decimal, length-hexadecimal}
-use Rattle.num_text.specs.Printed.{filled, hexadecimal}
+use Rattle.num_text.specs.Printed.{hexadecimal}
 
 -- the two digits of a number below 256
 abbrev pub pair_glyphs : ℕ → List ℕ

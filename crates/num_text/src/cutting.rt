@@ -2,11 +2,13 @@
 ghost use Rattle.std.specs.Prelude.{◌≡◌, ◌<◌, ◌==◌, length, false, true, MatchOption, position};
 ghost use Rattle.std.specs.List.{before_first, after_first, list_any};
 
+use memchr::memchr;
+
 // Where such a byte first stands.
 fn place(text: &[u8], byte: u8) -> Option<usize>
     ensures { result ≡ position (λ b. b == byte) text.now }
 {
-    text.iter().position(|b| *b == byte)
+    memchr(byte, text)
 }
 
 /// What stands before the first such byte, and what stands after it; the whole text and None

@@ -1,12 +1,36 @@
 //! The numbers that texts spell. Leading zeros are allowed, signs and blanks are not.
-ghost use Rattle.std.specs.Prelude.{◌≡◌, ◌^◌, ◌≤◌, is_some};
+ghost use Rattle.std.specs.Prelude.{◌≡◌, ◌^◌, ◌≤◌, is_some, length};
 ghost use Rattle.std.specs.List.{list_all};
 ghost use Rattle.std.specs.Char.{is_digit};
+ghost use Rattle.num_text.specs.declared.reading.TheConstants.{FEW_DIGITS};
 ghost use Rattle.num_text.specs.Numbers.{number_of, dec_of, hex_of, num_of, without_prefix, below, capped};
 
-/// The number that one digit or more of a base, of either case, spell. None where the text is
-/// empty, has another byte, or the number is above 2^64 - 1.
-pub fn read_digits(text: &[u8], base: u32) -> Option<u64>
+// The most digits that spell a number below 2^64 in every base up to 16, whatever they are.
+const FEW_DIGITS: usize = 16;
+
+// The number that a few digits of a base spell. No sum has to be asked whether it fits.
+#[inline(always)]
+fn few_digits(text: &[u8], base: u32) -> Option<u64>
+    requires low { 2 ≤ base }
+    requires high { base ≤ 16 }
+    requires few { length text.now ≤ FEW_DIGITS }
+    ensures { result ≡ below (2 ^ 64) (number_of base text.now) }
+{
+    if text.is_empty() {
+        return None;
+    }
+    let mut n: u64 = 0;
+    for b in text {
+        let Some(digit) = char::from(*b).to_digit(base) else {
+            return None;
+        };
+        n = n * u64::from(base) + u64::from(digit);
+    }
+    Some(n)
+}
+
+// The number that any digits of a base spell.
+fn many_digits(text: &[u8], base: u32) -> Option<u64>
     requires low { 2 ≤ base }
     requires high { base ≤ 16 }
     ensures { result ≡ below (2 ^ 64) (number_of base text.now) }
@@ -28,6 +52,21 @@ pub fn read_digits(text: &[u8], base: u32) -> Option<u64>
         n = sum;
     }
     Some(n)
+}
+
+/// The number that one digit or more of a base, of either case, spell. None where the text is
+/// empty, has another byte, or the number is above 2^64 - 1.
+#[inline]
+pub fn read_digits(text: &[u8], base: u32) -> Option<u64>
+    requires low { 2 ≤ base }
+    requires high { base ≤ 16 }
+    ensures { result ≡ below (2 ^ 64) (number_of base text.now) }
+{
+    if text.len() <= FEW_DIGITS {
+        few_digits(text, base)
+    } else {
+        many_digits(text, base)
+    }
 }
 
 fn all_digits(text: &[u8]) -> bool

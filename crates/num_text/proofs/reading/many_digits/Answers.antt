@@ -4,7 +4,7 @@ use Rattle.std.proofs.lemmas.List.{take_all}
 use Rattle.std.proofs.lemmas.Grind.{common_steps}
 use Rattle.std.proofs.lemmas.Int.Digits.{digits_value_more, digits_more}
 use Rattle.num_text.proofs.Numerals.{below-too_great, below-digits}
-use Rattle.num_text.proofs.reading.read_digits.Goals as goal
+use Rattle.num_text.proofs.reading.many_digits.Goals as goal
 
 pub returns-in_default-checked_mul : goal.returns-in_default-checked_mul
 returns-in_default-checked_mul c =
