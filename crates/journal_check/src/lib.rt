@@ -7,6 +7,7 @@
 mod added_entry;
 mod after_commands;
 mod answers;
+mod asked_tree;
 mod asks;
 mod beginnings;
 pub mod cached_line;

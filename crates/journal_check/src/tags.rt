@@ -16,8 +16,8 @@ ghost use Rattle.script_ops.specs.Fits.{Fits};
 ghost use Rattle.script_ops.specs.Values.{op_at};
 ghost use Rattle.script_ops.specs.declared.limits.TheConstants.{MOST_WEIGHT};
 ghost use Rattle.tree_law.specs.State.{tasks_of};
-ghost use Rattle.tree_law.specs.Steps.{needs, next};
 
+use crate::asked_tree::AskedTree;
 use crate::asks::{Ask, asks_of};
 use crate::owed::{is_same, undecided};
 use cache_core::{SliceEntry, What};
@@ -27,20 +27,8 @@ use script_ops::{Op, Script};
 use std::alloc::Global;
 use tree_core::Tree;
 
-// Takes a command of a legal history once more.
-fn apply(tree: &mut Tree, op: &Op, looks: &[u64])
-    requires fits { Fits tree.old.machine (tasks_of tree.old.state) op.now }
-    requires looks { length looks.now ≡ length (needs tree.old.machine tree.old.state op.now) }
-    requires epoch { tree.old.epoch < MOST_WEIGHT }
-    ensures machine { tree.new.machine ≡ tree.old.machine }
-    ensures state { tree.new.state ≡ (next tree.old.machine tree.old.state op.now looks.now).state }
-    ensures epoch { tree.new.epoch ≡ tree.old.epoch + 1 }
-{
-    let _ = tree.apply(op, looks);
-}
-
 // Takes the entry at position k of a legal history once more.
-fn take_again(tree: &mut Tree, script: &Script, j: &Journals, k: usize)
+fn take_again(tree: &mut AskedTree, script: &Script, j: &Journals, k: usize)
     requires within { k < length j.now.tree }
     requires legal { IsLegalTree script.now j.now.tree }
     requires few { length j.now.tree ≤ MOST_WEIGHT }
@@ -50,13 +38,13 @@ fn take_again(tree: &mut Tree, script: &Script, j: &Journals, k: usize)
     let entries = j.tree();
     let entry = &entries[k];
     match script.op(entry.thread, entry.op) {
-        Some(op) => apply(tree, op.get(), entry.looks.items()),
+        Some(op) => tree.apply(op.get(), entry.looks.items()),
         None => unreachable!(),
     }
 }
 
 // Takes the tree from one position of a legal history to another.
-fn advance(tree: &mut Tree, script: &Script, j: &Journals, from: usize, to: usize)
+fn advance(tree: &mut AskedTree, script: &Script, j: &Journals, from: usize, to: usize)
     requires order { from ≤ to }
     requires within { to ≤ length j.now.tree }
     requires legal { IsLegalTree script.now j.now.tree }
@@ -85,19 +73,21 @@ fn is_tagged(what: What, tag: &Tag, line: u64) -> bool
 }
 
 // Whether this is an access to the line of an address, with what the tree gives to a task and a CPU.
-fn is_access_tag(tree: &Tree, task: u32, cpu: u8, addr: u64, what: What) -> bool
-    requires task { Contains (tasks_of tree.now.state) task }
-    requires cpu { cpu < tree.now.machine.cpus }
-    ensures { IsTrue result ↔ (undecided what ≡ access_of tree.now.machine tree.now.state task cpu addr) }
+fn is_access_tag(tree: &mut AskedTree, task: u32, cpu: u8, addr: u64, what: What) -> bool
+    requires task { Contains (tasks_of tree.old.state) task }
+    requires cpu { cpu < tree.old.machine.cpus }
+    ensures same { tree.new ≡ tree.old }
+    ensures answer { IsTrue result ↔ (undecided what ≡ access_of tree.old.machine tree.old.state task cpu addr) }
 {
-    let tag = tree.resolve(task, cpu);
+    let tag = tree.tag(task, cpu);
     is_tagged(what, &tag, addr / 64)
 }
 
 // Whether this is what the tree gives to an access; of a command nothing is asked.
-fn is_tag_of(tree: &Tree, op: &Op, what: What) -> bool
-    requires { Fits tree.now.machine (tasks_of tree.now.state) op.now }
-    ensures { IsTrue result ↔ IsTagOf tree.now.machine tree.now.state op.now what }
+fn is_tag_of(tree: &mut AskedTree, op: &Op, what: What) -> bool
+    requires { Fits tree.old.machine (tasks_of tree.old.state) op.now }
+    ensures same { tree.new ≡ tree.old }
+    ensures answer { IsTrue result ↔ IsTagOf tree.old.machine tree.old.state op.now what }
 {
     match *op {
         Op::Access { task, cpu, addr } => is_access_tag(tree, task, cpu, addr, what),
@@ -106,11 +96,12 @@ fn is_tag_of(tree: &Tree, op: &Op, what: What) -> bool
 }
 
 // Whether an entry of an access, whose epoch the tree has, is true to it.
-fn is_paid(tree: &Tree, script: &Script, j: &Journals, entry: &SliceEntry) -> bool
+fn is_paid(tree: &mut AskedTree, script: &Script, j: &Journals, entry: &SliceEntry) -> bool
     requires access { is_access_of (op_at script.now entry.now.thread entry.now.op) ≡ true }
     requires epoch { entry.now.epoch ≤ length j.now.tree }
-    requires replayed { IsReplayed script.now (take entry.now.epoch j.now.tree) tree.now }
-    ensures { IsTrue result ↔ IsPaid script.now j.now.tree entry.now }
+    requires replayed { IsReplayed script.now (take entry.now.epoch j.now.tree) tree.old }
+    ensures same { tree.new ≡ tree.old }
+    ensures answer { IsTrue result ↔ IsPaid script.now j.now.tree entry.now }
 {
     let _journals = j;
     match script.op(entry.thread, entry.op) {
@@ -128,7 +119,7 @@ fn tree_len(j: &Journals) -> u64
 }
 
 // Whether the tree had the epoch of an entry of an access, and the entry is true to it; then the tree is at that epoch.
-fn answer(tree: &mut Tree, script: &Script, j: &Journals, at: usize, ask: &Ask) -> bool
+fn answer(tree: &mut AskedTree, script: &Script, j: &Journals, at: usize, ask: &Ask) -> bool
     requires legal { IsLegalTree script.now j.now.tree }
     requires few { length j.now.tree ≤ MOST_WEIGHT }
     requires ask { IsAskOf script.now j.now ask.now }
@@ -150,7 +141,7 @@ fn answer(tree: &mut Tree, script: &Script, j: &Journals, at: usize, ask: &Ask) 
 }
 
 // Whether each of these entries of accesses, which are sorted by epoch, is true to its access. The tree is that before all commands.
-fn are_answered(tree: &mut Tree, script: &Script, j: &Journals, asks: &[Ask]) -> bool
+fn are_answered(tree: &mut AskedTree, script: &Script, j: &Journals, asks: &[Ask]) -> bool
     requires legal { IsLegalTree script.now j.now.tree }
     requires few { length j.now.tree ≤ MOST_WEIGHT }
     requires asks { AreAsks script.now j.now (length j.now.slices) 0 asks.now }
@@ -181,7 +172,8 @@ pub fn are_accesses_true(alloc: Global, script: &Script, j: &Journals) -> Result
     // A script is light, and so a legal history with each of its commands once has few.
     let _threads = script.threads();
     let asks = asks_of(alloc, script, j)?;
-    let mut tree = Tree::create(alloc, script.machine(), script.tasks())?;
+    let tree = Tree::create(alloc, script.machine(), script.tasks())?;
+    let mut tree = AskedTree::create(tree);
     let holds = are_answered(&mut tree, script, j, asks.as_slice());
     Ok(holds)
 }

@@ -48,11 +48,11 @@ returns-clause-answer c =
     let ask = c.args.ask.now in
     let it = c.requires.ask in
     let same = entry-read c.slice-entries.result.now (slice_at j ask.slice) ask.position it.entry c.slice-entries.ensures it.there in
-    let told = subst (λ (x : SliceEntry). IsTrue c.is_paid.result ↔ IsPaid script j.tree x) same c.is_paid.ensures in
+    let told = subst (λ (x : SliceEntry). IsTrue c.is_paid.result ↔ IsPaid script j.tree x) same c.is_paid.ensures.answer in
     let low : ask.epoch ≤ length j.tree = (let under = c.if-ask-len.false in let len = c.tree_len-len.ensures in omega (arith, under, len)) in (
       λ shown. (low, λ x at. (let own : x ≡ it.entry = (let there = it.there in cc) in subst (λ (y : SliceEntry). IsPaid script j.tree y) (sym own) (told.0 shown))),
       λ held. told.1 (held.1 it.entry it.there),
     )
 
 pub returns-clause-replayed : goal.returns-clause-replayed
-returns-clause-replayed c shown = c.advance.ensures
+returns-clause-replayed c shown = subst (λ t. IsReplayed c.args.script.now (take c.args.ask.now.epoch c.args.j.now.tree) t) (sym c.is_paid.ensures.same) c.advance.ensures

@@ -1,4 +1,5 @@
-use Rattle.std.proofs.Common.{ap, ◌∙◌}
+use Rattle.std.proofs.Common.{[], ap, ◌∙◌, subst, sym}
+use Rattle.journal_check.specs.CheckReplays.{IsReplayed}
 use Rattle.journal_check.proofs.LegalTrees.{IsReplayed-zero}
 use Rattle.journal_check.proofs.laws.FewCommands.{length-commands}
 use Rattle.tree_law.specs.State.{opening}
@@ -10,6 +11,6 @@ are_answered-holds-requires-clause-few c = length-commands c.args.script.now c.a
 pub are_answered-holds-requires-clause-replayed : goal.are_answered-holds-requires-clause-replayed
 are_answered-holds-requires-clause-replayed c =
     let first = c.in_ok-tree.ensures in
-    IsReplayed-zero c.args.script.now c.in_ok-tree.tree (first.machine ∙ c.machine.ensures)
+    subst (λ t. IsReplayed c.args.script.now [] t) (sym c.create-tree.ensures) (IsReplayed-zero c.args.script.now c.in_ok-tree.tree (first.machine ∙ c.machine.ensures)
     (first.state ∙ (ap (λ m. opening m c.tasks.result.now) c.machine.ensures ∙ ap (opening c.args.script.now.machine) c.tasks.ensures.tasks))
-    first.epoch
+    first.epoch)

@@ -16,8 +16,8 @@ is_tag_of-requires c =
     subst (λ o. Fits t.machine (tasks_of t.state) o) (sym c.get.ensures)
     (subst (λ m. Fits m (tasks_of t.state) c.in-Some.op) (sym c.requires.replayed.machine) (subst (λ ts. Fits script.machine ts c.in-Some.op) (sym tasks) c.in-Some.ensures.fit))
 
-pub returns-in-Some : goal.returns-in-Some
-returns-in-Some c =
+pub returns-in-Some-clause-answer : goal.returns-in-Some-clause-answer
+returns-in-Some-clause-answer c =
     let script = c.args.script.now in
     let tree = c.args.j.now.tree in
     let e = c.args.entry.now in
@@ -25,7 +25,7 @@ returns-in-Some c =
     let op = c.get.result.now in
     let is : op_at script e.thread e.op ≡ Some op = sym c.in-Some.ensures.op ∙ ap (λ (o : Op). Some o) (sym c.get.ensures) in
     let same = IsPaid-tag script tree e t c.requires.replayed c.requires.epoch op is c.requires.access in
-    let told = c.is_tag_of.ensures in
+    let told = c.is_tag_of.ensures.answer in
     (λ shown. same.0 (told.0 shown), λ paid. told.1 (same.1 paid))
 
 pub returns-in-None : goal.returns-in-None

@@ -16,17 +16,17 @@ is_access_tag-requires-clause-task c = (subst (λ o. Fits c.args.tree.now.machin
 pub is_access_tag-requires-clause-cpu : goal.is_access_tag-requires-clause-cpu
 is_access_tag-requires-clause-cpu c = (subst (λ o. Fits c.args.tree.now.machine (tasks_of c.args.tree.now.state) o) c.in-Access.is c.requires).1
 
-pub returns-in-Access : goal.returns-in-Access
-returns-in-Access c =
+pub returns-in-Access-clause-answer : goal.returns-in-Access-clause-answer
+returns-in-Access-clause-answer c =
     let t = c.args.tree.now in
-    subst (λ (o : Op). IsTrue c.is_access_tag.result ↔ IsTagOf t.machine t.state o c.args.what) (sym c.in-Access.is) c.is_access_tag.ensures
+    subst (λ (o : Op). IsTrue c.is_access_tag.result ↔ IsTagOf t.machine t.state o c.args.what) (sym c.in-Access.is) c.is_access_tag.ensures.answer
 
 -- of a command nothing is asked
 no-tag : (m : Parameters) (s : State) (op : Op) (w : What) → ((task cpu addr : ℕ) → op ≡ ops.Access task cpu addr → ⊥) → IsTagOf m s op w
 no-tag m s (ops.Access task cpu addr) w none = absurd (none task cpu addr refl)
 no-tag m s op w none = tt
 
-pub returns-in_default : goal.returns-in_default
-returns-in_default c =
+pub returns-in_default-clause-answer : goal.returns-in_default-clause-answer
+returns-in_default-clause-answer c =
     let t = c.args.tree.now in
     is_true (IsTagOf t.machine t.state c.args.op.now c.args.what) (no-tag t.machine t.state c.args.op.now c.args.what (λ task cpu addr is. c.in_default.not-Access task cpu addr is))
