@@ -12,8 +12,8 @@ usage: hostile.py [--part N] [--programs DIR] --all | --list | NAME ..
 
 Prints a table: the storm, how often something is repeated, bytes of input, seconds of processor time in the program and in the system
 for it, the highest memory in MB, page faults, millions of instructions where `perf` counts them, the exit status, and what bounds the
-play: `3 s, 1 GB` on an idle machine. A play that is past these is played once more for the length of its report: where that has more than
-200 MB it is told as the bound, and `OVER` marks the others.
+play: `3 s, 1 GB`, by the clock of an idle machine. A play that is past these is played once more for the length of its report: where
+that has more than 200 MB it is told as the bound, and `OVER` marks the others.
 Run it on an idle machine; a storm of the checker makes an input of a gigabyte.
 """
 import argparse
@@ -29,7 +29,7 @@ from timing import HEAD, measure_words, row, write_apart
 ROWS = [*caches.ROWS, *trees.ROWS, *windows.ROWS, *threads.ROWS, *programs.ROWS]
 # A script is played, told to be too large once it was read, or no run.
 ENDS = (0, 1, 6)
-# The bounds of a play, in seconds and MB, and the bytes of a report above which it is bounded by its report alone.
+# The bounds of a play, in seconds by the clock and MB, and the bytes of a report above which it is bounded by its report alone.
 MOST_SECONDS, MOST_MEMORY, MOST_REPORT = 3, 1024, 200_000_000
 CRATES = os.path.join(os.path.dirname(os.path.abspath(__file__)), "..", "crates")
 
@@ -42,10 +42,10 @@ def report_length(command, path):
 
 def bound_of(storm, it, command, path):
     """What bounds a play that was measured, and whether it is past that."""
-    if storm.bound != SMALL or (it.user + it.system <= MOST_SECONDS and it.memory <= MOST_MEMORY):
+    if storm.bound != SMALL or (it.clock <= MOST_SECONDS and it.memory <= MOST_MEMORY):
         return storm.bound
     length = report_length(command, path)
-    return f"{length / 1e6:.0f} MB of report" if length > MOST_REPORT else f"{SMALL} OVER"
+    return f"{length / 1e6:.0f} MB of report" if length > MOST_REPORT else f"{SMALL} OVER: {it.clock:.1f} s"
 
 
 def play(storm, part, built, folder):

@@ -5,11 +5,12 @@ import re
 import subprocess
 import sys
 import tempfile
+import time
 from collections import namedtuple
 
-# The seconds of processor time in the program and in the system for it, the highest memory in MB, the page faults, the instructions
-# in millions where the machine counts them (else None), and the exit status.
-Measured = namedtuple("Measured", "user system memory faults instructions status")
+# The seconds of processor time in the program and in the system for it, those by the clock, the highest memory in MB, the page faults,
+# the instructions in millions where the machine counts them (else None), and the exit status.
+Measured = namedtuple("Measured", "user system clock memory faults instructions status")
 
 HEAD = "script              count     bytes   user  system   MB   faults  M instructions  status"
 
@@ -50,11 +51,14 @@ def measure(program, path, flags=()):
 def measure_words(command, path):
     """One run of a command on a file, and a second one that counts instructions."""
     with open(path) as script:
+        began = time.monotonic()
         child = subprocess.Popen(command, stdin=script, stdout=subprocess.DEVNULL)
         _, status, used = os.wait4(child.pid, 0)
+        clock = time.monotonic() - began
     return Measured(
         used.ru_utime,
         used.ru_stime,
+        clock,
         used.ru_maxrss / 1024,
         used.ru_minflt,
         count_instructions(command, path),
