@@ -4,4 +4,5 @@ pub mod Lines
 pub mod OwnSets
 pub mod Places
 pub mod Suffixes
+pub mod Touches
 pub mod WaysBelow

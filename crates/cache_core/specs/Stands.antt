@@ -1,6 +1,6 @@
 -- Which histories a cache stands for, and what each call adds to them.
 -- (For functions and proofs: no promise of the program stands on it.)
-use Rattle.std.specs.Prelude.{◌≡◌, ℕ, ◌<◌, ◌≤◌, ◌+◌, ◌↔◌, true, false, List, [], ◌∷◌, ◌++◌, length, IsSome, Option, Some, None, option_map, slice_set}
+use Rattle.std.specs.Prelude.{◌≡◌, ℕ, ◌<◌, ◌≤◌, ◌+◌, ◌↔◌, Bool, true, false, List, [], ◌∷◌, ◌++◌, length, IsSome, Option, Some, None, option_map, slice_set}
 use Rattle.cache_core.specs.declared.entry.What.{What}
 use Rattle.cache_core.specs.declared.entry.What.TheVariants.{Access}
 use Rattle.cache_core.specs.declared.entry.SliceEntry.{SliceEntry}
@@ -37,6 +37,11 @@ abbrev pub Accesses : CacheValue → CacheValue → Tag → ℕ → Touched → 
 Accesses old new tag line (Hit way) = Adds old new tag.epoch (Access true way tag.owner tag.rmid tag.mask line)
 Accesses old new tag line (Filled way) = Adds old new tag.epoch (Access false way tag.owner tag.rmid tag.mask line)
 Accesses old new tag line (Stale floor) = (new ≡ old) × (floor ≡ old.floor)
+
+-- what came of an access that hit, or else filled, this way
+abbrev pub touched_as : Bool → ℕ → Touched
+touched_as true way = Hit way
+touched_as false way = Filled way
 
 -- the access was below the floor
 abbrev pub IsStale : Touched → Type 0
