@@ -4,7 +4,7 @@ ghost use Rattle.cache_core.specs.History.{IsLegal, IsOwn, floor_of, shape_of};
 ghost use Rattle.machine.specs.Maps.{parameters_of};
 ghost use Rattle.pair_play.specs.Histories.{AddsAccess, with_flush};
 
-use cache_core::{Cache, SliceEntry, Touched, What};
+use cache_core::{Cache, SliceEntry, What};
 use machine::Machine;
 use rc_base::{NoMemory, Tag};
 use std::alloc::Global;
@@ -55,10 +55,8 @@ impl RecordedCache {
         ensures err { OnErr result (self.new ≡ self.old) }
     {
         self.history.reserve(1)?;
-        let (hit, way) = match self.cache.access(tag, line) {
-            Touched::Hit { way } => (true, way),
-            Touched::Filled { way } => (false, way),
-            Touched::Stale { .. } => unreachable!(),
+        let Some((hit, way)) = self.cache.access(tag, line).hit_and_way() else {
+            unreachable!()
         };
         self.history.push_reserved(SliceEntry {
             thread: 0,

@@ -7,7 +7,7 @@ ghost use Rattle.run_law.specs.Owed.{undecided, what_of};
 
 use crate::entries::access_of;
 use crate::reached::Reached;
-use cache_core::{Cache, Touched, What};
+use cache_core::{Cache, What};
 use rc_base::Tag;
 use tree_law::Follow;
 
@@ -20,10 +20,9 @@ pub fn reach(cache: &mut Cache, tag: &Tag, line: u64) -> Reached
     ensures rmids { cache.new.rmids ≡ cache.old.rmids }
     ensures adds { Adds cache.old cache.new tag.now.epoch (Access result.hit result.way tag.now.owner tag.now.rmid tag.now.mask line) }
 {
-    match cache.access(tag, line) {
-        Touched::Hit { way } => Reached { hit: true, way },
-        Touched::Filled { way } => Reached { hit: false, way },
-        Touched::Stale { .. } => unreachable!(),
+    match cache.access(tag, line).hit_and_way() {
+        Some((hit, way)) => Reached { hit, way },
+        None => unreachable!(),
     }
 }
 

@@ -63,15 +63,8 @@ impl Slice {
         ensures { TouchesLine turn.thread turn.number tag.now line self.old self.new result }
     {
         let touched = self.cache.access(tag, line);
-        match touched {
-            Touched::Hit { way } => self.note_access(turn, tag, line, Reached { hit: true, way }),
-            Touched::Filled { way } => self.note_access(
-                turn,
-                tag,
-                line,
-                Reached { hit: false, way },
-            ),
-            Touched::Stale { .. } => {}
+        if let Some((hit, way)) = touched.hit_and_way() {
+            self.note_access(turn, tag, line, Reached { hit, way });
         }
         touched
     }
